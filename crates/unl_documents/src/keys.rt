@@ -1,0 +1,84 @@
+//! What an object has at a key.
+ghost use Rattle.std.specs.Prelude.{◌≡◌, option_map, IfOk, IfSome};
+ghost use Rattle.serde_json.specs.View.{view};
+ghost use Rattle.unl_documents.specs.Reading.{Gives};
+ghost use Rattle.unl_documents.specs.Limits.{IsName};
+ghost use Rattle.unl_documents.specs.Kinds.{at, required as required_at, optional as optional_at, defaulted as defaulted_at, name};
+
+use crate::fault::BadDocument;
+use crate::field::Field;
+use crate::kind::{Kind, Name};
+use crate::text::Text;
+use serde_json::Value;
+use std::alloc::Global;
+
+/// The value at a key; null counts as absent.
+#[tactic(auto, unfolding(crate::specs::Kinds::at))]
+pub fn value_at(field: Field, value: &Value) -> Option<&Value>
+    ensures { option_map (λ found. view found.now) result ≡ at field (view value.now) }
+{
+    match value.get(field.key()) {
+        None | Some(Value::Null) => None,
+        Some(found) => Some(found),
+    }
+}
+
+#[tactic(auto, unfolding(crate::specs::Kinds::required))]
+pub fn required<K: Kind>(alloc: Global, field: Field, value: &Value) -> Result<K::Out, BadDocument>
+    ensures gives { Gives result (required_at K.reads field (view value.now)) }
+    ensures valid { IfOk result K.is_valid }
+{
+    match value_at(field, value) {
+        None => Err(BadDocument::Missing(field)),
+        Some(found) => K::read(alloc, field, found),
+    }
+}
+
+#[tactic(auto, unfolding(crate::specs::Kinds::optional))]
+pub fn optional<K: Kind>(
+    alloc: Global,
+    field: Field,
+    value: &Value,
+) -> Result<Option<K::Out>, BadDocument>
+    ensures gives { Gives result (optional_at K.reads field (view value.now)) }
+    ensures valid { IfOk result (λ found. IfSome found K.is_valid) }
+{
+    match value_at(field, value) {
+        None => Ok(None),
+        Some(found) => Ok(Some(K::read(alloc, field, found)?)),
+    }
+}
+
+#[tactic(auto, unfolding(crate::specs::Kinds::defaulted))]
+pub fn defaulted<K: Kind>(
+    alloc: Global,
+    default: K::Out,
+    field: Field,
+    value: &Value,
+) -> Result<K::Out, BadDocument>
+    requires { K.is_valid default }
+    ensures gives { Gives result (defaulted_at default K.reads field (view value.now)) }
+    ensures valid { IfOk result K.is_valid }
+{
+    match value_at(field, value) {
+        None => Ok(default),
+        Some(found) => K::read(alloc, field, found),
+    }
+}
+
+#[tactic(auto, unfolding(crate::specs::Kinds::defaulted))]
+pub fn name_or(
+    alloc: Global,
+    default: &str,
+    field: Field,
+    value: &Value,
+) -> Result<Text, BadDocument>
+    requires { IsName default.now }
+    ensures gives { Gives result (defaulted_at default.now name field (view value.now)) }
+    ensures valid { IfOk result IsName }
+{
+    match value_at(field, value) {
+        None => Ok(Text::new(alloc, default)?),
+        Some(found) => Name::read(alloc, field, found),
+    }
+}
