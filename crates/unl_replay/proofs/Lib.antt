@@ -1,0 +1,8 @@
+mod Books
+mod Known
+mod Lines
+mod Placed
+mod Texts
+mod Tokens
+mod Values
+mod Whole
