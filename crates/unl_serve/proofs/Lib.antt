@@ -1,0 +1,3 @@
+mod ConversationLemmas
+mod ExchangeLemmas
+mod ReceiveLemmas
