@@ -1,8 +1,6 @@
 mod Books
-mod Known
-mod Lines
-mod Placed
-mod Texts
-mod Tokens
+pub mod Lines
+pub mod RefusalLemmas
+mod DistinctTexts
 mod Values
-mod Whole
+pub mod Whole

@@ -1,90 +1,197 @@
 -- The replay of a whole input, from its turns.
-use Rattle.std.proofs.Common.{◌≡◌, ℕ, ◌+◌, ◌<◌, List, [], ◌∷◌, ◌++◌, ◌==◌, length, Bool, true, false, cond, ltb, Result, Err, Option, Some, None, IfSome, refl, sym, ap, subst, ◌∙◌, append_assoc}
-use Rattle.std.specs.Io.KnownBytes.{Consumes, Appends, IsAtEnd}
-use Rattle.std.proofs.KnownBytes.{Appends-trans}
-use Rattle.std.proofs.lemmas.Bool.{lt-ltb}
+use Rattle.std.proofs.Common.{◌≡◌, ℕ, ◌+◌, ◌<◌, ◌≤◌, List, [], ◌∷◌, ◌++◌, length, Bool, true, false, cond, ltb, Result, Ok, Err, Option, Some, None, IfSome, refl, sym, ap, subst, ◌∙◌, append_assoc, append-nil}
+use Rattle.std.proofs.lemmas.Bool.{lt-ltb, ltb-false}
+use Rattle.std.proofs.lemmas.Bool.Decides.{nat_tests}
+use Rattle.unl_base.specs.Streams.{Sends, SendsFront}
 use Rattle.unl_core.specs.Standing.{Standing}
-use Rattle.unl_replay.specs.Forms.{not_built, line_of}
-use Rattle.unl_replay.specs.Lines.{lines, begun_with}
-use Rattle.unl_replay.specs.Replay.{Replayed, done, refused, ending_text, refused_text, cause_text, answers, begun_by, followed, replay_of, most_lines, longest_line, answer_line, answer_read}
-use Rattle.unl_replay.specs.Turns.{Continues, Answers, IsOver, EndsRefused, IsRefusedHere}
+use Rattle.unl_replay.specs.declared.refusal.Refusal.{Refusal}
+use Rattle.unl_replay.specs.declared.refusal.Refusal.TheVariants.{LineTooLong, TooManyLines}
+use Rattle.unl_replay.specs.declared.replaying.ReplayFault.{ReplayFault}
+use Rattle.unl_replay.specs.declared.replaying.ReplayFault.TheVariants.{Bad, ReadFault, WriteFault, Memory}
+use Rattle.unl_replay.specs.Forms.{line_of}
+use Rattle.unl_replay.specs.Lines.{lines, ended_lines, has_end}
+use Rattle.unl_replay.specs.Reading.{Gets, IsAtEnd, Begins, longest_line}
+use Rattle.unl_replay.specs.Refusals.{refusal_text}
+use Rattle.unl_replay.specs.Replay.{Answered, Replayed, done, refused, IsRefused, ending_text, whole_text, printed, refused_text, answers, begun_by, followed, replay_of, replay_of_ended, opening, most_lines, answer_line, answer_read}
+use Rattle.unl_replay.specs.Turns.{Scene, Takes, MayFollow, Prints, GoesOn, ComesToEnd, IsRefusedAt, BreaksOff, BeginsWith, StopsReading, Turns}
+use Rattle.unl_replay.specs.Whole.{IsAnswered, IsRefusing, AnswersRead, Replays}
+use Rattle.unl_replay.proofs.Lines.{gets_trans, gets_nothing, WholeSplit, whole_split, sends_nothing, sends_trans, sends_then_front, front_of_longer, IsWhole, whole_none, whole_more, ended_whole, line_first}
 
--- how far the replay of the bytes at the start has come
-abbrev pub Sofar : Option (List ℕ) → Option (List ℕ) → List ℕ → ℕ → Standing → Type 0
-Sofar start left text k d = IfSome start (λ bytes. Continues (replay_of bytes) left text k d)
+-- ---- one line
+
+-- a line within the limits is answered by what it reads as
+pub within_limits : (k : ℕ) (d : Standing) (line : List ℕ) → k ≤ most_lines → length line ≤ longest_line → answer_line k d line ≡ answer_read k d (line_of line)
+within_limits k d line few short =
+    ap (λ t. cond t (Err TooManyLines) (cond (ltb longest_line (length line)) (Err LineTooLong) (answer_read k d (line_of line)))) (not_below most_lines k few)
+    ∙ ap (λ t. cond t (Err LineTooLong) (answer_read k d (line_of line))) (not_below longest_line (length line) short)
+  where
+    not_below : (m n : ℕ) → n ≤ m → ltb m n ≡ false
+    not_below m n most = grind (arith, nat_tests)
+
+pub past_limit : (k : ℕ) (d : Standing) (line : List ℕ) → k ≤ most_lines → longest_line < length line → answer_line k d line ≡ Err LineTooLong
+past_limit k d line few long =
+    ap (λ t. cond t (Err TooManyLines) (cond (ltb longest_line (length line)) (Err LineTooLong) (answer_read k d (line_of line)))) (not_below most_lines k few)
+    ∙ ap (λ t. cond t (Err LineTooLong) (answer_read k d (line_of line))) (lt-ltb longest_line (length line) long)
+  where
+    not_below : (m n : ℕ) → n ≤ m → ltb m n ≡ false
+    not_below m n most = grind (arith, nat_tests)
+
+pub past_last : (k : ℕ) (d : Standing) (line : List ℕ) → most_lines < k → answer_line k d line ≡ Err TooManyLines
+past_last k d line past =
+    ap (λ t. cond t (Err TooManyLines) (cond (ltb longest_line (length line)) (Err LineTooLong) (answer_read k d (line_of line)))) (lt-ltb most_lines k past)
+
+-- ---- what a turn took
+
+-- a line begins what was taken, and this is said to it
+pub Heads : ℕ → Standing → List ℕ → Scene → Result Answered Refusal → Type 0
+Heads k d out after said = (rest : List ℕ) → MayFollow after rest
+    → (line : List ℕ) × (more : List (List ℕ)) × (lines (out ++ rest) ≡ line ∷ more) × (answer_line k d line ≡ said)
+
+headed : (k : ℕ) (d : Standing) (out rest : List ℕ) (after : Scene) (said : Result Answered Refusal) → Heads k d out after said → MayFollow after rest
+    → (more : List (List ℕ)) × (answers k d (lines (out ++ rest)) ≡ followed k said (λ next. answers (k + 1) next more))
+unfolding Heads
+headed k d out rest after said heads may =
+    let first = heads rest may in
+    (first.1, ap (answers k d) first.2 ∙ ap (λ r. followed k r (λ next. answers (k + 1) next first.1)) first.3)
+
+-- what is printed begins with what the line prints
+prints_first : (k : ℕ) (said : Result Answered Refusal) (next : Standing → Replayed) → BeginsWith (printed k said) (followed k said next)
+prints_first k (Ok answered) next = (whole_text (next answered.desk), append_assoc answered.text (next answered.desk).text (ending_text (next answered.desk).ending))
+prints_first k (Err refusal) next = ([], sym (append-nil (refused_text k (refusal_text refusal))))
+
+-- a line that isn't answered whole
+pub errs : (fault : ReplayFault) (k : ℕ) (before after : Scene) (out : List ℕ) (said : Result Answered Refusal) (desk : Standing)
+    → Prints (Err fault) k said desk before.sent after.sent → Takes before out after → Heads k before.desk out after said → Turns (Err fault) k before after
+errs Bad k before after out said desk prints got heads = record {
+  out = out;
+  cause = prints.0;
+  got = got;
+  is = λ rest may. (headed k before.desk out rest after said heads may).1
+      ∙ ap (λ (r : Result Answered Refusal). followed k r (λ next. answers (k + 1) next (headed k before.desk out rest after said heads may).0)) prints.1;
+  sent = prints.2;
+}
+errs ReadFault k before after out said desk prints got heads = absurd prints
+errs WriteFault k before after out said desk prints got heads = record {
+  out = out;
+  text = printed k said;
+  got = got;
+  is = λ rest may. let told = headed k before.desk out rest after said heads may in
+      subst (BeginsWith (printed k said)) (sym told.1) (prints_first k said (λ next. answers (k + 1) next told.0));
+  sent = prints;
+}
+errs Memory k before after out said desk prints got heads = tt
+
+-- ---- how far the replay has come
+
+pub record Sofar (start sent : Option (List ℕ)) (k : ℕ) (scene : Scene) : Type 0 where
+  pub taken : List ℕ
+  pub text : List ℕ
+  pub got : Gets [] start taken scene.held scene.left
+  pub whole : IsWhole taken
+  pub leads : (rest : List ℕ) → answers 1 opening (lines (taken ++ rest)) ≡ begun_by text (answers k scene.desk (lines rest))
+  pub sends : Sends sent text scene.sent
+
+pub begins : (start sent : Option (List ℕ)) (scene : Scene) → scene.desk ≡ opening → scene.held ≡ [] → scene.left ≡ start → scene.sent ≡ sent → Sofar start sent 1 scene
+begins start sent scene desk held left same = record {
+  taken = [];
+  text = [];
+  got = subst (λ (h : List ℕ). Gets [] start [] h scene.left) (sym held) (subst (λ (l : Option (List ℕ)). Gets [] start [] [] l) (sym left) (gets_nothing [] start));
+  whole = whole_none;
+  leads = λ rest. ap (λ (d : Standing). answers 1 d (lines rest)) (sym desk);
+  sends = subst (λ (s : Option (List ℕ)). Sends sent [] s) (sym same) (sends_nothing sent);
+}
 
 begun_twice : (text more : List ℕ) (r : Replayed) → begun_by text (begun_by more r) ≡ begun_by (text ++ more) r
 begun_twice text more r = ap (λ t. let x : Replayed = record { text = t; ending = r.ending } in x) (sym (append_assoc text more r.text))
 
-goes_on : (whole : Replayed) (a b : Option (List ℕ)) (text more : List ℕ) (k : ℕ) (d after : Standing) → Continues whole a text k d → Answers k d after a b more
-    → Continues whole b (text ++ more) (k + 1) after
-goes_on whole None b text more k d after before now = absurd before
-goes_on whole (Some y) None text more k d after before now = absurd now
-goes_on whole (Some y) (Some z) text more k d after before now =
-    before ∙ ap (begun_by text) now ∙ begun_twice text more (answers (k + 1) after (lines z))
-
 -- one line more was answered
-pub one_more : (start a b old mid new : Option (List ℕ)) (text more : List ℕ) (k : ℕ) (d after : Standing) → Appends old mid text → Sofar start a text k d
-    → Appends mid new more → Answers k d after a b more → (all : List ℕ) × Appends old new all × Sofar start b all (k + 1) after
-one_more None a b old mid new text more k d after sent before now told = (text ++ more, Appends-trans old mid new text more sent now, tt)
-one_more (Some x) a b old mid new text more k d after sent before now told =
-    (text ++ more, Appends-trans old mid new text more sent now, goes_on (replay_of x) a b text more k d after before told)
+pub goes_on : (start sent : Option (List ℕ)) (k : ℕ) (before after : Scene) → Sofar start sent k before → GoesOn k before after → Sofar start sent (k + 1) after
+goes_on start sent k before after sofar now =
+    let out : List ℕ = now.line ++ 10 ∷ [] in record {
+      taken = sofar.taken ++ out;
+      text = sofar.text ++ now.text;
+      got = gets_trans [] before.held after.held start before.left after.left sofar.taken out sofar.got now.got;
+      whole = whole_more sofar.taken now.line sofar.whole now.unbroken;
+      leads = λ rest.
+          ap (λ bytes. answers 1 opening (lines bytes)) (append_assoc sofar.taken out rest)
+          ∙ sofar.leads (out ++ rest)
+          ∙ ap (λ ls. begun_by sofar.text (answers k before.desk ls)) (line_first now.line rest now.unbroken)
+          ∙ ap (λ r. begun_by sofar.text (followed k r (λ next. answers (k + 1) next (lines rest)))) now.is
+          ∙ begun_twice sofar.text now.text (answers (k + 1) after.desk (lines rest));
+      sends = sends_trans sent before.sent after.sent sofar.text now.text sofar.sends now.sent;
+    }
 
-ends_done : (whole : Replayed) (a old mid new : Option (List ℕ)) (text : List ℕ) (k : ℕ) (d : Standing) → Appends old mid text → Continues whole a text k d → Appends mid new []
-    → IsOver k d a → (whole.ending ≡ done) × Appends old new whole.text
-ends_done whole None old mid new text k d sent before now over = absurd before
-ends_done whole (Some y) old mid new text k d sent before now over =
-    let same = before ∙ ap (begun_by text) over in
-    (ap (λ r. r.ending) same, subst (Appends old new) (sym (ap (λ r. r.text) same)) (Appends-trans old mid new text [] sent now))
+-- ---- how it ends
 
--- the input is over
-pub all_done : (start a old mid new : Option (List ℕ)) (text : List ℕ) (k : ℕ) (d : Standing) → Appends old mid text → Sofar start a text k d → Appends mid new [] → IsOver k d a
-    → IfSome start (λ bytes. ((replay_of bytes).ending ≡ done) × Appends old new (replay_of bytes).text)
-all_done None a old mid new text k d sent before now over = tt
-all_done (Some x) a old mid new text k d sent before now over = ends_done (replay_of x) a old mid new text k d sent before now over
+-- the answers to the whole input, where it is told, from what is said to the bytes taken last
+whole_of : (x : List ℕ) (sent : Option (List ℕ)) (k : ℕ) (before after : Scene) (out : List ℕ) → (sofar : Sofar (Some x) sent k before) → Takes before out after
+    → (rest : List ℕ) × MayFollow after rest × (replay_of x ≡ begun_by sofar.text (answers k before.desk (lines (out ++ rest))))
+whole_of x sent k before after out sofar got =
+    let all = whole_split x (sofar.taken ++ out) after.held after.left (gets_trans [] before.held after.held (Some x) before.left after.left sofar.taken out sofar.got got) in
+    let parts = unfold WholeSplit in all in
+    (parts.0, parts.2, ap (λ bytes. answers 1 opening (lines bytes)) (parts.1 ∙ append_assoc sofar.taken out parts.0) ∙ sofar.leads (out ++ parts.0))
 
-ends_refused : (whole : Replayed) (a old mid new : Option (List ℕ)) (text : List ℕ) (k : ℕ) (d : Standing) → Appends old mid text → Continues whole a text k d → IsRefusedHere k d a mid new
-    → EndsRefused whole old new
-ends_refused whole None old mid new text k d sent before here = absurd before
-ends_refused whole (Some y) old mid new text k d sent before here =
-    let r = answers k d (lines y) in
-    let joined : Appends old new (text ++ (r.text ++ ending_text r.ending)) = Appends-trans old mid new text (r.text ++ ending_text r.ending) sent here.1 in
-    subst (λ (w : Replayed). EndsRefused w old new) (sym before)
-    (here.0, subst (Appends old new) (sym (append_assoc text r.text (ending_text r.ending))) joined)
+pub ends_over : (start sent : Option (List ℕ)) (k : ℕ) (before after : Scene) → Sofar start sent k before → ComesToEnd k before after
+    → IfSome start (λ bytes. IsAnswered (replay_of bytes) sent after.sent)
+ends_over None sent k before after sofar now = tt
+ends_over (Some x) sent k before after sofar now =
+    let told = whole_of x sent k before after now.out sofar now.got in
+    let all : replay_of x ≡ begun_by sofar.text (record { text = now.text; ending = done }) =
+    told.2 ∙ ap (λ rest. begun_by sofar.text (answers k before.desk (lines (now.out ++ rest)))) (told.1 now.end)
+    ∙ ap (λ bytes. begun_by sofar.text (answers k before.desk (lines bytes))) (append-nil now.out)
+    ∙ ap (begun_by sofar.text) now.is in
+    record {
+      ending = ap (λ r. r.ending) all;
+      sent = subst (λ text. Sends sent text after.sent) (sym (ap (λ r. r.text) all)) (sends_trans sent before.sent after.sent sofar.text now.text sofar.sends now.sent);
+    }
 
--- a line is refused
-pub all_refused : (start a old mid new : Option (List ℕ)) (text : List ℕ) (k : ℕ) (d : Standing) → Appends old mid text → Sofar start a text k d → IsRefusedHere k d a mid new
-    → IfSome start (λ bytes. EndsRefused (replay_of bytes) old new)
-all_refused None a old mid new text k d sent before here = tt
-all_refused (Some x) a old mid new text k d sent before here = ends_refused (replay_of x) a old mid new text k d sent before here
+pub ends_refused : (start sent : Option (List ℕ)) (k : ℕ) (before after : Scene) → Sofar start sent k before → IsRefusedAt k before after
+    → IfSome start (λ bytes. IsRefusing (replay_of bytes) sent after.sent)
+ends_refused None sent k before after sofar now = tt
+ends_refused (Some x) sent k before after sofar now =
+    let told = whole_of x sent k before after now.out sofar now.got in
+    let all : replay_of x ≡ record { text = sofar.text ++ []; ending = refused k now.cause } = told.2 ∙ ap (begun_by sofar.text) (now.is told.0 told.1) in
+    let text : whole_text (replay_of x) ≡ sofar.text ++ refused_text k (refusal_text now.cause) =
+    ap whole_text all ∙ ap (λ t. t ++ refused_text k (refusal_text now.cause)) (append-nil sofar.text) in
+    record {
+      ending = subst IsRefused (sym (ap (λ r. r.ending) all)) tt;
+      sent = subst (λ t. Sends sent t after.sent) (sym text) (sends_trans sent before.sent after.sent sofar.text (refused_text k (refusal_text now.cause)) sofar.sends now.sent);
+    }
 
--- no line is left
-pub over_at_end : (k : ℕ) (d : Standing) (a : Option (List ℕ)) → IsAtEnd a → IsOver k d a
-over_at_end k d None end = tt
-over_at_end k d (Some x) end = ap (λ bytes. answers k d (lines bytes)) end
+pub ends_broken : (start sent : Option (List ℕ)) (k : ℕ) (before after : Scene) → Sofar start sent k before → BreaksOff k before after
+    → IfSome start (λ bytes. SendsFront sent (whole_text (replay_of bytes)) after.sent)
+ends_broken None sent k before after sofar now = tt
+ends_broken (Some x) sent k before after sofar now =
+    let told = whole_of x sent k before after now.out sofar now.got in
+    let tail = now.is told.0 told.1 in
+    let r = answers k before.desk (lines (now.out ++ told.0)) in
+    let text : whole_text (replay_of x) ≡ (sofar.text ++ now.text) ++ tail.0 =
+    ap whole_text told.2 ∙ append_assoc sofar.text r.text (ending_text r.ending) ∙ ap (λ t. sofar.text ++ t) tail.1 ∙ sym (append_assoc sofar.text now.text tail.0) in
+    front_of_longer sent after.sent (sofar.text ++ now.text) tail.0 (whole_text (replay_of x))
+    (sends_then_front sent before.sent after.sent sofar.text now.text sofar.sends now.sent) text
 
--- a byte more begins a line
-begins : (b : ℕ) (ls : List (List ℕ)) (t : Bool) → (l : List ℕ) × (more : List (List ℕ)) × (cond t ([] ∷ ls) (begun_with b ls) ≡ l ∷ more)
-begins b ls true = ([], ls, refl)
-begins b [] false = (b ∷ [], [], refl)
-begins b (l ∷ ls) false = (b ∷ l, ls, refl)
+pub ends_unread : (start sent : Option (List ℕ)) (k : ℕ) (before after : Scene) → Sofar start sent k before → StopsReading before after
+    → AnswersRead start after.left sent after.sent
+ends_unread start sent k before after sofar now =
+    let all = gets_trans [] before.held after.held start before.left after.left sofar.taken now.begun.front sofar.got now.begun.got in
+    let read : all.read ≡ sofar.taken ++ now.begun.front = all.split ∙ ap (λ h. (sofar.taken ++ now.begun.front) ++ h) now.none ∙ append-nil (sofar.taken ++ now.begun.front) in
+    let said : replay_of_ended all.read ≡ record { text = sofar.text ++ []; ending = done } =
+    ap (λ bytes. answers 1 opening (ended_lines bytes)) read
+    ∙ ap (answers 1 opening) (ended_whole sofar.taken now.begun.front sofar.whole now.begun.unbroken ∙ ap lines (sym (append-nil sofar.taken)))
+    ∙ sofar.leads [] in
+    record {
+      read = all.read;
+      took = all.took;
+      answered = record {
+        ending = ap (λ r. r.ending) said;
+        sent = subst (λ t. Sends sent t after.sent) (sym (ap (λ r. r.text) said ∙ append-nil sofar.text)) (now.sent ∙ sofar.sends);
+      };
+    }
 
-past_last : (k : ℕ) (d : Standing) (line : List ℕ) → most_lines < k → answer_line k d line ≡ Err not_built
-past_last k d line past =
-    ap (λ t. cond t (Err not_built) (cond (ltb longest_line (length line)) (Err not_built) (answer_read k d (line_of line)))) (lt-ltb most_lines k past)
-
--- a line past the last one is refused
-pub refused_past : (k n : ℕ) (d : Standing) (a b old new : Option (List ℕ)) (byte : ℕ) → most_lines < k → n ≡ k → Consumes a b (byte ∷ [])
-    → Appends old new (refused_text n (cause_text not_built)) → IsRefusedHere k d a old new
-refused_past k n d None b old new byte past same one sent = tt
-refused_past k n d (Some x) None old new byte past same one sent = absurd one
-refused_past k n d (Some x) (Some y) old new byte past same one sent =
-    let first = begins byte (lines y) (byte == 10) in
-    let ended : answers k d (lines x) ≡ record { text = []; ending = refused k not_built } =
-    ap (λ bytes. answers k d (lines bytes)) one ∙ ap (answers k d) first.2
-    ∙ ap (λ r. followed k r (λ after. answers (k + 1) after first.1)) (past_last k d first.0 past) in
-    subst (λ (w : Replayed). EndsRefused w old new) (sym ended)
-    (tt, subst (λ (m : ℕ). Appends old new (refused_text m (cause_text not_built))) same sent)
-
-pub err_same : {T E : Type 0} (x y : E) → ◌≡◌ {A = Result T E} (Err x) (Err y) → x ≡ y
-err_same x y h = cc
+-- how a replay ends at a fault of a turn
+pub ends_at : (fault : ReplayFault) (start sent : Option (List ℕ)) (k : ℕ) (before after : Scene) → Sofar start sent k before → Turns (Err fault) k before after
+    → Replays (Err fault) start after.left sent after.sent
+ends_at Bad start sent k before after sofar now = ends_refused start sent k before after sofar now
+ends_at ReadFault start sent k before after sofar now = ends_unread start sent k before after sofar now
+ends_at WriteFault start sent k before after sofar now = ends_broken start sent k before after sofar now
+ends_at Memory start sent k before after sofar now = tt

@@ -1,7 +1,9 @@
 pub mod Json
+pub mod Refusals
 pub mod Forms
-pub mod Plain
 pub mod Lines
-pub mod Replay
 pub mod Reading
+pub mod Replay
+pub mod Steps
 pub mod Turns
+pub mod Whole

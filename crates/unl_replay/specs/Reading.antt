@@ -1,14 +1,51 @@
--- What reading a line takes from the bytes to come.
-use Rattle.std.specs.Prelude.{◌≡◌, ℕ, ◌<◌, List, ◌∷◌, length, Option, Some, None, IfSome}
-use Rattle.unl_replay.specs.Lines.{lines}
-use Rattle.unl_replay.specs.Replay.{longest_line}
+-- What reading a line takes from the bytes that are held and from the source.
+use Rattle.std.specs.Prelude.{◌≡◌, ◌≢◌, ⊤, ℕ, ◌<◌, ◌≤◌, List, [], ◌∷◌, ◌++◌, length, Option, false}
+use Rattle.unl_base.specs.Streams.{Takes, HasEnded}
+use Rattle.unl_replay.specs.declared.reader.Next.{Next}
+use Rattle.unl_replay.specs.declared.reader.Next.TheVariants.{Line, Last, End}
+use Rattle.unl_replay.specs.declared.reader.ReadFault.{ReadFault}
+use Rattle.unl_replay.specs.declared.reader.ReadFault.TheVariants.{Failed, TooLong, Memory}
+use Rattle.unl_replay.specs.Lines.{has_end}
 
--- the line is the first of the known bytes, and the others stay to come
-abbrev pub TakesLine : Option (List ℕ) → Option (List ℕ) → List ℕ → Type 0
-TakesLine None new line = Unit {0}
-TakesLine (Some bytes) None line = ⊥
-TakesLine (Some bytes) (Some rest) line = lines bytes ≡ line ∷ lines rest
+-- the source gave some bytes, and these were taken from the front of what was held and what it gave
+pub record Gets
+    (held : List ℕ) (left : Option (List ℕ)) (out held_after : List ℕ) (left_after : Option (List ℕ)) : Type 0 where
+  pub read : List ℕ
+  pub took : Takes left read left_after
+  pub split : held ++ read ≡ out ++ held_after
 
--- the first of the known bytes' lines is too long
-abbrev pub BeginsLong : Option (List ℕ) → Type 0
-BeginsLong known = IfSome known (λ bytes. (line : List ℕ) × (more : List (List ℕ)) × (lines bytes ≡ line ∷ more) × (longest_line < length line))
+-- nothing is held, and the source has ended
+abbrev pub IsAtEnd : List ℕ → Option (List ℕ) → Type 0
+IsAtEnd held left = (held ≡ []) × HasEnded left
+
+-- a line has at most so many bytes
+abbrev pub longest_line : ℕ
+longest_line = 16777216
+
+-- a line within the limit, without an end in it
+pub record IsLine (line : List ℕ) : Type 0 where
+  pub unbroken : has_end line ≡ false
+  pub short : length line ≤ longest_line
+
+-- what stood next was taken
+abbrev pub TakesNext : Next → List ℕ → Option (List ℕ) → List ℕ → Option (List ℕ) → Type 0
+TakesNext (Line line) held left held_after left_after = IsLine line.items × Gets held left (line.items ++ 10 ∷ []) held_after left_after
+TakesNext (Last line) held left held_after left_after = IsLine line.items × (line.items ≢ []) × Gets held left line.items held_after left_after × IsAtEnd held_after left_after
+TakesNext End held left held_after left_after = Gets held left [] held_after left_after × IsAtEnd held_after left_after
+
+-- a line was begun with these bytes
+pub record Begins (held : List ℕ) (left : Option (List ℕ)) (held_after : List ℕ) (left_after : Option (List ℕ)) : Type 0 where
+  pub front : List ℕ
+  pub unbroken : has_end front ≡ false
+  pub got : Gets held left front held_after left_after
+
+-- a line was begun, and is too long already
+pub record BeginsLong (held : List ℕ) (left : Option (List ℕ)) (held_after : List ℕ) (left_after : Option (List ℕ)) : Type 0 where
+  pub begun : Begins held left held_after left_after
+  pub long : longest_line < length begun.front
+
+-- how far reading came where no line is there
+abbrev pub Breaks : ReadFault → List ℕ → Option (List ℕ) → List ℕ → Option (List ℕ) → Type 0
+Breaks Failed held left held_after left_after = Begins held left held_after left_after × (held_after ≡ [])
+Breaks TooLong held left held_after left_after = BeginsLong held left held_after left_after
+Breaks Memory held left held_after left_after = ⊤

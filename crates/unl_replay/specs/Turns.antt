@@ -1,28 +1,88 @@
--- One turn of the replay, over the bytes to come and the bytes that were sent, where these are told.
-use Rattle.std.specs.Prelude.{◌≡◌, ℕ, ◌+◌, List, [], ◌++◌, Option, Some, None, IfSome}
-use Rattle.std.specs.Io.KnownBytes.{Appends}
+-- One turn of the replay: what was taken from the bytes to come, and what was sent.
+use Rattle.std.specs.Prelude.{◌≡◌, ⊤, ℕ, List, [], ◌∷◌, ◌++◌, Option, Result, Ok, Err, false}
+use Rattle.unl_base.specs.Streams.{Sends, SendsFront}
 use Rattle.unl_core.specs.Standing.{Standing}
-use Rattle.unl_replay.specs.Lines.{lines}
-use Rattle.unl_replay.specs.Replay.{Replayed, done, IsRefused, ending_text, answers, begun_by}
+use Rattle.unl_replay.specs.declared.replaying.ReplayFault.{ReplayFault}
+use Rattle.unl_replay.specs.declared.replaying.ReplayFault.TheVariants.{Bad, ReadFault, WriteFault, Memory}
+use Rattle.unl_replay.specs.declared.replaying.Progress.{Progress}
+use Rattle.unl_replay.specs.declared.replaying.Progress.TheVariants.{Answered as Line, Over}
+use Rattle.unl_replay.specs.declared.refusal.Refusal.{Refusal}
+use Rattle.unl_replay.specs.Refusals.{refusal_text}
+use Rattle.unl_replay.specs.Lines.{lines, has_end}
+use Rattle.unl_replay.specs.Reading.{Gets, IsAtEnd, Begins}
+use Rattle.unl_replay.specs.Replay.{Answered, Replayed, done, refused, answers, answer_line, whole_text, refused_text, printed}
 
--- what is answered to the bytes is this text, and then what is answered to the bytes left
-abbrev pub Continues : Replayed → Option (List ℕ) → List ℕ → ℕ → Standing → Type 0
-Continues whole None text k d = ⊥
-Continues whole (Some rest) text k d = whole ≡ begun_by text (answers k d (lines rest))
+-- What a line was answered was printed: as far as the result says.
+abbrev pub Prints : Result (Unit {0}) ReplayFault → ℕ → Result Answered Refusal → Standing → Option (List ℕ) → Option (List ℕ) → Type 0
+Prints (Ok u) k said desk old new = (answered : Answered) × (said ≡ Ok answered) × (answered.desk ≡ desk) × Sends old answered.text new
+Prints (Err Bad) k said desk old new = (cause : Refusal) × (said ≡ Err cause) × Sends old (refused_text k (refusal_text cause)) new
+Prints (Err ReadFault) k said desk old new = ⊥
+Prints (Err WriteFault) k said desk old new = SendsFront old (printed k said) new
+Prints (Err Memory) k said desk old new = ⊤
 
--- the line k was answered with this text
-abbrev pub Answers : ℕ → Standing → Standing → Option (List ℕ) → Option (List ℕ) → List ℕ → Type 0
-Answers k d after None left text = Unit {0}
-Answers k d after (Some bytes) left text = Continues (answers k d (lines bytes)) left text (k + 1) after
+-- where a replay stands: its desk, the bytes read ahead, those to come, and those sent
+pub record Scene : Type 0 where
+  pub desk : Standing
+  pub held : List ℕ
+  pub left : Option (List ℕ)
+  pub sent : Option (List ℕ)
 
--- there is no line k
-abbrev pub IsOver : ℕ → Standing → Option (List ℕ) → Type 0
-IsOver k d known = IfSome known (λ bytes. answers k d (lines bytes) ≡ record { text = []; ending = done })
+-- these bytes were taken
+abbrev pub Takes : Scene → List ℕ → Scene → Type 0
+Takes before out after = Gets before.held before.left out after.held after.left
 
--- the replay is refused, with this much sent
-abbrev pub EndsRefused : Replayed → Option (List ℕ) → Option (List ℕ) → Type 0
-EndsRefused r old new = IsRefused r.ending × Appends old new (r.text ++ ending_text r.ending)
+-- whatever may stand behind the bytes that were taken
+abbrev pub MayFollow : Scene → List ℕ → Type 0
+MayFollow after rest = IsAtEnd after.held after.left → rest ≡ []
 
--- the line k is refused
-abbrev pub IsRefusedHere : ℕ → Standing → Option (List ℕ) → Option (List ℕ) → Option (List ℕ) → Type 0
-IsRefusedHere k d known old new = IfSome known (λ bytes. EndsRefused (answers k d (lines bytes)) old new)
+-- the line k was taken, and answered
+pub record GoesOn (k : ℕ) (before after : Scene) : Type 0 where
+  pub line : List ℕ
+  pub unbroken : has_end line ≡ false
+  pub text : List ℕ
+  pub got : Takes before (line ++ 10 ∷ []) after
+  pub is : answer_line k before.desk line ≡ Ok (record { text = text; desk = after.desk })
+  pub sent : Sends before.sent text after.sent
+
+-- the input was taken to its end, and all of it was answered
+pub record ComesToEnd (k : ℕ) (before after : Scene) : Type 0 where
+  pub out : List ℕ
+  pub text : List ℕ
+  pub got : Takes before out after
+  pub end : IsAtEnd after.held after.left
+  pub is : answers k before.desk (lines out) ≡ record { text = text; ending = done }
+  pub sent : Sends before.sent text after.sent
+
+-- the line k is refused, whatever follows
+pub record IsRefusedAt (k : ℕ) (before after : Scene) : Type 0 where
+  pub out : List ℕ
+  pub cause : Refusal
+  pub got : Takes before out after
+  pub is : (rest : List ℕ) → MayFollow after rest → answers k before.desk (lines (out ++ rest)) ≡ record { text = []; ending = refused k cause }
+  pub sent : Sends before.sent (refused_text k (refusal_text cause)) after.sent
+
+-- the whole text goes on behind these bytes
+abbrev pub BeginsWith : List ℕ → Replayed → Type 0
+BeginsWith text r = (tail : List ℕ) × (whole_text r ≡ text ++ tail)
+
+-- a front of what is printed for the line k was sent
+pub record BreaksOff (k : ℕ) (before after : Scene) : Type 0 where
+  pub out : List ℕ
+  pub text : List ℕ
+  pub got : Takes before out after
+  pub is : (rest : List ℕ) → MayFollow after rest → BeginsWith text (answers k before.desk (lines (out ++ rest)))
+  pub sent : SendsFront before.sent text after.sent
+
+-- nothing was printed, and no more than the front of a line was read
+pub record StopsReading (before after : Scene) : Type 0 where
+  pub begun : Begins before.held before.left after.held after.left
+  pub none : after.held ≡ []
+  pub sent : after.sent ≡ before.sent
+
+abbrev pub Turns : Result Progress ReplayFault → ℕ → Scene → Scene → Type 0
+Turns (Ok Line) k before after = GoesOn k before after
+Turns (Ok Over) k before after = ComesToEnd k before after
+Turns (Err Bad) k before after = IsRefusedAt k before after
+Turns (Err ReadFault) k before after = StopsReading before after
+Turns (Err WriteFault) k before after = BreaksOff k before after
+Turns (Err Memory) k before after = ⊤

@@ -1,7 +1,7 @@
 //! Parts of a JSON value, by their kind.
 ghost use Rattle.std.specs.Prelude.{◌≡◌, map, option_map};
 ghost use Rattle.serde_json.specs.View.{view};
-ghost use Rattle.unl_replay.specs.Json.{has, has_members, list_at, list_of, number_at, text_at, truth_at};
+ghost use Rattle.unl_replay.specs.Json.{has_members, list_at, list_of, text_at};
 
 use serde_json::Value;
 
@@ -10,20 +10,6 @@ pub fn text_at<'a>(value: &'a Value, key: &str) -> Option<&'a str>
     ensures { option_map (λ s. s.now) result ≡ text_at key.now (view value.now) }
 {
     value.get(key)?.as_str()
-}
-
-/// The truth value at a key.
-pub fn truth_at(value: &Value, key: &str) -> Option<bool>
-    ensures { result ≡ truth_at key.now (view value.now) }
-{
-    value.get(key)?.as_bool()
-}
-
-/// An unsigned whole number of 64 bits.
-pub fn number_at(value: &Value, key: &str) -> Option<u64>
-    ensures { result ≡ number_at key.now (view value.now) }
-{
-    value.get(key)?.as_u64()
 }
 
 /// The list at a key.
@@ -37,13 +23,6 @@ fn list_of(value: &Value) -> Option<&Vec<Value>>
     ensures { option_map (λ v. map view v.now.items) result ≡ list_of (view value.now) }
 {
     value.as_array()
-}
-
-/// Whether a key is there.
-pub fn has(value: &Value, key: &str) -> bool
-    ensures { result ≡ has key.now (view value.now) }
-{
-    value.get(key).is_some()
 }
 
 /// Whether the value is an object of this many members.

@@ -1,13 +1,17 @@
 //! The replay: lines of tokens, batches and asks are read from a source, and each is answered by one printed line.
 #![tactic(auto)]
 
-mod form;
-mod hydration;
+mod ask;
+mod batch;
 mod json;
 mod line;
-mod print;
 mod reader;
-mod replay;
+mod refusal;
+mod replaying;
 mod step;
+mod tokens;
 
-pub use replay::{ReplayFault, replay};
+pub use replaying::{ReplayFault, replay};
+
+#[cfg(test)]
+mod tests;

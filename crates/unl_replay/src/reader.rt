@@ -1,17 +1,29 @@
 //! Lines, read from a source one after another.
-ghost use Rattle.std.specs.Prelude.{◌≡◌, ◌<◌, ◌≤◌, [], ◌∷◌, ℕ, length, None, IfOk, IfSome, OnOk, OnErr, IsErrOf, MatchOption};
-ghost use Rattle.std.specs.Io.{ReadsAtMost};
-ghost use Rattle.std.specs.Io.KnownBytes.{Consumes, IsAtEnd, ReadConsumes, prepend_known};
+ghost use Rattle.std.specs.Prelude.{◌≡◌, ◌<◌, ◌≤◌, [], ◌∷◌, ℕ, length, take, IfOk, IfErr, IfSome, OnErr, IsErrOf, MatchOption};
 ghost use Rattle.unl_base.specs.Faults.{HasCause, Rose};
-ghost use Rattle.unl_replay.specs.Reading.{TakesLine, BeginsLong};
+ghost use Rattle.unl_base.specs.Streams.{Takes, HasEnded};
+ghost use Rattle.unl_replay.specs.Reading.{Gets, IsAtEnd, TakesNext, Breaks};
 
 use std::alloc::{AllocError, AllocFailed, Global};
 use std::marker::Model;
 use unl_base::{Failed, Source};
 
+/// How many bytes are read ahead at once.
 const ROOM: usize = 65_536;
 
+/// The most bytes that a line may have, without its end.
 const LONGEST_LINE: usize = 16_777_216;
+
+/// What stands next.
+#[derive(Debug, Drop)]
+pub enum Next {
+    /// A line, without its end.
+    Line(Vec<u8>),
+    /// The last line, which has bytes and no end.
+    Last(Vec<u8>),
+    /// No line: the source has ended.
+    End,
+}
 
 /// Why a line isn't there.
 #[derive(Clone, Copy, Debug, PartialEq, Eq)]
@@ -20,6 +32,7 @@ pub enum ReadFault {
     Failed,
     /// More bytes came than a line may have.
     TooLong,
+    /// Memory is wanting.
     Memory,
 }
 
@@ -86,60 +99,65 @@ impl LineReader {
         })
     }
 
+    /// The first of the held bytes.
+    fn take_held(&mut self) -> u8
+        requires { 0 < length self.old }
+        ensures { self.old ≡ result ∷ self.new }
+    {
+        let byte = self.room[self.from];
+        self.from += 1;
+        byte
+    }
+
+    /// Reads ahead where nothing is held, and answers how much.
+    fn read_ahead<S: Source>(&mut self, source: &mut S) -> Result<usize, Failed>
+        requires { self.old ≡ [] }
+        ensures read { IfOk result (λ n. Takes (S.left source.old) self.new (S.left source.new)) }
+        ensures count { IfOk result (λ n. n ≡ length self.new) }
+        ensures end { IfOk result (λ n. n ≡ 0 → HasEnded (S.left source.old)) }
+        ensures kept { OnErr result (S.left source.new ≡ S.left source.old) }
+        ensures empty { OnErr result (self.new ≡ []) }
+        ensures cause { HasCause (S.faults source.old) (S.faults source.new) result }
+    {
+        self.from = 0;
+        self.to = 0;
+        self.to = source.read(&mut self.room)?;
+        Ok(self.to)
+    }
+
     /// The next byte, or none exactly at the end of the source.
     pub fn next_byte<S: Source>(&mut self, source: &mut S) -> Result<Option<u8>, Failed>
         ensures byte { IfOk result (λ o. MatchOption o
-            (IsAtEnd (prepend_known self.old (S.left source.old)) × Consumes (prepend_known self.old (S.left source.old)) (prepend_known self.new (S.left source.new)) [])
-            (λ b. Consumes (prepend_known self.old (S.left source.old)) (prepend_known self.new (S.left source.new)) (b ∷ []))) }
+            (Gets self.old (S.left source.old) [] self.new (S.left source.new) × IsAtEnd self.new (S.left source.new))
+            (λ b. Gets self.old (S.left source.old) (b ∷ []) self.new (S.left source.new))) }
+        ensures broken { OnErr result (Gets self.old (S.left source.old) [] self.new (S.left source.new) × (self.new ≡ [])) }
         ensures cause { HasCause (S.faults source.old) (S.faults source.new) result }
     {
-        if self.from == self.to {
-            self.from = 0;
-            self.to = 0;
-            self.to = fill(source, &mut self.room)?;
-            if self.to == 0 {
-                return Ok(None);
-            }
+        if self.from < self.to {
+            return Ok(Some(self.take_held()));
         }
-        let byte = self.room[self.from];
-        self.from += 1;
-        Ok(Some(byte))
+        if self.read_ahead(source)? == 0 {
+            return Ok(None);
+        }
+        Ok(Some(self.take_held()))
     }
 
-    /// The next line without its end, or none exactly at the end of the source.
-    pub fn next_line<S: Source>(
-        &mut self,
-        alloc: Global,
-        source: &mut S,
-    ) -> Result<Option<Vec<u8>>, ReadFault>
-        ensures line { IfOk result (λ o. MatchOption o
-            (IsAtEnd (prepend_known self.old (S.left source.old)))
-            (λ line. TakesLine (prepend_known self.old (S.left source.old)) (prepend_known self.new (S.left source.new)) line.items)) }
-        ensures short { IfOk result (λ o. IfSome o (λ line. length line.items ≤ LONGEST_LINE)) }
-        ensures long { IsErrOf result ReadFault.TooLong → BeginsLong (prepend_known self.old (S.left source.old)) }
+    /// What stands next: a line, the last line, or the end.
+    pub fn next_line<S: Source>(&mut self, alloc: Global, source: &mut S) -> Result<Next, ReadFault>
+        ensures next { IfOk result (λ next. TakesNext next self.old (S.left source.old) self.new (S.left source.new)) }
+        ensures fault { IfErr result (λ fault. Breaks fault self.old (S.left source.old) self.new (S.left source.new)) }
         ensures failed { IsErrOf result ReadFault.Failed → Rose (S.faults source.old) (S.faults source.new) }
         ensures later { S.faults source.old ≤ S.faults source.new }
     {
         let mut line = Vec::new(alloc);
         'bytes: while line.len() <= LONGEST_LINE {
             match self.next_byte(source)? {
-                None if line.is_empty() => return Ok(None),
-                None => return Ok(Some(line)),
-                Some(b'\n') => return Ok(Some(line)),
+                None if line.is_empty() => return Ok(Next::End),
+                None => return Ok(Next::Last(line)),
+                Some(b'\n') => return Ok(Next::Line(line)),
                 Some(byte) => line.push(byte)?,
             }
         }
         Err(ReadFault::TooLong)
     }
-}
-
-/// Reads the next bytes into the front of a room.
-#[tactic(auto, using(crate::proofs::Known::read_known))]
-fn fill<S: Source>(source: &mut S, room: &mut [u8]) -> Result<usize, Failed>
-    requires { 0 < length room.old }
-    ensures bound { ReadsAtMost result room.new }
-    ensures bytes { ReadConsumes (S.left source.old) (S.left source.new) result room.new }
-    ensures cause { HasCause (S.faults source.old) (S.faults source.new) result }
-{
-    source.read(room)
 }

@@ -1,17 +1,50 @@
 //! One line of the replay, over the desk.
-ghost use Rattle.std.specs.Prelude.{[], ◌≡◌, ◌+◌, ◌-◌, ◌^◌, ◌<◌, ◌≤◌, Ok, IfOk, IfErr, OnOk, string_bytes};
+ghost use Rattle.std.specs.Prelude.{◌≡◌, ◌+◌, ◌-◌, ◌^◌, ◌<◌, ◌≤◌, Ok, IfOk, IfErr, string_bytes};
 ghost use Rattle.unl_core.specs.Answer.{answer_of};
 ghost use Rattle.unl_replay.specs.Forms.{line_of};
-ghost use Rattle.unl_replay.specs.Plain.{Gives};
-ghost use Rattle.unl_replay.specs.Replay.{answer_read, apply_text_line, ask_text_line, ask_text_start, put_batch, put_tokens, same_text_line, tokens_text_line};
+ghost use Rattle.unl_replay.specs.Steps.{Steps};
+ghost use Rattle.unl_replay.specs.Replay.{answer_read, ask_text_line, ask_text_start, number_in, put_batch, put_tokens, same_text_line, tokens_text_line, verdict_at, verdict_text_line};
 
-use crate::hydration::Hydration;
-use crate::line::{Line, LineFault, line_of};
+use crate::batch::Hydration;
+use crate::line::{Line, line_of};
+use crate::refusal::Refusal;
 use std::alloc::{AllocError, Global};
 use unl_base::Draw;
 use unl_core::{Book, Desk, OneDesk};
-use unl_documents::{List, State};
 use unl_http_api::{Reply, Request};
+
+/// What becomes of a hydration.
+#[derive(Clone, Copy, Debug, PartialEq, Eq)]
+pub enum Verdict {
+    /// It is taken.
+    Apply,
+    /// The environment stands at its number, which is this one.
+    Repeat(u64),
+    /// The environment stands at this number, which is above its own.
+    Old(u64),
+}
+
+/// The verdict on a hydration, where the environment stands at this number.
+fn verdict_at(standing: Option<u64>, number: u64) -> Verdict
+    ensures { result ≡ verdict_at standing number }
+{
+    match standing {
+        None => Verdict::Apply,
+        Some(stands) if number < stands => Verdict::Old(stands),
+        Some(stands) if number == stands => Verdict::Repeat(stands),
+        Some(_) => Verdict::Apply,
+    }
+}
+
+/// The number at which an environment stands, where it has a state.
+fn number_in(desk: &OneDesk, environment: &str) -> Option<u64>
+    ensures { result ≡ number_in environment.now desk.now.board }
+{
+    match desk.board().snapshot(environment) {
+        None => None,
+        Some(snapshot) => Some(snapshot.version.get().number),
+    }
+}
 
 fn same_line(alloc: Global, number: u64) -> Result<String, AllocError>
     ensures { IfOk result (λ s. string_bytes s ≡ same_text_line number) }
@@ -30,10 +63,16 @@ fn tokens_line(
     format!(in alloc; "{number}: tokens generation {generation} front {front}\n")
 }
 
-fn apply_line(alloc: Global, number: u64, version: u64, front: u64) -> Result<String, AllocError>
-    ensures { IfOk result (λ s. string_bytes s ≡ apply_text_line number version front) }
+fn verdict_line(
+    alloc: Global,
+    number: u64,
+    word: &str,
+    version: u64,
+    front: u64,
+) -> Result<String, AllocError>
+    ensures { IfOk result (λ s. string_bytes s ≡ verdict_text_line number word.now version front) }
 {
-    format!(in alloc; "{number}: apply number {version} front {front}\n")
+    format!(in alloc; "{number}: {word} number {version} front {front}\n")
 }
 
 fn ask_start(alloc: Global, number: u64, front: u64, status: u16) -> Result<String, AllocError>
@@ -58,9 +97,9 @@ fn put_tokens(
     desk: &mut OneDesk,
     number: u64,
     tokens: Book,
-) -> Result<Vec<u8>, LineFault>
+) -> Result<Vec<u8>, Refusal>
     requires { desk.old.front < 2 ^ 64 - 1 }
-    ensures given { Gives result desk.new (Ok (put_tokens number tokens desk.old)) }
+    ensures given { Steps result desk.new (Ok (put_tokens number tokens desk.old)) }
     ensures front { desk.new.front ≤ desk.old.front + 1 }
 {
     match desk.put_book(alloc, tokens)? {
@@ -77,24 +116,27 @@ fn put_batch(
     number: u64,
     environment: &str,
     hydration: Hydration,
-) -> Result<Vec<u8>, LineFault>
+) -> Result<Vec<u8>, Refusal>
     requires { desk.old.front < 2 ^ 64 - 1 }
     ensures front { desk.new.front ≤ desk.old.front + 1 }
-    ensures given { Gives result desk.new
-        (put_batch number environment.now hydration.number (record { features = hydration.features; segments = [] }) desk.old) }
+    ensures given { Steps result desk.new
+        (put_batch number environment.now hydration.number hydration.state desk.old) }
 {
-    if desk.board().snapshot(environment).is_some() {
-        return Err(LineFault::NotBuilt);
-    }
     let Some(slot) = desk.name_slot(alloc, environment)? else {
-        return Err(LineFault::NotBuilt);
+        return Err(Refusal::TooManyEnvironments);
     };
-    let state = State {
-        features: hydration.features,
-        segments: List::new(alloc),
-    };
-    let front = desk.put_state(alloc, slot, hydration.number, state)?;
-    Ok(apply_line(alloc, number, hydration.number, front)?.into_bytes())
+    match verdict_at(number_in(desk, environment), hydration.number) {
+        Verdict::Apply => {
+            let front = desk.put_state(alloc, slot, hydration.number, hydration.state)?;
+            Ok(verdict_line(alloc, number, "apply", hydration.number, front)?.into_bytes())
+        }
+        Verdict::Repeat(stands) => {
+            Ok(verdict_line(alloc, number, "repeat", stands, desk.front())?.into_bytes())
+        }
+        Verdict::Old(stands) => {
+            Ok(verdict_line(alloc, number, "old", stands, desk.front())?.into_bytes())
+        }
+    }
 }
 
 fn ask(
@@ -103,11 +145,11 @@ fn ask(
     number: u64,
     request: &Request,
     draw: &Draw,
-) -> Result<Vec<u8>, LineFault>
+) -> Result<Vec<u8>, Refusal>
     ensures text { IfOk result (λ v. v.items
         ≡ ask_text_line number desk.old.front (answer_of desk.old.board request.now draw.entry.now)) }
     ensures same { desk.new ≡ desk.old }
-    ensures err { IfErr result (λ e. e ≡ LineFault.Memory) }
+    ensures err { IfErr result (λ e. e ≡ Refusal.Memory) }
 {
     let (front, answer) = desk.answer(alloc, request, draw)?;
     Ok(ask_line(alloc, number, front, &answer.reply)?)
@@ -119,9 +161,9 @@ pub fn answer_line(
     desk: &mut OneDesk,
     number: u64,
     bytes: &[u8],
-) -> Result<Vec<u8>, LineFault>
+) -> Result<Vec<u8>, Refusal>
     requires { desk.old.front < 2 ^ 64 - 1 }
-    ensures given { Gives result desk.new (answer_read number desk.old (line_of bytes.now)) }
+    ensures given { Steps result desk.new (answer_read number desk.old (line_of bytes.now)) }
     ensures front { desk.new.front ≤ desk.old.front + 1 }
 {
     match line_of(alloc, bytes)? {

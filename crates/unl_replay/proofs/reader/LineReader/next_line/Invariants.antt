@@ -1,12 +1,15 @@
-use Rattle.std.proofs.Common.{◌≤◌, ◌-◌, length}
-use Rattle.std.specs.Io.KnownBytes.{Consumes, prepend_known}
-use Rattle.unl_replay.proofs.Lines.{IsUnbroken}
+use Rattle.std.proofs.Common.{◌≡◌, ◌≤◌, ◌-◌, length, false}
+use Rattle.unl_replay.specs.Lines.{has_end}
+use Rattle.unl_replay.specs.Reading.{Gets}
 use Rattle.unl_replay.proofs.reader.LineReader.next_line.Given as goal
 
+-- the line so far was taken, and has no end in it
 abbrev pub invariant-bytes : goal.invariant-bytes
-invariant-bytes g l =
-    Consumes (prepend_known l.initial.self (g.S.Source.left l.initial.source)) (prepend_known l.self (g.S.Source.left l.source)) l.line.items
-    × IsUnbroken l.line.items × (g.S.Source.faults l.initial.source ≤ g.S.Source.faults l.source)
+invariant-bytes g l = record {
+  got : Gets l.initial.self (g.S.Source.left l.initial.source) l.line.items l.self (g.S.Source.left l.source);
+  unbroken : has_end l.line.items ≡ false;
+  later : g.S.Source.faults l.initial.source ≤ g.S.Source.faults l.source;
+}
 
 abbrev pub decreases-bytes : goal.decreases-bytes
 decreases-bytes g l = 16777217 - length l.line.items

@@ -1,6 +1,6 @@
 use Rattle.std.proofs.Common.{sym, ◌∙◌}
-use Rattle.unl_replay.proofs.Tokens.{distinct_step, distinct_stop}
-use Rattle.unl_replay.proofs.form.are_distinct.Goals as goal
+use Rattle.unl_replay.proofs.DistinctTexts.{distinct_step, distinct_stop}
+use Rattle.unl_replay.proofs.tokens.are_distinct.Goals as goal
 
 pub returns-then-has_text : goal.returns-then-has_text
 returns-then-has_text c =

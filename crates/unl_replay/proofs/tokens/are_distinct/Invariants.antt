@@ -1,6 +1,6 @@
 use Rattle.std.proofs.Common.{◌≡◌, map, drop}
 use Rattle.unl_replay.specs.Forms.{are_distinct}
-use Rattle.unl_replay.proofs.form.are_distinct.Given as goal
+use Rattle.unl_replay.proofs.tokens.are_distinct.Given as goal
 
 -- what is left decides
 abbrev pub invariant-loop-place : goal.invariant-loop-place

@@ -1,0 +1,102 @@
+//! The ask of a line: a request, and the draw that it is answered with.
+ghost use Rattle.std.specs.Prelude.{◌≡◌, [], IfOk, unwrap_or};
+ghost use Rattle.serde_json.specs.View.{view};
+ghost use Rattle.unl_documents.specs.Reading.{Gives};
+ghost use Rattle.unl_replay.specs.Forms.{ask_of, bytes_or_none, method_by};
+
+use crate::line::Line;
+use serde_json::Value;
+use std::alloc::Global;
+use unl_base::Draw;
+use unl_documents::keys::{defaulted, optional, required};
+use unl_documents::kind::{AnyText, AnyWhole, Kind, Whole};
+use unl_documents::{BadDocument, Field, List, Text};
+use unl_http_api::{Bytes, Method, Request};
+
+/// The last moment that a draw may have, in milliseconds since 1970.
+const LAST_MOMENT: u64 = 100_000_000_000_000;
+
+/// A word for a method: `GET` or `POST`.
+struct MethodWord;
+
+impl Kind for MethodWord {
+    ghost use Rattle.unl_documents.specs.Limits.{Anything};
+    ghost use Rattle.unl_replay.specs.Forms.{method};
+
+    type Out = Method;
+
+    ghost reads = { method };
+
+    ghost is_valid = { Anything };
+
+    #[tactic(auto, unfolding(crate::specs::Forms::method))]
+    fn read(_alloc: Global, field: Field, value: &Value) -> Result<Method, BadDocument> {
+        let Some(word) = value.as_str() else {
+            return Err(BadDocument::WrongKind(field));
+        };
+        method_by(field, word)
+    }
+}
+
+fn method_by(field: Field, word: &str) -> Result<Method, BadDocument>
+    ensures { result ≡ method_by field word.now }
+{
+    match word {
+        "GET" => Ok(Method::Get),
+        "POST" => Ok(Method::Post),
+        _ => Err(BadDocument::WrongKind(field)),
+    }
+}
+
+/// The bytes of a text.
+fn bytes_of(text: Text) -> Bytes
+    ensures { result ≡ text }
+{
+    List::from_vec(text.into_bytes())
+}
+
+/// The bytes of a text, where there is one.
+fn some_bytes(text: Option<Text>) -> Option<Bytes>
+    ensures { result ≡ text }
+{
+    match text {
+        Some(text) => Some(bytes_of(text)),
+        None => None,
+    }
+}
+
+/// The bytes of a text, or none where there is no text.
+fn bytes_or_none(alloc: Global, text: Option<Text>) -> Bytes
+    ensures { result ≡ bytes_or_none text }
+{
+    match text {
+        Some(text) => bytes_of(text),
+        None => List::new(alloc),
+    }
+}
+
+#[tactic(auto, unfolding(crate::specs::Forms::ask_of))]
+pub fn ask_of(alloc: Global, object: &Value) -> Result<Line, BadDocument>
+    ensures { Gives result (ask_of (view object.now)) }
+{
+    let target = required::<AnyText>(alloc, Field::Target, object)?;
+    let token = optional::<AnyText>(alloc, Field::Token, object)?;
+    let tag = optional::<AnyText>(alloc, Field::Tag, object)?;
+    let spec = optional::<AnyText>(alloc, Field::Spec, object)?;
+    let body = optional::<AnyText>(alloc, Field::Body, object)?;
+    let method = defaulted::<MethodWord>(alloc, Method::Get, Field::Method, object)?;
+    let now = defaulted::<Whole<LAST_MOMENT>>(alloc, 0, Field::Now, object)?;
+    let word = defaulted::<AnyWhole>(alloc, 0, Field::Word, object)?;
+    Ok(Line::Ask {
+        request: Request {
+            method,
+            target: bytes_of(target),
+            token: some_bytes(token),
+            tag: some_bytes(tag),
+            spec: some_bytes(spec),
+            close: false,
+            body: bytes_or_none(alloc, body),
+        },
+        draw: Draw { now, word },
+    })
+}
