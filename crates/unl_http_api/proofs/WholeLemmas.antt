@@ -1,5 +1,5 @@
 -- Whole requests are a session.
-use Rattle.std.proofs.Common.{◌≡◌, ℕ, ◌+◌, ◌≤◌, suc, zero, Bool, true, false, List, [], ◌∷◌, length, refl, ap, arith}
+use Rattle.std.proofs.Common.{◌≡◌, ℕ, ◌≤◌, suc, zero, Bool, true, false, List, [], ◌∷◌, length, refl, ap, arith}
 use Rattle.unl_http_api.specs.declared.request.Request.{Request}
 use Rattle.unl_http_api.specs.declared.end.End.{End}
 use Rattle.unl_http_api.specs.declared.end.End.TheVariants.{Closed, Asked, Limit, Refused, CutOff, ReadFault, WriteFault, Memory}
@@ -15,12 +15,12 @@ has_one_of bytes (asked, end, session) = record {
   only = λ other ending it. Session_unique bytes asked other end ending session it;
 }
 
-open_longer : (n : ℕ) (q : Request) (qs : List Request) → q.close ≡ false → IsOpen n qs → IsOpen (n + 1) (q ∷ qs)
+open_longer : (n : ℕ) (q : Request) (qs : List Request) → q.close ≡ false → IsOpen n qs → IsOpen (suc n) (q ∷ qs)
 open_longer n q qs stays x = record { few = omega (arith, x.few); open_all = (stays, x.open_all) }
 
 -- a request that stays open comes before
 ends_longer : (n : ℕ) (q : Request) (qs : List Request) (rest : List ℕ) (e : End) → q.close ≡ false → EndsSo n qs rest e
-    → EndsSo (n + 1) (q ∷ qs) rest e
+    → EndsSo (suc n) (q ∷ qs) rest e
 ends_longer n q qs rest Asked stays x = (
   record {
     before = q ∷ x.0.before;
@@ -48,12 +48,12 @@ unfolding EndsRegularly
 none_left zero = (Limit, tt, (tt, refl))
 none_left (suc n) = (Closed, tt, (record { few = omega arith; open_all = tt }, refl))
 
-more_left : (n : ℕ) (q : Request) (qs : List Request) → q.close ≡ false → EndsRegularly n qs → EndsRegularly (n + 1) (q ∷ qs)
+more_left : (n : ℕ) (q : Request) (qs : List Request) → q.close ≡ false → EndsRegularly n qs → EndsRegularly (suc n) (q ∷ qs)
 unfolding EndsRegularly
 more_left n q qs stays (end, regular, ends) = (end, regular, ends_longer n q qs [] end stays ends)
 
 -- the last request
-last_left : (n : ℕ) (q : Request) (close : Bool) → q.close ≡ close → EndsRegularly (n + 1) (q ∷ [])
+last_left : (n : ℕ) (q : Request) (close : Bool) → q.close ≡ close → EndsRegularly (suc n) (q ∷ [])
 unfolding EndsRegularly
 last_left n q true is = (
   Asked,
