@@ -1,0 +1,17 @@
+-- How a fault of a document is printed.
+use Rattle.std.specs.Prelude.{ℕ, List, [], ◌++◌, codes, decimal}
+use Rattle.serde_json.specs.Data.{string}
+use Rattle.serde_json.specs.Written.{compact_text}
+use Rattle.unl_documents.specs.declared.fault.BadDocument.{BadDocument}
+use Rattle.unl_documents.specs.declared.fault.BadDocument.TheVariants.{NotJson, Missing, WrongKind, TooLarge, DuplicateName, NotWhole, Memory}
+use Rattle.unl_documents.specs.Key.{key_of}
+
+-- The cause, the key, and what was found there: a number, or a name as a JSON string. Want of memory is no fault of a document.
+unfoldable pub fault_text : BadDocument → List ℕ
+fault_text NotJson = codes "NotJson"
+fault_text (Missing field) = codes "Missing " ++ key_of field
+fault_text (WrongKind field) = codes "WrongKind " ++ key_of field
+fault_text (TooLarge field n) = codes "TooLarge " ++ (key_of field ++ (codes " " ++ decimal n))
+fault_text (DuplicateName field name) = codes "DuplicateName " ++ (key_of field ++ (codes " " ++ compact_text (string name)))
+fault_text (NotWhole field) = codes "NotWhole " ++ key_of field
+fault_text Memory = []
