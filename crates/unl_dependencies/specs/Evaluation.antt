@@ -12,45 +12,31 @@ use Rattle.unl_documents.specs.declared.variant.Variant.{Variant}
 use Rattle.unl_context.specs.Context.{Fields}
 use Rattle.unl_strategies.specs.declared.moment.Mark.{Mark}
 use Rattle.unl_strategies.specs.declared.moment.Mark.TheVariants as mark
-use Rattle.unl_strategies.specs.declared.moment.Moment.{Moment}
+use Rattle.unl_strategies.specs.Moment.{Moment}
 use Rattle.unl_strategies.specs.Random.{random_number, random_id}
 use Rattle.unl_strategies.specs.Strategy.{is_active, parameter_or}
 use Rattle.unl_variants.specs.Variant.{choice_of, is_among}
 use Rattle.unl_dependencies.specs.declared.evaluation.Evaluation.{Evaluation}
 use Rattle.unl_dependencies.specs.declared.evaluation.VariantAnswer.{VariantAnswer}
 
--- a moment by its plain values: the milliseconds since 1970, the word of the random numbers, and the host's name
-pub record PlainMoment : Type 0 where
-  pub now : ℕ
-  pub word : ℕ
-  pub host : List ℕ
-
--- the plain values of a moment
-abbrev pub plain : Moment → PlainMoment
-plain moment = record { now = moment.now; word = moment.word; host = moment.host.now }
-
--- a moment of these values, wherever its host's name stands
-abbrev pub moment_of : PlainMoment → Moment
-moment_of m = record { now = m.now; word = m.word; host = record { ref_ptr = (0, 0); now = m.host } }
-
 -- the least place, from this one on, whose strategy is active
-unfoldable pub active_from : ℕ → List Strategy → List ℕ → List Segment → Fields → PlainMoment → Option ℕ
+unfoldable pub active_from : ℕ → List Strategy → List ℕ → List Segment → Fields → Moment → Option ℕ
 active_from place [] feature segments context moment = None
 active_from place (s ∷ ss) feature segments context moment =
-    if is_active s feature place segments context (moment_of moment) then Some place
+    if is_active s feature place segments context moment then Some place
     else active_from (place + 1) ss feature segments context moment
 
 -- the least place whose strategy is active
-unfoldable pub first_active : Feature → List Segment → Fields → PlainMoment → Option ℕ
+unfoldable pub first_active : Feature → List Segment → Fields → Moment → Option ℕ
 first_active f segments context moment = active_from 0 f.strategies f.name segments context moment
 
 -- enabled, with its dependencies met, and with no strategy or with one that is active
-unfoldable pub is_on : Bool → Feature → List Segment → Fields → PlainMoment → Bool
+unfoldable pub is_on : Bool → Feature → List Segment → Fields → Moment → Bool
 is_on met f segments context moment =
     f.enabled && (met && (length f.strategies == 0 || is_some (first_active f segments context moment)))
 
 -- the random id's number for what the mark names
-abbrev pub random_of : Feature → Mark → PlainMoment → ℕ
+abbrev pub random_of : Feature → Mark → Moment → ℕ
 random_of f mark moment = random_id (random_number f.name mark moment.word)
 
 -- the variant that is chosen in a group
@@ -62,16 +48,16 @@ abbrev pub group_of : Feature → Strategy → List ℕ
 group_of f s = parameter_or f.name (codes "groupId") s.parameters
 
 -- the variant of the strategy at a place
-unfoldable pub strategy_variant : Feature → Fields → PlainMoment → ℕ → Option Variant
+unfoldable pub strategy_variant : Feature → Fields → Moment → ℕ → Option Variant
 strategy_variant f context moment place =
     option_and_then (λ s. variant_in (group_of f s) s.variants context (random_of f (mark.Strategy place) moment)) (slice_get f.strategies place)
 
 -- the feature's own variant
-unfoldable pub own_variant : Feature → Fields → PlainMoment → Option Variant
+unfoldable pub own_variant : Feature → Fields → Moment → Option Variant
 own_variant f context moment = variant_in f.name f.variants context (random_of f mark.Own moment)
 
 -- the variant of the first active strategy, or else the feature's own
-unfoldable pub variant_of : Feature → Fields → PlainMoment → Option ℕ → Option Variant
+unfoldable pub variant_of : Feature → Fields → Moment → Option ℕ → Option Variant
 variant_of f context moment first = option_or (option_and_then (strategy_variant f context moment) first) (own_variant f context moment)
 
 -- what is answered of a variant
@@ -88,7 +74,7 @@ abbrev pub on_with : Option Variant → Evaluation
 on_with variant = record { on = true; variant = answer_of variant }
 
 -- the evaluation of a feature of which it is known whether its dependencies are met
-unfoldable pub evaluation_where : Bool → Feature → List Segment → Fields → PlainMoment → Evaluation
+unfoldable pub evaluation_where : Bool → Feature → List Segment → Fields → Moment → Evaluation
 evaluation_where met f segments context moment =
     if is_on met f segments context moment then on_with (variant_of f context moment (first_active f segments context moment)) else off
 
@@ -102,23 +88,23 @@ agrees d parent =
     if d.enabled then parent.on && (length d.variants == 0 || is_among d.variants parent.variant.name) else not parent.on
 
 -- a parent has no dependencies of its own, and agrees
-unfoldable pub is_met_by : List Segment → Fields → PlainMoment → Dependency → Feature → Bool
+unfoldable pub is_met_by : List Segment → Fields → Moment → Dependency → Feature → Bool
 is_met_by segments context moment d parent =
     length parent.dependencies == 0 && agrees d (evaluation_where true parent segments context moment)
 
 -- the state has the parent, and it meets the dependency
-unfoldable pub is_met : State → Fields → PlainMoment → Dependency → Bool
+unfoldable pub is_met : State → Fields → Moment → Dependency → Bool
 is_met state context moment d = option_map_or (is_met_by state.segments context moment d) (feature_named d.feature state.features) false
 
 -- all of them are met
-unfoldable pub dependencies_met : List Dependency → State → Fields → PlainMoment → Bool
+unfoldable pub dependencies_met : List Dependency → State → Fields → Moment → Bool
 dependencies_met dependencies state context moment = list_all (is_met state context moment) dependencies
 
 -- the evaluation of a feature over a state
-unfoldable pub feature_evaluation : State → Feature → Fields → PlainMoment → Evaluation
+unfoldable pub feature_evaluation : State → Feature → Fields → Moment → Evaluation
 feature_evaluation state f context moment =
     evaluation_where (dependencies_met f.dependencies state context moment) f state.segments context moment
 
 -- the evaluation of the feature of a name, or none where the state lacks it
-unfoldable pub evaluation_of : State → List ℕ → Fields → PlainMoment → Option Evaluation
+unfoldable pub evaluation_of : State → List ℕ → Fields → Moment → Option Evaluation
 evaluation_of state name context moment = option_map (λ f. feature_evaluation state f context moment) (feature_named name state.features)

@@ -4,7 +4,7 @@ ghost use Rattle.std.specs.List.{list_all};
 ghost use Rattle.unl_documents.specs.States.{IsValidState};
 ghost use Rattle.unl_documents.specs.Valid.{IsValidFeature};
 ghost use Rattle.unl_variants.specs.Variant.{is_among as among};
-ghost use Rattle.unl_dependencies.specs.Evaluation.{plain, is_met as met, is_met_by as met_by, agrees as agreeing, dependencies_met};
+ghost use Rattle.unl_dependencies.specs.Evaluation.{is_met as met, is_met_by as met_by, agrees as agreeing, dependencies_met};
 
 use crate::evaluation::Evaluation;
 use crate::finding::feature_named;
@@ -24,7 +24,7 @@ pub(crate) fn all_met(
     moment: &Moment,
 ) -> Result<bool, Memory>
     requires valid { IsValidState state.now }
-    ensures { IfOk result (λ b. b ≡ dependencies_met dependencies.now state.now context.now (plain moment.entry.now)) }
+    ensures { IfOk result (λ b. b ≡ dependencies_met dependencies.now state.now context.now moment.entry.now) }
 {
     for dependency in dependencies {
         if !is_met(alloc, dependency, state, context, moment)? {
@@ -43,7 +43,7 @@ fn is_met(
     moment: &Moment,
 ) -> Result<bool, Memory>
     requires valid { IsValidState state.now }
-    ensures { IfOk result (λ b. b ≡ met state.now context.now (plain moment.entry.now) dependency.now) }
+    ensures { IfOk result (λ b. b ≡ met state.now context.now moment.entry.now dependency.now) }
 {
     match feature_named(&state.features, dependency.feature.as_str()) {
         None => Ok(false),
@@ -62,7 +62,7 @@ fn is_met_by(
     moment: &Moment,
 ) -> Result<bool, Memory>
     requires parent { IsValidFeature parent.now }
-    ensures { IfOk result (λ b. b ≡ met_by segments.now context.now (plain moment.entry.now) dependency.now parent.now) }
+    ensures { IfOk result (λ b. b ≡ met_by segments.now context.now moment.entry.now dependency.now parent.now) }
 {
     if !parent.dependencies.is_empty() {
         return Ok(false);

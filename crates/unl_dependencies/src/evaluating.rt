@@ -2,7 +2,7 @@
 ghost use Rattle.std.specs.Prelude.{◌≡◌, IfOk};
 ghost use Rattle.unl_documents.specs.States.{IsValidState};
 ghost use Rattle.unl_documents.specs.Valid.{IsValidFeature};
-ghost use Rattle.unl_dependencies.specs.Evaluation.{plain, feature_evaluation, evaluation_of};
+ghost use Rattle.unl_dependencies.specs.Evaluation.{feature_evaluation, evaluation_of};
 
 use crate::dependencies::all_met;
 use crate::evaluation::Evaluation;
@@ -24,7 +24,7 @@ pub fn evaluate(
     moment: &Moment,
 ) -> Result<Option<Evaluation>, Memory>
     requires valid { IsValidState state.now }
-    ensures value { IfOk result (λ found. found ≡ evaluation_of state.now name.now context.now (plain moment.entry.now)) }
+    ensures value { IfOk result (λ found. found ≡ evaluation_of state.now name.now context.now moment.entry.now) }
 {
     match feature_named(&state.features, name) {
         None => Ok(None),
@@ -44,7 +44,7 @@ pub fn evaluate_feature(
 ) -> Result<Evaluation, Memory>
     requires valid { IsValidState state.now }
     requires feature { IsValidFeature feature.now }
-    ensures value { IfOk result (λ e. e ≡ feature_evaluation state.now feature.now context.now (plain moment.entry.now)) }
+    ensures value { IfOk result (λ e. e ≡ feature_evaluation state.now feature.now context.now moment.entry.now) }
 {
     let met = all_met(
         alloc,

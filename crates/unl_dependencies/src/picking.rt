@@ -1,13 +1,13 @@
 //! Whether a feature is on, and its variant, once it is known whether its dependencies are met.
-ghost use Rattle.std.specs.Prelude.{◌≡◌, ◌<◌, Option, length, IfOk, IfSome, option_map};
+ghost use Rattle.std.specs.Prelude.{◌≡◌, ◌≤◌, length, IfOk, option_map};
 ghost use Rattle.unl_documents.specs.Valid.{IsValidFeature};
 ghost use Rattle.unl_variants.specs.Variant.{AreWithinLimits};
-ghost use Rattle.unl_dependencies.specs.Evaluation.{plain, first_active as first_active_of, active_from, strategy_variant as variant_of_strategy, own_variant as own_variant_of, variant_of as variant_of_feature, variant_in as variant_chosen_in, evaluation_where, on_with};
+ghost use Rattle.unl_dependencies.specs.Evaluation.{first_active as first_active_of, active_from, strategy_variant as variant_of_strategy, own_variant as own_variant_of, variant_of as variant_of_feature, variant_in as variant_chosen_in, evaluation_where, on_with};
 
 use crate::evaluation::Evaluation;
 use std::alloc::Global;
 use unl_context::Context;
-use unl_documents::{Feature, List, Memory, Segment, Shared, Strategy, Variant};
+use unl_documents::{Feature, List, Memory, Segment, Shared, Strategy, Text, Variant};
 use unl_strategies::{Mark, Moment, active, parameter_or, random_for, random_id};
 use unl_variants::choose;
 
@@ -22,7 +22,7 @@ pub(crate) fn evaluate_where(
     moment: &Moment,
 ) -> Result<Evaluation, Memory>
     requires valid { IsValidFeature feature.now }
-    ensures { IfOk result (λ e. e ≡ evaluation_where met feature.now segments.now context.now (plain moment.entry.now)) }
+    ensures { IfOk result (λ e. e ≡ evaluation_where met feature.now segments.now context.now moment.entry.now) }
 {
     if !feature.enabled || !met {
         return Evaluation::off(alloc);
@@ -44,18 +44,27 @@ fn first_active(
     moment: &Moment,
 ) -> Result<Option<u32>, Memory>
     requires valid { IsValidFeature feature.now }
-    ensures { IfOk result (λ first. first ≡ first_active_of feature.now segments.now context.now (plain moment.entry.now)) }
+    ensures { IfOk result (λ first. first ≡ first_active_of feature.now segments.now context.now moment.entry.now) }
+{
+    let strategies = feature.strategies.as_slice();
+    first_among(alloc, strategies, &feature.name, segments, context, moment)
+}
+
+fn first_among(
+    alloc: Global,
+    strategies: &[Strategy],
+    feature: &Text,
+    segments: &List<Shared<Segment>>,
+    context: &Context,
+    moment: &Moment,
+) -> Result<Option<u32>, Memory>
+    requires few { length strategies.now ≤ 100 }
+    ensures { IfOk result (λ first. first ≡ active_from 0 strategies.now feature.now segments.now context.now moment.entry.now) }
 {
     let mut place = 0;
-    for strategy in feature.strategies.as_slice() {
+    for strategy in strategies {
         if active(
-            alloc,
-            strategy,
-            &feature.name,
-            place,
-            segments,
-            context,
-            moment,
+            alloc, strategy, feature, place, segments, context, moment,
         )? {
             return Ok(Some(place));
         }
@@ -73,7 +82,7 @@ fn variant_of<'a>(
     first: Option<u32>,
 ) -> Option<&'a Variant>
     requires valid { IsValidFeature feature.now }
-    ensures { option_map (λ v. v.now) result ≡ variant_of_feature feature.now context.now (plain moment.entry.now) first }
+    ensures { option_map (λ v. v.now) result ≡ variant_of_feature feature.now context.now moment.entry.now first }
 {
     match first {
         None => own_variant(feature, context, moment),
@@ -93,7 +102,7 @@ fn strategy_variant<'a>(
     place: u32,
 ) -> Option<&'a Variant>
     requires valid { IsValidFeature feature.now }
-    ensures { option_map (λ v. v.now) result ≡ variant_of_strategy feature.now context.now (plain moment.entry.now) place }
+    ensures { option_map (λ v. v.now) result ≡ variant_of_strategy feature.now context.now moment.entry.now place }
 {
     let strategy = feature.strategies.get(place as usize)?;
     let group = parameter_or(&strategy.parameters, "groupId", feature.name.as_str());
@@ -105,7 +114,7 @@ fn strategy_variant<'a>(
 #[tactic(auto, unfolding(crate::specs::Evaluation::own_variant))]
 fn own_variant<'a>(feature: &'a Feature, context: &Context, moment: &Moment) -> Option<&'a Variant>
     requires valid { IsValidFeature feature.now }
-    ensures { option_map (λ v. v.now) result ≡ own_variant_of feature.now context.now (plain moment.entry.now) }
+    ensures { option_map (λ v. v.now) result ≡ own_variant_of feature.now context.now moment.entry.now }
 {
     let name = feature.name.as_str();
     let random = random_for(name, Mark::Own, moment.word);

@@ -1,6 +1,6 @@
 -- Which of a list of variants is chosen, as the Unleash reference on variants says it. The seed, and that the first variant's stickiness tells the id, are this project's choice.
-use Rattle.std.specs.Prelude.{◌≡◌, ℕ, ◌+◌, ◌<◌, ◌≤◌, List, [], ◌∷◌, codes, length, take, All, Bool, true, false, ◌||◌, ◌==◌, nat_le, MatchBool, Option, Some, None, unwrap_or, decimal, if◌then◌else◌}
-use Rattle.std.specs.List.{sum_by, list_any, position_from, HoldsAt, AllWithin}
+use Rattle.std.specs.Prelude.{◌≡◌, ℕ, ◌+◌, ◌<◌, ◌≤◌, List, [], ◌∷◌, codes, length, take, All, Bool, true, false, ◌||◌, ◌==◌, nat_le, position, MatchBool, Option, Some, None, unwrap_or, decimal, if◌then◌else◌}
+use Rattle.std.specs.List.{sum_by, list_any, HoldsAt, AllWithin}
 use Rattle.std.specs.Option.{option_or, option_map_or}
 use Rattle.std.specs.Str.{bytes_eq}
 use Rattle.unl_documents.specs.declared.variant.Override.{Override}
@@ -88,10 +88,10 @@ sums_from before (v ∷ vs) = (before + v.weight) ∷ sums_from (before + v.weig
 
 -- the first place where the sum reaches the target
 unfoldable pub place_reached : ℕ → List Variant → Option ℕ
-place_reached target variants = position_from (λ sum. nat_le target sum) 0 (sums_from 0 variants)
+place_reached target variants = position (λ sum. nat_le target sum) (sums_from 0 variants)
 
 -- the place that is chosen, as a function
 unfoldable pub choice_of : List ℕ → List Variant → Fields → ℕ → Option ℕ
 choice_of group variants context random =
     if total_weight variants == 0 then None
-    else option_or (position_from (is_overridden context) 0 variants) (place_reached (target_of group variants context random) variants)
+    else option_or (position (is_overridden context) variants) (place_reached (target_of group variants context random) variants)

@@ -17,7 +17,6 @@ const SEED: u32 = 86_028_157;
 ///
 /// The first variant with an override for the context is chosen, or else the first one whose weight, with those before
 /// it, reaches a number from 1 to the sum of all weights: the hash of the group and the id.
-#[tactic(auto, unfolding(crate::specs::Variant::choice_of))]
 pub fn choose(
     group: &str,
     variants: &List<Variant>,
@@ -31,23 +30,31 @@ pub fn choose(
     ensures none { is_none result ≡ (total_weight_of variants.now == 0) }
     ensures inside { IfSome result (λ place. place < length variants.now) }
 {
-    let total = total_weight(variants.as_slice());
+    chosen_place(group, variants.as_slice(), context, random)
+}
+
+/// The place that is chosen: an override counts before any draw.
+fn chosen_place(group: &str, variants: &[Variant], context: &Context, random: u32) -> Option<usize>
+    requires limits { AreWithinLimits variants.now }
+    ensures { IsChosen group.now variants.now context.now random result }
+{
+    let total = total_weight(variants);
     if total == 0 {
         return None;
     }
-    if let Some(place) = first_overridden(variants.as_slice(), context) {
+    if let Some(place) = first_overridden(variants, context) {
         return Some(place);
     }
-    let target = target(group, variants.as_slice(), context, random, total);
-    place_reached(variants.as_slice(), target)
+    place_reached(variants, target(group, variants, context, random, total))
 }
 
 /// The number that the weights have to reach.
-#[tactic(auto, unfolding(crate::specs::Variant::target_of, crate::specs::Variant::id_of))]
+#[tactic(auto, unfolding(crate::specs::Variant::target_of, crate::specs::Variant::id_of, unl_murmur::specs::Murmur3::normalized_of))]
 fn target(group: &str, variants: &[Variant], context: &Context, random: u32, total: u32) -> u32
     requires some { 0 < total }
     requires all { total ≡ total_weight_of variants.now }
-    ensures { result ≡ target_of group.now variants.now context.now random }
+    ensures value { result ≡ target_of group.now variants.now context.now random }
+    ensures above { 0 < result }
 {
     match sticky_text(stickiness_of(variants), context) {
         Some(id) => normalized(group, id, total, SEED),

@@ -1,5 +1,5 @@
-ghost use Rattle.std.specs.Prelude.{◌≡◌};
-ghost use Rattle.std.specs.List.{position_from, list_any};
+ghost use Rattle.std.specs.Prelude.{◌≡◌, position};
+ghost use Rattle.std.specs.List.{list_any};
 ghost use Rattle.unl_variants.specs.Variant.{is_among as among, is_meant as meant, is_overridden as overridden};
 
 use unl_context::Context;
@@ -7,7 +7,7 @@ use unl_documents::{Override, Text, Variant};
 
 /// The place of the first variant that an override gives to a context.
 pub(crate) fn first_overridden(variants: &[Variant], context: &Context) -> Option<usize>
-    ensures { result ≡ position_from (overridden context.now) 0 variants.now }
+    ensures { result ≡ position (overridden context.now) variants.now }
 {
     variants.iter().position(|variant| has_override(variant.overrides.as_slice(), context))
 }

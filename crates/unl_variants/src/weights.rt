@@ -1,5 +1,5 @@
-ghost use Rattle.std.specs.Prelude.{◌≡◌};
-ghost use Rattle.unl_variants.specs.Variant.{AreWithinLimits, total_weight as total_weight_of, place_reached as place_reached_by};
+ghost use Rattle.std.specs.Prelude.{◌≡◌, ◌<◌, IfSome, IfNone};
+ghost use Rattle.unl_variants.specs.Variant.{AreWithinLimits, total_weight as total_weight_of, IsReached};
 
 use unl_documents::Variant;
 
@@ -16,10 +16,11 @@ pub(crate) fn total_weight(variants: &[Variant]) -> u32
 }
 
 /// The first place whose weight, with those before it, reaches the target.
-#[tactic(auto, unfolding(crate::specs::Variant::place_reached))]
 pub(crate) fn place_reached(variants: &[Variant], target: u32) -> Option<usize>
     requires limits { AreWithinLimits variants.now }
-    ensures { result ≡ place_reached_by target variants.now }
+    requires some { 0 < target }
+    ensures reached { IfSome result (IsReached target variants.now) }
+    ensures too_far { IfNone result (total_weight_of variants.now < target) }
 {
     let mut reached = 0;
     for (place, variant) in variants.iter().enumerate() {
