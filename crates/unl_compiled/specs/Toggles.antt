@@ -1,0 +1,45 @@
+-- The body of the frontend endpoints: the toggles of a state, in the order of their names.
+use Rattle.std.specs.Prelude.{Bool, ◌||◌, filter_map, Option, Some, None, option_map, if◌then◌else◌}
+use Rattle.serde_json.specs.Data.{Data, boolean, string, array, object, no_members}
+use Rattle.serde_json.specs.View.{items_of}
+use Rattle.unl_context.specs.Context.{Fields}
+use Rattle.unl_dependencies.specs.declared.evaluation.Evaluation.{Evaluation}
+use Rattle.unl_dependencies.specs.declared.evaluation.VariantAnswer.{VariantAnswer}
+use Rattle.unl_dependencies.specs.Evaluation.{feature_evaluation}
+use Rattle.unl_documents.specs.declared.feature.Feature.{Feature}
+use Rattle.unl_documents.specs.declared.field.Field.TheVariants as field
+use Rattle.unl_documents.specs.declared.state.State.{State}
+use Rattle.unl_documents.specs.Writing.{with, with_some, payload_data}
+use Rattle.unl_strategies.specs.Moment.{Moment}
+
+-- the variant of a feature that is on or off
+unfoldable pub variant_data : Bool → VariantAnswer → Data
+variant_data on v = object (
+    with_some field.Payload (option_map payload_data v.payload) (
+    with field.Enabled (boolean v.enabled) (
+    with field.FeatureEnabled (boolean on) (
+    with field.Name (string v.name)
+    no_members))))
+
+-- a feature as a client sees it
+unfoldable pub toggle_data : Feature → Evaluation → Data
+toggle_data f e = object (
+    with field.Enabled (boolean e.on) (
+    with field.ImpressionData (boolean f.impression) (
+    with field.Name (string f.name) (
+    with field.Variant (variant_data e.on e.variant)
+    no_members))))
+
+-- a toggle where all are asked for, or where it is on
+abbrev pub toggle_if : Bool → Feature → Evaluation → Option Data
+toggle_if all f e = if all || e.on then Some (toggle_data f e) else None
+
+-- the toggle of a feature over a state
+unfoldable pub toggle_of : State → Bool → Fields → Moment → Feature → Option Data
+toggle_of state all context moment f = toggle_if all f (feature_evaluation state f context moment)
+
+-- the toggles of a state: all of them, or those that are on
+unfoldable pub toggles_data : State → Bool → Fields → Moment → Data
+toggles_data state all context moment = object (
+    with field.Toggles (array (items_of (filter_map (toggle_of state all context moment) state.features)))
+    no_members)

@@ -1,0 +1,136 @@
+ghost use Rattle.std.specs.Prelude.{◌≡◌, false, Some, IfOk};
+ghost use Rattle.serde_json.specs.View.{view};
+ghost use Rattle.serde_json.specs.Written.{has_float};
+ghost use Rattle.unl_compiled.specs.Toggles.{toggles_data};
+ghost use Rattle.unl_delta.specs.declared.batch.Verdict.TheVariants.{Apply};
+ghost use Rattle.unl_delta.specs.Batch.{verdict_of, next_version};
+ghost use Rattle.unl_delta.specs.Valid.{IsValidBatch, IsValidVersion};
+ghost use Rattle.unl_delta.specs.View.{view_of};
+ghost use Rattle.unl_dependencies.specs.Evaluation.{evaluation_of};
+ghost use Rattle.unl_documents.specs.States.{IsValidState};
+ghost use Rattle.unl_tokens.specs.Names.{sees};
+
+use crate::toggles::toggles_of;
+use serde_json::Value;
+use std::alloc::Global;
+use std::marker::Model;
+use unl_context::Context;
+use unl_delta::{Batch, EnvVersion, Place, apply, view};
+use unl_dependencies::{Evaluation, evaluate};
+use unl_documents::{Memory, Shared, State};
+use unl_strategies::Moment;
+use unl_tokens::Projects;
+
+/// A version of an environment, as answers are computed over it. Contracts see the version, which
+/// is valid.
+#[derive(Drop)]
+pub struct Snapshot {
+    version: Shared<EnvVersion>,
+}
+
+impl Model for Snapshot {
+    ghost use Rattle.unl_delta.specs.declared.version.EnvVersion.{EnvVersion};
+    ghost use Rattle.unl_delta.specs.Valid.{IsValidVersion};
+
+    ghost Value = { EnvVersion };
+
+    ghost view = { λ s. s.version };
+
+    ghost invariant = { λ s. IsValidVersion s.version };
+}
+
+impl Snapshot {
+    /// The snapshot of a version.
+    pub fn build(alloc: Global, version: EnvVersion) -> Result<Snapshot, Memory>
+        requires { IsValidVersion version }
+        ensures { IfOk result (λ s. s ≡ version) }
+    {
+        Ok(Snapshot {
+            version: Shared::new(alloc, version)?,
+        })
+    }
+
+    /// The snapshot of the version after a batch that applies at the place where this one's version
+    /// stands.
+    pub fn next(&self, alloc: Global, place: &Place, batch: &Batch) -> Result<Snapshot, Memory>
+        requires place { place.now.version ≡ Some self.now }
+        requires batch { IsValidBatch batch.now }
+        requires applies { verdict_of place.now batch.now ≡ Apply }
+        ensures { IfOk result (λ s. s ≡ next_version place.now batch.now) }
+    {
+        Snapshot::build(alloc, next_of(alloc, self.version(), place, batch)?)
+    }
+
+    /// The version. Takes no memory.
+    pub fn version(&self) -> &EnvVersion
+        ensures version { result.now ≡ self.now }
+        ensures valid { IsValidVersion result.now }
+    {
+        self.version.get()
+    }
+
+    /// The version, as a place holds it.
+    pub fn shared(&self, _alloc: Global) -> Result<Shared<EnvVersion>, Memory>
+        ensures { IfOk result (λ v. v ≡ self.now) }
+    {
+        self.version.copy()
+    }
+
+    /// The evaluation of the feature of a name, among the features whose project is seen. None
+    /// exactly where there is no such feature among them.
+    pub fn evaluate(
+        &self,
+        alloc: Global,
+        name: &str,
+        projects: &Projects,
+        context: &Context,
+        moment: &Moment,
+    ) -> Result<Option<Evaluation>, Memory>
+        ensures { IfOk result (λ found. found ≡ evaluation_of (view_of (sees projects.now) self.now.state) name.now context.now moment.entry.now) }
+    {
+        let seen = self.seen(alloc, projects)?;
+        evaluate(alloc, &seen, name, context, moment)
+    }
+
+    /// The body of the frontend endpoints: the toggles of the features whose project is seen, all
+    /// of them or those that are on, in the order of their names.
+    pub fn toggles(
+        &self,
+        alloc: Global,
+        projects: &Projects,
+        all: bool,
+        context: &Context,
+        moment: &Moment,
+    ) -> Result<Value, Memory>
+        ensures toggles { IfOk result (λ v. view v ≡ toggles_data (view_of (sees projects.now) self.now.state) all context.now moment.entry.now) }
+        ensures no_float { IfOk result (λ v. has_float (view v) ≡ false) }
+    {
+        let seen = self.seen(alloc, projects)?;
+        toggles_of(alloc, &seen, all, context, moment)
+    }
+
+    /// What is seen of the state.
+    fn seen(&self, alloc: Global, projects: &Projects) -> Result<State, Memory>
+        ensures view { IfOk result (λ s. s ≡ view_of (sees projects.now) self.now.state) }
+        ensures valid { IfOk result IsValidState }
+    {
+        view(alloc, &self.version().state, projects)
+    }
+}
+
+/// The version of a place after a batch that applies there.
+fn next_of(
+    alloc: Global,
+    version: &EnvVersion,
+    place: &Place,
+    batch: &Batch,
+) -> Result<EnvVersion, Memory>
+    requires valid { IsValidVersion version.now }
+    requires place { place.now.version ≡ Some version.now }
+    requires batch { IsValidBatch batch.now }
+    requires applies { verdict_of place.now batch.now ≡ Apply }
+    ensures next { IfOk result (λ v. v ≡ next_version place.now batch.now) }
+    ensures valid { IfOk result IsValidVersion }
+{
+    apply(alloc, place, batch)
+}
