@@ -1,0 +1,60 @@
+-- The token that a request shows, and what stands for it.
+use Rattle.std.specs.Prelude.{ℕ, List, Bool, true, false, Option, Some, None, option_map, option_and_then, slice_get, if◌then◌else◌, Result, Ok, Err}
+use Rattle.unl_delta.specs.declared.version.EnvVersion.{EnvVersion}
+use Rattle.unl_http_api.specs.declared.request.Request.{Request}
+use Rattle.unl_tokens.specs.declared.kind.Kind.{Kind}
+use Rattle.unl_tokens.specs.declared.kind.Kind.TheVariants.{Client, Frontend}
+use Rattle.unl_tokens.specs.declared.token.Token.{Token}
+use Rattle.unl_tokens.specs.Books.{place_of}
+use Rattle.unl_core.specs.declared.board.Board.{Board}
+use Rattle.unl_core.specs.declared.shown.Unseen.{Unseen}
+use Rattle.unl_core.specs.declared.shown.Unseen.TheVariants.{NoToken, UnknownToken, WrongKind, NotReady}
+use Rattle.unl_core.specs.Board.{snapshot_in}
+
+-- a token, and its place in the book
+pub record Shown : Type 0 where
+  pub place : ℕ
+  pub token : Token
+
+-- a token of the book with the state of its environment
+pub record Ready : Type 0 where
+  pub place : ℕ
+  pub token : Token
+  pub version : EnvVersion
+
+-- both kinds are the same
+abbrev pub is_kind : Kind → Kind → Bool
+is_kind Client Client = true
+is_kind Client Frontend = false
+is_kind Frontend Client = false
+is_kind Frontend Frontend = true
+
+-- the token of a text, with its place
+abbrev pub entry_of : List ℕ → List Token → Option Shown
+entry_of text book =
+    option_and_then (λ place. option_map (λ token. record { place = place; token = token }) (slice_get book place)) (place_of text book)
+
+-- a known token, if it is of this kind
+abbrev pub of_kind : Kind → Option Shown → Result Shown Unseen
+of_kind kind None = Err UnknownToken
+of_kind kind (Some shown) = if is_kind shown.token.kind kind then Ok shown else Err WrongKind
+
+abbrev pub shown_text : Board → Kind → Option (List ℕ) → Result Shown Unseen
+shown_text board kind None = Err NoToken
+shown_text board kind (Some text) = of_kind kind (entry_of text board.book)
+
+-- the token that a request shows, where it is one of this kind
+abbrev pub shown_by : Board → Request → Kind → Result Shown Unseen
+shown_by board q kind = shown_text board kind q.token
+
+abbrev pub where_ready : Shown → Option EnvVersion → Result Ready Unseen
+where_ready shown None = Err NotReady
+where_ready shown (Some version) = Ok (record { place = shown.place; token = shown.token; version = version })
+
+abbrev pub ready_for : Board → Result Shown Unseen → Result Ready Unseen
+ready_for board (Err unseen) = Err unseen
+ready_for board (Ok shown) = where_ready shown (snapshot_in shown.token.environment board.slots)
+
+-- the token that a request shows, with what stands for its environment
+abbrev pub ready_by : Board → Request → Kind → Result Ready Unseen
+ready_by board q kind = ready_for board (shown_by board q kind)

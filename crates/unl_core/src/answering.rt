@@ -1,0 +1,275 @@
+//! The answer to one request.
+ghost use Rattle.std.specs.Prelude.{◌≡◌, ◌∷◌, [], codes, IfOk, Ok, Some};
+ghost use Rattle.unl_core.specs.Answer.{answer_of, asked_context, at_route, bad_method, fed, featured, feature_reply, has_tag, listed, one_text, registered, reply, seen, toggled, toggles_for, validated};
+ghost use Rattle.unl_core.specs.Board.{AreSlots};
+ghost use Rattle.unl_core.specs.Shown.{ready_by, shown_by};
+ghost use Rattle.unl_dependencies.specs.Evaluation.{feature_named};
+ghost use Rattle.unl_context.specs.declared.fault.BadContext.TheVariants.{Memory as memory};
+ghost use Rattle.unl_documents.specs.Results.{Gives};
+ghost use Rattle.unl_tokens.specs.Requests.{asked_in};
+
+use crate::board::Board;
+use crate::desk::Answer;
+use crate::reply::{bare, made, one_text, refuse, refuse_unseen, tagged, unchanged};
+use crate::shown::{Ready, ready_by, shown_by};
+use crate::tag::tag_of;
+use http::StatusCode;
+use std::alloc::Global;
+use unl_base::Draw;
+use unl_context::{BadContext, Context};
+use unl_delta::view;
+use unl_dependencies::feature_named;
+use unl_documents::json::read_object;
+use unl_documents::{Copied, FeedHead, List, Memory, Text, write_feature, write_feed};
+use unl_http_api::{Request, Route, is_post, query_of};
+use unl_strategies::Moment;
+use unl_tokens::{BadRequest, Kind, Projects, read_request, write_answer};
+
+/// Answers a request by the first case that fits: no route, a method that the route doesn't have, and then what the route
+/// answers. What a token is answered is over what it sees of its environment's state: the features of its projects, and
+/// all segments.
+#[tactic(auto, unfolding(crate::specs::Answer::answer_of))]
+pub fn answer(
+    alloc: Global,
+    board: &Board,
+    request: &Request,
+    draw: &Draw,
+) -> Result<Answer, Memory>
+    requires { AreSlots board.now.slots }
+    ensures { IfOk result (λ a. a.reply ≡ answer_of board.now request.now draw.entry.now) }
+{
+    let Some(route) = Route::of(alloc, request.target.as_slice())? else {
+        return refuse(alloc, StatusCode::NOT_FOUND, "NoSuchRoute");
+    };
+    if !route.methods().allows(request.method) {
+        return refuse_method(alloc, &route);
+    }
+    at_route(alloc, board, request, draw, &route)
+}
+
+/// The refusal of a method, with those that the route has.
+fn refuse_method(alloc: Global, route: &Route) -> Result<Answer, Memory>
+    ensures { IfOk result (λ a. a.reply ≡ bad_method route.now) }
+{
+    let allow = Text::new(alloc, route.methods().text())?;
+    let mut answer = refuse(alloc, StatusCode::METHOD_NOT_ALLOWED, "BadMethod")?;
+    answer.reply.allow = Some(allow);
+    Ok(answer)
+}
+
+fn at_route(
+    alloc: Global,
+    board: &Board,
+    request: &Request,
+    draw: &Draw,
+    route: &Route,
+) -> Result<Answer, Memory>
+    ensures { IfOk result (λ a. a.reply ≡ at_route board.now request.now draw.entry.now route.now) }
+{
+    match route {
+        Route::Health => healthy(alloc),
+        Route::Validate => validate(alloc, board, request),
+        Route::Features => feed(alloc, board, request),
+        Route::Feature(name) => feature(alloc, board, request, name),
+        Route::Enabled => toggles(alloc, board, request, draw, false),
+        Route::All => toggles(alloc, board, request, draw, true),
+        Route::Register => register(alloc, board, request, Kind::Client),
+        Route::FrontRegister => register(alloc, board, request, Kind::Frontend),
+    }
+}
+
+fn healthy(alloc: Global) -> Result<Answer, Memory>
+    ensures { IfOk result (λ a. a.reply ≡ reply 200 (one_text (codes "status") (codes "OK"))) }
+{
+    let body = one_text(alloc, "status", "OK")?;
+    made(alloc, StatusCode::OK, &body)
+}
+
+/// Which of the tokens asked for are known.
+fn validate(alloc: Global, board: &Board, request: &Request) -> Result<Answer, Memory>
+    ensures { IfOk result (λ a. a.reply ≡ validated board.now (asked_in request.now.body)) }
+{
+    match read_request(alloc, request.body.as_slice()) {
+        Err(BadRequest::Memory) => Err(Memory),
+        Err(_) => refuse(alloc, StatusCode::BAD_REQUEST, "BadBody"),
+        Ok(texts) => {
+            let body = write_answer(alloc, board.book.get(), &texts)?;
+            made(alloc, StatusCode::OK, &body)
+        }
+    }
+}
+
+/// Takes note of nothing: a client that registers need only send an object.
+fn register(
+    alloc: Global,
+    board: &Board,
+    request: &Request,
+    kind: Kind,
+) -> Result<Answer, Memory>
+    ensures { IfOk result (λ a. a.reply ≡ registered request.now (shown_by board.now request.now kind)) }
+{
+    match shown_by(board, request, kind) {
+        Err(unseen) => refuse_unseen(alloc, unseen),
+        Ok(_) => match read_object(alloc, request.body.as_slice())? {
+            Some(_) => bare(alloc, StatusCode::ACCEPTED),
+            None => refuse(alloc, StatusCode::BAD_REQUEST, "BadReport"),
+        },
+    }
+}
+
+/// The toggles of what the request's token sees, all of them or those that are on.
+fn toggles(
+    alloc: Global,
+    board: &Board,
+    request: &Request,
+    draw: &Draw,
+    all: bool,
+) -> Result<Answer, Memory>
+    ensures { IfOk result (λ a. a.reply ≡ toggled board.now request.now draw.entry.now all (ready_by board.now request.now Kind.Frontend)) }
+{
+    match ready_by(board, request, Kind::Frontend) {
+        Err(unseen) => refuse_unseen(alloc, unseen),
+        Ok(ready) => toggles_for(alloc, board, request, draw, all, &ready),
+    }
+}
+
+fn toggles_for(
+    alloc: Global,
+    board: &Board,
+    request: &Request,
+    draw: &Draw,
+    all: bool,
+    ready: &Ready,
+) -> Result<Answer, Memory>
+    ensures { IfOk result (λ a. a.reply ≡ toggles_for board.now draw.entry.now all ready.now (asked_context request.now)) }
+{
+    match asked_context(alloc, request) {
+        Err(BadContext::Memory) => Err(Memory),
+        Err(_) => refuse(alloc, StatusCode::BAD_REQUEST, "BadContext"),
+        Ok(context) => {
+            let context = placed(alloc, context, ready.token.environment.as_str())?;
+            let moment = Moment {
+                now: draw.now,
+                word: draw.word,
+                host: board.host.as_str(),
+            };
+            let projects = &ready.token.projects;
+            let body = ready.snapshot.toggles(alloc, projects, all, &context, &moment)?;
+            made(alloc, StatusCode::OK, &body)
+        }
+    }
+}
+
+/// The context of a request: its body's, or else its query's.
+fn asked_context(alloc: Global, request: &Request) -> Result<Context, BadContext>
+    ensures { Gives memory result (asked_context request.now) }
+{
+    if is_post(request.method) {
+        return Context::read_body(alloc, request.body.as_slice());
+    }
+    Context::read_query(alloc, query_of(request.target.as_slice()))
+}
+
+/// The context in an environment.
+fn placed(alloc: Global, mut context: Context, environment: &str) -> Result<Context, Memory>
+    ensures { IfOk result (λ c. c ≡ record context { environment = Some environment.now }) }
+{
+    match context.set_environment(alloc, environment) {
+        Ok(()) => Ok(context),
+        Err(_) => Err(Memory),
+    }
+}
+
+/// The document of a feature that the request's token sees.
+fn feature(
+    alloc: Global,
+    board: &Board,
+    request: &Request,
+    name: &Option<Text>,
+) -> Result<Answer, Memory>
+    ensures { IfOk result (λ a. a.reply ≡ featured name.now (ready_by board.now request.now Kind.Client)) }
+{
+    match ready_by(board, request, Kind::Client) {
+        Err(unseen) => refuse_unseen(alloc, unseen),
+        Ok(ready) => match name {
+            None => refuse(alloc, StatusCode::NOT_FOUND, "NoSuchFeature"),
+            Some(name) => feature_of(alloc, &ready, name.as_str()),
+        },
+    }
+}
+
+fn feature_of(alloc: Global, ready: &Ready, name: &str) -> Result<Answer, Memory>
+    ensures { IfOk result (λ a. a.reply ≡ feature_reply (feature_named name.now (seen ready.now).features)) }
+{
+    let seen = view(alloc, &ready.snapshot.version().state, &ready.token.projects)?;
+    match feature_named(&seen.features, name) {
+        None => refuse(alloc, StatusCode::NOT_FOUND, "NoSuchFeature"),
+        Some(feature) => {
+            let body = write_feature(alloc, feature)?;
+            made(alloc, StatusCode::OK, &body)
+        }
+    }
+}
+
+/// The features and segments that the request's token sees, unless the asker has them.
+fn feed(alloc: Global, board: &Board, request: &Request) -> Result<Answer, Memory>
+    ensures { IfOk result (λ a. a.reply ≡ fed board.now request.now (ready_by board.now request.now Kind.Client)) }
+{
+    match ready_by(board, request, Kind::Client) {
+        Err(unseen) => refuse_unseen(alloc, unseen),
+        Ok(ready) => feed_for(alloc, board, request, &ready),
+    }
+}
+
+fn feed_for(
+    alloc: Global,
+    board: &Board,
+    request: &Request,
+    ready: &Ready,
+) -> Result<Answer, Memory>
+    ensures { IfOk result (λ a. a.reply ≡ fed board.now request.now (Ok ready.now)) }
+{
+    let version = ready.snapshot.version();
+    let tag = tag_of(alloc, board, ready.place, version.number)?;
+    if has_tag(request, tag.as_str()) {
+        return unchanged(alloc, tag);
+    }
+    let head = FeedHead {
+        environment: ready.token.environment.copy(alloc)?,
+        projects: listed(alloc, &ready.token.projects)?,
+        tag: tag.copy(alloc)?,
+        number: version.number,
+    };
+    let seen = view(alloc, &version.state, &ready.token.projects)?;
+    let body = write_feed(alloc, &head, &seen)?;
+    tagged(alloc, tag, &body)
+}
+
+/// Whether the request has this tag.
+fn has_tag(request: &Request, tag: &str) -> bool
+    ensures { result ≡ has_tag tag.now request.now.tag }
+{
+    match &request.tag {
+        None => false,
+        Some(asked) => asked.as_slice() == tag.as_bytes(),
+    }
+}
+
+/// The names of the projects as a feed lists them.
+fn listed(alloc: Global, projects: &Projects) -> Result<List<Text>, Memory>
+    ensures { IfOk result (λ names. names ≡ listed projects.now) }
+{
+    match projects {
+        Projects::All => star(alloc),
+        Projects::Only(names) => names.copy(alloc),
+    }
+}
+
+/// The one name that stands for all projects.
+fn star(alloc: Global) -> Result<List<Text>, Memory>
+    ensures { IfOk result (λ names. names ≡ codes "*" ∷ []) }
+{
+    let mut names = List::new(alloc);
+    names.push(Text::new(alloc, "*")?)?;
+    Ok(names)
+}

@@ -1,0 +1,126 @@
+//! The token that a request shows, and what stands for it.
+ghost use Rattle.std.specs.Prelude.{◌≡◌};
+ghost use Rattle.unl_core.specs.Board.{snapshot_in};
+ghost use Rattle.unl_core.specs.Shown.{entry_of, is_kind, ready_by, shown_by, where_ready};
+
+use crate::board::Board;
+use std::marker::Model;
+use unl_compiled::Snapshot;
+use unl_http_api::Request;
+use unl_tokens::{Book, Kind, Token};
+
+/// Why nothing is shown to a request.
+#[derive(Clone, Copy, Debug, PartialEq, Eq)]
+pub enum Unseen {
+    /// It shows no token.
+    NoToken,
+    /// The book has no token of that text.
+    UnknownToken,
+    /// The token is of the other kind.
+    WrongKind,
+    /// Nothing stands for the token's environment.
+    NotReady,
+}
+
+/// A token, and its place in the book.
+#[derive(Drop)]
+pub(crate) struct Shown<'b> {
+    pub place: u32,
+    pub token: &'b Token,
+}
+
+impl<'b> Model for Shown<'b> {
+    ghost use Rattle.unl_core.specs.Shown.{Shown as Plain};
+
+    ghost Value = { Plain };
+
+    ghost view = { λ s. record { place = s.place; token = s.token.now } };
+}
+
+/// A token of the book with what stands for its environment.
+#[derive(Drop)]
+pub(crate) struct Ready<'b> {
+    pub place: u32,
+    pub token: &'b Token,
+    pub snapshot: &'b Snapshot,
+}
+
+impl<'b> Model for Ready<'b> {
+    ghost use Rattle.unl_core.specs.Shown.{Ready as Plain};
+
+    ghost Value = { Plain };
+
+    ghost view = { λ r. record { place = r.place; token = r.token.now; version = r.snapshot.now } };
+}
+
+/// Whether both kinds are the same.
+fn is_kind(found: Kind, kind: Kind) -> bool
+    ensures { result ≡ is_kind found kind }
+{
+    match found {
+        Kind::Client => match kind {
+            Kind::Client => true,
+            Kind::Frontend => false,
+        },
+        Kind::Frontend => match kind {
+            Kind::Client => false,
+            Kind::Frontend => true,
+        },
+    }
+}
+
+/// The token of a text, with its place.
+fn entry_of<'b>(book: &'b Book, text: &[u8]) -> Option<Shown<'b>>
+    ensures { result ≡ entry_of text.now book.now }
+{
+    let place = book.find(text)?;
+    let token = book.get(place)?;
+    Some(Shown { place, token })
+}
+
+/// The token that a request shows, where it is one of this kind.
+pub(crate) fn shown_by<'b>(
+    board: &'b Board,
+    request: &Request,
+    kind: Kind,
+) -> Result<Shown<'b>, Unseen>
+    ensures { result ≡ shown_by board.now request.now kind }
+{
+    let Some(text) = &request.token else {
+        return Err(Unseen::NoToken);
+    };
+    let Some(shown) = entry_of(board.book.get(), text.as_slice()) else {
+        return Err(Unseen::UnknownToken);
+    };
+    if !is_kind(shown.token.kind, kind) {
+        return Err(Unseen::WrongKind);
+    }
+    Ok(shown)
+}
+
+fn where_ready<'b>(board: &'b Board, shown: Shown<'b>) -> Result<Ready<'b>, Unseen>
+    ensures { result ≡ where_ready shown (snapshot_in shown.token.environment board.now.slots) }
+{
+    match board.snapshot(shown.token.environment.as_str()) {
+        None => Err(Unseen::NotReady),
+        Some(snapshot) => Ok(Ready {
+            place: shown.place,
+            token: shown.token,
+            snapshot,
+        }),
+    }
+}
+
+/// The token that a request shows, where it is one of this kind, with what stands for its environment.
+pub(crate) fn ready_by<'b>(
+    board: &'b Board,
+    request: &Request,
+    kind: Kind,
+) -> Result<Ready<'b>, Unseen>
+    ensures { result ≡ ready_by board.now request.now kind }
+{
+    match shown_by(board, request, kind) {
+        Err(unseen) => Err(unseen),
+        Ok(shown) => where_ready(board, shown),
+    }
+}
