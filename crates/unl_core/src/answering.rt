@@ -100,12 +100,7 @@ fn validate(alloc: Global, board: &Board, request: &Request) -> Result<Answer, M
 }
 
 /// Takes note of nothing: a client that registers need only send an object.
-fn register(
-    alloc: Global,
-    board: &Board,
-    request: &Request,
-    kind: Kind,
-) -> Result<Answer, Memory>
+fn register(alloc: Global, board: &Board, request: &Request, kind: Kind) -> Result<Answer, Memory>
     ensures { IfOk result (λ a. a.reply ≡ registered request.now (shown_by board.now request.now kind)) }
 {
     match shown_by(board, request, kind) {
@@ -154,7 +149,9 @@ fn toggles_for(
                 host: board.host.as_str(),
             };
             let projects = &ready.token.projects;
-            let body = ready.snapshot.toggles(alloc, projects, all, &context, &moment)?;
+            let body = ready
+                .snapshot
+                .toggles(alloc, projects, all, &context, &moment)?;
             made(alloc, StatusCode::OK, &body)
         }
     }
@@ -201,7 +198,11 @@ fn feature(
 fn feature_of(alloc: Global, ready: &Ready, name: &str) -> Result<Answer, Memory>
     ensures { IfOk result (λ a. a.reply ≡ feature_reply (feature_named name.now (seen ready.now).features)) }
 {
-    let seen = view(alloc, &ready.snapshot.version().state, &ready.token.projects)?;
+    let seen = view(
+        alloc,
+        &ready.snapshot.version().state,
+        &ready.token.projects,
+    )?;
     match feature_named(&seen.features, name) {
         None => refuse(alloc, StatusCode::NOT_FOUND, "NoSuchFeature"),
         Some(feature) => {

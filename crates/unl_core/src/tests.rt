@@ -1,25 +1,35 @@
-use crate::{Board, Book, Desk, Kind, OneDesk, Projects, Token};
+use crate::{Board, Desk, OneDesk};
 use std::alloc::Global;
 use std::test::Fail;
 use unl_base::Draw;
-use unl_documents::{Feature, List, Memory, Shared, State, Strategy, Text};
+use unl_delta::{Installer, Verdict, read_batch_bytes, verdict};
+use unl_documents::List;
 use unl_http_api::{Bytes, Method, Request};
+use unl_tokens::Book;
 
-/// A method, a target, the token that is shown, and the status and the body of the answer.
+const TOKENS: &str =
+    "{\"tokens\":[{\"token\":\"*:dev.all\",\"type\":\"frontend\"},{\"token\":\"*:dev.client\",\"type\":\"client\"},{\"token\":\"*:qa.all\",\"type\":\"frontend\"},{\"token\":\"B:dev.one\",\"type\":\"frontend\"},{\"token\":\"A:dev.c\",\"type\":\"client\",\"projects\":[\"A\"]}]}";
+
+const FEATURES: &str =
+    "{\"events\":[{\"type\":\"hydration\",\"eventId\":4,\"features\":[{\"name\":\"a\",\"project\":\"A\",\"enabled\":true,\"strategies\":[{\"name\":\"default\"}]},{\"name\":\"b\",\"project\":\"A\",\"enabled\":false},{\"name\":\"c\",\"project\":\"B\",\"enabled\":true,\"strategies\":[{\"name\":\"ours\"}]},{\"name\":\"d\",\"project\":\"B\",\"enabled\":true,\"dependencies\":[{\"feature\":\"a\"}]},{\"name\":\"e\",\"project\":\"B\",\"enabled\":true,\"strategies\":[{\"name\":\"userWithId\",\"parameters\":{\"userIds\":\"7\"},\"constraints\":[{\"contextName\":\"environment\",\"operator\":\"IN\",\"values\":[\"dev\"]}]}]},{\"name\":\"f\",\"project\":\"B\",\"enabled\":true,\"strategies\":[{\"name\":\"applicationHostname\",\"parameters\":{\"hostNames\":\"edge\"}}]}]}]}";
+
+/// A method, a target, the token that is shown, the body, the status and the body of the answer.
 type Case = (
     Method,
     &'static str,
     Option<&'static str>,
+    &'static str,
     u16,
     &'static str,
 );
 
-/// Each refusal in the order of the cases, and the answers.
-const CASES: [Case; 11] = [
+/// Each refusal in the order of the cases, and answers of each route.
+const CASES: [Case; 26] = [
     (
         Method::Get,
         "/api/nothing",
         None,
+        "",
         404,
         "{\"error\":\"NoSuchRoute\"}",
     ),
@@ -27,6 +37,7 @@ const CASES: [Case; 11] = [
         Method::Other,
         "/api/frontend",
         None,
+        "",
         405,
         "{\"error\":\"BadMethod\"}",
     ),
@@ -34,6 +45,7 @@ const CASES: [Case; 11] = [
         Method::Post,
         "/internal-backstage/health",
         None,
+        "",
         405,
         "{\"error\":\"BadMethod\"}",
     ),
@@ -41,13 +53,39 @@ const CASES: [Case; 11] = [
         Method::Get,
         "/internal-backstage/health",
         None,
+        "",
         200,
         "{\"status\":\"OK\"}",
     ),
     (
         Method::Get,
+        "/edge/validate",
+        None,
+        "",
+        405,
+        "{\"error\":\"BadMethod\"}",
+    ),
+    (
+        Method::Post,
+        "/edge/validate",
+        None,
+        "{\"tokens\":7}",
+        400,
+        "{\"error\":\"BadBody\"}",
+    ),
+    (
+        Method::Post,
+        "/edge/validate",
+        None,
+        "{\"tokens\":[\"B:dev.one\",\"x\",\"B:dev.one\"]}",
+        200,
+        "{\"tokens\":[{\"projects\":[\"B\"],\"token\":\"B:dev.one\",\"type\":\"frontend\"}]}",
+    ),
+    (
+        Method::Get,
         "/api/frontend",
         None,
+        "",
         401,
         "{\"error\":\"NoToken\"}",
     ),
@@ -55,6 +93,7 @@ const CASES: [Case; 11] = [
         Method::Get,
         "/api/frontend",
         Some("*:dev.other"),
+        "",
         403,
         "{\"error\":\"UnknownToken\"}",
     ),
@@ -62,6 +101,15 @@ const CASES: [Case; 11] = [
         Method::Get,
         "/api/frontend",
         Some("*:dev.client"),
+        "",
+        403,
+        "{\"error\":\"WrongKind\"}",
+    ),
+    (
+        Method::Get,
+        "/api/client/features",
+        Some("*:dev.all"),
+        "",
         403,
         "{\"error\":\"WrongKind\"}",
     ),
@@ -69,29 +117,121 @@ const CASES: [Case; 11] = [
         Method::Get,
         "/api/frontend",
         Some("*:qa.all"),
+        "",
         503,
         "{\"error\":\"NotReady\"}",
     ),
     (
-        Method::Get,
-        "/api/frontend?userId=7",
+        Method::Post,
+        "/api/frontend",
+        Some("*:qa.all"),
+        "[]",
+        503,
+        "{\"error\":\"NotReady\"}",
+    ),
+    (
+        Method::Post,
+        "/api/frontend",
         Some("*:dev.all"),
+        "[]",
         400,
         "{\"error\":\"BadContext\"}",
     ),
     (
         Method::Get,
-        "/api/frontend",
+        "/api/frontend?environment=prod&userId=7",
         Some("*:dev.all"),
+        "",
         200,
-        "{\"toggles\":[{\"enabled\":true,\"impressionData\":false,\"name\":\"a\",\"variant\":{\"enabled\":false,\"feature_enabled\":true,\"name\":\"disabled\"}},{\"enabled\":true,\"impressionData\":false,\"name\":\"d\",\"variant\":{\"enabled\":false,\"feature_enabled\":true,\"name\":\"disabled\"}}]}",
+        "{\"toggles\":[{\"enabled\":true,\"impressionData\":false,\"name\":\"a\",\"variant\":{\"enabled\":false,\"feature_enabled\":true,\"name\":\"disabled\"}},{\"enabled\":true,\"impressionData\":false,\"name\":\"d\",\"variant\":{\"enabled\":false,\"feature_enabled\":true,\"name\":\"disabled\"}},{\"enabled\":true,\"impressionData\":false,\"name\":\"e\",\"variant\":{\"enabled\":false,\"feature_enabled\":true,\"name\":\"disabled\"}},{\"enabled\":true,\"impressionData\":false,\"name\":\"f\",\"variant\":{\"enabled\":false,\"feature_enabled\":true,\"name\":\"disabled\"}}]}",
+    ),
+    (
+        Method::Post,
+        "/api/proxy?userId=7",
+        Some("*:dev.all"),
+        "{\"context\":{\"userId\":8,\"environment\":\"prod\"}}",
+        200,
+        "{\"toggles\":[{\"enabled\":true,\"impressionData\":false,\"name\":\"a\",\"variant\":{\"enabled\":false,\"feature_enabled\":true,\"name\":\"disabled\"}},{\"enabled\":true,\"impressionData\":false,\"name\":\"d\",\"variant\":{\"enabled\":false,\"feature_enabled\":true,\"name\":\"disabled\"}},{\"enabled\":true,\"impressionData\":false,\"name\":\"f\",\"variant\":{\"enabled\":false,\"feature_enabled\":true,\"name\":\"disabled\"}}]}",
     ),
     (
         Method::Get,
-        "/api/frontend?",
+        "/api/frontend",
         Some("B:dev.one"),
+        "",
         200,
-        "{\"toggles\":[{\"enabled\":true,\"impressionData\":false,\"name\":\"d\",\"variant\":{\"enabled\":false,\"feature_enabled\":true,\"name\":\"disabled\"}}]}",
+        "{\"toggles\":[{\"enabled\":true,\"impressionData\":false,\"name\":\"f\",\"variant\":{\"enabled\":false,\"feature_enabled\":true,\"name\":\"disabled\"}}]}",
+    ),
+    (
+        Method::Get,
+        "/api/frontend/all?userId=7",
+        Some("B:dev.one"),
+        "",
+        200,
+        "{\"toggles\":[{\"enabled\":false,\"impressionData\":false,\"name\":\"c\",\"variant\":{\"enabled\":false,\"feature_enabled\":false,\"name\":\"disabled\"}},{\"enabled\":false,\"impressionData\":false,\"name\":\"d\",\"variant\":{\"enabled\":false,\"feature_enabled\":false,\"name\":\"disabled\"}},{\"enabled\":true,\"impressionData\":false,\"name\":\"e\",\"variant\":{\"enabled\":false,\"feature_enabled\":true,\"name\":\"disabled\"}},{\"enabled\":true,\"impressionData\":false,\"name\":\"f\",\"variant\":{\"enabled\":false,\"feature_enabled\":true,\"name\":\"disabled\"}}]}",
+    ),
+    (
+        Method::Get,
+        "/api/client/features/zz",
+        Some("*:dev.client"),
+        "",
+        404,
+        "{\"error\":\"NoSuchFeature\"}",
+    ),
+    (
+        Method::Get,
+        "/api/client/features/f",
+        Some("A:dev.c"),
+        "",
+        404,
+        "{\"error\":\"NoSuchFeature\"}",
+    ),
+    (
+        Method::Get,
+        "/api/client/features/%FF",
+        Some("*:dev.client"),
+        "",
+        404,
+        "{\"error\":\"NoSuchFeature\"}",
+    ),
+    (
+        Method::Get,
+        "/api/client/features/%61",
+        Some("*:dev.client"),
+        "",
+        200,
+        "{\"dependencies\":[],\"enabled\":true,\"impressionData\":false,\"name\":\"a\",\"project\":\"A\",\"stale\":false,\"strategies\":[{\"constraints\":[],\"name\":\"default\",\"parameters\":{},\"segments\":[],\"variants\":[]}],\"type\":\"release\",\"variants\":[]}",
+    ),
+    (
+        Method::Get,
+        "/api/client/features/a/b",
+        Some("*:dev.client"),
+        "",
+        404,
+        "{\"error\":\"NoSuchRoute\"}",
+    ),
+    (
+        Method::Post,
+        "/api/client/register",
+        Some("*:dev.client"),
+        "[]",
+        400,
+        "{\"error\":\"BadReport\"}",
+    ),
+    (
+        Method::Post,
+        "/api/client/register",
+        Some("*:dev.client"),
+        "{}",
+        202,
+        "",
+    ),
+    (
+        Method::Post,
+        "/api/frontend/client/register",
+        Some("*:dev.client"),
+        "{}",
+        403,
+        "{\"error\":\"WrongKind\"}",
     ),
 ];
 
@@ -99,151 +239,120 @@ fn bytes_of(alloc: Global, text: &str) -> Option<Bytes> {
     Some(List::from_vec(text.as_bytes().to_vec(alloc).ok()?))
 }
 
-fn request_of(alloc: Global, case: &Case) -> Option<Request> {
-    let token = match case.2 {
-        Some(text) => Some(bytes_of(alloc, text)?),
-        None => None,
-    };
+fn some_bytes(alloc: Global, text: Option<&str>) -> Option<Option<Bytes>> {
+    match text {
+        Some(text) => Some(Some(bytes_of(alloc, text)?)),
+        None => Some(None),
+    }
+}
+
+fn request_of(alloc: Global, case: &Case, tag: Option<&str>) -> Option<Request> {
     Some(Request {
         method: case.0,
         target: bytes_of(alloc, case.1)?,
-        token,
-        tag: None,
+        token: some_bytes(alloc, case.2)?,
+        tag: some_bytes(alloc, tag)?,
         spec: None,
         close: false,
-        body: List::new(alloc),
+        body: bytes_of(alloc, case.3)?,
     })
 }
 
-fn token(
-    alloc: Global,
-    text: &str,
-    kind: Kind,
-    projects: Projects,
-    environment: &str,
-) -> Option<Token> {
-    Some(Token {
-        text: Text::new(alloc, text).ok()?,
-        kind,
-        projects,
-        environment: Text::new(alloc, environment).ok()?,
-    })
-}
-
-fn book(alloc: Global) -> Option<Book> {
-    let mut names = List::new(alloc);
-    names.push(Text::new(alloc, "B").ok()?).ok()?;
-    let mut tokens = List::new(alloc);
-    tokens
-        .push(token(alloc, "*:dev.all", Kind::Frontend, Projects::All, "dev")?)
-        .ok()?;
-    tokens
-        .push(token(alloc, "*:dev.client", Kind::Client, Projects::All, "dev")?)
-        .ok()?;
-    tokens
-        .push(token(alloc, "*:qa.all", Kind::Frontend, Projects::All, "qa")?)
-        .ok()?;
-    tokens
-        .push(token(
-            alloc,
-            "B:dev.one",
-            Kind::Frontend,
-            Projects::Only(names),
-            "dev",
-        )?)
-        .ok()?;
-    Some(Book::of_tokens(tokens))
-}
-
-fn feature(
-    alloc: Global,
-    name: &str,
-    project: &str,
-    enabled: bool,
-    strategy: Option<&str>,
-) -> Option<Shared<Feature>> {
-    let mut strategies = List::new(alloc);
-    if let Some(strategy) = strategy {
-        strategies
-            .push(Strategy {
-                name: Text::new(alloc, strategy).ok()?,
-                parameters: List::new(alloc),
-                constraints: List::new(alloc),
-                segments: List::new(alloc),
-                variants: List::new(alloc),
-            })
-            .ok()?;
+/// Installs a batch that applies.
+fn take(alloc: Global, desk: &mut OneDesk, slot: usize, text: &str) -> Option<u64> {
+    let batch = read_batch_bytes(alloc, text.as_bytes(), None).ok()?;
+    if slot >= desk.slots() || desk.front() == u64::MAX {
+        return None;
     }
-    let feature = Feature {
-        name: Text::new(alloc, name).ok()?,
-        project: Text::new(alloc, project).ok()?,
-        kind: Text::new(alloc, "release").ok()?,
-        description: None,
-        enabled,
-        stale: false,
-        impression: false,
-        strategies,
-        variants: List::new(alloc),
-        dependencies: List::new(alloc),
-    };
-    Shared::new(alloc, feature).ok()
+    match verdict(desk.place(slot), &batch) {
+        Verdict::Apply => desk.install(alloc, slot, &batch).ok(),
+        Verdict::Repeat | Verdict::Old | Verdict::Gap | Verdict::Held => None,
+    }
 }
 
-fn state(alloc: Global) -> Option<State> {
-    let mut features = List::new(alloc);
-    features
-        .push(feature(alloc, "a", "A", true, Some("default"))?)
-        .ok()?;
-    features
-        .push(feature(alloc, "b", "A", false, Some("default"))?)
-        .ok()?;
-    features
-        .push(feature(alloc, "c", "B", true, Some("ours"))?)
-        .ok()?;
-    features.push(feature(alloc, "d", "B", true, None)?).ok()?;
-    Some(State {
-        features,
-        segments: List::new(alloc),
-    })
-}
-
-/// A desk with a book, and with a state for `dev` and none for `qa`.
-fn desk(alloc: Global) -> Option<OneDesk> {
-    let board = Board::new(alloc, 0, "", &List::new(alloc)).ok()?;
+/// A desk with a book, and with this state for `dev` and none for `qa`.
+fn desk(alloc: Global, tokens: &str, state: &str) -> Option<OneDesk> {
+    let board = Board::new(alloc, 0, "edge", &List::new(alloc)).ok()?;
     let mut desk = OneDesk::new(alloc, board).ok()?;
-    desk.put_book(alloc, book(alloc)?).ok()?;
+    if desk.front() != 0 {
+        return None;
+    }
+    let book = Book::read(alloc, tokens.as_bytes()).ok()?;
+    desk.install_book(alloc, book).ok()?;
     let slot = desk.name_slot(alloc, "dev").ok()??;
     desk.name_slot(alloc, "qa").ok()?;
-    desk.put_state(alloc, slot, 1, state(alloc)?).ok()?;
+    take(alloc, &mut desk, slot, state)?;
     Some(desk)
 }
 
 #[test]
 fn each_answer_in_its_order(rt: HostRuntime) -> Result<(), Fail> {
     let alloc = rt.alloc();
-    let mut desk = desk(alloc).expect(&rt, "a desk");
+    let mut desk = desk(alloc, TOKENS, FEATURES).expect(&rt, "a desk");
     let draw = Draw { now: 0, word: 0 };
     for case in &CASES {
-        let request = request_of(alloc, case).expect(&rt, "a request");
+        let request = request_of(alloc, case, None).expect(&rt, "a request");
         let (front, answer) = desk.answer(alloc, &request, &draw).expect(&rt, "an answer");
         assert_eq!(rt; front, 2);
-        assert_eq!(rt; answer.reply.status, case.3);
-        assert!(rt; answer.reply.body.as_slice() == case.4.as_bytes());
-        assert_eq!(rt; answer.reply.allow.is_some(), case.3 == 405);
+        assert_eq!(rt; answer.reply.status, case.4);
+        assert!(rt; answer.reply.body.as_slice() == case.5.as_bytes());
+        assert_eq!(rt; answer.reply.allow.is_some(), case.4 == 405);
     }
     Ok(())
 }
 
+const ONE_CLIENT: &str =
+    "{\"tokens\":[{\"token\":\"A:dev.c\",\"type\":\"client\",\"projects\":[\"A\"]}]}";
+
+const TWO_PROJECTS: &str =
+    "{\"tokens\":[{\"token\":\"A:dev.c\",\"type\":\"client\",\"projects\":[\"A\",\"B\"]}]}";
+
+const NO_FEATURES: &str = "{\"events\":[{\"type\":\"hydration\",\"eventId\":4}]}";
+
+const FEED: Case = (
+    Method::Get,
+    "/api/client/features",
+    Some("A:dev.c"),
+    "",
+    200,
+    "{\"features\":[],\"meta\":{\"etag\":\"\\\"0000000000000000-1-0-4\\\"\",\"revisionId\":4},\"query\":{\"environment\":\"dev\",\"projects\":[\"A\"]},\"segments\":[],\"version\":2}",
+);
+
+/// The status and the tag of the feed for one who has a tag.
+fn asked(alloc: Global, desk: &mut OneDesk, tag: Option<&str>) -> Option<(u16, bool, bool)> {
+    let request = request_of(alloc, &FEED, tag)?;
+    let (_, answer) = desk
+        .answer(alloc, &request, &Draw { now: 0, word: 0 })
+        .ok()?;
+    let reply = answer.reply;
+    let tag = reply.tag?;
+    Some((
+        reply.status,
+        tag.as_str() == "\"0000000000000000-1-0-4\"",
+        reply.body.as_slice() == FEED.5.as_bytes(),
+    ))
+}
+
 #[test]
-fn a_book_that_stands_is_not_published(rt: HostRuntime) -> Result<(), Fail> {
+fn a_tag_is_of_one_book_and_one_number(rt: HostRuntime) -> Result<(), Fail> {
     let alloc = rt.alloc();
-    let mut desk = desk(alloc).expect(&rt, "a desk");
-    let same = book(alloc).expect(&rt, "a book");
-    assert_eq!(rt; desk.put_book(alloc, same).ok(), Some(None));
-    assert_eq!(rt; desk.put_book(alloc, Book::new(alloc)).ok(), Some(Some(3)));
-    assert_eq!(rt; desk.board().generation, 2);
+    let mut desk = desk(alloc, ONE_CLIENT, NO_FEATURES).expect(&rt, "a desk");
+    let first = Some("\"0000000000000000-1-0-4\"");
+    assert_eq!(rt; asked(alloc, &mut desk, None), Some((200, true, true)));
+    assert_eq!(rt; asked(alloc, &mut desk, first), Some((304, true, false)));
+    for (tokens, front) in [(TWO_PROJECTS, Some(Some(3))), (TWO_PROJECTS, Some(None))] {
+        let book = Book::read(alloc, tokens.as_bytes())
+            .ok()
+            .expect(&rt, "a book");
+        assert_eq!(rt; desk.install_book(alloc, book).ok(), front);
+    }
+    assert_eq!(rt; asked(alloc, &mut desk, first), Some((200, false, false)));
     for name in ["e1", "e2", "e3", "e4", "e5", "e6"] {
-        assert!(rt; desk.name_slot(alloc, name) != Ok::<Option<usize>, Memory>(None));
+        assert!(rt;
+            desk.name_slot(alloc, name)
+                .ok()
+                .is_some_and(|slot| slot.is_some())
+        );
     }
     assert_eq!(rt; desk.name_slot(alloc, "dev").ok(), Some(Some(0)));
     assert_eq!(rt; desk.name_slot(alloc, "e7").ok(), Some(None));

@@ -1,11 +1,11 @@
 -- What is valid stays so: states under events and views, versions under batches, and what is answered from them.
 use Rattle.std.proofs.Common.{◌≡◌, ◌<◌, ℕ, Bool, true, false, cond, ltb, List, [], ◌∷◌, ◌++◌, map, Option, Some, None, refl, subst, sym, ◌==◌, ◌||◌}
-use Rattle.std.specs.Prelude.{All, filter, filter_map, IfSome, unwrap_or}
+use Rattle.std.specs.Prelude.{All, filter, filter_map, IfSome, option_map, unwrap_or}
 use Rattle.std.specs.List.{AllByRecursion as Every, cons_option}
 use Rattle.std.specs.List.Sorted.{IsStrictlySortedBy}
 use Rattle.std.specs.Str.{bytes_eq}
 use Rattle.std.specs.declared.cmp.Ordering.TheVariants.{Less}
-use Rattle.std.proofs.lemmas.List.Elements.{All-filter, All-append, All-cons, All-head, All-tail}
+use Rattle.std.proofs.lemmas.List.Elements.{All-nil, All-filter, All-append, All-cons, All-head, All-tail}
 use Rattle.unl_documents.specs.declared.feature.Feature.{Feature}
 use Rattle.unl_documents.specs.declared.segment.Segment.{Segment}
 use Rattle.unl_documents.specs.declared.state.State.{State}

@@ -1,6 +1,4 @@
-mod Books
+pub mod Books
 pub mod Lines
 pub mod RefusalLemmas
-mod DistinctTexts
-mod Values
 pub mod Whole

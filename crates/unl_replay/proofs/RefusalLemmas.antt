@@ -1,17 +1,32 @@
--- Faults of documents in a line.
-use Rattle.std.proofs.Common.{◌≡◌, ◌≢◌, Result, Ok, Err, ap, refl, ◌∙◌, sym}
+-- Faults that are why a line is refused.
+use Rattle.std.proofs.Common.{◌≡◌, ◌≢◌, Result, Ok, Err, ap, ◌∙◌, sym, refl}
+use Rattle.unl_delta.specs.declared.fault.BadBatch.{BadBatch}
+use Rattle.unl_delta.specs.declared.fault.BadBatch.TheVariants as batch
 use Rattle.unl_documents.specs.declared.fault.BadDocument.{BadDocument}
-use Rattle.unl_documents.specs.declared.fault.BadDocument.TheVariants as bad
-use Rattle.unl_documents.specs.Reading.{Reading}
+use Rattle.unl_documents.specs.declared.fault.BadDocument.TheVariants as document
+use Rattle.unl_tokens.specs.declared.fault.BadBook.{BadBook}
+use Rattle.unl_tokens.specs.declared.fault.BadBook.TheVariants as book
 use Rattle.unl_replay.specs.declared.refusal.Refusal.{Refusal}
 use Rattle.unl_replay.specs.declared.refusal.Refusal.TheVariants.{Memory}
-use Rattle.unl_replay.specs.Refusals.{LineReading, documented, refusal_for}
+use Rattle.unl_replay.specs.Refusals.{refusing, refusal_for, refusal_for_batch, refusal_for_book}
 
-not_memory : (e : BadDocument) → refusal_for e ≢ Memory → e ≢ bad.Memory
-not_memory e other same = other (ap refusal_for same)
+-- a fault that is handed on, where one of the faults is want of memory
+handed_on : {A E : Type 0} (becomes : E → Refusal) (memory : E) → becomes memory ≡ Memory → (e : E) (refusal : Refusal) (reading : Result A E)
+    → refusal ≡ becomes e → (e ≢ memory → reading ≡ Err e) → refusal ≢ Memory → refusing becomes reading ≡ Err refusal
+handed_on becomes memory none e refusal reading made told other =
+    ap (refusing becomes) (told (λ same. other (made ∙ ap becomes same ∙ none))) ∙ ap Err (sym made)
 
--- a document's fault, handed on
-pub refused : {A : Type 0} (e : BadDocument) (refusal : Refusal) (reading : Reading A) → refusal ≡ refusal_for e → (e ≢ bad.Memory → reading ≡ Err e)
-    → refusal ≢ Memory → documented reading ≡ Err refusal
-refused e refusal reading made told other =
-    ap documented (told (not_memory e (λ same. other (made ∙ same)))) ∙ ap Err (sym made)
+-- of a document
+pub refused : {A : Type 0} (e : BadDocument) (refusal : Refusal) (reading : Result A BadDocument) → refusal ≡ refusal_for e → (e ≢ document.Memory → reading ≡ Err e)
+    → refusal ≢ Memory → refusing refusal_for reading ≡ Err refusal
+refused e refusal reading made told other = handed_on refusal_for document.Memory refl e refusal reading made told other
+
+-- of a batch
+pub refused_batch : {A : Type 0} (e : BadBatch) (refusal : Refusal) (reading : Result A BadBatch) → refusal ≡ refusal_for_batch e → (e ≢ batch.Memory → reading ≡ Err e)
+    → refusal ≢ Memory → refusing refusal_for_batch reading ≡ Err refusal
+refused_batch e refusal reading made told other = handed_on refusal_for_batch batch.Memory refl e refusal reading made told other
+
+-- of a book
+pub refused_book : {A : Type 0} (e : BadBook) (refusal : Refusal) (reading : Result A BadBook) → refusal ≡ refusal_for_book e → (e ≢ book.Memory → reading ≡ Err e)
+    → refusal ≢ Memory → refusing refusal_for_book reading ≡ Err refusal
+refused_book e refusal reading made told other = handed_on refusal_for_book book.Memory refl e refusal reading made told other

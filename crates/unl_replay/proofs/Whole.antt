@@ -8,7 +8,6 @@ use Rattle.unl_replay.specs.declared.refusal.Refusal.{Refusal}
 use Rattle.unl_replay.specs.declared.refusal.Refusal.TheVariants.{LineTooLong, TooManyLines}
 use Rattle.unl_replay.specs.declared.replaying.ReplayFault.{ReplayFault}
 use Rattle.unl_replay.specs.declared.replaying.ReplayFault.TheVariants.{Bad, ReadFault, WriteFault, Memory}
-use Rattle.unl_replay.specs.Forms.{line_of}
 use Rattle.unl_replay.specs.Lines.{lines, ended_lines, has_end}
 use Rattle.unl_replay.specs.Reading.{Gets, IsAtEnd, Begins, longest_line}
 use Rattle.unl_replay.specs.Refusals.{refusal_text}
@@ -20,25 +19,25 @@ use Rattle.unl_replay.proofs.Lines.{gets_trans, gets_nothing, WholeSplit, whole_
 -- ---- one line
 
 -- a line within the limits is answered by what it reads as
-pub within_limits : (k : ℕ) (d : Standing) (line : List ℕ) → k ≤ most_lines → length line ≤ longest_line → answer_line k d line ≡ answer_read k d (line_of line)
+pub within_limits : (k : ℕ) (d : Standing) (line : List ℕ) → k ≤ most_lines → length line ≤ longest_line → answer_line k d line ≡ answer_read k d line
 within_limits k d line few short =
-    ap (λ t. cond t (Err TooManyLines) (cond (ltb longest_line (length line)) (Err LineTooLong) (answer_read k d (line_of line)))) (not_below most_lines k few)
-    ∙ ap (λ t. cond t (Err LineTooLong) (answer_read k d (line_of line))) (not_below longest_line (length line) short)
+    ap (λ t. cond t (Err TooManyLines) (cond (ltb longest_line (length line)) (Err LineTooLong) (answer_read k d line))) (not_below most_lines k few)
+    ∙ ap (λ t. cond t (Err LineTooLong) (answer_read k d line)) (not_below longest_line (length line) short)
   where
     not_below : (m n : ℕ) → n ≤ m → ltb m n ≡ false
     not_below m n most = grind (arith, nat_tests)
 
 pub past_limit : (k : ℕ) (d : Standing) (line : List ℕ) → k ≤ most_lines → longest_line < length line → answer_line k d line ≡ Err LineTooLong
 past_limit k d line few long =
-    ap (λ t. cond t (Err TooManyLines) (cond (ltb longest_line (length line)) (Err LineTooLong) (answer_read k d (line_of line)))) (not_below most_lines k few)
-    ∙ ap (λ t. cond t (Err LineTooLong) (answer_read k d (line_of line))) (lt-ltb longest_line (length line) long)
+    ap (λ t. cond t (Err TooManyLines) (cond (ltb longest_line (length line)) (Err LineTooLong) (answer_read k d line))) (not_below most_lines k few)
+    ∙ ap (λ t. cond t (Err LineTooLong) (answer_read k d line)) (lt-ltb longest_line (length line) long)
   where
     not_below : (m n : ℕ) → n ≤ m → ltb m n ≡ false
     not_below m n most = grind (arith, nat_tests)
 
 pub past_last : (k : ℕ) (d : Standing) (line : List ℕ) → most_lines < k → answer_line k d line ≡ Err TooManyLines
 past_last k d line past =
-    ap (λ t. cond t (Err TooManyLines) (cond (ltb longest_line (length line)) (Err LineTooLong) (answer_read k d (line_of line)))) (lt-ltb most_lines k past)
+    ap (λ t. cond t (Err TooManyLines) (cond (ltb longest_line (length line)) (Err LineTooLong) (answer_read k d line))) (lt-ltb most_lines k past)
 
 -- ---- what a turn took
 

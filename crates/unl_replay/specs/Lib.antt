@@ -1,4 +1,3 @@
-pub mod Json
 pub mod Refusals
 pub mod Forms
 pub mod Lines

@@ -1,11 +1,15 @@
 -- What reading a line gives: something, or why the line is refused.
-use Rattle.std.specs.Prelude.{◌≡◌, ◌≢◌, ℕ, List, [], codes, Result, Ok, Err}
+use Rattle.std.specs.Prelude.{◌≡◌, ◌≢◌, ℕ, List, [], ◌++◌, codes, decimal, Result, Ok, Err}
+use Rattle.unl_delta.specs.declared.fault.BadBatch.{BadBatch}
+use Rattle.unl_delta.specs.declared.fault.BadBatch.TheVariants as batch
 use Rattle.unl_documents.specs.declared.fault.BadDocument.{BadDocument}
-use Rattle.unl_documents.specs.declared.fault.BadDocument.TheVariants as bad
+use Rattle.unl_documents.specs.declared.fault.BadDocument.TheVariants as document
 use Rattle.unl_documents.specs.FaultText.{fault_text}
 use Rattle.unl_documents.specs.Reading.{Reading}
+use Rattle.unl_tokens.specs.declared.fault.BadBook.{BadBook}
+use Rattle.unl_tokens.specs.declared.fault.BadBook.TheVariants as book
 use Rattle.unl_replay.specs.declared.refusal.Refusal.{Refusal}
-use Rattle.unl_replay.specs.declared.refusal.Refusal.TheVariants.{Document, NotBuilt, TooManyEnvironments, LineTooLong, TooManyLines, Memory}
+use Rattle.unl_replay.specs.declared.refusal.Refusal.TheVariants.{Document, Book, Batch, NoNumber, TooManyEnvironments, LineTooLong, TooManyLines, NotBuilt, Memory}
 
 abbrev pub LineReading : Type 0 → Type 0
 LineReading T = Result T Refusal
@@ -17,29 +21,70 @@ and_then (Err e) f = Err e
 
 -- a fault of a document is why the line is refused
 abbrev pub refusal_for : BadDocument → Refusal
-refusal_for bad.NotJson = Document bad.NotJson
-refusal_for (bad.Missing field) = Document (bad.Missing field)
-refusal_for (bad.WrongKind field) = Document (bad.WrongKind field)
-refusal_for (bad.TooLarge field n) = Document (bad.TooLarge field n)
-refusal_for (bad.DuplicateName field name) = Document (bad.DuplicateName field name)
-refusal_for (bad.NotWhole field) = Document (bad.NotWhole field)
-refusal_for bad.Memory = Memory
+refusal_for document.NotJson = Document document.NotJson
+refusal_for (document.Missing field) = Document (document.Missing field)
+refusal_for (document.WrongKind field) = Document (document.WrongKind field)
+refusal_for (document.TooLarge field n) = Document (document.TooLarge field n)
+refusal_for (document.DuplicateName field name) = Document (document.DuplicateName field name)
+refusal_for (document.NotWhole field) = Document (document.NotWhole field)
+refusal_for document.Memory = Memory
+
+-- so is a fault of a book
+abbrev pub refusal_for_book : BadBook → Refusal
+refusal_for_book book.NotJson = Book book.NotJson
+refusal_for_book (book.BadEntry place) = Book (book.BadEntry place)
+refusal_for_book (book.TooMany count) = Book (book.TooMany count)
+refusal_for_book book.Memory = Memory
+
+-- and a fault of a batch
+abbrev pub refusal_for_batch : BadBatch → Refusal
+refusal_for_batch batch.NotJson = Batch batch.NotJson
+refusal_for_batch (batch.BadEvent place) = Batch (batch.BadEvent place)
+refusal_for_batch (batch.HydrationNotFirst place) = Batch (batch.HydrationNotFirst place)
+refusal_for_batch (batch.NotRising place) = Batch (batch.NotRising place)
+refusal_for_batch batch.Memory = Memory
+
+-- a reading in a line, whose faults are why the line is refused
+abbrev pub refusing : {A E : Type 0} → (E → Refusal) → Result A E → LineReading A
+refusing refusal (Ok x) = Ok x
+refusing refusal (Err e) = Err (refusal e)
 
 -- the reading of a document in a line
 abbrev pub documented : {A : Type 0} → Reading A → LineReading A
-documented (Ok x) = Ok x
-documented (Err e) = Err (refusal_for e)
+documented = refusing refusal_for
 
 -- What a function answered is the reading, unless memory ran out.
 abbrev pub Gives : {T : Type 0} → LineReading T → LineReading T → Type 0
 Gives (Ok x) reading = reading ≡ Ok x
 Gives (Err e) reading = e ≢ Memory → reading ≡ Err e
 
--- how a refusal is printed; want of memory is none
+-- ---- how a refusal is printed
+
+-- a word and a number
+abbrev pub numbered : List ℕ → ℕ → List ℕ
+numbered word n = word ++ (codes " " ++ decimal n)
+
+abbrev pub book_text : BadBook → List ℕ
+book_text book.NotJson = codes "BadBook 1"
+book_text (book.BadEntry place) = numbered (codes "BadBook 2") place
+book_text (book.TooMany count) = numbered (codes "BadBook 3") count
+book_text book.Memory = []
+
+abbrev pub batch_text : BadBatch → List ℕ
+batch_text batch.NotJson = codes "BadBatch 1"
+batch_text (batch.BadEvent place) = numbered (codes "BadBatch 2") place
+batch_text (batch.HydrationNotFirst place) = numbered (codes "BadBatch 3") place
+batch_text (batch.NotRising place) = numbered (codes "BadBatch 4") place
+batch_text batch.Memory = []
+
+-- want of memory is none, and has no text
 abbrev pub refusal_text : Refusal → List ℕ
 refusal_text (Document fault) = fault_text fault
-refusal_text NotBuilt = codes "NotBuilt"
+refusal_text (Book fault) = book_text fault
+refusal_text (Batch fault) = batch_text fault
+refusal_text NoNumber = codes "NoNumber"
 refusal_text TooManyEnvironments = codes "TooManyEnvironments"
 refusal_text LineTooLong = codes "LineTooLong"
 refusal_text TooManyLines = codes "TooManyLines"
+refusal_text NotBuilt = codes "NotBuilt"
 refusal_text Memory = []

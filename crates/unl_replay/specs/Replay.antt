@@ -1,23 +1,31 @@
 -- What a replay of an input prints, and how it ends.
-use Rattle.std.specs.Prelude.{ℕ, ◌+◌, ◌==◌, List, [], ◌∷◌, ◌++◌, length, codes, decimal, if◌then◌else◌, nat_lt, Option, Some, None, option_map, Result, Ok, Err}
-use Rattle.unl_http_api.specs.declared.reply.Reply.{Reply}
-use Rattle.unl_core.specs.declared.token.Token.{Token}
-use Rattle.unl_documents.specs.declared.state.State.{State}
+use Rattle.std.specs.Prelude.{ℕ, ◌+◌, List, [], ◌∷◌, ◌++◌, length, codes, decimal, Bool, if◌then◌else◌, nat_lt, Option, Some, None, option_map, ok_or, Result, Ok, Err}
+use Rattle.std.specs.Str.{bytes_eq}
+use Rattle.serde_json.specs.Data.{Data}
 use Rattle.unl_core.specs.declared.board.Board.{Board}
-use Rattle.unl_core.specs.Same.{same_tokens}
-use Rattle.unl_core.specs.Board.{slot_of, snapshot_in, with_tokens}
-use Rattle.unl_core.specs.Standing.{Standing, published, with_name, with_state}
 use Rattle.unl_core.specs.Answer.{answer_of}
-use Rattle.unl_replay.specs.declared.step.Verdict.{Verdict}
-use Rattle.unl_replay.specs.declared.step.Verdict.TheVariants.{Apply, Repeat, Old}
-use Rattle.unl_replay.specs.declared.line.Line.{Line}
-use Rattle.unl_replay.specs.declared.line.Line.TheVariants.{Tokens, Batch, Ask}
+use Rattle.unl_core.specs.Board.{slot_of, snapshot_in}
+use Rattle.unl_core.specs.Same.{same_book}
+use Rattle.unl_core.specs.Standing.{Standing, installed_by, with_name, with_batch, with_hold, with_book}
+use Rattle.unl_delta.specs.declared.batch.Batch.{Batch}
+use Rattle.unl_delta.specs.declared.batch.Verdict.{Verdict}
+use Rattle.unl_delta.specs.declared.batch.Verdict.TheVariants.{Apply, Repeat, Old, Gap, Held}
+use Rattle.unl_delta.specs.Batch.{verdict_of}
+use Rattle.unl_delta.specs.Installing.{place_of}
+use Rattle.unl_documents.specs.declared.fault.BadDocument.TheVariants.{NotJson, WrongKind}
+use Rattle.unl_documents.specs.declared.field.Field.TheVariants as field
+use Rattle.unl_documents.specs.Kinds.{any_text, name, required}
+use Rattle.unl_documents.specs.Results.{object_in}
+use Rattle.unl_http_api.specs.declared.reply.Reply.{Reply}
+use Rattle.unl_tokens.specs.declared.token.Token.{Token}
+use Rattle.unl_tokens.specs.Books.{book_of}
+use Rattle.unl_replay.specs.declared.ask.Ask.{Ask}
 use Rattle.unl_replay.specs.declared.refusal.Refusal.{Refusal}
-use Rattle.unl_replay.specs.declared.refusal.Refusal.TheVariants.{LineTooLong, TooManyLines, TooManyEnvironments}
-use Rattle.unl_replay.specs.Refusals.{refusal_text}
-use Rattle.unl_replay.specs.Forms.{line_of}
+use Rattle.unl_replay.specs.declared.refusal.Refusal.TheVariants.{Document, TooManyEnvironments, LineTooLong, TooManyLines, NotBuilt}
+use Rattle.unl_replay.specs.Forms.{batch_in, feed_in, ask_of}
 use Rattle.unl_replay.specs.Lines.{lines, ended_lines}
 use Rattle.unl_replay.specs.Reading.{longest_line}
+use Rattle.unl_replay.specs.Refusals.{LineReading, and_then, documented, refusing, refusal_for_book, refusal_text}
 
 -- how a replay ends: at the end of its input, or at a line that is refused
 pub data Ending : Type 0 where
@@ -35,21 +43,31 @@ pub record Replayed : Type 0 where
 
 -- ---- the printed lines
 
-abbrev pub same_text_line : ℕ → List ℕ
-same_text_line k = decimal k ++ codes ": same\n"
+abbrev pub same_line : ℕ → List ℕ
+same_line k = decimal k ++ codes ": same\n"
 
-abbrev pub tokens_text_line : ℕ → ℕ → ℕ → List ℕ
-tokens_text_line k generation front = decimal k ++ (codes ": tokens generation " ++ (decimal generation ++ (codes " front " ++ (decimal front ++ codes "\n"))))
+abbrev pub tokens_line : ℕ → ℕ → ℕ → List ℕ
+tokens_line k generation front = decimal k ++ (codes ": tokens generation " ++ (decimal generation ++ (codes " front " ++ (decimal front ++ codes "\n"))))
+
+-- a number, where there is one
+abbrev pub number_text : Option ℕ → List ℕ
+number_text None = codes "-"
+number_text (Some n) = decimal n
 
 -- the word of a verdict, and where the environment stands then
-abbrev pub verdict_text_line : ℕ → List ℕ → ℕ → ℕ → List ℕ
-verdict_text_line k word number front = decimal k ++ (codes ": " ++ (word ++ (codes " number " ++ (decimal number ++ (codes " front " ++ (decimal front ++ codes "\n"))))))
+abbrev pub verdict_line : ℕ → List ℕ → List ℕ → ℕ → List ℕ
+verdict_line k word number front = decimal k ++ (codes ": " ++ (word ++ (codes " number " ++ (number ++ (codes " front " ++ (decimal front ++ codes "\n"))))))
 
-abbrev pub ask_text_start : ℕ → ℕ → ℕ → List ℕ
-ask_text_start k front status = decimal k ++ (codes ": front " ++ (decimal front ++ (codes " status " ++ (decimal status ++ codes " tag - body "))))
+-- a tag, where there is one
+abbrev pub tag_or_dash : Option (List ℕ) → List ℕ
+tag_or_dash None = codes "-"
+tag_or_dash (Some tag) = tag
 
-abbrev pub ask_text_line : ℕ → ℕ → Reply → List ℕ
-ask_text_line k front reply = ask_text_start k front reply.status ++ reply.body ++ codes "\n"
+abbrev pub ask_start : ℕ → ℕ → ℕ → List ℕ → List ℕ
+ask_start k front status tag = decimal k ++ (codes ": front " ++ (decimal front ++ (codes " status " ++ (decimal status ++ (codes " tag " ++ (tag ++ codes " body "))))))
+
+abbrev pub ask_line : ℕ → ℕ → Reply → List ℕ
+ask_line k front reply = ask_start k front reply.status (tag_or_dash reply.tag) ++ reply.body ++ codes "\n"
 
 abbrev pub refused_text : ℕ → List ℕ → List ℕ
 refused_text k cause = codes "refused: line " ++ (decimal k ++ (codes ": " ++ (cause ++ codes "\n")))
@@ -70,57 +88,83 @@ pub record Answered : Type 0 where
   pub text : List ℕ
   pub desk : Standing
 
+-- the book that stands is published no second time
 abbrev pub put_tokens : ℕ → List Token → Standing → Answered
 put_tokens k tokens d =
-    if same_tokens tokens d.board.book then record { text = same_text_line k; desk = d }
-    else record { text = tokens_text_line k (with_tokens tokens d.board).generation (d.front + 1); desk = published (with_tokens tokens d.board) d }
+    if same_book tokens d.board.book then record { text = same_line k; desk = d }
+    else record { text = tokens_line k (with_book tokens d).board.generation (with_book tokens d).front; desk = with_book tokens d }
 
 -- the number at which an environment stands, where it has a state
 abbrev pub number_in : List ℕ → Board → Option ℕ
-number_in environment board = option_map (λ snapshot. snapshot.version.number) (snapshot_in environment board.slots)
+number_in environment board = option_map (λ version. version.number) (snapshot_in environment board.slots)
 
--- a hydration at e, where the environment stands at this number: an older one and a repeated one change nothing
-abbrev pub verdict_at : Option ℕ → ℕ → Verdict
-verdict_at None e = Apply
-verdict_at (Some c) e = if nat_lt e c then Old c else (if e == c then Repeat c else Apply)
+-- the number at which a slot stands
+abbrev pub number_at : ℕ → Standing → Option ℕ
+number_at slot d = option_map (λ version. version.number) (place_of (installed_by d) slot).version
 
-abbrev pub judged : ℕ → ℕ → State → ℕ → Standing → Verdict → Answered
-judged k number state slot d Apply = record { text = verdict_text_line k (codes "apply") number (d.front + 1); desk = published (with_state slot number state d.board) d }
-judged k number state slot d (Repeat c) = record { text = verdict_text_line k (codes "repeat") c d.front; desk = d }
-judged k number state slot d (Old c) = record { text = verdict_text_line k (codes "old") c d.front; desk = d }
+-- what is printed of a verdict, with the desk after it
+abbrev pub judged_as : ℕ → List ℕ → ℕ → Standing → Answered
+judged_as k word slot after = record { text = verdict_line k word (number_text (number_at slot after)) after.front; desk = after }
 
--- a state arrives at a slot of the board, if there is one
-abbrev pub arrive : ℕ → List ℕ → ℕ → State → Standing → Option ℕ → Result Answered Refusal
-arrive k environment number state d None = Err TooManyEnvironments
-arrive k environment number state d (Some slot) = Ok (judged k number state slot d (verdict_at (number_in environment d.board) number))
+abbrev pub judged : ℕ → ℕ → Batch → Standing → Verdict → Answered
+judged k slot batch d Apply = judged_as k (codes "apply") slot (with_batch slot batch d)
+judged k slot batch d Repeat = judged_as k (codes "repeat") slot d
+judged k slot batch d Old = judged_as k (codes "old") slot d
+judged k slot batch d Gap = judged_as k (codes "gap") slot (with_hold slot d)
+judged k slot batch d Held = judged_as k (codes "held") slot d
 
--- an environment that is new gets its slot, whatever the verdict
-abbrev pub with_environment : List ℕ → Standing → Standing
-with_environment environment d = record d { board = with_name environment d.board }
+-- a batch arrives at a slot, if there is one
+abbrev pub arrive : ℕ → Batch → Standing → Option ℕ → LineReading Answered
+arrive k batch d None = Err TooManyEnvironments
+arrive k batch d (Some slot) = Ok (judged k slot batch d (verdict_of (place_of (installed_by d) slot) batch))
 
--- an environment takes one hydration
-abbrev pub put_batch : ℕ → List ℕ → ℕ → State → Standing → Result Answered Refusal
-put_batch k environment number state d =
-    arrive k environment number state (with_environment environment d) (slot_of environment (with_environment environment d).board.slots)
+-- an environment takes a batch; one that is new gets its slot, whatever the verdict
+abbrev pub put_batch : ℕ → List ℕ → Standing → Batch → LineReading Answered
+put_batch k environment d batch = arrive k batch (with_name environment d) (slot_of environment (with_name environment d).board.slots)
 
-abbrev pub answer_to : ℕ → Standing → Line → Result Answered Refusal
-answer_to k d (Tokens tokens) = Ok (put_tokens k tokens d)
-answer_to k d (Batch environment hydration) = put_batch k environment hydration.number hydration.state d
-answer_to k d (Ask request draw) = Ok (record { text = ask_text_line k d.front (answer_of d.board request draw); desk = d })
+-- a request is answered
+abbrev pub put_ask : ℕ → Standing → Ask → Answered
+put_ask k d ask = record { text = ask_line k d.front (answer_of d.board ask.request ask.draw); desk = d }
+
+abbrev pub tokens_of_line : ℕ → Standing → Data → LineReading Answered
+tokens_of_line k d line = and_then (refusing refusal_for_book (book_of line)) (λ tokens. Ok (put_tokens k tokens d))
+
+abbrev pub batch_of_line : ℕ → Standing → Data → LineReading Answered
+batch_of_line k d line = and_then (documented (required name field.Environment line)) (λ environment.
+    and_then (batch_in (number_in environment d.board) line) (put_batch k environment d))
+
+abbrev pub feed_of_line : ℕ → Standing → Data → LineReading Answered
+feed_of_line k d line = and_then (documented (required name field.Environment line)) (λ environment.
+    and_then (feed_in line) (put_batch k environment d))
+
+abbrev pub ask_of_line : ℕ → Standing → Data → LineReading Answered
+ask_of_line k d line = and_then (documented (ask_of line)) (λ ask. Ok (put_ask k d ask))
+
+-- an object is answered by its op
+abbrev pub answer_op : ℕ → Standing → Data → List ℕ → LineReading Answered
+answer_op k d line op =
+    if bytes_eq op (codes "tokens") then tokens_of_line k d line
+    else (if bytes_eq op (codes "batch") then batch_of_line k d line
+    else (if bytes_eq op (codes "feed") then feed_of_line k d line
+    else (if bytes_eq op (codes "ask") then ask_of_line k d line
+    else (if bytes_eq op (codes "metrics") then Err NotBuilt else Err (Document (WrongKind field.Op))))))
+
+abbrev pub answer_object : ℕ → Standing → Data → LineReading Answered
+answer_object k d line = and_then (documented (required any_text field.Op line)) (answer_op k d line)
+
+-- the answer to the bytes of a line
+unfoldable pub answer_read : ℕ → Standing → List ℕ → LineReading Answered
+answer_read k d bytes = and_then (ok_or (object_in bytes) (Document NotJson)) (answer_object k d)
 
 abbrev pub most_lines : ℕ
 most_lines = 1000000
 
-abbrev pub answer_read : ℕ → Standing → Result Line Refusal → Result Answered Refusal
-answer_read k d (Err cause) = Err cause
-answer_read k d (Ok line) = answer_to k d line
-
 -- the line k
-abbrev pub answer_line : ℕ → Standing → List ℕ → Result Answered Refusal
-answer_line k d bytes = if nat_lt most_lines k then Err TooManyLines else (if nat_lt longest_line (length bytes) then Err LineTooLong else answer_read k d (line_of bytes))
+abbrev pub answer_line : ℕ → Standing → List ℕ → LineReading Answered
+answer_line k d bytes = if nat_lt most_lines k then Err TooManyLines else (if nat_lt longest_line (length bytes) then Err LineTooLong else answer_read k d bytes)
 
 -- what a line prints, a refused one too
-abbrev pub printed : ℕ → Result Answered Refusal → List ℕ
+abbrev pub printed : ℕ → LineReading Answered → List ℕ
 printed k (Ok answered) = answered.text
 printed k (Err cause) = refused_text k (refusal_text cause)
 
@@ -130,7 +174,7 @@ abbrev pub begun_by : List ℕ → Replayed → Replayed
 begun_by text r = record { text = text ++ r.text; ending = r.ending }
 
 -- a line, and what follows it unless it is refused
-abbrev pub followed : ℕ → Result Answered Refusal → (Standing → Replayed) → Replayed
+abbrev pub followed : ℕ → LineReading Answered → (Standing → Replayed) → Replayed
 followed k (Err cause) rest = record { text = []; ending = refused k cause }
 followed k (Ok answered) rest = begun_by answered.text (rest answered.desk)
 
@@ -141,7 +185,7 @@ answers k d (line ∷ more) = followed k (answer_line k d line) (λ after. answe
 
 -- no environment, no tokens, and nothing published
 abbrev pub opening : Standing
-opening = record { board = record { boot = 0; host = []; generation = 0; book = []; slots = [] }; front = 0 }
+opening = record { board = record { boot = 0; host = []; generation = 0; book = []; slots = [] }; places = []; front = 0 }
 
 -- the replay of a whole input
 abbrev pub replay_of : List ℕ → Replayed

@@ -1,10 +1,9 @@
-//! The ask of a line: a request, and the draw that it is answered with.
-ghost use Rattle.std.specs.Prelude.{◌≡◌, [], IfOk, unwrap_or};
+//! An ask: a request, and the draw that it is answered with.
+ghost use Rattle.std.specs.Prelude.{◌≡◌, [], unwrap_or};
 ghost use Rattle.serde_json.specs.View.{view};
 ghost use Rattle.unl_documents.specs.Reading.{Gives};
 ghost use Rattle.unl_replay.specs.Forms.{ask_of, bytes_or_none, method_by};
 
-use crate::line::Line;
 use serde_json::Value;
 use std::alloc::Global;
 use unl_base::Draw;
@@ -15,6 +14,13 @@ use unl_http_api::{Bytes, Method, Request};
 
 /// The last moment that a draw may have, in milliseconds since 1970.
 const LAST_MOMENT: u64 = 100_000_000_000_000;
+
+/// A request with its parts as they stand, and the draw that it is answered with.
+#[derive(Drop)]
+pub struct Ask {
+    pub request: Request,
+    pub draw: Draw,
+}
 
 /// A word for a method: `GET` or `POST`.
 struct MethodWord;
@@ -75,8 +81,9 @@ fn bytes_or_none(alloc: Global, text: Option<Text>) -> Bytes
     }
 }
 
+/// Reads the object of an ask.
 #[tactic(auto, unfolding(crate::specs::Forms::ask_of))]
-pub fn ask_of(alloc: Global, object: &Value) -> Result<Line, BadDocument>
+pub fn ask_of(alloc: Global, object: &Value) -> Result<Ask, BadDocument>
     ensures { Gives result (ask_of (view object.now)) }
 {
     let target = required::<AnyText>(alloc, Field::Target, object)?;
@@ -87,7 +94,7 @@ pub fn ask_of(alloc: Global, object: &Value) -> Result<Line, BadDocument>
     let method = defaulted::<MethodWord>(alloc, Method::Get, Field::Method, object)?;
     let now = defaulted::<Whole<LAST_MOMENT>>(alloc, 0, Field::Now, object)?;
     let word = defaulted::<AnyWhole>(alloc, 0, Field::Word, object)?;
-    Ok(Line::Ask {
+    Ok(Ask {
         request: Request {
             method,
             target: bytes_of(target),

@@ -1,15 +1,12 @@
-//! The replay: lines of tokens, batches and asks are read from a source, and each is answered by one printed line.
+//! The replay: lines of tokens, batches, feeds and asks are read from a source, and each is answered by one printed line.
 #![tactic(auto)]
 
 mod ask;
 mod batch;
-mod json;
-mod line;
 mod reader;
 mod refusal;
 mod replaying;
 mod step;
-mod tokens;
 
 pub use replaying::{ReplayFault, replay};
 

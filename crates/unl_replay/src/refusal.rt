@@ -1,23 +1,31 @@
 //! Why a line is refused.
-ghost use Rattle.std.specs.Prelude.{◌≡◌, ◌≢◌, IfOk, string_bytes};
-ghost use Rattle.unl_replay.specs.Refusals.{refusal_text};
+ghost use Rattle.std.specs.Prelude.{◌≡◌, IfOk, string_bytes};
+ghost use Rattle.unl_replay.specs.Refusals.{batch_text, book_text, numbered, refusal_text};
 
 use std::alloc::{AllocError, Global};
+use unl_delta::BadBatch;
 use unl_documents::{BadDocument, Memory, fault_text};
+use unl_tokens::BadBook;
 
 /// Why a line is refused; or that memory is wanting, for which none is.
 #[derive(Debug, Drop)]
 pub enum Refusal {
     /// The first fault of a document in the line, or of the line itself.
     Document(BadDocument),
-    /// The line's form isn't built yet.
-    NotBuilt,
+    /// The tokens can't be read.
+    Book(BadBook),
+    /// The batch can't be read.
+    Batch(BadBatch),
+    /// The feed has no number.
+    NoNumber,
     /// The environment is new, and eight stand.
     TooManyEnvironments,
     /// More than 16,777,216 bytes came before the line's end.
     LineTooLong,
     /// It is the line 1,000,001.
     TooManyLines,
+    /// The line's form isn't built yet.
+    NotBuilt,
     Memory,
 }
 
@@ -57,6 +65,34 @@ impl From<BadDocument> for Refusal {
     }
 }
 
+impl From<BadBook> for Refusal {
+    ghost use Rattle.std.specs.Prelude.{◌≡◌};
+    ghost use Rattle.unl_replay.specs.Refusals.{refusal_for_book};
+
+    ghost from_gives = { λ fault refusal. refusal ≡ refusal_for_book fault };
+
+    fn from(fault: BadBook) -> Self {
+        match fault {
+            BadBook::Memory => Refusal::Memory,
+            fault => Refusal::Book(fault),
+        }
+    }
+}
+
+impl From<BadBatch> for Refusal {
+    ghost use Rattle.std.specs.Prelude.{◌≡◌};
+    ghost use Rattle.unl_replay.specs.Refusals.{refusal_for_batch};
+
+    ghost from_gives = { λ fault refusal. refusal ≡ refusal_for_batch fault };
+
+    fn from(fault: BadBatch) -> Self {
+        match fault {
+            BadBatch::Memory => Refusal::Memory,
+            fault => Refusal::Batch(fault),
+        }
+    }
+}
+
 impl Refusal {
     /// The text that is printed for it.
     pub fn text(&self, alloc: Global) -> Result<String, Memory>
@@ -64,11 +100,45 @@ impl Refusal {
     {
         match self {
             Refusal::Document(fault) => fault_text(alloc, fault),
-            Refusal::NotBuilt => Ok(String::from_str(alloc, "NotBuilt")?),
+            Refusal::Book(fault) => book_text(alloc, fault),
+            Refusal::Batch(fault) => batch_text(alloc, fault),
+            Refusal::NoNumber => Ok(String::from_str(alloc, "NoNumber")?),
             Refusal::TooManyEnvironments => Ok(String::from_str(alloc, "TooManyEnvironments")?),
             Refusal::LineTooLong => Ok(String::from_str(alloc, "LineTooLong")?),
             Refusal::TooManyLines => Ok(String::from_str(alloc, "TooManyLines")?),
+            Refusal::NotBuilt => Ok(String::from_str(alloc, "NotBuilt")?),
             Refusal::Memory => Ok(String::new(alloc)),
         }
     }
+}
+
+/// The word for a fault of a book, with the number of its kind and the place or the count.
+fn book_text(alloc: Global, fault: &BadBook) -> Result<String, Memory>
+    ensures { IfOk result (λ s. string_bytes s ≡ book_text fault.now) }
+{
+    match fault {
+        BadBook::NotJson => Ok(String::from_str(alloc, "BadBook 1")?),
+        BadBook::BadEntry(place) => Ok(numbered(alloc, "BadBook 2", *place)?),
+        BadBook::TooMany(count) => Ok(numbered(alloc, "BadBook 3", *count)?),
+        BadBook::Memory => Ok(String::new(alloc)),
+    }
+}
+
+/// The word for a fault of a batch, with the number of its kind and the place.
+fn batch_text(alloc: Global, fault: &BadBatch) -> Result<String, Memory>
+    ensures { IfOk result (λ s. string_bytes s ≡ batch_text fault.now) }
+{
+    match fault {
+        BadBatch::NotJson => Ok(String::from_str(alloc, "BadBatch 1")?),
+        BadBatch::BadEvent(place) => Ok(numbered(alloc, "BadBatch 2", *place)?),
+        BadBatch::HydrationNotFirst(place) => Ok(numbered(alloc, "BadBatch 3", *place)?),
+        BadBatch::NotRising(place) => Ok(numbered(alloc, "BadBatch 4", *place)?),
+        BadBatch::Memory => Ok(String::new(alloc)),
+    }
+}
+
+fn numbered(alloc: Global, word: &str, number: u64) -> Result<String, AllocError>
+    ensures { IfOk result (λ s. string_bytes s ≡ numbered word.now number) }
+{
+    format!(in alloc; "{word} {number}")
 }

@@ -2,7 +2,6 @@
 ghost use Rattle.std.specs.Prelude.{◌≡◌, ◌≢◌, ◌+◌, ◌-◌, ◌^◌, ◌<◌, ◌≤◌, ℕ, Err, IfOk, IsErrOf, string_bytes};
 ghost use Rattle.unl_base.specs.Faults.{Rose};
 ghost use Rattle.unl_core.specs.Standing.{Standing};
-ghost use Rattle.unl_replay.specs.Forms.{line_of};
 ghost use Rattle.unl_replay.specs.Refusals.{refusal_text};
 ghost use Rattle.unl_replay.specs.Replay.{answer_read, refused_text};
 ghost use Rattle.unl_replay.specs.Turns.{Prints, Turns};
@@ -104,7 +103,7 @@ fn print_answer<K: Sink>(
     line: &[u8],
 ) -> Result<(), ReplayFault>
     requires room { desk.old.front < 2 ^ 64 - 1 }
-    ensures prints { Prints result number (answer_read number desk.old (line_of line.now)) desk.new (K.sent sink.old) (K.sent sink.new) }
+    ensures prints { Prints result number (answer_read number desk.old line.now) desk.new (K.sent sink.old) (K.sent sink.new) }
     ensures front { desk.new.front ≤ desk.old.front + 1 }
     ensures cause { IsErrOf result ReplayFault.WriteFault → Rose (K.faults sink.old) (K.faults sink.new) }
     ensures later { K.faults sink.old ≤ K.faults sink.new }

@@ -1,40 +1,26 @@
 //! One line of the replay, over the desk.
-ghost use Rattle.std.specs.Prelude.{◌≡◌, ◌+◌, ◌-◌, ◌^◌, ◌<◌, ◌≤◌, Ok, IfOk, IfErr, string_bytes};
-ghost use Rattle.unl_core.specs.Answer.{answer_of};
-ghost use Rattle.unl_replay.specs.Forms.{line_of};
+ghost use Rattle.std.specs.Prelude.{◌≡◌, ◌+◌, ◌-◌, ◌^◌, ◌<◌, ◌≤◌, Ok, IfOk, string_bytes, length, decimal};
+ghost use Rattle.serde_json.specs.View.{view};
+ghost use Rattle.unl_core.specs.Standing.{installed_by};
+ghost use Rattle.unl_delta.specs.Batch.{verdict_of};
+ghost use Rattle.unl_delta.specs.Installing.{place_of};
+ghost use Rattle.unl_delta.specs.Valid.{IsValidBatch};
+ghost use Rattle.unl_replay.specs.Replay.{answer_object, answer_op, answer_read, ask_line, ask_of_line, ask_start, batch_of_line, feed_of_line, judged, judged_as, number_at, number_in, number_text, put_ask, put_batch, put_tokens, same_line, tag_or_dash, tokens_line, tokens_of_line, verdict_line};
 ghost use Rattle.unl_replay.specs.Steps.{Steps};
-ghost use Rattle.unl_replay.specs.Replay.{answer_read, ask_text_line, ask_text_start, number_in, put_batch, put_tokens, same_text_line, tokens_text_line, verdict_at, verdict_text_line};
 
-use crate::batch::Hydration;
-use crate::line::{Line, line_of};
+use crate::ask::{Ask, ask_of};
+use crate::batch::{batch_in, feed_in};
 use crate::refusal::Refusal;
+use serde_json::Value;
 use std::alloc::{AllocError, Global};
-use unl_base::Draw;
-use unl_core::{Book, Desk, OneDesk};
-use unl_http_api::{Reply, Request};
-
-/// What becomes of a hydration.
-#[derive(Clone, Copy, Debug, PartialEq, Eq)]
-pub enum Verdict {
-    /// It is taken.
-    Apply,
-    /// The environment stands at its number, which is this one.
-    Repeat(u64),
-    /// The environment stands at this number, which is above its own.
-    Old(u64),
-}
-
-/// The verdict on a hydration, where the environment stands at this number.
-fn verdict_at(standing: Option<u64>, number: u64) -> Verdict
-    ensures { result ≡ verdict_at standing number }
-{
-    match standing {
-        None => Verdict::Apply,
-        Some(stands) if number < stands => Verdict::Old(stands),
-        Some(stands) if number == stands => Verdict::Repeat(stands),
-        Some(_) => Verdict::Apply,
-    }
-}
+use unl_core::{Desk, OneDesk};
+use unl_delta::{Batch, Installer, Verdict, verdict};
+use unl_documents::json::read_object;
+use unl_documents::keys::required;
+use unl_documents::kind::{AnyText, Name};
+use unl_documents::{BadDocument, Field, Text};
+use unl_http_api::Reply;
+use unl_tokens::Book;
 
 /// The number at which an environment stands, where it has a state.
 fn number_in(desk: &OneDesk, environment: &str) -> Option<u64>
@@ -42,12 +28,29 @@ fn number_in(desk: &OneDesk, environment: &str) -> Option<u64>
 {
     match desk.board().snapshot(environment) {
         None => None,
-        Some(snapshot) => Some(snapshot.version.get().number),
+        Some(snapshot) => Some(snapshot.version().number),
     }
 }
 
+/// The number at which a slot stands, as it is printed.
+fn number_text(alloc: Global, desk: &OneDesk, slot: usize) -> Result<String, AllocError>
+    requires { slot < length desk.now.places }
+    ensures { IfOk result (λ s. string_bytes s ≡ number_text (number_at slot desk.now)) }
+{
+    match &desk.place(slot).version {
+        None => String::from_str(alloc, "-"),
+        Some(version) => decimal_of(alloc, version.get().number),
+    }
+}
+
+fn decimal_of(alloc: Global, number: u64) -> Result<String, AllocError>
+    ensures { IfOk result (λ s. string_bytes s ≡ decimal number) }
+{
+    format!(in alloc; "{number}")
+}
+
 fn same_line(alloc: Global, number: u64) -> Result<String, AllocError>
-    ensures { IfOk result (λ s. string_bytes s ≡ same_text_line number) }
+    ensures { IfOk result (λ s. string_bytes s ≡ same_line number) }
 {
     format!(in alloc; "{number}: same\n")
 }
@@ -58,7 +61,7 @@ fn tokens_line(
     generation: u64,
     front: u64,
 ) -> Result<String, AllocError>
-    ensures { IfOk result (λ s. string_bytes s ≡ tokens_text_line number generation front) }
+    ensures { IfOk result (λ s. string_bytes s ≡ tokens_line number generation front) }
 {
     format!(in alloc; "{number}: tokens generation {generation} front {front}\n")
 }
@@ -67,25 +70,41 @@ fn verdict_line(
     alloc: Global,
     number: u64,
     word: &str,
-    version: u64,
+    version: &str,
     front: u64,
 ) -> Result<String, AllocError>
-    ensures { IfOk result (λ s. string_bytes s ≡ verdict_text_line number word.now version front) }
+    ensures { IfOk result (λ s. string_bytes s ≡ verdict_line number word.now version.now front) }
 {
     format!(in alloc; "{number}: {word} number {version} front {front}\n")
 }
 
-fn ask_start(alloc: Global, number: u64, front: u64, status: u16) -> Result<String, AllocError>
-    ensures { IfOk result (λ s. string_bytes s ≡ ask_text_start number front status) }
+fn ask_start(
+    alloc: Global,
+    number: u64,
+    front: u64,
+    status: u16,
+    tag: &str,
+) -> Result<String, AllocError>
+    ensures { IfOk result (λ s. string_bytes s ≡ ask_start number front status tag.now) }
 {
-    format!(in alloc; "{number}: front {front} status {status} tag - body ")
+    format!(in alloc; "{number}: front {front} status {status} tag {tag} body ")
+}
+
+fn tag_or_dash(tag: &Option<Text>) -> &str
+    ensures { result.now ≡ tag_or_dash tag.now }
+{
+    match tag {
+        None => "-",
+        Some(tag) => tag.as_str(),
+    }
 }
 
 /// The line of an ask, with the body as it stands.
 fn ask_line(alloc: Global, number: u64, front: u64, reply: &Reply) -> Result<Vec<u8>, AllocError>
-    ensures { IfOk result (λ v. v.items ≡ ask_text_line number front reply.now) }
+    ensures { IfOk result (λ v. v.items ≡ ask_line number front reply.now) }
 {
-    let mut line = ask_start(alloc, number, front, reply.status)?.into_bytes();
+    let tag = tag_or_dash(&reply.tag);
+    let mut line = ask_start(alloc, number, front, reply.status, tag)?.into_bytes();
     line.extend_from_slice(reply.body.as_slice())?;
     line.extend_from_slice(b"\n")?;
     Ok(line)
@@ -102,7 +121,7 @@ fn put_tokens(
     ensures given { Steps result desk.new (Ok (put_tokens number tokens desk.old)) }
     ensures front { desk.new.front ≤ desk.old.front + 1 }
 {
-    match desk.put_book(alloc, tokens)? {
+    match desk.install_book(alloc, tokens)? {
         None => Ok(same_line(alloc, number)?.into_bytes()),
         Some(front) => {
             Ok(tokens_line(alloc, number, desk.board().generation, front)?.into_bytes())
@@ -110,52 +129,177 @@ fn put_tokens(
     }
 }
 
+/// What is printed of a verdict.
+fn judged_as(
+    alloc: Global,
+    desk: &OneDesk,
+    number: u64,
+    word: &str,
+    slot: usize,
+) -> Result<Vec<u8>, Refusal>
+    requires { slot < length desk.now.places }
+    ensures { Steps result desk.now (Ok (judged_as number word.now slot desk.now)) }
+{
+    let version = number_text(alloc, desk, slot)?;
+    Ok(verdict_line(alloc, number, word, version.as_str(), desk.front())?.into_bytes())
+}
+
+/// A batch is judged at a slot, and taken where it applies.
+fn judge(
+    alloc: Global,
+    desk: &mut OneDesk,
+    number: u64,
+    slot: usize,
+    batch: &Batch,
+) -> Result<Vec<u8>, Refusal>
+    requires room { desk.old.front < 2 ^ 64 - 1 }
+    requires slot { slot < length desk.old.places }
+    requires batch { IsValidBatch batch.now }
+    ensures given { Steps result desk.new (Ok (judged number slot batch.now desk.old (verdict_of (place_of (installed_by desk.old) slot) batch.now))) }
+    ensures front { desk.new.front ≤ desk.old.front + 1 }
+{
+    match verdict(desk.place(slot), batch) {
+        Verdict::Apply => {
+            desk.install(alloc, slot, batch)?;
+            judged_as(alloc, desk, number, "apply", slot)
+        }
+        Verdict::Repeat => judged_as(alloc, desk, number, "repeat", slot),
+        Verdict::Old => judged_as(alloc, desk, number, "old", slot),
+        Verdict::Gap => {
+            desk.hold(slot);
+            judged_as(alloc, desk, number, "gap", slot)
+        }
+        Verdict::Held => judged_as(alloc, desk, number, "held", slot),
+    }
+}
+
+/// An environment takes a batch. One that is new gets its slot, whatever the verdict.
 fn put_batch(
     alloc: Global,
     desk: &mut OneDesk,
     number: u64,
     environment: &str,
-    hydration: Hydration,
+    batch: &Batch,
 ) -> Result<Vec<u8>, Refusal>
-    requires { desk.old.front < 2 ^ 64 - 1 }
+    requires room { desk.old.front < 2 ^ 64 - 1 }
+    requires batch { IsValidBatch batch.now }
+    ensures given { Steps result desk.new (put_batch number environment.now desk.old batch.now) }
     ensures front { desk.new.front ≤ desk.old.front + 1 }
-    ensures given { Steps result desk.new
-        (put_batch number environment.now hydration.number hydration.state desk.old) }
 {
-    let Some(slot) = desk.name_slot(alloc, environment)? else {
-        return Err(Refusal::TooManyEnvironments);
-    };
-    match verdict_at(number_in(desk, environment), hydration.number) {
-        Verdict::Apply => {
-            let front = desk.put_state(alloc, slot, hydration.number, hydration.state)?;
-            Ok(verdict_line(alloc, number, "apply", hydration.number, front)?.into_bytes())
-        }
-        Verdict::Repeat(stands) => {
-            Ok(verdict_line(alloc, number, "repeat", stands, desk.front())?.into_bytes())
-        }
-        Verdict::Old(stands) => {
-            Ok(verdict_line(alloc, number, "old", stands, desk.front())?.into_bytes())
-        }
+    match desk.name_slot(alloc, environment)? {
+        None => Err(Refusal::TooManyEnvironments),
+        Some(slot) => judge(alloc, desk, number, slot, batch),
     }
 }
 
-fn ask(
+#[tactic(auto, using(crate::proofs::RefusalLemmas::refused_book))]
+fn tokens_of_line(
     alloc: Global,
     desk: &mut OneDesk,
     number: u64,
-    request: &Request,
-    draw: &Draw,
+    line: &Value,
 ) -> Result<Vec<u8>, Refusal>
-    ensures text { IfOk result (λ v. v.items
-        ≡ ask_text_line number desk.old.front (answer_of desk.old.board request.now draw.entry.now)) }
-    ensures same { desk.new ≡ desk.old }
-    ensures err { IfErr result (λ e. e ≡ Refusal.Memory) }
+    requires { desk.old.front < 2 ^ 64 - 1 }
+    ensures given { Steps result desk.new (tokens_of_line number desk.old (view line.now)) }
+    ensures front { desk.new.front ≤ desk.old.front + 1 }
 {
-    let (front, answer) = desk.answer(alloc, request, draw)?;
+    let tokens = Book::read_value(alloc, line)?;
+    put_tokens(alloc, desk, number, tokens)
+}
+
+#[tactic(auto, using(crate::proofs::RefusalLemmas::refused))]
+fn batch_of_line(
+    alloc: Global,
+    desk: &mut OneDesk,
+    number: u64,
+    line: &Value,
+) -> Result<Vec<u8>, Refusal>
+    requires { desk.old.front < 2 ^ 64 - 1 }
+    ensures given { Steps result desk.new (batch_of_line number desk.old (view line.now)) }
+    ensures front { desk.new.front ≤ desk.old.front + 1 }
+{
+    let environment = required::<Name>(alloc, Field::Environment, line)?;
+    let held = number_in(desk, environment.as_str());
+    let batch = batch_in(alloc, held, line)?;
+    put_batch(alloc, desk, number, environment.as_str(), &batch)
+}
+
+#[tactic(auto, using(crate::proofs::RefusalLemmas::refused))]
+fn feed_of_line(
+    alloc: Global,
+    desk: &mut OneDesk,
+    number: u64,
+    line: &Value,
+) -> Result<Vec<u8>, Refusal>
+    requires { desk.old.front < 2 ^ 64 - 1 }
+    ensures given { Steps result desk.new (feed_of_line number desk.old (view line.now)) }
+    ensures front { desk.new.front ≤ desk.old.front + 1 }
+{
+    let environment = required::<Name>(alloc, Field::Environment, line)?;
+    let batch = feed_in(alloc, line)?;
+    put_batch(alloc, desk, number, environment.as_str(), &batch)
+}
+
+#[tactic(auto, using(crate::proofs::RefusalLemmas::refused))]
+fn ask_of_line(
+    alloc: Global,
+    desk: &mut OneDesk,
+    number: u64,
+    line: &Value,
+) -> Result<Vec<u8>, Refusal>
+    ensures given { Steps result desk.new (ask_of_line number desk.old (view line.now)) }
+    ensures same { desk.new ≡ desk.old }
+{
+    let ask = ask_of(alloc, line)?;
+    put_ask(alloc, desk, number, &ask)
+}
+
+fn put_ask(alloc: Global, desk: &mut OneDesk, number: u64, ask: &Ask) -> Result<Vec<u8>, Refusal>
+    ensures given { Steps result desk.new (Ok (put_ask number desk.old ask.now)) }
+    ensures same { desk.new ≡ desk.old }
+{
+    let (front, answer) = desk.answer(alloc, &ask.request, &ask.draw)?;
     Ok(ask_line(alloc, number, front, &answer.reply)?)
 }
 
+fn answer_op(
+    alloc: Global,
+    desk: &mut OneDesk,
+    number: u64,
+    line: &Value,
+    op: &str,
+) -> Result<Vec<u8>, Refusal>
+    requires { desk.old.front < 2 ^ 64 - 1 }
+    ensures given { Steps result desk.new (answer_op number desk.old (view line.now) op.now) }
+    ensures front { desk.new.front ≤ desk.old.front + 1 }
+{
+    match op {
+        "tokens" => tokens_of_line(alloc, desk, number, line),
+        "batch" => batch_of_line(alloc, desk, number, line),
+        "feed" => feed_of_line(alloc, desk, number, line),
+        "ask" => ask_of_line(alloc, desk, number, line),
+        "metrics" => Err(Refusal::NotBuilt),
+        _ => Err(Refusal::Document(BadDocument::WrongKind(Field::Op))),
+    }
+}
+
+#[tactic(auto, using(crate::proofs::RefusalLemmas::refused))]
+fn answer_object(
+    alloc: Global,
+    desk: &mut OneDesk,
+    number: u64,
+    line: &Value,
+) -> Result<Vec<u8>, Refusal>
+    requires { desk.old.front < 2 ^ 64 - 1 }
+    ensures given { Steps result desk.new (answer_object number desk.old (view line.now)) }
+    ensures front { desk.new.front ≤ desk.old.front + 1 }
+{
+    let op = required::<AnyText>(alloc, Field::Op, line)?;
+    answer_op(alloc, desk, number, line, op.as_str())
+}
+
 /// Answers a line, and says what it prints.
+#[tactic(auto, unfolding(crate::specs::Replay::answer_read))]
 pub fn answer_line(
     alloc: Global,
     desk: &mut OneDesk,
@@ -163,15 +307,11 @@ pub fn answer_line(
     bytes: &[u8],
 ) -> Result<Vec<u8>, Refusal>
     requires { desk.old.front < 2 ^ 64 - 1 }
-    ensures given { Steps result desk.new (answer_read number desk.old (line_of bytes.now)) }
+    ensures given { Steps result desk.new (answer_read number desk.old bytes.now) }
     ensures front { desk.new.front ≤ desk.old.front + 1 }
 {
-    match line_of(alloc, bytes)? {
-        Line::Tokens(book) => put_tokens(alloc, desk, number, book),
-        Line::Batch {
-            environment,
-            hydration,
-        } => put_batch(alloc, desk, number, environment.as_str(), hydration),
-        Line::Ask { request, draw } => ask(alloc, desk, number, &request, &draw),
+    match read_object(alloc, bytes)? {
+        Some(line) => answer_object(alloc, desk, number, &line),
+        None => Err(Refusal::Document(BadDocument::NotJson)),
     }
 }

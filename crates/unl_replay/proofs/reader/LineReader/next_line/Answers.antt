@@ -10,7 +10,7 @@ returns-in-Some-eq10-clause-next g c =
 pub bytes-preserved : goal.bytes-preserved
 bytes-preserved g c =
     let grown = line_grows _ _ _ _ _ _ c.bytes.line.items _ c.in-Some.byte c.in_ok-push-in-Some.ensures.items c.in-Some.byte-test.1 c.bytes.invariant.unbroken c.bytes.invariant.got
-      (rw (c.in-Some.is) at c.in_ok-next_byte.ensures.byte) in
+    (rw (c.in-Some.is) at c.in_ok-next_byte.ensures.byte) in
     record { got = grown.0; unbroken = grown.1; later = omega (arith, c.bytes.invariant.later, c.next_byte.ensures.cause.later) }
 
 pub returns-clause-fault : goal.returns-clause-fault

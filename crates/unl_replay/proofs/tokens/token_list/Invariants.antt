@@ -1,8 +1,0 @@
-use Rattle.std.proofs.Common.{◌≡◌, map, take, Some}
-use Rattle.serde_json.specs.View.{view}
-use Rattle.unl_replay.specs.Json.{each}
-use Rattle.unl_replay.specs.Forms.{token_of}
-use Rattle.unl_replay.proofs.tokens.token_list.Given as goal
-
-abbrev pub invariant-loop-value : goal.invariant-loop-value
-invariant-loop-value l = each token_of (map view (take l.value-index l.values)) ≡ Some l.tokens
