@@ -11,7 +11,8 @@ use unl_context::Context;
 use unl_documents::{List, Memory, Segment, Shared, Strategy, Text};
 
 /// Whether a strategy is active: each of its constraints holds, each segment that it names is in the list and holds,
-/// and its own rule holds. `feature` is the name of its feature, and `index` its place there, from 0.
+/// and its own rule holds. `feature` is the name of its feature, and `index` its place there, from 0. Of segments of one
+/// id the first counts. The error is want of memory.
 #[tactic(auto, unfolding(crate::specs::Strategy::is_active))]
 pub fn active(
     alloc: Global,
