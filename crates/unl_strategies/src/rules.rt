@@ -17,7 +17,8 @@ use unl_context::Context;
 use unl_documents::{List, Memory, Pair, Strategy, Text};
 
 /// Whether a strategy's own rule holds, whatever its constraints and segments say. `feature` is the name of its
-/// feature, and `index` its place there, from 0. A strategy of an unknown name has no rule that holds.
+/// feature, and `index` its place there, from 0. A strategy of an unknown name has no rule that holds. The error is want
+/// of memory.
 #[tactic(auto, unfolding(crate::specs::Strategy::rule_holds))]
 pub fn rule(
     alloc: Global,
@@ -66,6 +67,7 @@ fn percent_at(parameters: &List<Pair>, key: &str) -> u32
     percent_of(parameter_or(parameters, key, ""))
 }
 
+/// Whether the userId is an item of the parameter `userIds`.
 #[tactic(auto, unfolding(crate::specs::Strategy::is_user_listed))]
 fn is_user_listed(parameters: &List<Pair>, context: &Context) -> bool
     ensures { result ≡ user_listed parameters.now context.now }
@@ -76,6 +78,7 @@ fn is_user_listed(parameters: &List<Pair>, context: &Context) -> bool
     }
 }
 
+/// Whether the remoteAddress is an address in a net of the parameter `IPs`.
 #[tactic(auto, unfolding(crate::specs::Strategy::is_address_listed))]
 fn is_address_listed(parameters: &List<Pair>, context: &Context) -> bool
     ensures { result ≡ address_listed parameters.now context.now }
@@ -86,7 +89,7 @@ fn is_address_listed(parameters: &List<Pair>, context: &Context) -> bool
     }
 }
 
-/// Whether the percentage takes in a field of the context.
+/// Whether the percentage takes in a field of the context, in the parameter's group or one of no name.
 #[tactic(auto, unfolding(crate::specs::Strategy::is_field_rolled_out))]
 fn is_field_rolled_out(name: &str, parameters: &List<Pair>, context: &Context) -> bool
     ensures { result ≡ field_rolled_out name.now parameters.now context.now }
@@ -100,6 +103,7 @@ fn is_field_rolled_out(name: &str, parameters: &List<Pair>, context: &Context) -
     }
 }
 
+/// Whether the percentage takes in the random number.
 #[tactic(auto, unfolding(crate::specs::Strategy::is_randomly_rolled_out))]
 fn is_randomly_rolled_out(parameters: &List<Pair>, random: u32) -> bool
     ensures { result ≡ randomly_rolled_out parameters.now random }
@@ -107,7 +111,8 @@ fn is_randomly_rolled_out(parameters: &List<Pair>, random: u32) -> bool
     is_drawn(percent_at(parameters, "percentage"), random)
 }
 
-/// Whether the percentage takes in the id that the stickiness parameter chooses.
+/// Whether the percentage takes in the id that the stickiness parameter chooses, in the parameter's group or the
+/// feature's.
 #[tactic(auto, unfolding(crate::specs::Strategy::is_flexibly_rolled_out))]
 fn is_flexibly_rolled_out(
     alloc: Global,

@@ -8,7 +8,7 @@ use unl_constraints::segment_holds;
 use unl_context::Context;
 use unl_documents::{List, Memory, Segment, Shared};
 
-/// The segment of an id, if the list has one.
+/// The first segment of an id, if the list has one. No more than one has it where the ids rise.
 pub fn segment_of(segments: &List<Shared<Segment>>, id: u64) -> Option<&Segment>
     ensures { option_map (λ s. s.now) result ≡ segment_with id segments.now }
 {
@@ -45,6 +45,7 @@ pub(crate) fn all_met(
     Ok(true)
 }
 
+/// Whether the list has a segment of the id, and the context meets it.
 #[tactic(auto, unfolding(crate::specs::Strategy::is_met))]
 fn is_met(
     alloc: Global,

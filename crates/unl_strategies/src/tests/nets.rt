@@ -153,20 +153,27 @@ const OUTSIDE: [(&str, &str); 16] = [
     ("10.255.0.1/8", "11.0.0.1"),
 ];
 
+/// Whether the text is an address. None if it is no net.
+fn is_address(text: &str) -> Option<bool> {
+    let net = Net::read(text)?;
+    Some(net.is_address())
+}
+
 #[test]
 fn texts_of_nets(rt: HostRuntime) -> Result<(), Fail> {
     for text in ADDRESSES {
-        assert!(rt; Net::read(text).is_some_and(|net| net.is_address()));
+        assert!(rt; is_address(text) == Some(true), "{text}");
     }
     for text in BLOCKS {
-        assert!(rt; Net::read(text).is_some_and(|net| !net.is_address()));
+        assert!(rt; is_address(text) == Some(false), "{text}");
     }
     for text in NEITHER {
-        assert!(rt; Net::read(text).is_none());
+        assert!(rt; is_address(text).is_none(), "{text}");
     }
     Ok(())
 }
 
+/// Whether the address lies in the net. None if they are not these.
 fn lies_in(net: &str, address: &str) -> Option<bool> {
     let net = Net::read(net)?;
     let address = Net::read(address)?;
@@ -180,10 +187,10 @@ fn lies_in(net: &str, address: &str) -> Option<bool> {
 #[test]
 fn addresses_in_nets(rt: HostRuntime) -> Result<(), Fail> {
     for (net, address) in INSIDE {
-        assert!(rt; lies_in(net, address) == Some(true));
+        assert!(rt; lies_in(net, address) == Some(true), "{address}");
     }
     for (net, address) in OUTSIDE {
-        assert!(rt; lies_in(net, address) == Some(false));
+        assert!(rt; lies_in(net, address) == Some(false), "{address}");
     }
     Ok(())
 }

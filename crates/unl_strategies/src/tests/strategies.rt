@@ -2,7 +2,7 @@ use crate::{Moment, active, rule, segment_of};
 use std::alloc::Global;
 use std::test::Fail;
 use unl_context::Context;
-use unl_documents::{List, Memory, Pair, Strategy, Text, read_feed};
+use unl_documents::{Feed, List, Memory, Pair, Strategy, Text, read_feed};
 
 type Parameters = &'static [(&'static str, &'static str)];
 
@@ -421,89 +421,61 @@ fn rules(rt: HostRuntime) -> Result<(), Fail> {
     Ok(())
 }
 
-// A strategy at the second place of its feature, and whether it is active for the user 123 of team `blue`. There the
-// random number is 37 of 100.
-const DOCUMENTS: [(&str, bool); 15] = [
-    ("{\"name\":\"default\",\"segments\":[7]}", true),
-    ("{\"name\":\"default\",\"segments\":[8]}", false),
-    ("{\"name\":\"default\",\"segments\":[7,9]}", true),
-    ("{\"name\":\"default\",\"segments\":[9,10]}", false),
-    ("{\"name\":\"default\",\"segments\":[7,8]}", false),
-    ("{\"name\":\"default\",\"segments\":[]}", true),
-    (
-        "{\"name\":\"default\",\"constraints\":[{\"contextName\":\"team\",\"operator\":\"IN\",\"values\":[\"blue\"]}]}",
-        true,
-    ),
-    (
-        "{\"name\":\"default\",\"constraints\":[{\"contextName\":\"team\",\"operator\":\"NOT_IN\",\"values\":[\"blue\"]}]}",
-        false,
-    ),
-    (
-        "{\"name\":\"default\",\"constraints\":[{\"contextName\":\"team\",\"operator\":\"LIKE\",\"values\":[\"blue\"],\"inverted\":true}]}",
-        false,
-    ),
-    (
-        "{\"name\":\"default\",\"constraints\":[{\"contextName\":\"userId\",\"operator\":\"IN\",\"values\":[\"123\"]},{\"contextName\":\"team\",\"operator\":\"IN\",\"values\":[\"red\"]}]}",
-        false,
-    ),
-    ("{\"name\":\"custom\",\"segments\":[7]}", false),
-    (
-        "{\"name\":\"flexibleRollout\",\"parameters\":{\"rollout\":47}}",
-        false,
-    ),
-    (
-        "{\"name\":\"flexibleRollout\",\"parameters\":{\"rollout\":48},\"segments\":[9]}",
-        true,
-    ),
-    (
-        "{\"name\":\"gradualRolloutRandom\",\"parameters\":{\"percentage\":36}}",
-        false,
-    ),
-    (
-        "{\"name\":\"gradualRolloutRandom\",\"parameters\":{\"percentage\":\"37\"}}",
-        true,
-    ),
+// Strategies of one feature, the random numbers of the last two, as above, are 98 and 92 of 100.
+const DOCUMENT: &[u8] = b"{\"features\":[{\"name\":\"flag\",\"enabled\":true,\"strategies\":[\
+{\"name\":\"default\",\"segments\":[7]},\
+{\"name\":\"default\",\"segments\":[8]},\
+{\"name\":\"default\",\"segments\":[7,9]},\
+{\"name\":\"default\",\"segments\":[9,10]},\
+{\"name\":\"default\",\"segments\":[7,8]},\
+{\"name\":\"default\",\"constraints\":[{\"contextName\":\"team\",\"operator\":\"IN\",\"values\":[\"blue\"]}]},\
+{\"name\":\"default\",\"constraints\":[{\"contextName\":\"team\",\"operator\":\"NOT_IN\",\"values\":[\"blue\"]}]},\
+{\"name\":\"default\",\"constraints\":[{\"contextName\":\"team\",\"operator\":\"LIKE\",\"values\":[\"blue\"],\"inverted\":true}]},\
+{\"name\":\"default\",\"constraints\":[{\"contextName\":\"userId\",\"operator\":\"IN\",\"values\":[\"123\"]},\
+{\"contextName\":\"team\",\"operator\":\"IN\",\"values\":[\"red\"]}]},\
+{\"name\":\"custom\",\"segments\":[7]},\
+{\"name\":\"flexibleRollout\",\"parameters\":{\"rollout\":47}},\
+{\"name\":\"flexibleRollout\",\"parameters\":{\"rollout\":48},\"segments\":[9]},\
+{\"name\":\"flexibleRollout\",\"parameters\":{\"groupId\":\"gr1\",\"rollout\":100,\"stickiness\":\"userId\"}},\
+{\"name\":\"gradualRolloutRandom\",\"parameters\":{\"percentage\":97}},\
+{\"name\":\"gradualRolloutRandom\",\"parameters\":{\"percentage\":\"92\"}}]}],\
+\"segments\":[\
+{\"id\":10,\"constraints\":[{\"contextName\":\"team\",\"operator\":\"IN\",\"values\":[\"red\"]}]},\
+{\"id\":7},\
+{\"id\":9,\"constraints\":[{\"contextName\":\"team\",\"operator\":\"IN\",\"values\":[\"blue\"]}]}]}";
+
+// Which of them are active for the user 123 of team `blue`.
+const ACTIVE: [bool; 15] = [
+    true, false, true, false, false, true, false, false, false, false, false, true, true, false,
+    true,
 ];
 
-const SEGMENTS: &str =
-    "{\"id\":10,\"constraints\":[{\"contextName\":\"team\",\"operator\":\"IN\",\"values\":[\"red\"]}]},\
-{\"id\":7},{\"id\":9,\"constraints\":[{\"contextName\":\"team\",\"operator\":\"IN\",\"values\":[\"blue\"]}]}";
-
-/// Whether the feature's second strategy is active there, and whether there is a segment 10. None if a text is not read.
-fn document_outcome(alloc: Global, strategy: &str) -> Result<Option<(bool, bool)>, Fail> {
-    let text = format!(in alloc;
-        "{{\"features\":[{{\"name\":\"flag\",\"enabled\":true,\"strategies\":[{{\"name\":\"custom\"}},{strategy}]}}],\"segments\":[{SEGMENTS}]}}"
-    )?;
-    let context = Context::read_query(alloc, b"userId=123&team=blue");
-    let (Ok(feed), Ok(context)) = (read_feed(alloc, text.as_bytes()), context) else {
-        return Ok(None);
-    };
-    let Some(feature) = feed.state.features.get(0) else {
-        return Ok(None);
-    };
-    let feature = feature.get();
-    let Some(strategy) = feature.strategies.get(1) else {
-        return Ok(None);
-    };
-    let segments = &feed.state.segments;
-    let found = segment_of(segments, 10).is_some() && segment_of(segments, 8).is_none();
-    let active = active(
+/// Whether the feature's strategy at a place is active. None if there is none.
+fn outcome_at(alloc: Global, feed: &Feed, context: &Context, place: usize) -> Option<bool> {
+    let feature = feed.state.features.get(0)?.get();
+    let strategy = feature.strategies.get(place)?;
+    active(
         alloc,
         strategy,
         &feature.name,
-        1,
-        segments,
-        &context,
+        place as u32,
+        &feed.state.segments,
+        context,
         &MOMENT,
-    );
-    Ok(active.ok().map(|active| (active, found)))
+    )
+    .ok()
 }
 
 #[test]
 fn constraints_and_segments(rt: HostRuntime) -> Result<(), Fail> {
-    for (place, (strategy, expected)) in DOCUMENTS.iter().enumerate() {
-        let outcome = document_outcome(rt.alloc(), strategy)?;
-        assert!(rt; outcome == Some((*expected, true)), "case {place}");
+    let alloc = rt.alloc();
+    let feed = read_feed(alloc, DOCUMENT)?;
+    let context = Context::read_query(alloc, b"userId=123&team=blue")?;
+    for (place, expected) in ACTIVE.iter().enumerate() {
+        let outcome = outcome_at(alloc, &feed, &context, place);
+        assert!(rt; outcome == Some(*expected), "case {place}");
     }
+    assert!(rt; segment_of(&feed.state.segments, 10).is_some());
+    assert!(rt; segment_of(&feed.state.segments, 8).is_none());
     Ok(())
 }
