@@ -100,7 +100,10 @@ fn evaluations(rt: HostRuntime) -> Result<(), Fail> {
     for (name, query, word, expected) in table {
         let found = evaluated(alloc, FEED, name, query, word).expect(&rt, "there is memory");
         assert!(rt; found.as_ref().map(told) == expected, "{name}");
-        assert!(rt; found.is_none_or(|e| e.variant.enabled == (e.variant.name.as_str() != "disabled")), "{name}");
+        assert!(rt;
+            found.is_none_or(|e| e.variant.enabled == (e.variant.name.as_str() != "disabled")),
+            "{name}"
+        );
     }
     Ok(())
 }
@@ -110,7 +113,9 @@ fn payloads(rt: HostRuntime) -> Result<(), Fail> {
     let alloc = rt.alloc();
     let feed = r#"{"features":[{"name":"a","enabled":true,"variants":[
         {"name":"v","weight":1,"payload":{"type":"string","value":"hello"}}]}]}"#;
-    let found = evaluated(alloc, feed, "a", "", 0).flatten().expect(&rt, "it is there");
+    let found = evaluated(alloc, feed, "a", "", 0)
+        .flatten()
+        .expect(&rt, "it is there");
     let payload = found.variant.payload.as_ref().expect(&rt, "it is there");
     assert!(rt; payload.kind.as_str() == "string" && payload.value.as_str() == "hello");
     Ok(())
