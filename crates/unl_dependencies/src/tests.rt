@@ -44,7 +44,9 @@ fn evaluated(
     query: &str,
     word: u64,
 ) -> Option<Option<Evaluation>> {
-    let feed = read_feed(alloc, feed.as_bytes()).ok()?;
+    let Ok(feed) = read_feed(alloc, feed.as_bytes()) else {
+        return None;
+    };
     let context = Context::read_query(alloc, query.as_bytes()).ok()?;
     let moment = Moment {
         now: 0,
