@@ -20,7 +20,7 @@ use Rattle.unl_dependencies.specs.declared.evaluation.Evaluation.{Evaluation}
 use Rattle.unl_dependencies.specs.declared.evaluation.VariantAnswer.{VariantAnswer}
 
 -- the least place, from this one on, whose strategy is active
-unfoldable pub active_from : ℕ → List Strategy → List ℕ → List Segment → Fields → Moment → Option ℕ
+abbrev pub active_from : ℕ → List Strategy → List ℕ → List Segment → Fields → Moment → Option ℕ
 active_from place [] feature segments context moment = None
 active_from place (s ∷ ss) feature segments context moment =
     if is_active s feature place segments context moment then Some place

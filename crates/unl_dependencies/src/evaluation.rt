@@ -37,7 +37,7 @@ impl Evaluation {
 
     /// The evaluation of a feature that is on.
     pub(crate) fn on_with(alloc: Global, variant: Option<&Variant>) -> Result<Evaluation, Memory>
-        ensures { IfOk result (λ e. e ≡ evaluation_on_with (option_map (λ v. v.now) variant)) }
+        ensures { IfOk result (λ e. e ≡ evaluation_on_with (option_map (λ v. v.now) variant.entry)) }
     {
         Ok(Evaluation {
             on: true,
@@ -49,7 +49,7 @@ impl Evaluation {
 impl VariantAnswer {
     /// What is answered of a variant.
     fn of(alloc: Global, variant: Option<&Variant>) -> Result<VariantAnswer, Memory>
-        ensures { IfOk result (λ answer. answer ≡ answer_of (option_map (λ v. v.now) variant)) }
+        ensures { IfOk result (λ answer. answer ≡ answer_of (option_map (λ v. v.now) variant.entry)) }
     {
         match variant {
             None => Ok(VariantAnswer {

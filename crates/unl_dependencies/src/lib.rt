@@ -5,11 +5,13 @@ mod dependencies;
 mod evaluating;
 mod evaluation;
 mod finding;
+mod laws;
 mod picking;
 
 pub use evaluating::{evaluate, evaluate_feature};
 pub use evaluation::{Evaluation, VariantAnswer};
 pub use finding::feature_named;
+pub use laws::{each_is_found, none_where_lacking, parent_stands_alone};
 
 #[cfg(test)]
 mod tests;

@@ -63,9 +63,7 @@ fn first_among(
 {
     let mut place = 0;
     for strategy in strategies {
-        if active(
-            alloc, strategy, feature, place, segments, context, moment,
-        )? {
+        if active(alloc, strategy, feature, place, segments, context, moment)? {
             return Ok(Some(place));
         }
         place += 1;

@@ -44,7 +44,9 @@ fn evaluated(
     query: &str,
     word: u64,
 ) -> Option<Option<Evaluation>> {
-    let feed = read_feed(alloc, feed.as_bytes()).ok()?;
+    let Ok(feed) = read_feed(alloc, feed.as_bytes()) else {
+        return None;
+    };
     let context = Context::read_query(alloc, query.as_bytes()).ok()?;
     let moment = Moment {
         now: 0,
@@ -100,7 +102,10 @@ fn evaluations(rt: HostRuntime) -> Result<(), Fail> {
     for (name, query, word, expected) in table {
         let found = evaluated(alloc, FEED, name, query, word).expect(&rt, "there is memory");
         assert!(rt; found.as_ref().map(told) == expected, "{name}");
-        assert!(rt; found.is_none_or(|e| e.variant.enabled == (e.variant.name.as_str() != "disabled")), "{name}");
+        assert!(rt;
+            found.is_none_or(|e| e.variant.enabled == (e.variant.name.as_str() != "disabled")),
+            "{name}"
+        );
     }
     Ok(())
 }
@@ -110,7 +115,9 @@ fn payloads(rt: HostRuntime) -> Result<(), Fail> {
     let alloc = rt.alloc();
     let feed = r#"{"features":[{"name":"a","enabled":true,"variants":[
         {"name":"v","weight":1,"payload":{"type":"string","value":"hello"}}]}]}"#;
-    let found = evaluated(alloc, feed, "a", "", 0).flatten().expect(&rt, "it is there");
+    let found = evaluated(alloc, feed, "a", "", 0)
+        .flatten()
+        .expect(&rt, "it is there");
     let payload = found.variant.payload.as_ref().expect(&rt, "it is there");
     assert!(rt; payload.kind.as_str() == "string" && payload.value.as_str() == "hello");
     Ok(())

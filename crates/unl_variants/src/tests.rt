@@ -1,37 +1,69 @@
+ghost use Rattle.std.specs.Prelude.{◌≡◌, IfOk, IfSome};
+ghost use Rattle.unl_variants.specs.Variant.{AreWithinLimits};
+
 use crate::choose;
 use std::alloc::Global;
 use std::test::Fail;
 use unl_context::Context;
 use unl_documents::{List, Memory, Override, Text, Variant};
 
-/// A list of variants of these weights: the first has the stickiness, and the one at the place has an override for a
+/// A list of variants of these weights: the first has the stickiness, and each override gives the one at its place to a
 /// value of `userId`.
 fn variants(
     alloc: Global,
     weights: &[u32],
     stickiness: Option<&str>,
     overrides: &[(usize, &str)],
-) -> Result<List<Variant>, Memory> {
+) -> Option<List<Variant>>
+    ensures { IfSome result AreWithinLimits }
+{
+    if weights.len() > 100 {
+        return None;
+    }
     let mut list = List::new(alloc);
     for (place, weight) in weights.iter().enumerate() {
-        let mut variant = Variant {
-            name: Text::new(alloc, "v")?,
-            weight: *weight,
-            stickiness: None,
-            payload: None,
-            overrides: List::new(alloc),
-        };
-        if place == 0
-            && let Some(name) = stickiness
-        {
-            variant.stickiness = Some(Text::new(alloc, name)?);
+        if *weight > 1000 {
+            return None;
         }
-        for (at, value) in overrides {
-            if *at == place {
-                variant.overrides.push(user(alloc, value)?)?;
-            }
+        let overrides = overrides_at(alloc, overrides, place).ok()?;
+        let stickiness = if place == 0 { stickiness } else { None };
+        let one = variant(alloc, *weight, stickiness, overrides).ok()?;
+        list.push(one).ok()?;
+    }
+    Some(list)
+}
+
+fn variant(
+    alloc: Global,
+    weight: u32,
+    stickiness: Option<&str>,
+    overrides: List<Override>,
+) -> Result<Variant, Memory>
+    ensures { IfOk result (λ v. v.weight ≡ weight) }
+{
+    let stickiness = match stickiness {
+        None => None,
+        Some(name) => Some(Text::new(alloc, name)?),
+    };
+    Ok(Variant {
+        name: Text::new(alloc, "v")?,
+        weight,
+        stickiness,
+        payload: None,
+        overrides,
+    })
+}
+
+fn overrides_at(
+    alloc: Global,
+    overrides: &[(usize, &str)],
+    place: usize,
+) -> Result<List<Override>, Memory> {
+    let mut list = List::new(alloc);
+    for (at, value) in overrides {
+        if *at == place {
+            list.push(user(alloc, value)?)?;
         }
-        list.push(variant)?;
     }
     Ok(list)
 }
@@ -56,7 +88,7 @@ fn chosen(
     random: u32,
 ) -> Option<Option<usize>> {
     let context = Context::read_query(alloc, query.as_bytes()).ok()?;
-    let variants = variants(alloc, weights, stickiness, overrides).ok()?;
+    let variants = variants(alloc, weights, stickiness, overrides)?;
     Some(choose("toggle", &variants, &context, random))
 }
 

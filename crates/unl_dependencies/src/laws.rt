@@ -1,0 +1,18 @@
+//! What an evaluation is, said of the whole state.
+ghost use Rattle.unl_dependencies.specs.Laws.{NoneWhereLacking, EachIsFound, ParentStandsAlone};
+
+/// There is no evaluation exactly where no feature of the state has the name.
+pub fn none_where_lacking()
+    ensures { NoneWhereLacking }
+{}
+
+/// Each feature of a valid state is found by its name.
+pub fn each_is_found()
+    ensures { EachIsFound }
+{}
+
+/// A parent that counts for a dependency is evaluated as every feature of the state, though nothing but itself and the
+/// segments is looked at.
+pub fn parent_stands_alone()
+    ensures { ParentStandsAlone }
+{}
