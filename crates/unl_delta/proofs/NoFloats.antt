@@ -17,6 +17,10 @@ use Rattle.unl_documents.specs.declared.variant.Override.{Override}
 use Rattle.unl_documents.specs.declared.variant.Payload.{Payload}
 use Rattle.unl_documents.specs.declared.variant.Variant.{Variant}
 use Rattle.unl_documents.specs.Writing.{count, with_pairs, override_data, payload_data, variant_data, dependency_data, constraint_data, segment_data, parameters_data, strategy_data, feature_data}
+use Rattle.unl_delta.specs.declared.batch.Batch.{Batch}
+use Rattle.unl_delta.specs.declared.event.Event.{Event}
+use Rattle.unl_delta.specs.declared.event.Event.TheVariants.{Hydration, FeatureUpdated, FeatureRemoved, SegmentUpdated, SegmentRemoved}
+use Rattle.unl_delta.specs.Writing.{event_data, batch_data}
 
 pub no_float_in : {T : Type 0} (written : T → Data) → ((x : T) → has_float (written x) ≡ false) → (xs : List T) → items_have_float (items_of (map written xs)) ≡ false
 no_float_in written plain [] = refl
@@ -29,16 +33,17 @@ texts = no_float_in string (λ x. refl)
 
 no_float_put : (key text : List ℕ) (ms : Members) → members_have_float ms ≡ false → members_have_float (put key (string text) ms) ≡ false
 no_float_put key text no_members h = refl
-no_float_put key text (member other value ms) h = decided (has_float value) (members_have_float ms) refl refl h
+no_float_put key text (member other value ms) h = decided (no_float_put key text ms) (has_float value) (members_have_float ms) refl refl h
   where
-    decided : (a b : Bool) → has_float value ≡ a → members_have_float ms ≡ b → (a || b) ≡ false → members_have_float (put key (string text) (member other value ms)) ≡ false
-    decided true b is more h = absurd cc
-    decided false true is more h = absurd cc
-    decided false false is more h =
+    decided : (members_have_float ms ≡ false → members_have_float (put key (string text) ms) ≡ false) → (a b : Bool) → has_float value ≡ a → members_have_float ms ≡ b → (a || b) ≡ false
+        → members_have_float (put key (string text) (member other value ms)) ≡ false
+    decided again true b is more h = absurd cc
+    decided again false true is more h = absurd cc
+    decided again false false is more h =
         elim (slice_cmp nat_cmp key other) as (λ o. members_have_float (match_ordering o (member key (string text) (member other value ms)) (member other (string text) ms) (member other value (put key (string text) ms))) ≡ false) [
           | Less ↦ rw (is, more) refl
           | Equal ↦ more
-          | Greater ↦ rw (is, no_float_put key text ms more) refl
+          | Greater ↦ rw (is, again more) refl
         ]
 
 no_float_pairs : (pairs : List Pair) (ms : Members) → members_have_float ms ≡ false → members_have_float (with_pairs pairs ms) ≡ false
@@ -111,3 +116,21 @@ no_float_feature_parts f (Some d) =
 
 pub no_float_feature : (f : Feature) → has_float (feature_data f) ≡ false
 no_float_feature f = no_float_feature_parts f f.description
+
+-- ---- batches
+
+no_float_event : (e : Event) → has_float (event_data e) ≡ false
+unfolding event_data
+no_float_event (Hydration n state) = rw (no_float_in feature_data no_float_feature state.features, no_float_in segment_data no_float_segment state.segments) refl
+no_float_event (FeatureUpdated n feature) = rw (no_float_feature feature) refl
+no_float_event (FeatureRemoved n name project) = refl
+no_float_event (SegmentUpdated n segment) = rw (no_float_segment segment) refl
+no_float_event (SegmentRemoved n id) = refl
+
+no_float_batch_parts : (after : Option ℕ) (es : List Event) → has_float (batch_data (record { after = after; events = es })) ≡ false
+unfolding batch_data
+no_float_batch_parts None es = rw (no_float_in event_data no_float_event es) refl
+no_float_batch_parts (Some a) es = rw (no_float_in event_data no_float_event es) refl
+
+pub no_float_batch : (batch : Batch) → has_float (batch_data batch) ≡ false
+no_float_batch batch = no_float_batch_parts batch.after batch.events

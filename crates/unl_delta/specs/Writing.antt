@@ -1,0 +1,45 @@
+-- What events and batches are written as. A `put` keeps the keys in byte order.
+use Rattle.std.specs.Prelude.{codes, option_map}
+use Rattle.serde_json.specs.Data.{Data, string, object, no_members}
+use Rattle.unl_documents.specs.declared.field.Field.TheVariants as field
+use Rattle.unl_documents.specs.Writing.{with, with_some, count, list, feature_data, segment_data}
+use Rattle.unl_delta.specs.declared.batch.Batch.{Batch}
+use Rattle.unl_delta.specs.declared.event.Event.{Event}
+use Rattle.unl_delta.specs.declared.event.Event.TheVariants.{Hydration, FeatureUpdated, FeatureRemoved, SegmentUpdated, SegmentRemoved}
+
+-- an event with its type and its number
+unfoldable pub event_data : Event → Data
+event_data (Hydration number state) = object (
+    with field.Kind (string (codes "hydration")) (
+    with field.EventId (count number) (
+    with field.Features (list feature_data state.features) (
+    with field.Segments (list segment_data state.segments)
+    no_members))))
+event_data (FeatureUpdated number feature) = object (
+    with field.Kind (string (codes "feature-updated")) (
+    with field.EventId (count number) (
+    with field.Feature (feature_data feature)
+    no_members)))
+event_data (FeatureRemoved number name project) = object (
+    with field.Kind (string (codes "feature-removed")) (
+    with field.EventId (count number) (
+    with field.FeatureName (string name) (
+    with field.Project (string project)
+    no_members))))
+event_data (SegmentUpdated number segment) = object (
+    with field.Kind (string (codes "segment-updated")) (
+    with field.EventId (count number) (
+    with field.Segment (segment_data segment)
+    no_members)))
+event_data (SegmentRemoved number id) = object (
+    with field.Kind (string (codes "segment-removed")) (
+    with field.EventId (count number) (
+    with field.SegmentId (count id)
+    no_members)))
+
+-- the events, and the number after which they come where the batch has one
+unfoldable pub batch_data : Batch → Data
+batch_data batch = object (
+    with_some field.After (option_map count batch.after) (
+    with field.Events (list event_data batch.events)
+    no_members))

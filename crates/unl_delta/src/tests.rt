@@ -1,0 +1,245 @@
+use crate::{
+    BadBatch, Batch, DeltaAnswer, EnvVersion, Event, Place, Verdict, answer, apply, of_feed,
+    read_batch_bytes, verdict, write_batch,
+};
+use std::alloc::Global;
+use unl_documents::{Feed, List, Shared, State, Text};
+use unl_tokens::Projects;
+
+fn batch(alloc: Global, text: &str) -> Option<Batch> {
+    read_batch_bytes(alloc, text.as_bytes(), None).ok()
+}
+
+/// A place with a version of that number and nothing in it, where there is a number.
+fn place(alloc: Global, number: Option<u64>, held: bool) -> Option<Place> {
+    let Some(number) = number else {
+        return Some(Place {
+            version: None,
+            held,
+        });
+    };
+    let mut version = EnvVersion::empty(alloc);
+    version.number = number;
+    version.base = number;
+    let version = Some(Shared::new(alloc, version).ok()?);
+    Some(Place { version, held })
+}
+
+fn applied(alloc: Global, place: &Place, batch: &Batch) -> Option<Place> {
+    let version = match verdict(place, batch) {
+        Verdict::Apply => apply(alloc, place, batch).ok()?,
+        Verdict::Repeat | Verdict::Old | Verdict::Gap | Verdict::Held => return None,
+    };
+    let version = Some(Shared::new(alloc, version).ok()?);
+    Some(Place {
+        version,
+        held: false,
+    })
+}
+
+/// The place after the batches of these texts, each of which applies.
+fn place_after(alloc: Global, texts: &[&str]) -> Option<Place> {
+    let mut place = place(alloc, None, false)?;
+    for text in texts {
+        place = applied(alloc, &place, &batch(alloc, text)?)?;
+    }
+    Some(place)
+}
+
+fn verdict_at(alloc: Global, number: Option<u64>, held: bool, text: &str) -> Option<Verdict> {
+    Some(verdict(
+        &place(alloc, number, held)?,
+        &batch(alloc, text)?,
+    ))
+}
+
+#[test]
+fn a_place_takes_what_is_next(rt: HostRuntime) {
+    let alloc = rt.alloc();
+    let nothing = "{\"after\":3,\"events\":[]}";
+    let all_at_2 = "{\"events\":[{\"type\":\"hydration\",\"eventId\":2}]}";
+    let all_at_3 = "{\"events\":[{\"type\":\"hydration\",\"eventId\":3}]}";
+    let all_at_2_and_4 =
+        "{\"events\":[{\"type\":\"hydration\",\"eventId\":2},{\"type\":\"segment-removed\",\"eventId\":4,\"segmentId\":1}]}";
+    let told_3 =
+        "{\"after\":1,\"events\":[{\"type\":\"segment-removed\",\"eventId\":3,\"segmentId\":1}]}";
+    let next_4 =
+        "{\"after\":3,\"events\":[{\"type\":\"segment-removed\",\"eventId\":4,\"segmentId\":1}]}";
+    let next_7 =
+        "{\"after\":5,\"events\":[{\"type\":\"segment-removed\",\"eventId\":7,\"segmentId\":1}]}";
+    let after_nothing =
+        "{\"events\":[{\"type\":\"segment-removed\",\"eventId\":4,\"segmentId\":1}]}";
+    let table = [
+        (Some(3), true, nothing, Verdict::Repeat),
+        (None, false, all_at_2, Verdict::Apply),
+        (None, true, all_at_2, Verdict::Apply),
+        (Some(3), false, all_at_2, Verdict::Old),
+        (Some(3), true, all_at_2, Verdict::Old),
+        (Some(3), false, all_at_3, Verdict::Repeat),
+        (Some(3), true, all_at_3, Verdict::Apply),
+        (Some(3), false, all_at_2_and_4, Verdict::Apply),
+        (Some(3), true, next_4, Verdict::Held),
+        (None, true, next_4, Verdict::Held),
+        (None, false, next_4, Verdict::Gap),
+        (Some(3), false, told_3, Verdict::Repeat),
+        (Some(3), false, next_7, Verdict::Gap),
+        (Some(3), false, after_nothing, Verdict::Gap),
+        (Some(3), false, next_4, Verdict::Apply),
+        (Some(4), false, next_7, Verdict::Gap),
+        (Some(5), false, next_7, Verdict::Apply),
+        (Some(6), false, next_7, Verdict::Apply),
+    ];
+    for (number, held, text, expected) in table {
+        assert!(rt; verdict_at(alloc, number, held, text) == Some(expected));
+    }
+}
+
+#[test]
+fn bad_batches_are_named(rt: HostRuntime) {
+    let alloc = rt.alloc();
+    let table = [
+        ("{", BadBatch::NotJson),
+        ("[]", BadBatch::NotJson),
+        ("{\"events\":null}", BadBatch::NotJson),
+        ("{\"after\":-1,\"events\":[7]}", BadBatch::NotJson),
+        ("{\"after\":1.5,\"events\":[]}", BadBatch::NotJson),
+        ("{\"events\":[7]}", BadBatch::BadEvent(0)),
+        (
+            "{\"events\":[{\"type\":\"feature-moved\",\"eventId\":1}]}",
+            BadBatch::BadEvent(0),
+        ),
+        (
+            "{\"events\":[{\"type\":\"segment-removed\",\"eventId\":1,\"segmentId\":1},{\"type\":\"segment-removed\",\"eventId\":2}]}",
+            BadBatch::BadEvent(1),
+        ),
+        (
+            "{\"events\":[{\"type\":\"hydration\",\"eventId\":1},{\"type\":\"hydration\",\"eventId\":0,\"segments\":[{}]}]}",
+            BadBatch::BadEvent(1),
+        ),
+        (
+            "{\"events\":[{\"type\":\"hydration\",\"eventId\":1},{\"type\":\"hydration\",\"eventId\":0}]}",
+            BadBatch::HydrationNotFirst(1),
+        ),
+        (
+            "{\"after\":7,\"events\":[{\"type\":\"segment-removed\",\"eventId\":8,\"segmentId\":1},{\"type\":\"segment-removed\",\"eventId\":9,\"segmentId\":1},{\"type\":\"segment-removed\",\"eventId\":8,\"segmentId\":1},{}]}",
+            BadBatch::NotRising(2),
+        ),
+    ];
+    for (text, fault) in table {
+        assert!(rt; read_batch_bytes(alloc, text.as_bytes(), Some(1)).err() == Some(fault));
+    }
+}
+
+fn only(alloc: Global, project: &str) -> Option<Projects> {
+    let mut names = List::new(alloc);
+    names.push(Text::new(alloc, project).ok()?).ok()?;
+    Some(Projects::Only(names))
+}
+
+/// The answer to one who sees a project, as it is written; the text `same` where nothing is new.
+fn answered(alloc: Global, place: &Place, since: Option<u64>, project: &str) -> Option<String> {
+    let Some(version) = &place.version else {
+        return None;
+    };
+    match answer(alloc, version.get(), since, &only(alloc, project)?).ok()? {
+        DeltaAnswer::Same => String::from_str(alloc, "same").ok(),
+        DeltaAnswer::Batch(batch) => write_batch(alloc, &batch).ok()?.to_string(alloc).ok(),
+    }
+}
+
+const AT_6: &str = "{\"events\":[{\"type\":\"hydration\",\"eventId\":6}]}";
+const AT_9: &str =
+    "{\"after\":6,\"events\":[{\"type\":\"segment-removed\",\"eventId\":7,\"segmentId\":1},{\"type\":\"segment-removed\",\"eventId\":9,\"segmentId\":2}]}";
+
+#[test]
+fn what_is_new_is_answered(rt: HostRuntime) {
+    let alloc = rt.alloc();
+    let place = place_after(alloc, &[AT_6, AT_9]).expect(&rt, "both apply");
+    let all = "{\"events\":[{\"eventId\":9,\"features\":[],\"segments\":[],\"type\":\"hydration\"}]}";
+    let both =
+        "{\"after\":6,\"events\":[{\"eventId\":7,\"segmentId\":1,\"type\":\"segment-removed\"},{\"eventId\":9,\"segmentId\":2,\"type\":\"segment-removed\"}]}";
+    let second =
+        "{\"after\":8,\"events\":[{\"eventId\":9,\"segmentId\":2,\"type\":\"segment-removed\"}]}";
+    let table = [
+        (Some(5), all),
+        (Some(10), all),
+        (Some(9), "same"),
+        (None, all),
+        (Some(6), both),
+        (Some(8), second),
+    ];
+    for (since, text) in table {
+        let given = answered(alloc, &place, since, "A").expect(&rt, "there is memory");
+        assert!(rt; given.as_str() == text);
+    }
+}
+
+const M_IN_A: &str =
+    "{\"events\":[{\"type\":\"hydration\",\"eventId\":1,\"features\":[{\"name\":\"m\",\"project\":\"A\",\"enabled\":true}]}]}";
+const M_IN_B: &str =
+    "{\"after\":1,\"events\":[{\"type\":\"feature-updated\",\"eventId\":2,\"feature\":{\"name\":\"m\",\"project\":\"B\",\"enabled\":true}}]}";
+
+#[test]
+fn a_moved_feature_is_shown(rt: HostRuntime) {
+    let alloc = rt.alloc();
+    let place = place_after(alloc, &[M_IN_A, M_IN_B]).expect(&rt, "both apply");
+    let table = [
+        (
+            "A",
+            "{\"after\":1,\"events\":[{\"eventId\":2,\"featureName\":\"m\",\"project\":\"A\",\"type\":\"feature-removed\"}]}",
+        ),
+        (
+            "B",
+            "{\"after\":1,\"events\":[{\"eventId\":2,\"feature\":{\"dependencies\":[],\"enabled\":true,\"impressionData\":false,\"name\":\"m\",\"project\":\"B\",\"stale\":false,\"strategies\":[],\"type\":\"release\",\"variants\":[]},\"type\":\"feature-updated\"}]}",
+        ),
+        ("C", "same"),
+    ];
+    for (project, text) in table {
+        let given = answered(alloc, &place, Some(1), project).expect(&rt, "there is memory");
+        assert!(rt; given.as_str() == text);
+    }
+}
+
+/// Events on nothing, the first of that number and each of the others one above the one before it.
+fn run(alloc: Global, first: u64, count: u64, events: &mut List<Event>) -> Option<()> {
+    for more in 0..count {
+        let number = first.checked_add(more)?;
+        events.push(Event::SegmentRemoved { number, id: 1 }).ok()?;
+    }
+    Some(())
+}
+
+/// How many entries stay of a first event numbered 1 and 1,000 from a number on, and the base.
+fn window(alloc: Global, second: u64) -> Option<(usize, u64)> {
+    let start = place(alloc, Some(0), false)?;
+    let mut events = List::new(alloc);
+    run(alloc, 1, 1, &mut events)?;
+    run(alloc, second, 1000, &mut events)?;
+    let batch = Batch {
+        after: Some(0),
+        events,
+    };
+    let end = applied(alloc, &start, &batch)?;
+    let Some(version) = &end.version else {
+        return None;
+    };
+    Some((version.get().entries.len(), version.get().base))
+}
+
+#[test]
+fn the_window_keeps_whole_numbers(rt: HostRuntime) {
+    let alloc = rt.alloc();
+    assert!(rt; window(alloc, 2) == Some((1000, 1)));
+    assert!(rt; window(alloc, 1) == Some((999, 1)));
+    let state = State {
+        features: List::new(alloc),
+        segments: List::new(alloc),
+    };
+    let feed = Feed {
+        state,
+        number: Some(4),
+    };
+    let batch = of_feed(alloc, feed).expect(&rt, "there is memory").expect(&rt, "it has a number");
+    let old = place(alloc, Some(5), false).expect(&rt, "there is memory");
+    assert!(rt; verdict(&old, &batch) == Verdict::Old);
+}

@@ -1,0 +1,154 @@
+//! Writing batches.
+ghost use Rattle.std.specs.Prelude.{◌≡◌, Option, ℕ, false, Ok, OnOk, IfOk};
+ghost use Rattle.std.specs.List.{AllByRecursion};
+ghost use Rattle.std.specs.Option.{option_or};
+ghost use Rattle.serde_json.specs.Data.{string};
+ghost use Rattle.serde_json.specs.View.{view, members_view};
+ghost use Rattle.serde_json.specs.Written.{has_float};
+ghost use Rattle.unl_documents.specs.declared.field.Field.TheVariants as field;
+ghost use Rattle.unl_documents.specs.Writing.{with, count};
+ghost use Rattle.unl_delta.specs.declared.event.Event.TheVariants as event;
+ghost use Rattle.unl_delta.specs.Reading.{batch_of};
+ghost use Rattle.unl_delta.specs.Writing.{event_data, batch_data};
+ghost use Rattle.unl_delta.specs.Valid.{IsReadable, IsValidBatch};
+
+use crate::batch::Batch;
+use crate::event::Event;
+use serde_json::{Map, Value};
+use std::alloc::Global;
+use unl_documents::written::{Written, put, put_some, put_value};
+use unl_documents::{Feature, Field, List, Memory, Segment, Shared, State, Text};
+
+/// An object with an event's type and number, and nothing else so far.
+///
+/// `put` keeps the keys in byte order, so the keys that only one type has are put in first.
+fn put_head(
+    members: &mut Map<String, Value>,
+    alloc: Global,
+    word: &str,
+    number: u64,
+) -> Result<(), Memory>
+    ensures { OnOk result (members_view members.new.entries
+        ≡ with field.Kind (string word.now) (with field.EventId (count number) (members_view members.old.entries))) }
+{
+    put(members, alloc, Field::EventId, &number)?;
+    put_value(
+        members,
+        alloc,
+        Field::Kind,
+        Value::try_from_str(alloc, word)?,
+    )
+}
+
+#[tactic(auto, unfolding(crate::specs::Writing::event_data))]
+fn write_hydration(alloc: Global, number: u64, state: &State) -> Result<Value, Memory>
+    ensures { IfOk result (λ v. view v ≡ event_data (event.Hydration number state.now)) }
+{
+    let mut members = Map::new(alloc);
+    put(&mut members, alloc, Field::Segments, &state.segments)?;
+    put(&mut members, alloc, Field::Features, &state.features)?;
+    put_head(&mut members, alloc, "hydration", number)?;
+    Ok(Value::Object(members))
+}
+
+#[tactic(auto, unfolding(crate::specs::Writing::event_data))]
+fn write_feature_updated(
+    alloc: Global,
+    number: u64,
+    feature: &Shared<Feature>,
+) -> Result<Value, Memory>
+    ensures { IfOk result (λ v. view v ≡ event_data (event.FeatureUpdated number feature.now)) }
+{
+    let mut members = Map::new(alloc);
+    put(&mut members, alloc, Field::Feature, feature)?;
+    put_head(&mut members, alloc, "feature-updated", number)?;
+    Ok(Value::Object(members))
+}
+
+#[tactic(auto, unfolding(crate::specs::Writing::event_data))]
+fn write_feature_removed(
+    alloc: Global,
+    number: u64,
+    name: &Text,
+    project: &Text,
+) -> Result<Value, Memory>
+    ensures { IfOk result (λ v. view v ≡ event_data (event.FeatureRemoved number name.now project.now)) }
+{
+    let mut members = Map::new(alloc);
+    put(&mut members, alloc, Field::Project, project)?;
+    put(&mut members, alloc, Field::FeatureName, name)?;
+    put_head(&mut members, alloc, "feature-removed", number)?;
+    Ok(Value::Object(members))
+}
+
+#[tactic(auto, unfolding(crate::specs::Writing::event_data))]
+fn write_segment_updated(
+    alloc: Global,
+    number: u64,
+    segment: &Shared<Segment>,
+) -> Result<Value, Memory>
+    ensures { IfOk result (λ v. view v ≡ event_data (event.SegmentUpdated number segment.now)) }
+{
+    let mut members = Map::new(alloc);
+    put(&mut members, alloc, Field::Segment, segment)?;
+    put_head(&mut members, alloc, "segment-updated", number)?;
+    Ok(Value::Object(members))
+}
+
+#[tactic(auto, unfolding(crate::specs::Writing::event_data))]
+fn write_segment_removed(alloc: Global, number: u64, id: u64) -> Result<Value, Memory>
+    ensures { IfOk result (λ v. view v ≡ event_data (event.SegmentRemoved number id)) }
+{
+    let mut members = Map::new(alloc);
+    put(&mut members, alloc, Field::SegmentId, &id)?;
+    put_head(&mut members, alloc, "segment-removed", number)?;
+    Ok(Value::Object(members))
+}
+
+impl Written for Event {
+    ghost use Rattle.unl_delta.specs.Writing.{event_data};
+
+    ghost written = { event_data };
+
+    fn write(&self, alloc: Global) -> Result<Value, Memory> {
+        match self {
+            Event::Hydration { number, state } => write_hydration(alloc, *number, state),
+            Event::FeatureUpdated { number, feature } => {
+                write_feature_updated(alloc, *number, feature)
+            }
+            Event::FeatureRemoved {
+                number,
+                name,
+                project,
+            } => write_feature_removed(alloc, *number, name, project),
+            Event::SegmentUpdated { number, segment } => {
+                write_segment_updated(alloc, *number, segment)
+            }
+            Event::SegmentRemoved { number, id } => write_segment_removed(alloc, *number, *id),
+        }
+    }
+}
+
+#[tactic(auto, unfolding(crate::specs::Writing::batch_data))]
+fn batch_value(alloc: Global, batch: &Batch) -> Result<Value, Memory>
+    ensures { IfOk result (λ v. view v ≡ batch_data batch.now) }
+{
+    let mut members = Map::new(alloc);
+    put(&mut members, alloc, Field::Events, &batch.events)?;
+    put_some(&mut members, alloc, Field::After, &batch.after)?;
+    Ok(Value::Object(members))
+}
+
+/// The value that is read as the batch: its events, and `after` where the batch has one.
+///
+/// A hydration past the limits that a document has on features and segments is written too, and
+/// is not read again.
+pub fn write_batch(alloc: Global, batch: &Batch) -> Result<Value, Memory>
+    ensures written { IfOk result (λ v. view v ≡ batch_data batch.now) }
+    ensures reads_back { IsValidBatch batch.now → AllByRecursion IsReadable batch.now.events
+        → IfOk result (λ v. (held : Option ℕ) → batch_of held (view v)
+        ≡ Ok (record { after = option_or batch.now.after held; events = batch.now.events })) }
+    ensures no_float { IfOk result (λ v. has_float (view v) ≡ false) }
+{
+    batch_value(alloc, batch)
+}
