@@ -1,0 +1,90 @@
+//! Whether a feature's dependencies are met.
+ghost use Rattle.std.specs.Prelude.{◌≡◌, IfOk};
+ghost use Rattle.std.specs.List.{list_all};
+ghost use Rattle.unl_documents.specs.States.{IsValidState};
+ghost use Rattle.unl_documents.specs.Valid.{IsValidFeature};
+ghost use Rattle.unl_variants.specs.Variant.{is_among as among};
+ghost use Rattle.unl_dependencies.specs.Evaluation.{is_met as met, is_met_by as met_by, agrees as agreeing, dependencies_met};
+
+use crate::evaluation::Evaluation;
+use crate::finding::feature_named;
+use crate::picking::evaluate_where;
+use std::alloc::Global;
+use unl_context::Context;
+use unl_documents::{Dependency, Feature, List, Memory, Segment, Shared, State, Text};
+use unl_strategies::Moment;
+
+/// Whether all dependencies are met.
+#[tactic(auto, unfolding(crate::specs::Evaluation::dependencies_met))]
+pub(crate) fn all_met(
+    alloc: Global,
+    dependencies: &[Dependency],
+    state: &State,
+    context: &Context,
+    moment: &Moment,
+) -> Result<bool, Memory>
+    requires valid { IsValidState state.now }
+    ensures { IfOk result (λ b. b ≡ dependencies_met dependencies.now state.now context.now moment.entry.now) }
+{
+    for dependency in dependencies {
+        if !is_met(alloc, dependency, state, context, moment)? {
+            return Ok(false);
+        }
+    }
+    Ok(true)
+}
+
+#[tactic(auto, unfolding(crate::specs::Evaluation::is_met))]
+fn is_met(
+    alloc: Global,
+    dependency: &Dependency,
+    state: &State,
+    context: &Context,
+    moment: &Moment,
+) -> Result<bool, Memory>
+    requires valid { IsValidState state.now }
+    ensures { IfOk result (λ b. b ≡ met state.now context.now moment.entry.now dependency.now) }
+{
+    match feature_named(&state.features, dependency.feature.as_str()) {
+        None => Ok(false),
+        Some(parent) => is_met_by(alloc, dependency, parent, &state.segments, context, moment),
+    }
+}
+
+/// Whether a parent meets a dependency. One that has dependencies of its own meets none, so no parent's parent counts.
+#[tactic(auto, unfolding(crate::specs::Evaluation::is_met_by))]
+fn is_met_by(
+    alloc: Global,
+    dependency: &Dependency,
+    parent: &Feature,
+    segments: &List<Shared<Segment>>,
+    context: &Context,
+    moment: &Moment,
+) -> Result<bool, Memory>
+    requires parent { IsValidFeature parent.now }
+    ensures { IfOk result (λ b. b ≡ met_by segments.now context.now moment.entry.now dependency.now parent.now) }
+{
+    if !parent.dependencies.is_empty() {
+        return Ok(false);
+    }
+    let evaluation = evaluate_where(alloc, true, parent, segments, context, moment)?;
+    Ok(agrees(dependency, &evaluation))
+}
+
+/// Whether a parent's evaluation is what a dependency asks for.
+fn agrees(dependency: &Dependency, parent: &Evaluation) -> bool
+    ensures { result ≡ agreeing dependency.now parent.now }
+{
+    if !dependency.enabled {
+        return !parent.on;
+    }
+    parent.on
+        && (dependency.variants.is_empty()
+            || is_among(dependency.variants.as_slice(), parent.variant.name.as_str()))
+}
+
+fn is_among(names: &[Text], name: &str) -> bool
+    ensures { result ≡ among names.now name.now }
+{
+    names.iter().any(|one| one.as_str() == name)
+}

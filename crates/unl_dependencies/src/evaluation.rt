@@ -1,0 +1,86 @@
+ghost use Rattle.std.specs.Prelude.{◌≡◌, IfOk, option_map};
+ghost use Rattle.unl_dependencies.specs.Evaluation.{off as off_evaluation, on_with as evaluation_on_with, answer_of};
+
+use std::alloc::Global;
+use unl_documents::{Copied, Memory, Payload, Text, Variant};
+
+/// What a feature is for a context at a moment.
+#[derive(Debug, Drop)]
+pub struct Evaluation {
+    /// Whether it is on.
+    pub on: bool,
+    /// Its variant.
+    pub variant: VariantAnswer,
+}
+
+/// The variant of an evaluation.
+#[derive(Debug, Drop)]
+pub struct VariantAnswer {
+    /// The variant's name, or `disabled` where there is none.
+    pub name: Text,
+    /// Whether there is a variant.
+    pub enabled: bool,
+    /// What the variant hands to the application.
+    pub payload: Option<Payload>,
+}
+
+impl Evaluation {
+    /// The evaluation of a feature that is off, which has no variant.
+    pub(crate) fn off(alloc: Global) -> Result<Evaluation, Memory>
+        ensures { IfOk result (λ e. e ≡ off_evaluation) }
+    {
+        Ok(Evaluation {
+            on: false,
+            variant: VariantAnswer::of(alloc, None)?,
+        })
+    }
+
+    /// The evaluation of a feature that is on.
+    pub(crate) fn on_with(alloc: Global, variant: Option<&Variant>) -> Result<Evaluation, Memory>
+        ensures { IfOk result (λ e. e ≡ evaluation_on_with (option_map (λ v. v.now) variant.entry)) }
+    {
+        Ok(Evaluation {
+            on: true,
+            variant: VariantAnswer::of(alloc, variant)?,
+        })
+    }
+}
+
+impl VariantAnswer {
+    /// What is answered of a variant.
+    fn of(alloc: Global, variant: Option<&Variant>) -> Result<VariantAnswer, Memory>
+        ensures { IfOk result (λ answer. answer ≡ answer_of (option_map (λ v. v.now) variant.entry)) }
+    {
+        match variant {
+            None => Ok(VariantAnswer {
+                name: Text::new(alloc, "disabled")?,
+                enabled: false,
+                payload: None,
+            }),
+            Some(variant) => Ok(VariantAnswer {
+                name: variant.name.copy(alloc)?,
+                enabled: true,
+                payload: variant.payload.copy(alloc)?,
+            }),
+        }
+    }
+}
+
+impl Copied for Evaluation {
+    fn copy(&self, alloc: Global) -> Result<Evaluation, Memory> {
+        Ok(Evaluation {
+            on: self.on,
+            variant: self.variant.copy(alloc)?,
+        })
+    }
+}
+
+impl Copied for VariantAnswer {
+    fn copy(&self, alloc: Global) -> Result<VariantAnswer, Memory> {
+        Ok(VariantAnswer {
+            name: self.name.copy(alloc)?,
+            enabled: self.enabled,
+            payload: self.payload.copy(alloc)?,
+        })
+    }
+}

@@ -1,0 +1,134 @@
+//! Whether a feature is on, and its variant, once it is known whether its dependencies are met.
+ghost use Rattle.std.specs.Prelude.{◌≡◌, ◌≤◌, length, IfOk, option_map};
+ghost use Rattle.unl_documents.specs.Valid.{IsValidFeature};
+ghost use Rattle.unl_variants.specs.Variant.{AreWithinLimits};
+ghost use Rattle.unl_dependencies.specs.Evaluation.{first_active as first_active_of, active_from, strategy_variant as variant_of_strategy, own_variant as own_variant_of, variant_of as variant_of_feature, variant_in as variant_chosen_in, evaluation_where, on_with};
+
+use crate::evaluation::Evaluation;
+use std::alloc::Global;
+use unl_context::Context;
+use unl_documents::{Feature, List, Memory, Segment, Shared, Strategy, Text, Variant};
+use unl_strategies::{Mark, Moment, active, parameter_or, random_for, random_id};
+use unl_variants::choose;
+
+/// The evaluation of a feature, where it is known whether its dependencies are met.
+#[tactic(auto, unfolding(crate::specs::Evaluation::evaluation_where, crate::specs::Evaluation::is_on))]
+pub(crate) fn evaluate_where(
+    alloc: Global,
+    met: bool,
+    feature: &Feature,
+    segments: &List<Shared<Segment>>,
+    context: &Context,
+    moment: &Moment,
+) -> Result<Evaluation, Memory>
+    requires valid { IsValidFeature feature.now }
+    ensures { IfOk result (λ e. e ≡ evaluation_where met feature.now segments.now context.now moment.entry.now) }
+{
+    if !feature.enabled || !met {
+        return Evaluation::off(alloc);
+    }
+    let first = first_active(alloc, feature, segments, context, moment)?;
+    if !feature.strategies.is_empty() && first.is_none() {
+        return Evaluation::off(alloc);
+    }
+    Evaluation::on_with(alloc, variant_of(feature, context, moment, first))
+}
+
+/// The place of the first strategy that is active.
+#[tactic(auto, unfolding(crate::specs::Evaluation::first_active))]
+fn first_active(
+    alloc: Global,
+    feature: &Feature,
+    segments: &List<Shared<Segment>>,
+    context: &Context,
+    moment: &Moment,
+) -> Result<Option<u32>, Memory>
+    requires valid { IsValidFeature feature.now }
+    ensures { IfOk result (λ first. first ≡ first_active_of feature.now segments.now context.now moment.entry.now) }
+{
+    let strategies = feature.strategies.as_slice();
+    first_among(alloc, strategies, &feature.name, segments, context, moment)
+}
+
+fn first_among(
+    alloc: Global,
+    strategies: &[Strategy],
+    feature: &Text,
+    segments: &List<Shared<Segment>>,
+    context: &Context,
+    moment: &Moment,
+) -> Result<Option<u32>, Memory>
+    requires few { length strategies.now ≤ 100 }
+    ensures { IfOk result (λ first. first ≡ active_from 0 strategies.now feature.now segments.now context.now moment.entry.now) }
+{
+    let mut place = 0;
+    for strategy in strategies {
+        if active(alloc, strategy, feature, place, segments, context, moment)? {
+            return Ok(Some(place));
+        }
+        place += 1;
+    }
+    Ok(None)
+}
+
+/// The variant of the first active strategy, or else the feature's own.
+#[tactic(auto, unfolding(crate::specs::Evaluation::variant_of))]
+fn variant_of<'a>(
+    feature: &'a Feature,
+    context: &Context,
+    moment: &Moment,
+    first: Option<u32>,
+) -> Option<&'a Variant>
+    requires valid { IsValidFeature feature.now }
+    ensures { option_map (λ v. v.now) result ≡ variant_of_feature feature.now context.now moment.entry.now first }
+{
+    match first {
+        None => own_variant(feature, context, moment),
+        Some(place) => match strategy_variant(feature, context, moment, place) {
+            Some(variant) => Some(variant),
+            None => own_variant(feature, context, moment),
+        },
+    }
+}
+
+/// The variant of the strategy at a place.
+#[tactic(auto, unfolding(crate::specs::Evaluation::strategy_variant))]
+fn strategy_variant<'a>(
+    feature: &'a Feature,
+    context: &Context,
+    moment: &Moment,
+    place: u32,
+) -> Option<&'a Variant>
+    requires valid { IsValidFeature feature.now }
+    ensures { option_map (λ v. v.now) result ≡ variant_of_strategy feature.now context.now moment.entry.now place }
+{
+    let strategy = feature.strategies.get(place as usize)?;
+    let group = parameter_or(&strategy.parameters, "groupId", feature.name.as_str());
+    let random = random_for(feature.name.as_str(), Mark::Strategy(place), moment.word);
+    variant_in(group, &strategy.variants, context, random_id(random))
+}
+
+/// The feature's own variant.
+#[tactic(auto, unfolding(crate::specs::Evaluation::own_variant))]
+fn own_variant<'a>(feature: &'a Feature, context: &Context, moment: &Moment) -> Option<&'a Variant>
+    requires valid { IsValidFeature feature.now }
+    ensures { option_map (λ v. v.now) result ≡ own_variant_of feature.now context.now moment.entry.now }
+{
+    let name = feature.name.as_str();
+    let random = random_for(name, Mark::Own, moment.word);
+    variant_in(name, &feature.variants, context, random_id(random))
+}
+
+/// The variant that is chosen in a group.
+#[tactic(auto, unfolding(crate::specs::Evaluation::variant_in))]
+fn variant_in<'a>(
+    group: &str,
+    variants: &'a List<Variant>,
+    context: &Context,
+    random: u32,
+) -> Option<&'a Variant>
+    requires limits { AreWithinLimits variants.now }
+    ensures { option_map (λ v. v.now) result ≡ variant_chosen_in group.now variants.now context.now random }
+{
+    variants.get(choose(group, variants, context, random)?)
+}

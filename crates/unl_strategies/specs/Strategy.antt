@@ -1,0 +1,97 @@
+-- When a strategy is active, by the strategies of the Unleash strategy reference.
+use Rattle.std.specs.Prelude.{ℕ, List, [], Bool, true, false, ◌&&◌, ◌==◌, Option, Some, codes, unwrap_or, if◌then◌else◌}
+use Rattle.std.specs.List.{list_all, find}
+use Rattle.std.specs.Option.{option_map_or, option_or}
+use Rattle.std.specs.Fmt.{decimal}
+use Rattle.std.specs.Str.{bytes_eq}
+use Rattle.unl_documents.specs.declared.parameters.Pair.{Pair}
+use Rattle.unl_documents.specs.declared.segment.Segment.{Segment}
+use Rattle.unl_documents.specs.declared.strategy.Strategy.{Strategy}
+use Rattle.unl_context.specs.Context.{Fields, filled, property}
+use Rattle.unl_context.specs.Known.{field_of}
+use Rattle.unl_constraints.specs.Constraint.{all_hold}
+use Rattle.unl_strategies.specs.declared.moment.Mark.TheVariants as mark
+use Rattle.unl_strategies.specs.Moment.{Moment}
+use Rattle.unl_strategies.specs.Lists.{is_listed, is_host_listed, is_in_nets}
+use Rattle.unl_strategies.specs.Percent.{percent_of}
+use Rattle.unl_strategies.specs.Random.{random_number, random_id}
+use Rattle.unl_strategies.specs.Rollout.{is_rolled_out, is_drawn}
+
+-- the value of a parameter; one of no bytes counts as absent
+unfoldable pub parameter : List ℕ → List Pair → Option (List ℕ)
+parameter key parameters = filled (property key parameters)
+
+-- the value of a parameter, or another text where it is absent
+unfoldable pub parameter_or : List ℕ → List ℕ → List Pair → List ℕ
+parameter_or other key parameters = unwrap_or (parameter key parameters) other
+
+-- the userId, or else the sessionId, or else the random id
+abbrev pub default_id : Fields → List ℕ → List ℕ
+default_id context random = unwrap_or (option_or (field_of context (codes "userId")) (field_of context (codes "sessionId"))) random
+
+-- the id that a rollout goes by; the random id is handed in
+unfoldable pub id_by : List ℕ → Fields → List ℕ → Option (List ℕ)
+id_by stickiness context random =
+    if bytes_eq stickiness (codes "default") then Some (default_id context random) else (
+    if bytes_eq stickiness (codes "random") then Some random else
+    field_of context stickiness)
+
+-- the strategy's random number at its place in the feature
+abbrev pub random_at : List ℕ → ℕ → Moment → ℕ
+random_at feature index moment = random_number feature (mark.Strategy index) moment.word
+
+-- the userId is listed
+unfoldable pub is_user_listed : List Pair → Fields → Bool
+is_user_listed parameters context =
+    option_map_or (λ id. is_listed (parameter_or [] (codes "userIds") parameters) id) (field_of context (codes "userId")) false
+
+-- the remoteAddress is an address in some net of the list
+unfoldable pub is_address_listed : List Pair → Fields → Bool
+is_address_listed parameters context =
+    option_map_or (λ text. is_in_nets (parameter_or [] (codes "IPs") parameters) text) (field_of context (codes "remoteAddress")) false
+
+-- the percentage of the parameter takes in the field's text in its group
+unfoldable pub is_field_rolled_out : List ℕ → List Pair → Fields → Bool
+is_field_rolled_out name parameters context =
+    option_map_or
+    (λ id. is_rolled_out (percent_of (parameter_or [] (codes "percentage") parameters)) (parameter_or [] (codes "groupId") parameters) id)
+    (field_of context name) false
+
+-- the percentage takes in the strategy's random number
+unfoldable pub is_randomly_rolled_out : List Pair → ℕ → Bool
+is_randomly_rolled_out parameters random = is_drawn (percent_of (parameter_or [] (codes "percentage") parameters)) random
+
+-- the percentage takes in the id of the stickiness, in a group that is the feature where none is named
+unfoldable pub is_flexibly_rolled_out : List Pair → List ℕ → ℕ → Fields → Bool
+is_flexibly_rolled_out parameters feature random context =
+    option_map_or
+    (λ id. is_rolled_out (percent_of (parameter_or [] (codes "rollout") parameters)) (parameter_or feature (codes "groupId") parameters) id)
+    (id_by (parameter_or (codes "default") (codes "stickiness") parameters) context (decimal (random_id random))) false
+
+-- the strategy's own rule, by its name
+unfoldable pub rule_holds : Strategy → List ℕ → ℕ → Fields → Moment → Bool
+rule_holds s feature index context moment =
+    if bytes_eq s.name (codes "default") then true else (
+    if bytes_eq s.name (codes "userWithId") then is_user_listed s.parameters context else (
+    if bytes_eq s.name (codes "gradualRolloutUserId") then is_field_rolled_out (codes "userId") s.parameters context else (
+    if bytes_eq s.name (codes "gradualRolloutSessionId") then is_field_rolled_out (codes "sessionId") s.parameters context else (
+    if bytes_eq s.name (codes "gradualRolloutRandom") then is_randomly_rolled_out s.parameters (random_at feature index moment) else (
+    if bytes_eq s.name (codes "remoteAddress") then is_address_listed s.parameters context else (
+    if bytes_eq s.name (codes "applicationHostname") then is_host_listed (parameter_or [] (codes "hostNames") s.parameters) moment.host else (
+    if bytes_eq s.name (codes "flexibleRollout") then is_flexibly_rolled_out s.parameters feature (random_at feature index moment) context else
+    false)))))))
+
+-- the segment of an id, if there is one
+abbrev pub segment_of : ℕ → List Segment → Option Segment
+segment_of id segments = find (λ s. s.id == id) segments
+
+-- there is a segment of the id, and all its constraints hold
+unfoldable pub is_met : List Segment → Fields → ℕ → ℕ → Bool
+is_met segments context now id = option_map_or (λ s. all_hold s.constraints context now) (segment_of id segments) false
+
+-- each constraint holds, each segment that is named exists and holds, and the strategy's own rule holds
+unfoldable pub is_active : Strategy → List ℕ → ℕ → List Segment → Fields → Moment → Bool
+is_active s feature index segments context moment =
+    all_hold s.constraints context moment.now
+    && (list_all (is_met segments context moment.now) s.segments
+    && rule_holds s feature index context moment)

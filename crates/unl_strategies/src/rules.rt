@@ -1,0 +1,138 @@
+//! The rules of the strategies.
+ghost use Rattle.std.specs.Prelude.{◌≡◌, IfOk, []};
+ghost use Rattle.std.specs.Fmt.{decimal};
+ghost use Rattle.unl_strategies.specs.Percent.{percent_of as percent_in};
+ghost use Rattle.unl_strategies.specs.Random.{random_id as id_number};
+ghost use Rattle.unl_strategies.specs.Strategy.{parameter_or as value_or, random_at as number_at, is_user_listed as user_listed, is_address_listed as address_listed, is_field_rolled_out as field_rolled_out, is_randomly_rolled_out as randomly_rolled_out, is_flexibly_rolled_out as flexibly_rolled_out, rule_holds};
+
+use crate::ids::id_by;
+use crate::lists::{is_host_listed, is_in_nets, is_listed};
+use crate::moment::{Mark, Moment};
+use crate::parameters::parameter_or;
+use crate::percent::percent_of;
+use crate::random::{random_for, random_id};
+use crate::rollout::{is_drawn, is_rolled_out};
+use std::alloc::Global;
+use unl_context::Context;
+use unl_documents::{List, Memory, Pair, Strategy, Text};
+
+/// Whether a strategy's own rule holds, whatever its constraints and segments say. `feature` is the name of its
+/// feature, and `index` its place there, from 0. A strategy of an unknown name has no rule that holds.
+#[tactic(auto, unfolding(crate::specs::Strategy::rule_holds))]
+pub fn rule(
+    alloc: Global,
+    strategy: &Strategy,
+    feature: &Text,
+    index: u32,
+    context: &Context,
+    moment: &Moment,
+) -> Result<bool, Memory>
+    ensures { IfOk result (λ b. b ≡ rule_holds strategy.now feature.now index context.now moment.entry.now) }
+{
+    let parameters = &strategy.parameters;
+    match strategy.name.as_str() {
+        "default" => Ok(true),
+        "userWithId" => Ok(is_user_listed(parameters, context)),
+        "gradualRolloutUserId" => Ok(is_field_rolled_out("userId", parameters, context)),
+        "gradualRolloutSessionId" => Ok(is_field_rolled_out("sessionId", parameters, context)),
+        "gradualRolloutRandom" => {
+            let random = random_at(feature, index, moment);
+            Ok(is_randomly_rolled_out(parameters, random))
+        }
+        "remoteAddress" => Ok(is_address_listed(parameters, context)),
+        "applicationHostname" => {
+            let hosts = parameter_or(parameters, "hostNames", "");
+            Ok(is_host_listed(hosts, moment.host))
+        }
+        "flexibleRollout" => {
+            let random = random_at(feature, index, moment);
+            is_flexibly_rolled_out(alloc, parameters, feature, random, context)
+        }
+        _ => Ok(false),
+    }
+}
+
+/// The random number of the strategy at a place.
+fn random_at(feature: &Text, index: u32, moment: &Moment) -> u32
+    ensures { result ≡ number_at feature.now index moment.entry.now }
+{
+    random_for(feature.as_str(), Mark::Strategy(index), moment.word)
+}
+
+/// The percentage that a parameter gives.
+fn percent_at(parameters: &List<Pair>, key: &str) -> u32
+    ensures { result ≡ percent_in (value_or [] key.now parameters.now) }
+{
+    percent_of(parameter_or(parameters, key, ""))
+}
+
+#[tactic(auto, unfolding(crate::specs::Strategy::is_user_listed))]
+fn is_user_listed(parameters: &List<Pair>, context: &Context) -> bool
+    ensures { result ≡ user_listed parameters.now context.now }
+{
+    match context.get("userId") {
+        None => false,
+        Some(user) => is_listed(parameter_or(parameters, "userIds", ""), user),
+    }
+}
+
+#[tactic(auto, unfolding(crate::specs::Strategy::is_address_listed))]
+fn is_address_listed(parameters: &List<Pair>, context: &Context) -> bool
+    ensures { result ≡ address_listed parameters.now context.now }
+{
+    match context.get("remoteAddress") {
+        None => false,
+        Some(address) => is_in_nets(parameter_or(parameters, "IPs", ""), address),
+    }
+}
+
+/// Whether the percentage takes in a field of the context.
+#[tactic(auto, unfolding(crate::specs::Strategy::is_field_rolled_out))]
+fn is_field_rolled_out(name: &str, parameters: &List<Pair>, context: &Context) -> bool
+    ensures { result ≡ field_rolled_out name.now parameters.now context.now }
+{
+    match context.get(name) {
+        None => false,
+        Some(id) => {
+            let group = parameter_or(parameters, "groupId", "");
+            is_rolled_out(percent_at(parameters, "percentage"), group, id)
+        }
+    }
+}
+
+#[tactic(auto, unfolding(crate::specs::Strategy::is_randomly_rolled_out))]
+fn is_randomly_rolled_out(parameters: &List<Pair>, random: u32) -> bool
+    ensures { result ≡ randomly_rolled_out parameters.now random }
+{
+    is_drawn(percent_at(parameters, "percentage"), random)
+}
+
+/// Whether the percentage takes in the id that the stickiness parameter chooses.
+#[tactic(auto, unfolding(crate::specs::Strategy::is_flexibly_rolled_out))]
+fn is_flexibly_rolled_out(
+    alloc: Global,
+    parameters: &List<Pair>,
+    feature: &Text,
+    random: u32,
+    context: &Context,
+) -> Result<bool, Memory>
+    ensures { IfOk result (λ b. b ≡ flexibly_rolled_out parameters.now feature.now random context.now) }
+{
+    let random = random_text(alloc, random)?;
+    let stickiness = parameter_or(parameters, "stickiness", "default");
+    match id_by(stickiness, context, random.as_str()) {
+        None => Ok(false),
+        Some(id) => {
+            let group = parameter_or(parameters, "groupId", feature.as_str());
+            Ok(is_rolled_out(percent_at(parameters, "rollout"), group, id))
+        }
+    }
+}
+
+/// The random id in decimal.
+fn random_text(alloc: Global, random: u32) -> Result<Text, Memory>
+    ensures { IfOk result (λ t. t ≡ decimal (id_number random)) }
+{
+    let id = random_id(random);
+    Ok(Text::from(format!(in alloc; "{id}")?))
+}

@@ -1,0 +1,54 @@
+//! Whether a strategy is active.
+ghost use Rattle.std.specs.Prelude.{◌≡◌, IfOk};
+ghost use Rattle.unl_constraints.specs.Constraint.{all_hold as all_held};
+ghost use Rattle.unl_strategies.specs.Strategy.{is_active, rule_holds};
+
+use crate::moment::Moment;
+use crate::rules::rule;
+use crate::segments::all_met;
+use std::alloc::Global;
+use unl_constraints::holds;
+use unl_context::Context;
+use unl_documents::{Constraint, List, Memory, Segment, Shared, Strategy, Text};
+
+/// Whether a strategy is active: each of its constraints holds, each segment that it names is in the list and holds,
+/// and its own rule holds. `feature` is the name of its feature, and `index` its place there, from 0.
+#[tactic(auto, unfolding(crate::specs::Strategy::is_active))]
+pub fn active(
+    alloc: Global,
+    strategy: &Strategy,
+    feature: &Text,
+    index: u32,
+    segments: &List<Shared<Segment>>,
+    context: &Context,
+    moment: &Moment,
+) -> Result<bool, Memory>
+    ensures { IfOk result (λ b. b ≡ is_active strategy.now feature.now index segments.now context.now moment.entry.now) }
+{
+    let now = moment.now;
+    if !all_hold(alloc, strategy.constraints.as_slice(), context, now)? {
+        return Ok(false);
+    }
+    if !all_met(alloc, strategy.segments.as_slice(), segments, context, now)? {
+        return Ok(false);
+    }
+    rule(alloc, strategy, feature, index, context, moment)
+}
+
+/// Whether a context meets all constraints.
+#[tactic(auto, unfolding(unl_constraints::specs::Constraint::all_hold))]
+fn all_hold(
+    alloc: Global,
+    constraints: &[Constraint],
+    context: &Context,
+    now: u64,
+) -> Result<bool, Memory>
+    ensures { IfOk result (λ b. b ≡ all_held constraints.now context.now now) }
+{
+    for constraint in constraints {
+        if !holds(alloc, constraint, context, now)? {
+            return Ok(false);
+        }
+    }
+    Ok(true)
+}

@@ -1,0 +1,35 @@
+-- The first place whose item passes.
+use Rattle.std.proofs.Common.{◌≡◌, ℕ, ◌+◌, ◌<◌, ◌≤◌, Bool, true, false, cond, List, [], ◌∷◌, length, get_or, Option, Some, None, refl, sym, ap, ◌∙◌, arith, inl, inr}
+use Rattle.std.specs.Prelude.{position, is_some, ◌||◌}
+use Rattle.std.specs.List.{list_any, position_from, position_or_len}
+use Rattle.std.proofs.lemmas.Bool.{lt-ltb, le-ltb, cases_lt}
+use Rattle.std.proofs.lemmas.Iterator.Adapters.{position_from-zero}
+use Rattle.std.proofs.lemmas.List.Quantifiers.{position-Some}
+use Rattle.std.proofs.lemmas.List.Sums.{position_or_len_is, passes_at_first, fails_before_first, prefix_len-le-length}
+use Rattle.unl_variants.specs.Variant.{IsFirst}
+
+some_from : {T : Type 0} (p : T → Bool) (i : ℕ) (xs : List T) → is_some (position_from p i xs) ≡ list_any p xs
+some_from p i [] = refl
+some_from p i (x ∷ xs) = elim (p x) as (λ b. is_some (cond b (Some i) (position_from p (i + 1) xs)) ≡ (b || list_any p xs)) [ true ↦ refl | false ↦ some_from p (i + 1) xs ]
+
+-- there is one exactly where some item passes
+pub some_passes : {T : Type 0} (p : T → Bool) (xs : List T) → is_some (position p xs) ≡ list_any p xs
+some_passes p xs = ap is_some (position_from-zero p xs) ∙ some_from p 0 xs
+
+-- what `position` gives is the first place
+pub first_at : {T : Type 0} (p : T → Bool) (xs : List T) (k : ℕ) → position p xs ≡ Some k → IsFirst p xs k
+first_at p [] k is = absurd (cc)
+first_at p (x ∷ xs) k is =
+    let first = position-Some p (x ∷ xs) k x is in
+    record {
+      inside = first.0;
+      here = λ d. (position-Some p (x ∷ xs) k d is).1;
+      not_before = λ j d low below. (position-Some p (x ∷ xs) k d is).2 j below;
+    }
+
+-- and the only one
+pub first_only : {T : Type 0} (p : T → Bool) (xs : List T) (k : ℕ) → IsFirst p xs k → position p xs ≡ Some k
+first_only p [] k first = absurd (omega (arith, first.inside))
+first_only p (x ∷ xs) k first =
+    let at : position_or_len p (x ∷ xs) ≡ k = position_or_len_is p (x ∷ xs) k x (omega (arith, first.inside)) (λ j below. first.not_before j x (omega arith) below) (λ inside. first.here x) in
+    rw at (rw (lt-ltb k (length (x ∷ xs)) first.inside) refl)

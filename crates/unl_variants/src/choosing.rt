@@ -1,0 +1,63 @@
+ghost use Rattle.std.specs.Prelude.{◌≡◌, ◌==◌, ◌<◌, ℕ, Option, length, is_none, IfSome};
+ghost use Rattle.unl_variants.specs.Variant.{AreWithinLimits, IsChosen, choice_of, target_of, total_weight as total_weight_of};
+
+use crate::overrides::first_overridden;
+use crate::stickiness::{stickiness_of, sticky_text};
+use crate::weights::{place_reached, total_weight};
+use itoa::Buffer;
+use unl_context::Context;
+use unl_documents::{List, Variant};
+use unl_murmur::normalized;
+
+/// The seed under which variants are drawn, so that they don't follow the rollouts.
+const SEED: u32 = 86_028_157;
+
+/// The place of the variant that is chosen in a group for a context, from 0. `random` is the id, in decimal, where the
+/// context has none. None exactly where the weights sum to 0. It takes no memory.
+///
+/// The first variant with an override for the context is chosen, or else the first one whose weight, with those before
+/// it, reaches a number from 1 to the sum of all weights: the hash of the group and the id.
+pub fn choose(
+    group: &str,
+    variants: &List<Variant>,
+    context: &Context,
+    random: u32,
+) -> Option<usize>
+    requires limits { AreWithinLimits variants.now }
+    ensures value { result ≡ choice_of group.now variants.now context.now random }
+    ensures chosen { IsChosen group.now variants.now context.now random result }
+    ensures only { (choice : Option ℕ) → IsChosen group.now variants.now context.now random choice → choice ≡ result }
+    ensures none { is_none result ≡ (total_weight_of variants.now == 0) }
+    ensures inside { IfSome result (λ place. place < length variants.now) }
+{
+    chosen_place(group, variants.as_slice(), context, random)
+}
+
+/// The place that is chosen: an override counts before any draw.
+fn chosen_place(group: &str, variants: &[Variant], context: &Context, random: u32) -> Option<usize>
+    requires limits { AreWithinLimits variants.now }
+    ensures { IsChosen group.now variants.now context.now random result }
+{
+    let total = total_weight(variants);
+    if total == 0 {
+        return None;
+    }
+    if let Some(place) = first_overridden(variants, context) {
+        return Some(place);
+    }
+    place_reached(variants, target(group, variants, context, random, total))
+}
+
+/// The number that the weights have to reach.
+#[tactic(auto, unfolding(crate::specs::Variant::target_of, crate::specs::Variant::id_of, unl_murmur::specs::Murmur3::normalized_of))]
+fn target(group: &str, variants: &[Variant], context: &Context, random: u32, total: u32) -> u32
+    requires some { 0 < total }
+    requires all { total ≡ total_weight_of variants.now }
+    ensures value { result ≡ target_of group.now variants.now context.now random }
+    ensures above { 0 < result }
+{
+    match sticky_text(stickiness_of(variants), context) {
+        Some(id) => normalized(group, id, total, SEED),
+        None => normalized(group, Buffer::new().format(random), total, SEED),
+    }
+}

@@ -1,0 +1,37 @@
+ghost use Rattle.std.specs.Prelude.{◌≡◌, position};
+ghost use Rattle.std.specs.List.{list_any};
+ghost use Rattle.unl_variants.specs.Variant.{is_among as among, is_meant as meant, is_overridden as overridden};
+
+use unl_context::Context;
+use unl_documents::{Override, Text, Variant};
+
+/// The place of the first variant that an override gives to a context.
+pub(crate) fn first_overridden(variants: &[Variant], context: &Context) -> Option<usize>
+    ensures { result ≡ position (overridden context.now) variants.now }
+{
+    variants.iter().position(|variant| has_override(variant.overrides.as_slice(), context))
+}
+
+/// Whether one of the overrides is meant for a context.
+fn has_override(overrides: &[Override], context: &Context) -> bool
+    ensures { result ≡ list_any (meant context.now) overrides.now }
+{
+    overrides.iter().any(|one| is_meant(one, context))
+}
+
+/// Whether an override's values hold the context's value of its field.
+#[tactic(auto, unfolding(crate::specs::Variant::is_meant))]
+fn is_meant(one: &Override, context: &Context) -> bool
+    ensures { result ≡ meant context.now one.now }
+{
+    match context.get(one.field.as_str()) {
+        Some(text) => is_among(one.values.as_slice(), text),
+        None => false,
+    }
+}
+
+fn is_among(values: &[Text], text: &str) -> bool
+    ensures { result ≡ among values.now text.now }
+{
+    values.iter().any(|value| value.as_str() == text)
+}

@@ -1,0 +1,38 @@
+ghost use Rattle.std.specs.Prelude.{◌≡◌, option_map};
+ghost use Rattle.unl_variants.specs.Variant.{sticky_text as sticky_text_of, stickiness_of as name_of_stickiness, own_id as own_id_of};
+
+use unl_context::Context;
+use unl_documents::{Text, Variant};
+
+/// The stickiness of the first variant, or no text where it has none.
+pub(crate) fn stickiness_of(variants: &[Variant]) -> &str
+    ensures { result.now ≡ name_of_stickiness variants.now }
+{
+    match variants.first() {
+        Some(variant) => variant.stickiness.as_ref().map_or("", Text::as_str),
+        None => "",
+    }
+}
+
+/// The text that a stickiness takes from a context: `default`, as no stickiness, takes the user's id or else the
+/// session's, `random` takes none, and any other name is that of a field.
+#[tactic(auto, unfolding(crate::specs::Variant::sticky_text))]
+pub(crate) fn sticky_text<'a>(name: &str, context: &'a Context) -> Option<&'a str>
+    ensures { option_map (λ text. text.now) result ≡ sticky_text_of name.now context.now }
+{
+    match name {
+        "" | "default" => own_id(context),
+        "random" => None,
+        field => context.get(field),
+    }
+}
+
+/// The user's id, or else the session's.
+fn own_id(context: &Context) -> Option<&str>
+    ensures { option_map (λ text. text.now) result ≡ own_id_of context.now }
+{
+    match context.get("userId") {
+        Some(id) => Some(id),
+        None => context.get("sessionId"),
+    }
+}

@@ -1,0 +1,33 @@
+ghost use Rattle.std.specs.Prelude.{◌≡◌, ◌<◌, IfSome, IfNone};
+ghost use Rattle.unl_variants.specs.Variant.{AreWithinLimits, total_weight as total_weight_of, IsReached};
+
+use unl_documents::Variant;
+
+/// The sum of the weights.
+pub(crate) fn total_weight(variants: &[Variant]) -> u32
+    requires limits { AreWithinLimits variants.now }
+    ensures { result ≡ total_weight_of variants.now }
+{
+    let mut total = 0;
+    for variant in variants {
+        total += variant.weight;
+    }
+    total
+}
+
+/// The first place whose weight, with those before it, reaches the target.
+pub(crate) fn place_reached(variants: &[Variant], target: u32) -> Option<usize>
+    requires limits { AreWithinLimits variants.now }
+    requires some { 0 < target }
+    ensures reached { IfSome result (IsReached target variants.now) }
+    ensures too_far { IfNone result (total_weight_of variants.now < target) }
+{
+    let mut reached = 0;
+    for (place, variant) in variants.iter().enumerate() {
+        reached += variant.weight;
+        if target <= reached {
+            return Some(place);
+        }
+    }
+    None
+}
