@@ -7,8 +7,7 @@ use Rattle.std.specs.Str.{bytes_eq}
 use Rattle.unl_documents.specs.declared.parameters.Pair.{Pair}
 use Rattle.unl_documents.specs.declared.segment.Segment.{Segment}
 use Rattle.unl_documents.specs.declared.strategy.Strategy.{Strategy}
-use Rattle.unl_context.specs.Context.{Fields, filled, property}
-use Rattle.unl_context.specs.Known.{field_of}
+use Rattle.unl_context.specs.Context.{Fields, field_of, filled, property}
 use Rattle.unl_constraints.specs.Constraint.{all_hold}
 use Rattle.unl_strategies.specs.declared.moment.Mark.TheVariants as mark
 use Rattle.unl_strategies.specs.Moment.{Moment}

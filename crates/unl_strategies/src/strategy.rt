@@ -1,15 +1,14 @@
 //! Whether a strategy is active.
 ghost use Rattle.std.specs.Prelude.{◌≡◌, IfOk};
-ghost use Rattle.unl_constraints.specs.Constraint.{all_hold as all_held};
-ghost use Rattle.unl_strategies.specs.Strategy.{is_active, rule_holds};
+ghost use Rattle.unl_strategies.specs.Strategy.{is_active};
 
 use crate::moment::Moment;
 use crate::rules::rule;
 use crate::segments::all_met;
 use std::alloc::Global;
-use unl_constraints::holds;
+use unl_constraints::all_hold;
 use unl_context::Context;
-use unl_documents::{Constraint, List, Memory, Segment, Shared, Strategy, Text};
+use unl_documents::{List, Memory, Segment, Shared, Strategy, Text};
 
 /// Whether a strategy is active: each of its constraints holds, each segment that it names is in the list and holds,
 /// and its own rule holds. `feature` is the name of its feature, and `index` its place there, from 0.
@@ -33,22 +32,4 @@ pub fn active(
         return Ok(false);
     }
     rule(alloc, strategy, feature, index, context, moment)
-}
-
-/// Whether a context meets all constraints.
-#[tactic(auto, unfolding(unl_constraints::specs::Constraint::all_hold))]
-fn all_hold(
-    alloc: Global,
-    constraints: &[Constraint],
-    context: &Context,
-    now: u64,
-) -> Result<bool, Memory>
-    ensures { IfOk result (λ b. b ≡ all_held constraints.now context.now now) }
-{
-    for constraint in constraints {
-        if !holds(alloc, constraint, context, now)? {
-            return Ok(false);
-        }
-    }
-    Ok(true)
 }
