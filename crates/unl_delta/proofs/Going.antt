@@ -1,5 +1,5 @@
 -- Going over the events of a batch, and what then holds of their order.
-use Rattle.std.proofs.Common.{◌≡◌, ◌||◌, ◌&&◌, not, ℕ, ◌+◌, ◌<◌, ◌≤◌, Bool, true, false, cond, ltb, List, [], ◌∷◌, ◌++◌, length, get_or, drop, Option, Some, None, Result, Ok, Err, refl, sym, ap, subst, ◌∙◌, append_assoc, add-one, drop-cons, arith}
+use Rattle.std.proofs.Common.{◌≡◌, ◌&&◌, not, ℕ, ◌+◌, ◌<◌, ◌≤◌, Bool, true, false, cond, ltb, List, [], ◌∷◌, ◌++◌, length, get_or, drop, Option, Some, None, Result, Ok, Err, refl, sym, ap, subst, ◌∙◌, append_assoc, add-one, drop-cons, arith}
 use Rattle.std.specs.Prelude.{◌≢◌, IfOk, IfSome, ok_or, option_and_then, option_map}
 use Rattle.std.specs.List.{AllByRecursion as Every}
 use Rattle.std.specs.Option.{option_or}
@@ -100,18 +100,20 @@ unfolding events_from
 in_order_from place before no_items es is =
     let same : [] ≡ es = cc in
     subst (AreInOrder place before) same (record { changes = λ _. tt; numbers = tt })
-in_order_from place before (item value values) es is = decided (event_at place before value) refl is
+in_order_from place before (item value values) es is = decided (λ low xs so. in_order_from (place + 1) low values xs so) (event_at place before value) refl is
   where
-    more : (e : Event) (r : Result (List Event) BadBatch) → event_at place before value ≡ Ok e → events_from (place + 1) (number_of e) values ≡ r → (r >>= λ others. Ok (e ∷ others)) ≡ Ok es → AreInOrder place before es
-    more e (Err fault) one rest so = absurd cc
-    more e (Ok others) one rest so =
+    more : ((low : ℕ) (xs : List Event) → events_from (place + 1) low values ≡ Ok xs → AreInOrder (place + 1) low xs) → (e : Event) (r : Result (List Event) BadBatch) → event_at place before value ≡ Ok e → events_from (place + 1) (number_of e) values ≡ r
+        → (r >>= λ others. Ok (e ∷ others)) ≡ Ok es → AreInOrder place before es
+    more again e (Err fault) one rest so = absurd cc
+    more again e (Ok others) one rest so =
         let same : e ∷ others ≡ es = cc in
         let first : Fits place before e = fits_at place before value e one in
-        let later : AreInOrder (place + 1) (number_of e) others = in_order_from (place + 1) (number_of e) values others rest in
+        let later : AreInOrder (place + 1) (number_of e) others = again (number_of e) others rest in
         subst (AreInOrder place before) same (record { changes = λ after. (first.change after, later.changes (omega arith)); numbers = (first.rises, later.numbers) })
-    decided : (r : Result Event BadBatch) → event_at place before value ≡ r → (r >>= λ e. events_from (place + 1) (number_of e) values >>= λ others. Ok (e ∷ others)) ≡ Ok es → AreInOrder place before es
-    decided (Err fault) one so = absurd cc
-    decided (Ok e) one so = more e (events_from (place + 1) (number_of e) values) one refl so
+    decided : ((low : ℕ) (xs : List Event) → events_from (place + 1) low values ≡ Ok xs → AreInOrder (place + 1) low xs) → (r : Result Event BadBatch) → event_at place before value ≡ r
+        → (r >>= λ e. events_from (place + 1) (number_of e) values >>= λ others. Ok (e ∷ others)) ≡ Ok es → AreInOrder place before es
+    decided again (Err fault) one so = absurd cc
+    decided again (Ok e) one so = more again e (events_from (place + 1) (number_of e) values) one refl so
 
 -- what is read from the first place on is a batch
 pub read_in_order : (values : Items) (es : List Event) → events_from 0 0 values ≡ Ok es → Every (λ e. is_change e ≡ true) (drop 1 es) × NeverFall number_of 0 es

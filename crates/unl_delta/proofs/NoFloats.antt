@@ -33,16 +33,17 @@ texts = no_float_in string (λ x. refl)
 
 no_float_put : (key text : List ℕ) (ms : Members) → members_have_float ms ≡ false → members_have_float (put key (string text) ms) ≡ false
 no_float_put key text no_members h = refl
-no_float_put key text (member other value ms) h = decided (has_float value) (members_have_float ms) refl refl h
+no_float_put key text (member other value ms) h = decided (no_float_put key text ms) (has_float value) (members_have_float ms) refl refl h
   where
-    decided : (a b : Bool) → has_float value ≡ a → members_have_float ms ≡ b → (a || b) ≡ false → members_have_float (put key (string text) (member other value ms)) ≡ false
-    decided true b is more h = absurd cc
-    decided false true is more h = absurd cc
-    decided false false is more h =
+    decided : (members_have_float ms ≡ false → members_have_float (put key (string text) ms) ≡ false) → (a b : Bool) → has_float value ≡ a → members_have_float ms ≡ b → (a || b) ≡ false
+        → members_have_float (put key (string text) (member other value ms)) ≡ false
+    decided again true b is more h = absurd cc
+    decided again false true is more h = absurd cc
+    decided again false false is more h =
         elim (slice_cmp nat_cmp key other) as (λ o. members_have_float (match_ordering o (member key (string text) (member other value ms)) (member other (string text) ms) (member other value (put key (string text) ms))) ≡ false) [
           | Less ↦ rw (is, more) refl
           | Equal ↦ more
-          | Greater ↦ rw (is, no_float_put key text ms more) refl
+          | Greater ↦ rw (is, again more) refl
         ]
 
 no_float_pairs : (pairs : List Pair) (ms : Members) → members_have_float ms ≡ false → members_have_float (with_pairs pairs ms) ≡ false

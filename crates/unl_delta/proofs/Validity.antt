@@ -1,13 +1,12 @@
 -- What is valid stays so: states under events and views, versions under batches, and what is answered from them.
-use Rattle.std.proofs.Common.{◌≡◌, ◌<◌, ℕ, Bool, true, false, cond, ltb, List, [], ◌∷◌, ◌++◌, map, Option, Some, None, refl, subst, sym, ◌==◌, ◌||◌}
-use Rattle.std.specs.Prelude.{All, filter, filter_map, IfSome, option_map, unwrap_or}
+use Rattle.std.proofs.Common.{arith, ◌≡◌, ℕ, Bool, true, false, cond, ltb, List, [], ◌∷◌, ◌++◌, map, Option, Some, None, refl, ◌==◌, ◌||◌}
+use Rattle.std.specs.Prelude.{All, filter, IfSome, option_map, unwrap_or}
 use Rattle.std.specs.List.{AllByRecursion as Every, cons_option}
 use Rattle.std.specs.List.Sorted.{IsStrictlySortedBy}
 use Rattle.std.specs.Str.{bytes_eq}
 use Rattle.std.specs.declared.cmp.Ordering.TheVariants.{Less}
 use Rattle.std.proofs.lemmas.List.Elements.{All-nil, All-filter, All-append, All-cons, All-head, All-tail}
 use Rattle.unl_documents.specs.declared.feature.Feature.{Feature}
-use Rattle.unl_documents.specs.declared.segment.Segment.{Segment}
 use Rattle.unl_documents.specs.declared.state.State.{State}
 use Rattle.unl_documents.specs.Limits.{IsName}
 use Rattle.unl_documents.specs.Parameters.{AreRising}
@@ -26,8 +25,8 @@ use Rattle.unl_delta.specs.Batch.{empty_version, verdict_of, last_number, cut, w
 use Rattle.unl_delta.specs.Keyed.{below, above, put, without}
 use Rattle.unl_delta.specs.State.{number_of, entry_number, later, step, fold_events, project_of, was_in, entries_on}
 use Rattle.unl_delta.specs.Valid.{IsVersion, IsValidEvent, IsValidEntry, IsValidBatch, IsValidVersion, IsValidPlace, IsValidAnswer}
-use Rattle.unl_delta.specs.View.{Sees, view_of, if_seen, removed, shown, shown_to}
-use Rattle.unl_delta.proofs.Every.{every_append, every_filter}
+use Rattle.unl_delta.specs.View.{Sees, view_of, removed, shown, shown_to}
+use Rattle.unl_delta.proofs.Every.{every_append}
 use Rattle.unl_delta.proofs.Formed.{next_is_version, answer_is_batch}
 use Rattle.unl_delta.proofs.Numbers.{each_later}
 use Rattle.unl_delta.proofs.Order.{cmp, Rises, rises_from_rising, rises_filter, rises_put, rises_without}
@@ -156,8 +155,9 @@ next_holds v (SegmentUpdated n segment ∷ es) h new = changed_holds v (SegmentU
 next_holds v (SegmentRemoved n id ∷ es) h new = changed_holds v (SegmentRemoved n id ∷ es) h new
 
 pub empty_is_valid : IsValidVersion empty_version
+unfolding IsStrictlySortedBy
 empty_is_valid = record {
-  order = record { base = refl; changes = tt; numbers = tt; most = tt };
+  order = record { base = omega arith; changes = tt; numbers = tt; most = tt };
   state = record { features = All-nil IsValidFeature; names = tt; segments = All-nil IsValidSegment; ids = tt };
   entries = tt;
 }

@@ -1,5 +1,5 @@
 -- What is written is read again.
-use Rattle.std.proofs.Common.{◌≡◌, ℕ, ◌+◌, ◌≤◌, Bool, true, false, ltb, List, [], ◌∷◌, length, map, Option, Some, None, Result, Ok, refl, ◌∙◌, ◌&&◌, not}
+use Rattle.std.proofs.Common.{◌≡◌, ℕ, ◌+◌, ◌≤◌, Bool, true, false, ltb, List, [], ◌∷◌, length, map, Option, Some, None, Ok, refl, ◌∙◌, ◌&&◌, not}
 use Rattle.std.specs.Prelude.{codes, drop}
 use Rattle.std.specs.List.{AllByRecursion as Every}
 use Rattle.std.specs.Option.{option_or}
@@ -24,7 +24,7 @@ use Rattle.unl_delta.specs.declared.event.Event.{Event}
 use Rattle.unl_delta.specs.declared.event.Event.TheVariants.{Hydration, FeatureUpdated, FeatureRemoved, SegmentUpdated, SegmentRemoved}
 use Rattle.unl_delta.specs.Reading.{hydration_of, feature_updated_of, feature_removed_of, segment_updated_of, segment_removed_of, event_of_type, event_of, event_at, in_order as placed, events_from, batch_of}
 use Rattle.unl_delta.specs.State.{number_of, is_change}
-use Rattle.unl_delta.specs.Valid.{NeverFall, IsBatch, IsReadable, IsValidEvent, IsValidBatch}
+use Rattle.unl_delta.specs.Valid.{NeverFall, IsReadable, IsValidEvent, IsValidBatch}
 use Rattle.unl_delta.specs.Writing.{event_data, batch_data}
 
 -- ---- a state inside another object

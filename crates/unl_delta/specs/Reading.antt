@@ -1,5 +1,5 @@
 -- What the events and batches of a delta are read as: their keys in order, each with its kind. The forms are chosen by this project.
-use Rattle.std.specs.Prelude.{ℕ, ◌+◌, List, [], ◌∷◌, codes, length, Bool, ◌&&◌, not, nat_lt, Option, option_and_then, option_map, Result, Ok, Err, ok_or, if◌then◌else◌, None}
+use Rattle.std.specs.Prelude.{ℕ, ◌+◌, List, [], ◌∷◌, codes, length, ◌&&◌, not, nat_lt, Option, option_and_then, option_map, Result, Ok, Err, ok_or, if◌then◌else◌, None}
 use Rattle.std.specs.Option.{option_or}
 use Rattle.std.specs.Str.{bytes_eq}
 use Rattle.serde_json.specs.Data.{Data, Items, no_items, item}

@@ -1,5 +1,5 @@
 -- What events and batches are written as. A `put` keeps the keys in byte order.
-use Rattle.std.specs.Prelude.{ℕ, codes, option_map}
+use Rattle.std.specs.Prelude.{codes, option_map}
 use Rattle.serde_json.specs.Data.{Data, string, object, no_members}
 use Rattle.unl_documents.specs.declared.field.Field.TheVariants as field
 use Rattle.unl_documents.specs.Writing.{with, with_some, count, list, feature_data, segment_data}

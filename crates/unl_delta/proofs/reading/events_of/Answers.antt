@@ -11,7 +11,7 @@ returns-in-Err-clause-gives c =
 pub loop-place-preserved : goal.loop-place-preserved
 loop-place-preserved c =
     let values = c.args.values.now in
-    rw (c.in_ok-push-in-Ok.ensures.ok, c.number-in-Ok.ensures) record {
+    rw (c.in_ok-push-in-Ok.ensures.ok, c.number-before.ensures) record {
       so_far = goes_on c.loop-place.events values c.loop-place.place c.loop-place.before c.index-values-place.result c.in-Ok.event (events_from 0 0 (items_view values)) c.loop-place-test.true (rw (← c.index-values-place.is) c.in-Ok.ensures.gives) c.loop-place.invariant.so_far;
       valid = each_more c.loop-place.events c.in-Ok.event c.loop-place.invariant.valid c.in-Ok.ensures.valid;
     }
