@@ -23,6 +23,10 @@ pub fn value_at(field: Field, value: &Value) -> Option<&Value>
     }
 }
 
+/// What the value at a key is read as.
+///
+/// # Errors
+/// `Missing` where the key is absent or null; else those of the kind.
 #[tactic(auto, unfolding(crate::specs::Kinds::required))]
 pub fn required<K: Kind>(alloc: Global, field: Field, value: &Value) -> Result<K::Out, BadDocument>
     ensures gives { Gives result (required_at K.reads field (view value.now)) }
@@ -34,6 +38,10 @@ pub fn required<K: Kind>(alloc: Global, field: Field, value: &Value) -> Result<K
     }
 }
 
+/// What the value at a key is read as, or none where the key is absent or null.
+///
+/// # Errors
+/// Those of the kind.
 #[tactic(auto, unfolding(crate::specs::Kinds::optional))]
 pub fn optional<K: Kind>(
     alloc: Global,
@@ -49,6 +57,10 @@ pub fn optional<K: Kind>(
     }
 }
 
+/// What the value at a key is read as, or the default where the key is absent or null.
+///
+/// # Errors
+/// Those of the kind.
 #[tactic(auto, unfolding(crate::specs::Kinds::defaulted))]
 pub fn defaulted<K: Kind>(
     alloc: Global,
@@ -66,6 +78,10 @@ pub fn defaulted<K: Kind>(
     }
 }
 
+/// The name at a key, or a default name where the key is absent or null.
+///
+/// # Errors
+/// Those of a name.
 #[tactic(auto, unfolding(crate::specs::Kinds::defaulted))]
 pub fn name_or(
     alloc: Global,

@@ -1,0 +1,40 @@
+-- Reading, and what a value stands for.
+use Rattle.std.proofs.Common.{◌≡◌, ℕ, Bool, true, false, List, Option, Some, None, Ok, Err, refl, sym, ap, ◌∙◌}
+use Rattle.std.specs.Prelude.{◌↔◌, if◌then◌else◌}
+use Rattle.std.specs.Str.{is_utf8}
+use Rattle.std.proofs.lemmas.Str.{IsUtf8-from_is_utf8, is_utf8-from_IsUtf8}
+use Rattle.serde_json.specs.Data.{Data}
+use Rattle.serde_json.specs.Read.{read}
+use Rattle.unl_documents.specs.declared.fault.BadDocument.{BadDocument}
+use Rattle.unl_documents.specs.declared.fault.BadDocument.TheVariants.{NotJson}
+use Rattle.unl_documents.specs.Kinds.{document, is_object}
+use Rattle.unl_documents.specs.Reading.{Reading}
+use Rattle.unl_documents.specs.Reads.{fault_of}
+use Rattle.unl_documents.specs.Results.{json_of, IsJson}
+use Rattle.unl_documents.proofs.Sound.{Sound, object_at}
+use Rattle.unl_documents.proofs.Unique.{One}
+
+faultless : {T : Type 0} (r : Reading T) → fault_of r ≡ None → (x : T) × (r ≡ Ok x)
+faultless (Ok x) h = (x, refl)
+faultless (Err e) h = absurd cc
+
+-- a reading that is sound gives a document exactly where the value stands for it and has no fault
+pub exactly : {T : Type 0} (reads : Data → Reading T) (Reads : Data → T → Type 0) → Sound reads Reads → One Reads → (value : Data) (d : T) → (document reads value ≡ Ok d) ↔ (Reads value d × (fault_of (document reads value) ≡ None))
+exactly reads Reads sound one value d = (
+  λ h. (sound value d (object_at (is_object value) (reads value) NotJson d h).1, ap fault_of h),
+  λ p. let a = faultless (document reads value) p.1 in
+      let stands = sound value a.0 (object_at (is_object value) (reads value) NotJson a.0 a.1).1 in
+      a.1 ∙ ap Ok (one value a.0 d stands p.0),
+)
+
+pub faulty : {T : Type 0} (r : Reading T) (e : BadDocument) → (r ≡ Err e) ↔ (fault_of r ≡ Some e)
+faulty (Ok x) e = (λ h. absurd cc, λ h. absurd cc)
+faulty (Err d) e = (λ h. cc, λ h. cc)
+
+pub spelled : (bytes : List ℕ) (value : Data) → (json_of bytes ≡ Some value) ↔ IsJson bytes value
+unfolding json_of
+spelled bytes value =
+    elim (is_utf8 bytes) as (λ t. is_utf8 bytes ≡ t → ((if t then read bytes else None) ≡ Some value) ↔ IsJson bytes value) [
+      | true ↦ λ is. (λ h. record { utf8 = IsUtf8-from_is_utf8 bytes is; is = h }, λ j. j.is)
+      | false ↦ λ not_utf8. (λ h. absurd cc, λ j. absurd (let yes = is_utf8-from_IsUtf8 bytes j.utf8 in cc))
+    ] refl

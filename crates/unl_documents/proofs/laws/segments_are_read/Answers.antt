@@ -1,0 +1,15 @@
+use Rattle.unl_documents.specs.Documents.{segment_of}
+use Rattle.unl_documents.specs.Kinds.{document}
+use Rattle.unl_documents.specs.Reads.{ReadsSegment, first_fault_of_segment}
+use Rattle.unl_documents.proofs.ReadingLemmas.{exactly, faulty}
+use Rattle.unl_documents.proofs.Sound.{segment_is}
+use Rattle.unl_documents.proofs.Unique.{segment_one}
+use Rattle.unl_documents.proofs.laws.segments_are_read.Goals as goal
+
+pub returns-clause-read : goal.returns-clause-read
+unfolding first_fault_of_segment
+returns-clause-read c value d = exactly segment_of ReadsSegment segment_is segment_one value d
+
+pub returns-clause-fault : goal.returns-clause-fault
+unfolding first_fault_of_segment
+returns-clause-fault c value e = faulty (document segment_of value) e

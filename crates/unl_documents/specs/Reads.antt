@@ -1,0 +1,193 @@
+-- When a JSON value reads as a document: key by key and in no order, limits apart; and the first fault of a value.
+use Rattle.std.specs.Prelude.{◌≡◌, ℕ, List, [], ◌∷◌, codes, Bool, true, false, Option, None, Some, MatchOption, Ok, Err}
+use Rattle.serde_json.specs.Data.{Data, unsigned, null, boolean, number, string, array, object, Items, no_items, item, Members, no_members, member}
+use Rattle.serde_json.specs.Find.{is_float}
+use Rattle.serde_json.specs.Written.{compact_text}
+use Rattle.unl_documents.specs.declared.field.Field.{Field}
+use Rattle.unl_documents.specs.declared.field.Field.TheVariants as key
+use Rattle.unl_documents.specs.declared.fault.BadDocument.{BadDocument}
+use Rattle.unl_documents.specs.declared.operator.Operator.{Operator}
+use Rattle.unl_documents.specs.declared.parameters.Pair.{Pair}
+use Rattle.unl_documents.specs.declared.variant.Override.{Override}
+use Rattle.unl_documents.specs.declared.variant.Payload.{Payload}
+use Rattle.unl_documents.specs.declared.variant.Variant.{Variant}
+use Rattle.unl_documents.specs.declared.constraint.Constraint.{Constraint}
+use Rattle.unl_documents.specs.declared.segment.Segment.{Segment}
+use Rattle.unl_documents.specs.declared.strategy.Strategy.{Strategy}
+use Rattle.unl_documents.specs.declared.feature.Feature.{Feature}
+use Rattle.unl_documents.specs.declared.dependency.Dependency.{Dependency}
+use Rattle.unl_documents.specs.declared.state.State.{State}
+use Rattle.unl_documents.specs.declared.feed.Feed.{Feed}
+use Rattle.unl_documents.specs.Documents.{feature_of, segment_of}
+use Rattle.unl_documents.specs.Kinds.{at, present, is_object, document}
+use Rattle.unl_documents.specs.Operators.{operator_of}
+use Rattle.unl_documents.specs.Reading.{Reading}
+use Rattle.unl_documents.specs.Sorting.{IsSorting}
+use Rattle.unl_documents.specs.States.{name_key, id_key, state_of, feed_of}
+
+-- ---- what a value stands for
+
+-- the value is this text
+abbrev pub IsText : Data → List ℕ → Type 0
+IsText value bytes = value ≡ string bytes
+
+-- the value is this boolean
+abbrev pub IsTruth : Data → Bool → Type 0
+IsTruth value b = value ≡ boolean b
+
+-- the value is this whole number
+abbrev pub IsWhole : Data → ℕ → Type 0
+IsWhole value n = value ≡ number (unsigned n)
+
+-- the value is this text; or an integer or a boolean, and this its text in JSON
+abbrev pub IsTextOrWhole : Data → List ℕ → Type 0
+IsTextOrWhole null bytes = ⊥
+IsTextOrWhole (boolean b) bytes = bytes ≡ compact_text (boolean b)
+IsTextOrWhole (number n) bytes = (is_float n ≡ false) × (bytes ≡ compact_text (number n))
+IsTextOrWhole (string text) bytes = bytes ≡ text
+IsTextOrWhole (array values) bytes = ⊥
+IsTextOrWhole (object inside) bytes = ⊥
+
+-- the value is the name of this operator
+abbrev pub IsOperator : Data → Operator → Type 0
+IsOperator value op = (name : List ℕ) × IsText value name × (op ≡ operator_of name)
+
+-- the items stand for these, one for one
+abbrev pub AreEach : {T : Type 0} → (Data → T → Type 0) → Items → List T → Type 0
+AreEach Is no_items [] = Unit {0}
+AreEach Is no_items (x ∷ xs) = ⊥
+AreEach Is (item value values) [] = ⊥
+AreEach Is (item value values) (x ∷ xs) = Is value x × AreEach Is values xs
+
+-- the value is a list, whose items stand for these
+abbrev pub IsList : {T : Type 0} → (Data → T → Type 0) → Data → List T → Type 0
+IsList Is value xs = (items : Items) × (value ≡ array items) × AreEach Is items xs
+
+-- the value is an object, which reads as this
+abbrev pub IsObject : {T : Type 0} → (Data → T → Type 0) → Data → T → Type 0
+IsObject Reads value x = (is_object value ≡ true) × Reads value x
+
+-- a pair for each member but those that are null, of its key and what its value stands for
+abbrev pub ArePairs : Members → List Pair → Type 0
+ArePairs no_members pairs = pairs ≡ []
+ArePairs (member name value inside) pairs = MatchOption (present value) (ArePairs inside pairs) (λ found. (text : List ℕ) × (others : List Pair) × (pairs ≡ record { key = name; value = text } ∷ others) × IsTextOrWhole found text × ArePairs inside others)
+
+-- the value is an object, whose members stand for these pairs
+abbrev pub IsParameters : Data → List Pair → Type 0
+IsParameters value pairs = (inside : Members) × (value ≡ object inside) × ArePairs inside pairs
+
+-- ---- what stands at a key
+
+-- a value that stands for this
+abbrev pub Has : {T : Type 0} → (Data → T → Type 0) → Field → Data → T → Type 0
+Has Is field value x = MatchOption (at field value) ⊥ (λ found. Is found x)
+
+-- a value that stands for this, or none and this is the default
+abbrev pub HasOr : {T : Type 0} → T → (Data → T → Type 0) → Field → Data → T → Type 0
+HasOr default Is field value x = MatchOption (at field value) (x ≡ default) (λ found. Is found x)
+
+-- a value that stands for this, or none and this is none
+abbrev pub MayHave : {T : Type 0} → (Data → T → Type 0) → Field → Data → Option T → Type 0
+MayHave {T} Is field value o = MatchOption (at field value) (o ≡ None) (λ found. (x : T) × (o ≡ Some x) × Is found x)
+
+-- a list whose items stand for these, or none and these are none
+abbrev pub HasList : {T : Type 0} → (Data → T → Type 0) → Field → Data → List T → Type 0
+HasList Is = HasOr [] (IsList Is)
+
+-- a list of objects that read as these, here by their keys
+abbrev pub HasSorted : {T : Type 0} → (T → List ℕ) → (Data → T → Type 0) → Field → Data → List T → Type 0
+HasSorted {T} by Reads field value ys = (xs : List T) × HasList (IsObject Reads) field value xs × IsSorting by xs ys
+
+-- ---- documents
+
+-- the value reads as the override
+pub record ReadsOverride (value : Data) (o : Override) : Type 0 where
+  pub field : Has IsText key.ContextName value o.field
+  pub values : HasList IsTextOrWhole key.Values value o.values
+
+-- the value reads as the dependency
+pub record ReadsDependency (value : Data) (d : Dependency) : Type 0 where
+  pub feature : Has IsText key.Feature value d.feature
+  pub enabled : HasOr true IsTruth key.Enabled value d.enabled
+  pub variants : HasList IsText key.Variants value d.variants
+
+-- the value reads as the payload
+pub record ReadsPayload (value : Data) (p : Payload) : Type 0 where
+  pub kind : Has IsText key.Kind value p.kind
+  pub inside : Has IsTextOrWhole key.Value value p.value
+
+-- the value reads as the variant
+pub record ReadsVariant (value : Data) (v : Variant) : Type 0 where
+  pub name : Has IsText key.Name value v.name
+  pub weight : Has IsWhole key.Weight value v.weight
+  pub stickiness : MayHave IsText key.Stickiness value v.stickiness
+  pub payload : MayHave (IsObject ReadsPayload) key.Payload value v.payload
+  pub overrides : HasList (IsObject ReadsOverride) key.Overrides value v.overrides
+
+-- the value reads as the constraint
+pub record ReadsConstraint (value : Data) (c : Constraint) : Type 0 where
+  pub field : Has IsText key.ContextName value c.field
+  pub operator : Has IsOperator key.Operator value c.operator
+  pub values : HasList IsTextOrWhole key.Values value c.values
+  pub single : MayHave IsTextOrWhole key.Value value c.value
+  pub caseless : HasOr false IsTruth key.CaseInsensitive value c.caseless
+  pub inverted : HasOr false IsTruth key.Inverted value c.inverted
+
+-- the value reads as the segment
+pub record ReadsSegment (value : Data) (s : Segment) : Type 0 where
+  pub id : Has IsWhole key.Id value s.id
+  pub constraints : HasList (IsObject ReadsConstraint) key.Constraints value s.constraints
+
+-- the value reads as the strategy
+pub record ReadsStrategy (value : Data) (s : Strategy) : Type 0 where
+  pub name : Has IsText key.Name value s.name
+  pub parameters : HasOr [] IsParameters key.Parameters value s.parameters
+  pub constraints : HasList (IsObject ReadsConstraint) key.Constraints value s.constraints
+  pub segments : HasList IsWhole key.Segments value s.segments
+  pub variants : HasList (IsObject ReadsVariant) key.Variants value s.variants
+
+-- the value reads as the feature
+pub record ReadsFeature (value : Data) (f : Feature) : Type 0 where
+  pub name : Has IsText key.Name value f.name
+  pub project : HasOr (codes "default") IsText key.Project value f.project
+  pub kind : HasOr (codes "release") IsText key.Kind value f.kind
+  pub description : MayHave IsText key.Description value f.description
+  pub enabled : Has IsTruth key.Enabled value f.enabled
+  pub stale : HasOr false IsTruth key.Stale value f.stale
+  pub impression : HasOr false IsTruth key.ImpressionData value f.impression
+  pub strategies : HasList (IsObject ReadsStrategy) key.Strategies value f.strategies
+  pub variants : HasList (IsObject ReadsVariant) key.Variants value f.variants
+  pub dependencies : HasList (IsObject ReadsDependency) key.Dependencies value f.dependencies
+
+-- the value reads as the state: features by their names, segments by their ids
+pub record ReadsState (value : Data) (s : State) : Type 0 where
+  pub features : HasSorted name_key ReadsFeature key.Features value s.features
+  pub segments : HasSorted id_key ReadsSegment key.Segments value s.segments
+
+-- the value reads as the feed
+pub record ReadsFeed (value : Data) (f : Feed) : Type 0 where
+  pub state : ReadsState value f.state
+  pub number : HasOr None (IsObject (MayHave IsWhole key.RevisionId)) key.Meta value f.number
+
+-- ---- faults
+
+-- the fault that a reading ends with, or none
+abbrev pub fault_of : {T : Type 0} → Reading T → Option BadDocument
+fault_of (Ok x) = None
+fault_of (Err e) = Some e
+
+-- the first fault of a value as a feature, in the order of the keys of specs/Documents, or none
+unfoldable pub first_fault_of_feature : Data → Option BadDocument
+first_fault_of_feature value = fault_of (document feature_of value)
+
+-- the first fault of a value as a segment
+unfoldable pub first_fault_of_segment : Data → Option BadDocument
+first_fault_of_segment value = fault_of (document segment_of value)
+
+-- the first fault of a value as a state
+unfoldable pub first_fault_of_state : Data → Option BadDocument
+first_fault_of_state value = fault_of (document state_of value)
+
+-- the first fault of a value as a feed
+unfoldable pub first_fault_of_feed : Data → Option BadDocument
+first_fault_of_feed value = fault_of (document feed_of value)
