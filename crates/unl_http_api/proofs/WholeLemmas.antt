@@ -3,7 +3,7 @@ use Rattle.std.proofs.Common.{◌≡◌, ℕ, ◌≤◌, suc, zero, Bool, true, 
 use Rattle.unl_http_api.specs.declared.request.Request.{Request}
 use Rattle.unl_http_api.specs.declared.end.End.{End}
 use Rattle.unl_http_api.specs.declared.end.End.TheVariants.{Closed, Asked, Limit, Refused, CutOff, ReadFault, WriteFault, Memory}
-use Rattle.unl_http_api.specs.Session.{StayOpen, IsOpen, EndsSo, Session, HasOneSession, OnlyLastCloses, AreWhole, IsRegular, IsRegularSession}
+use Rattle.unl_http_api.specs.Session.{IsOpen, EndsSo, Session, HasOneSession, OnlyLastCloses, AreWhole, IsRegular, IsRegularSession}
 use Rattle.unl_http_api.proofs.SessionLemmas.{Session_unique}
 
 -- a list of bytes has one session and no other
