@@ -8,6 +8,7 @@ use unl_tokens::Projects;
 
 const ALL: &str =
     "{\"events\":[{\"type\":\"hydration\",\"eventId\":1,\"features\":[{\"name\":\"b\",\"project\":\"B\",\"enabled\":true,\"variants\":[{\"name\":\"v\",\"weight\":1,\"payload\":{\"type\":\"string\",\"value\":\"p\"}}],\"dependencies\":[{\"feature\":\"a\"}]},{\"name\":\"a\",\"project\":\"A\",\"enabled\":true,\"impressionData\":true},{\"name\":\"c\",\"project\":\"A\",\"enabled\":false}]}]}";
+
 const C_IS_ON: &str =
     "{\"after\":1,\"events\":[{\"type\":\"feature-updated\",\"eventId\":2,\"feature\":{\"name\":\"c\",\"project\":\"A\",\"enabled\":true}}]}";
 

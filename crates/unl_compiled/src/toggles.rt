@@ -66,18 +66,19 @@ fn push_toggle(
 }
 
 #[tactic(auto, unfolding(crate::specs::Toggles::toggle_data))]
-fn write_toggle(
-    alloc: Global,
-    feature: &Feature,
-    evaluation: &Evaluation,
-) -> Result<Value, Memory>
+fn write_toggle(alloc: Global, feature: &Feature, evaluation: &Evaluation) -> Result<Value, Memory>
     ensures { IfOk result (λ v. view v ≡ toggle_data feature.now evaluation.now) }
 {
     let mut members = Map::new(alloc);
     let variant = write_variant(alloc, evaluation.on, &evaluation.variant)?;
     put_value(&mut members, alloc, Field::Variant, variant)?;
     put(&mut members, alloc, Field::Name, &feature.name)?;
-    put(&mut members, alloc, Field::ImpressionData, &feature.impression)?;
+    put(
+        &mut members,
+        alloc,
+        Field::ImpressionData,
+        &feature.impression,
+    )?;
     put(&mut members, alloc, Field::Enabled, &evaluation.on)?;
     Ok(Value::Object(members))
 }

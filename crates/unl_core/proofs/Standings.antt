@@ -56,7 +56,7 @@ pub standing_held : (board : Board) (places : List Place) (slot : ℕ) (place : 
     → place.version ≡ (get_or places slot d).version → IsStanding board (set places slot place)
 standing_held board places slot place d standing low same =
     let sound : IsValidPlace place =
-      subst (λ (v : Option EnvVersion). IfSome v IsValidVersion) (sym same) (All-get_or IsValidPlace places slot d low standing.valid) in
+    subst (λ (v : Option EnvVersion). IfSome v IsValidVersion) (sym same) (All-get_or IsValidPlace places slot d low standing.valid) in
     record {
       slots = standing.slots;
       versions = map-set_same (λ p. p.version) places slot place d same ∙ standing.versions;

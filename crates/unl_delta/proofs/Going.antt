@@ -110,6 +110,7 @@ in_order_from place before (item value values) es is = decided (λ low xs so. in
         let first : Fits place before e = fits_at place before value e one in
         let later : AreInOrder (place + 1) (number_of e) others = again (number_of e) others rest in
         subst (AreInOrder place before) same (record { changes = λ after. (first.change after, later.changes (omega arith)); numbers = (first.rises, later.numbers) })
+
     decided : ((low : ℕ) (xs : List Event) → events_from (place + 1) low values ≡ Ok xs → AreInOrder (place + 1) low xs) → (r : Result Event BadBatch) → event_at place before value ≡ r
         → (r >>= λ e. events_from (place + 1) (number_of e) values >>= λ others. Ok (e ∷ others)) ≡ Ok es → AreInOrder place before es
     decided again (Err fault) one so = absurd cc
@@ -129,6 +130,7 @@ read_in_order (item value values) es is = decided (event_at 0 0 value) is
         let same : e ∷ others ≡ es = cc in
         let later : AreInOrder 1 (number_of e) others = in_order_from 1 (number_of e) values others rest in
         subst (λ (xs : List Event). Every (λ (x : Event). is_change x ≡ true) (drop 1 xs) × NeverFall number_of 0 xs) same (later.changes (omega arith), (omega arith, later.numbers))
+
     decided : (r : Result Event BadBatch) → (r >>= λ e. events_from 1 (number_of e) values >>= λ others. Ok (e ∷ others)) ≡ Ok es → Every (λ (e : Event). is_change e ≡ true) (drop 1 es) × NeverFall number_of 0 es
     decided (Err fault) so = absurd cc
     decided (Ok e) so = more e (events_from 1 (number_of e) values) refl so
@@ -143,6 +145,7 @@ batch_in_order held value batch is = decided (ok_or (option_and_then as_array (a
         let same : record { after = option_or after held; events = es } ≡ batch = cc in
         let order = read_in_order values es one in
         subst IsBatch same (record { changes = order.0; numbers = order.1 })
+
     decided : (r : Result Items BadBatch) (s : Result (Option ℕ) BadBatch) → (r >>= λ values. s >>= λ after. events_from 0 0 values >>= λ es. Ok (record { after = option_or after held; events = es })) ≡ Ok batch → IsBatch batch
     decided (Err fault) s so = absurd cc
     decided (Ok values) (Err fault) so = absurd cc

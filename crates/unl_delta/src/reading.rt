@@ -197,11 +197,7 @@ pub fn read_batch(alloc: Global, value: &Value, held: Option<u64>) -> Result<Bat
 
 /// The batch that the bytes spell, at most 16,777,216 of them: as `read_batch` reads it.
 #[tactic(auto, unfolding(crate::specs::Reading::batch_of_bytes))]
-pub fn read_batch_bytes(
-    alloc: Global,
-    bytes: &[u8],
-    held: Option<u64>,
-) -> Result<Batch, BadBatch>
+pub fn read_batch_bytes(alloc: Global, bytes: &[u8], held: Option<u64>) -> Result<Batch, BadBatch>
     ensures gives { Gives memory result (batch_of_bytes held bytes.now) }
     ensures valid { IfOk result IsValidBatch }
 {

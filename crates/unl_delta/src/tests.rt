@@ -47,10 +47,7 @@ fn place_after(alloc: Global, texts: &[&str]) -> Option<Place> {
 }
 
 fn verdict_at(alloc: Global, number: Option<u64>, held: bool, text: &str) -> Option<Verdict> {
-    Some(verdict(
-        &place(alloc, number, held)?,
-        &batch(alloc, text)?,
-    ))
+    Some(verdict(&place(alloc, number, held)?, &batch(alloc, text)?))
 }
 
 #[test]
@@ -148,6 +145,7 @@ fn answered(alloc: Global, place: &Place, since: Option<u64>, project: &str) -> 
 }
 
 const AT_6: &str = "{\"events\":[{\"type\":\"hydration\",\"eventId\":6}]}";
+
 const AT_9: &str =
     "{\"after\":6,\"events\":[{\"type\":\"segment-removed\",\"eventId\":7,\"segmentId\":1},{\"type\":\"segment-removed\",\"eventId\":9,\"segmentId\":2}]}";
 
@@ -155,7 +153,8 @@ const AT_9: &str =
 fn what_is_new_is_answered(rt: HostRuntime) {
     let alloc = rt.alloc();
     let place = place_after(alloc, &[AT_6, AT_9]).expect(&rt, "both apply");
-    let all = "{\"events\":[{\"eventId\":9,\"features\":[],\"segments\":[],\"type\":\"hydration\"}]}";
+    let all =
+        "{\"events\":[{\"eventId\":9,\"features\":[],\"segments\":[],\"type\":\"hydration\"}]}";
     let both =
         "{\"after\":6,\"events\":[{\"eventId\":7,\"segmentId\":1,\"type\":\"segment-removed\"},{\"eventId\":9,\"segmentId\":2,\"type\":\"segment-removed\"}]}";
     let second =
@@ -176,6 +175,7 @@ fn what_is_new_is_answered(rt: HostRuntime) {
 
 const M_IN_A: &str =
     "{\"events\":[{\"type\":\"hydration\",\"eventId\":1,\"features\":[{\"name\":\"m\",\"project\":\"A\",\"enabled\":true}]}]}";
+
 const M_IN_B: &str =
     "{\"after\":1,\"events\":[{\"type\":\"feature-updated\",\"eventId\":2,\"feature\":{\"name\":\"m\",\"project\":\"B\",\"enabled\":true}}]}";
 
@@ -239,7 +239,9 @@ fn the_window_keeps_whole_numbers(rt: HostRuntime) {
         state,
         number: Some(4),
     };
-    let batch = of_feed(alloc, feed).expect(&rt, "there is memory").expect(&rt, "it has a number");
+    let batch = of_feed(alloc, feed)
+        .expect(&rt, "there is memory")
+        .expect(&rt, "it has a number");
     let old = place(alloc, Some(5), false).expect(&rt, "there is memory");
     assert!(rt; verdict(&old, &batch) == Verdict::Old);
 }
