@@ -4,11 +4,10 @@ use Rattle.std.specs.Option.{option_or}
 use Rattle.std.specs.Str.{bytes_eq}
 use Rattle.std.proofs.lemmas.Bool.{cases_Bool}
 use Rattle.std.proofs.lemmas.Slice.Eq.{bytes_eq-Decides}
-use Rattle.unl_documents.specs.Key.{key_of}
 use Rattle.unl_context.specs.declared.known.Known.{Known}
 use Rattle.unl_context.specs.declared.known.Known.TheVariants as known
 use Rattle.unl_context.specs.Context.{Fields, HasRisingNames, nothing, known_field, with_known}
-use Rattle.unl_context.specs.Known.{key_at, known_by}
+use Rattle.unl_context.specs.Known.{known_by}
 use Rattle.unl_context.specs.Query.{inner_name, set_plain, set_inner, set_by, set_other, with_property}
 use Rattle.unl_context.specs.Laws.{last_value, is_key, LastFieldCounts, SetNamesRise}
 use Rattle.unl_context.proofs.Lasting.{last_counts}
