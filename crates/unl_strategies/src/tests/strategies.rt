@@ -454,11 +454,12 @@ const ACTIVE: [bool; 15] = [
 fn outcome_at(alloc: Global, feed: &Feed, context: &Context, place: usize) -> Option<bool> {
     let feature = feed.state.features.get(0)?.get();
     let strategy = feature.strategies.get(place)?;
+    let index = u32::try_from(place).ok()?;
     active(
         alloc,
         strategy,
         &feature.name,
-        place as u32,
+        index,
         &feed.state.segments,
         context,
         &MOMENT,
