@@ -1,6 +1,6 @@
 //! The answer to one request.
 ghost use Rattle.std.specs.Prelude.{◌≡◌, ◌∷◌, [], codes, IfOk, Ok, Some};
-ghost use Rattle.unl_core.specs.Answer.{answer_of, asked_context, at_route, bad_method, fed, featured, feature_reply, has_tag, listed, one_text, registered, reply, seen, toggled, toggles_for, validated};
+ghost use Rattle.unl_core.specs.Answer.{answer_of, asked_context, at_route, bad_method, fed, featured, feature_reply, has_tag, listed, news_since, one_text, registered, reply, seen, still_at, told, toggled, toggles_for, validated};
 ghost use Rattle.unl_core.specs.Board.{AreSlots};
 ghost use Rattle.unl_core.specs.Shown.{ready_by, shown_by};
 ghost use Rattle.unl_dependencies.specs.Evaluation.{feature_named};
@@ -12,12 +12,12 @@ use crate::board::Board;
 use crate::desk::Answer;
 use crate::reply::{bare, made, one_text, refuse, refuse_unseen, tagged, unchanged};
 use crate::shown::{Ready, ready_by, shown_by};
-use crate::tag::tag_of;
+use crate::tag::{since_of, tag_of};
 use http::StatusCode;
 use std::alloc::Global;
 use unl_base::Draw;
 use unl_context::{BadContext, Context};
-use unl_delta::view;
+use unl_delta::{DeltaAnswer, answer as delta_answer, view, write_batch};
 use unl_dependencies::feature_named;
 use unl_documents::json::read_object;
 use unl_documents::{Copied, FeedHead, List, Memory, Text, write_feature, write_feed};
@@ -71,6 +71,7 @@ fn at_route(
         Route::Validate => validate(alloc, board, request),
         Route::Features => feed(alloc, board, request),
         Route::Feature(name) => feature(alloc, board, request, name),
+        Route::Delta => changes(alloc, board, request),
         Route::Enabled => toggles(alloc, board, request, draw, false),
         Route::All => toggles(alloc, board, request, draw, true),
         Route::Register => register(alloc, board, request, Kind::Client),
@@ -244,6 +245,70 @@ fn feed_for(
     let seen = view(alloc, &version.state, &ready.token.projects)?;
     let body = write_feed(alloc, &head, &seen)?;
     tagged(alloc, tag, &body)
+}
+
+/// What changed since the number of the request's tag, as its token sees it.
+fn changes(alloc: Global, board: &Board, request: &Request) -> Result<Answer, Memory>
+    ensures { IfOk result (λ a. a.reply ≡ told board.now request.now (ready_by board.now request.now Kind.Client)) }
+{
+    match ready_by(board, request, Kind::Client) {
+        Err(unseen) => refuse_unseen(alloc, unseen),
+        Ok(ready) => changes_for(alloc, board, request, &ready),
+    }
+}
+
+fn changes_for(
+    alloc: Global,
+    board: &Board,
+    request: &Request,
+    ready: &Ready,
+) -> Result<Answer, Memory>
+    ensures { IfOk result (λ a. a.reply ≡ told board.now request.now (Ok ready.now)) }
+{
+    let since = since_of(alloc, board, ready.place, &request.tag)?;
+    news_since(alloc, board, ready, since)
+}
+
+/// What is new for one who has what is numbered up to some number, or that nothing is.
+fn news_since(
+    alloc: Global,
+    board: &Board,
+    ready: &Ready,
+    since: Option<u64>,
+) -> Result<Answer, Memory>
+    ensures { IfOk result (λ a. a.reply ≡ news_since board.now ready.now since) }
+{
+    match delta_answer(
+        alloc,
+        ready.snapshot.version(),
+        since,
+        &ready.token.projects,
+    )? {
+        DeltaAnswer::Same => still_at(alloc, board, ready, since),
+        DeltaAnswer::Batch(batch) => {
+            let number = batch.number().unwrap_or(0);
+            let tag = tag_of(alloc, board, ready.place, number)?;
+            let body = write_batch(alloc, &batch)?;
+            tagged(alloc, tag, &body)
+        }
+    }
+}
+
+fn still_at(
+    alloc: Global,
+    board: &Board,
+    ready: &Ready,
+    since: Option<u64>,
+) -> Result<Answer, Memory>
+    ensures { IfOk result (λ a. a.reply ≡ still_at board.now ready.now since) }
+{
+    match since {
+        None => bare(alloc, StatusCode::NOT_MODIFIED),
+        Some(number) => {
+            let tag = tag_of(alloc, board, ready.place, number)?;
+            unchanged(alloc, tag)
+        }
+    }
 }
 
 /// Whether the request has this tag.
