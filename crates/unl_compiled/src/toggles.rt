@@ -32,6 +32,7 @@ pub(crate) fn toggles_of(
     Ok(Value::Object(members))
 }
 
+#[tactic(auto, using(crate::proofs::Coding::cons_front), unfolding(crate::specs::Toggles::toggle_of))]
 fn each_toggle(
     alloc: Global,
     state: &State,
