@@ -1,0 +1,154 @@
+//! Whole replays, and what they print.
+use crate::run::{World, run};
+use std::alloc::Global;
+use std::test::Fail;
+use unl_base::{MemorySink, MemorySource};
+
+const ROOM: usize = 65_536;
+
+/// An input, and what its replay prints.
+const CASES: [(&str, &str); 31] = [
+    (
+        "{\"op\":\"tokens\",\"tokens\":[{\"token\":\"*:dev.f\",\"type\":\"frontend\"}]}\n{\"op\":\"batch\",\"environment\":\"dev\",\"batch\":{\"events\":[{\"type\":\"hydration\",\"eventId\":1,\"features\":[{\"name\":\"a\",\"enabled\":true,\"strategies\":[{\"name\":\"default\",\"constraints\":[{\"contextName\":\"x\",\"operator\":\"IN\",\"values\":[\"1\"]}]}]},{\"name\":\"b\",\"enabled\":true,\"strategies\":[{\"name\":\"default\",\"constraints\":[{\"contextName\":\"x\",\"operator\":\"NOT_IN\",\"values\":[\"1\"]}]}]},{\"name\":\"c\",\"enabled\":true,\"strategies\":[{\"name\":\"default\",\"constraints\":[{\"contextName\":\"x\",\"operator\":\"IN\",\"values\":[\"1\"],\"inverted\":true}]}]},{\"name\":\"d\",\"enabled\":true,\"strategies\":[{\"name\":\"default\",\"constraints\":[{\"contextName\":\"x\",\"operator\":\"NOT_IN\",\"values\":[\"1\"],\"inverted\":true}]}]},{\"name\":\"e\",\"enabled\":true,\"strategies\":[{\"name\":\"default\",\"constraints\":[{\"contextName\":\"x\",\"operator\":\"LIKE\",\"values\":[\"1\"]}]}]},{\"name\":\"f\",\"enabled\":true,\"strategies\":[{\"name\":\"default\",\"constraints\":[{\"contextName\":\"x\",\"operator\":\"LIKE\",\"values\":[\"1\"],\"inverted\":true}]}]}],\"segments\":[]}]}}\n{\"op\":\"ask\",\"token\":\"*:dev.f\",\"target\":\"/api/frontend\",\"now\":0}\n",
+        "1: tokens generation 1 front 1\n2: apply number 1 front 2\n3: front 2 status 200 tag - body {\"toggles\":[{\"enabled\":true,\"impressionData\":false,\"name\":\"b\",\"variant\":{\"enabled\":false,\"feature_enabled\":true,\"name\":\"disabled\"}},{\"enabled\":true,\"impressionData\":false,\"name\":\"c\",\"variant\":{\"enabled\":false,\"feature_enabled\":true,\"name\":\"disabled\"}}]}\n",
+    ),
+    (
+        "{\"op\":\"tokens\",\"tokens\":[{\"token\":\"*:dev.f\",\"type\":\"frontend\"}]}\n{\"op\":\"batch\",\"environment\":\"dev\",\"batch\":{\"events\":[{\"type\":\"hydration\",\"eventId\":1,\"features\":[{\"name\":\"a\",\"enabled\":true,\"strategies\":[{\"name\":\"default\",\"constraints\":[{\"contextName\":\"a\",\"operator\":\"NUM_EQ\",\"value\":\"1.50\"}]}]},{\"name\":\"b\",\"enabled\":true,\"strategies\":[{\"name\":\"default\",\"constraints\":[{\"contextName\":\"b\",\"operator\":\"NUM_EQ\",\"value\":\"123456789012345678.123456789012345678\"}]}]},{\"name\":\"c\",\"enabled\":true,\"strategies\":[{\"name\":\"default\",\"constraints\":[{\"contextName\":\"c\",\"operator\":\"NUM_EQ\",\"value\":\"1\"}]}]},{\"name\":\"cc\",\"enabled\":true,\"strategies\":[{\"name\":\"default\",\"constraints\":[{\"contextName\":\"c\",\"operator\":\"NUM_EQ\",\"value\":\"1\",\"inverted\":true}]}]},{\"name\":\"d\",\"enabled\":true,\"strategies\":[{\"name\":\"default\",\"constraints\":[{\"contextName\":\"d\",\"operator\":\"NUM_EQ\",\"value\":\"0\"}]}]},{\"name\":\"e\",\"enabled\":true,\"strategies\":[{\"name\":\"default\",\"constraints\":[{\"contextName\":\"e\",\"operator\":\"NUM_GT\",\"value\":\"0.1\"}]}]},{\"name\":\"ee\",\"enabled\":true,\"strategies\":[{\"name\":\"default\",\"constraints\":[{\"contextName\":\"e\",\"operator\":\"NUM_GTE\",\"value\":\"0.1\"}]}]},{\"name\":\"f\",\"enabled\":true,\"strategies\":[{\"name\":\"default\",\"constraints\":[{\"contextName\":\"f\",\"operator\":\"NUM_EQ\",\"value\":1000}]}]}],\"segments\":[]}]}}\n{\"op\":\"ask\",\"token\":\"*:dev.f\",\"target\":\"/api/frontend?a=+%2B1.5+&b=0123456789012345678.1234567890123456780&c=1234567890123456789&d=-0&e=0.10&f=1e3\",\"now\":0}\n",
+        "1: tokens generation 1 front 1\n2: apply number 1 front 2\n3: front 2 status 200 tag - body {\"toggles\":[{\"enabled\":true,\"impressionData\":false,\"name\":\"a\",\"variant\":{\"enabled\":false,\"feature_enabled\":true,\"name\":\"disabled\"}},{\"enabled\":true,\"impressionData\":false,\"name\":\"b\",\"variant\":{\"enabled\":false,\"feature_enabled\":true,\"name\":\"disabled\"}},{\"enabled\":true,\"impressionData\":false,\"name\":\"cc\",\"variant\":{\"enabled\":false,\"feature_enabled\":true,\"name\":\"disabled\"}},{\"enabled\":true,\"impressionData\":false,\"name\":\"d\",\"variant\":{\"enabled\":false,\"feature_enabled\":true,\"name\":\"disabled\"}},{\"enabled\":true,\"impressionData\":false,\"name\":\"ee\",\"variant\":{\"enabled\":false,\"feature_enabled\":true,\"name\":\"disabled\"}}]}\n",
+    ),
+    (
+        "{\"op\":\"tokens\",\"tokens\":[{\"token\":\"*:dev.f\",\"type\":\"frontend\"}]}\n{\"op\":\"batch\",\"environment\":\"dev\",\"batch\":{\"events\":[{\"type\":\"hydration\",\"eventId\":1,\"features\":[{\"name\":\"a\",\"enabled\":true,\"strategies\":[{\"name\":\"default\",\"constraints\":[{\"contextName\":\"a\",\"operator\":\"SEMVER_GT\",\"value\":\"2.0.0\"}]}]},{\"name\":\"aa\",\"enabled\":true,\"strategies\":[{\"name\":\"default\",\"constraints\":[{\"contextName\":\"a\",\"operator\":\"SEMVER_LT\",\"value\":\"2.0.0\"}]}]},{\"name\":\"b\",\"enabled\":true,\"strategies\":[{\"name\":\"default\",\"constraints\":[{\"contextName\":\"b\",\"operator\":\"SEMVER_EQ\",\"value\":\"1.0.0\"}]}]},{\"name\":\"bb\",\"enabled\":true,\"strategies\":[{\"name\":\"default\",\"constraints\":[{\"contextName\":\"b\",\"operator\":\"SEMVER_EQ\",\"value\":\"1.0.0\",\"inverted\":true}]}]},{\"name\":\"c\",\"enabled\":true,\"strategies\":[{\"name\":\"default\",\"constraints\":[{\"contextName\":\"c\",\"operator\":\"SEMVER_EQ\",\"value\":\"1.2.3+b\"}]}]},{\"name\":\"d\",\"enabled\":true,\"strategies\":[{\"name\":\"default\",\"constraints\":[{\"contextName\":\"d\",\"operator\":\"STR_ENDS_WITH\",\"values\":[\"STRASSE\"]}]}]},{\"name\":\"dd\",\"enabled\":true,\"strategies\":[{\"name\":\"default\",\"constraints\":[{\"contextName\":\"d\",\"operator\":\"STR_ENDS_WITH\",\"values\":[\"STRASSE\"],\"caseInsensitive\":true}]}]},{\"name\":\"de\",\"enabled\":true,\"strategies\":[{\"name\":\"default\",\"constraints\":[{\"contextName\":\"d\",\"operator\":\"STR_CONTAINS\",\"values\":[\"\"]}]}]}],\"segments\":[]}]}}\n{\"op\":\"ask\",\"token\":\"*:dev.f\",\"target\":\"/api/frontend?a=2.0.0-beta&b=1.0&c=1.2.3%2Ba&d=Hauptstra%C3%9Fe\",\"now\":0}\n",
+        "1: tokens generation 1 front 1\n2: apply number 1 front 2\n3: front 2 status 200 tag - body {\"toggles\":[{\"enabled\":true,\"impressionData\":false,\"name\":\"aa\",\"variant\":{\"enabled\":false,\"feature_enabled\":true,\"name\":\"disabled\"}},{\"enabled\":true,\"impressionData\":false,\"name\":\"bb\",\"variant\":{\"enabled\":false,\"feature_enabled\":true,\"name\":\"disabled\"}},{\"enabled\":true,\"impressionData\":false,\"name\":\"c\",\"variant\":{\"enabled\":false,\"feature_enabled\":true,\"name\":\"disabled\"}},{\"enabled\":true,\"impressionData\":false,\"name\":\"dd\",\"variant\":{\"enabled\":false,\"feature_enabled\":true,\"name\":\"disabled\"}},{\"enabled\":true,\"impressionData\":false,\"name\":\"de\",\"variant\":{\"enabled\":false,\"feature_enabled\":true,\"name\":\"disabled\"}}]}\n",
+    ),
+    (
+        "{\"op\":\"tokens\",\"tokens\":[{\"token\":\"*:dev.f\",\"type\":\"frontend\"}]}\n{\"op\":\"batch\",\"environment\":\"dev\",\"batch\":{\"events\":[{\"type\":\"hydration\",\"eventId\":1,\"features\":[{\"name\":\"a\",\"enabled\":true,\"strategies\":[{\"name\":\"default\",\"constraints\":[{\"contextName\":\"x\",\"operator\":\"DATE_AFTER\",\"value\":\"2022-01-29T13:00:00.000Z\"}]}]},{\"name\":\"b\",\"enabled\":true,\"strategies\":[{\"name\":\"default\",\"constraints\":[{\"contextName\":\"x\",\"operator\":\"DATE_BEFORE\",\"value\":\"2022-01-29T13:00:00.000Z\"}]}]}],\"segments\":[]}]}}\n{\"op\":\"ask\",\"token\":\"*:dev.f\",\"target\":\"/api/frontend?currentTime=2022-01-29T14:00:00%2B01:00\",\"now\":0}\n",
+        "1: tokens generation 1 front 1\n2: apply number 1 front 2\n3: front 2 status 200 tag - body {\"toggles\":[]}\n",
+    ),
+    (
+        "{\"op\":\"tokens\",\"tokens\":[{\"token\":\"*:dev.f\",\"type\":\"frontend\"}]}\n{\"op\":\"batch\",\"environment\":\"dev\",\"batch\":{\"events\":[{\"type\":\"hydration\",\"eventId\":1,\"features\":[{\"name\":\"a\",\"enabled\":true,\"strategies\":[{\"name\":\"default\",\"constraints\":[{\"contextName\":\"x\",\"operator\":\"DATE_AFTER\",\"value\":\"2022-01-29T13:00:00.000Z\"}]}]},{\"name\":\"b\",\"enabled\":true,\"strategies\":[{\"name\":\"default\",\"constraints\":[{\"contextName\":\"x\",\"operator\":\"DATE_BEFORE\",\"value\":\"2022-01-29T13:00:00.000Z\"}]}]}],\"segments\":[]}]}}\n{\"op\":\"ask\",\"token\":\"*:dev.f\",\"target\":\"/api/frontend\",\"now\":1643461200001}\n",
+        "1: tokens generation 1 front 1\n2: apply number 1 front 2\n3: front 2 status 200 tag - body {\"toggles\":[{\"enabled\":true,\"impressionData\":false,\"name\":\"a\",\"variant\":{\"enabled\":false,\"feature_enabled\":true,\"name\":\"disabled\"}}]}\n",
+    ),
+    (
+        "{\"op\":\"tokens\",\"tokens\":[{\"token\":\"*:dev.f\",\"type\":\"frontend\"}]}\n{\"op\":\"batch\",\"environment\":\"dev\",\"batch\":{\"events\":[{\"type\":\"hydration\",\"eventId\":1,\"features\":[{\"name\":\"a\",\"enabled\":true,\"strategies\":[{\"name\":\"default\",\"constraints\":[{\"contextName\":\"x\",\"operator\":\"DATE_AFTER\",\"value\":\"2022-01-29T13:00:00.000Z\"}]}]},{\"name\":\"b\",\"enabled\":true,\"strategies\":[{\"name\":\"default\",\"constraints\":[{\"contextName\":\"x\",\"operator\":\"DATE_BEFORE\",\"value\":\"2022-01-29T13:00:00.000Z\"}]}]}],\"segments\":[]}]}}\n{\"op\":\"ask\",\"token\":\"*:dev.f\",\"target\":\"/api/frontend?currentTime=2022-01-29T15:00:00\",\"now\":1643461200001}\n",
+        "1: tokens generation 1 front 1\n2: apply number 1 front 2\n3: front 2 status 200 tag - body {\"toggles\":[]}\n",
+    ),
+    (
+        "{\"op\":\"tokens\",\"tokens\":[{\"token\":\"*:dev.f\",\"type\":\"frontend\"}]}\n{\"op\":\"batch\",\"environment\":\"dev\",\"batch\":{\"events\":[{\"type\":\"hydration\",\"eventId\":1,\"features\":[{\"name\":\"n\",\"enabled\":true,\"strategies\":[{\"name\":\"remoteAddress\",\"parameters\":{\"IPs\":\"10.0.0.0/8, 2001:db8::/32,bad\"}}]}],\"segments\":[]}]}}\n{\"op\":\"ask\",\"token\":\"*:dev.f\",\"target\":\"/api/frontend?remoteAddress=10.255.0.1\",\"now\":0}\n",
+        "1: tokens generation 1 front 1\n2: apply number 1 front 2\n3: front 2 status 200 tag - body {\"toggles\":[{\"enabled\":true,\"impressionData\":false,\"name\":\"n\",\"variant\":{\"enabled\":false,\"feature_enabled\":true,\"name\":\"disabled\"}}]}\n",
+    ),
+    (
+        "{\"op\":\"tokens\",\"tokens\":[{\"token\":\"*:dev.f\",\"type\":\"frontend\"}]}\n{\"op\":\"batch\",\"environment\":\"dev\",\"batch\":{\"events\":[{\"type\":\"hydration\",\"eventId\":1,\"features\":[{\"name\":\"n\",\"enabled\":true,\"strategies\":[{\"name\":\"remoteAddress\",\"parameters\":{\"IPs\":\"10.0.0.0/8, 2001:db8::/32,bad\"}}]}],\"segments\":[]}]}}\n{\"op\":\"ask\",\"token\":\"*:dev.f\",\"target\":\"/api/frontend?remoteAddress=11.0.0.1\",\"now\":0}\n",
+        "1: tokens generation 1 front 1\n2: apply number 1 front 2\n3: front 2 status 200 tag - body {\"toggles\":[]}\n",
+    ),
+    (
+        "{\"op\":\"tokens\",\"tokens\":[{\"token\":\"*:dev.f\",\"type\":\"frontend\"}]}\n{\"op\":\"batch\",\"environment\":\"dev\",\"batch\":{\"events\":[{\"type\":\"hydration\",\"eventId\":1,\"features\":[{\"name\":\"n\",\"enabled\":true,\"strategies\":[{\"name\":\"remoteAddress\",\"parameters\":{\"IPs\":\"10.0.0.0/8, 2001:db8::/32,bad\"}}]}],\"segments\":[]}]}}\n{\"op\":\"ask\",\"token\":\"*:dev.f\",\"target\":\"/api/frontend?remoteAddress=2001%3ADB8%3A1%3A%3A5\",\"now\":0}\n",
+        "1: tokens generation 1 front 1\n2: apply number 1 front 2\n3: front 2 status 200 tag - body {\"toggles\":[{\"enabled\":true,\"impressionData\":false,\"name\":\"n\",\"variant\":{\"enabled\":false,\"feature_enabled\":true,\"name\":\"disabled\"}}]}\n",
+    ),
+    (
+        "{\"op\":\"tokens\",\"tokens\":[{\"token\":\"*:dev.f\",\"type\":\"frontend\"}]}\n{\"op\":\"batch\",\"environment\":\"dev\",\"batch\":{\"events\":[{\"type\":\"hydration\",\"eventId\":1,\"features\":[{\"name\":\"n\",\"enabled\":true,\"strategies\":[{\"name\":\"remoteAddress\",\"parameters\":{\"IPs\":\"10.0.0.0/8, 2001:db8::/32,bad\"}}]}],\"segments\":[]}]}}\n{\"op\":\"ask\",\"token\":\"*:dev.f\",\"target\":\"/api/frontend?remoteAddress=bad\",\"now\":0}\n",
+        "1: tokens generation 1 front 1\n2: apply number 1 front 2\n3: front 2 status 200 tag - body {\"toggles\":[]}\n",
+    ),
+    (
+        "{\"op\":\"tokens\",\"tokens\":[{\"token\":\"*:dev.f\",\"type\":\"frontend\"}]}\n{\"op\":\"batch\",\"environment\":\"dev\",\"batch\":{\"events\":[{\"type\":\"hydration\",\"eventId\":1,\"features\":[{\"name\":\"n\",\"enabled\":true,\"strategies\":[{\"name\":\"remoteAddress\",\"parameters\":{\"IPs\":\"10.0.0.0/8, 2001:db8::/32,bad\"}}]}],\"segments\":[]}]}}\n{\"op\":\"ask\",\"token\":\"*:dev.f\",\"target\":\"/api/frontend?remoteAddress=\",\"now\":0}\n",
+        "1: tokens generation 1 front 1\n2: apply number 1 front 2\n3: front 2 status 200 tag - body {\"toggles\":[]}\n",
+    ),
+    (
+        "{\"op\":\"tokens\",\"tokens\":[{\"token\":\"*:dev.f\",\"type\":\"frontend\"}]}\n{\"op\":\"batch\",\"environment\":\"dev\",\"batch\":{\"events\":[{\"type\":\"hydration\",\"eventId\":1,\"features\":[{\"name\":\"a\",\"enabled\":true,\"strategies\":[{\"name\":\"flexibleRollout\",\"parameters\":{\"groupId\":\"gr1\",\"stickiness\":\"userId\",\"rollout\":\"72\"}}]},{\"name\":\"b\",\"enabled\":true,\"strategies\":[{\"name\":\"flexibleRollout\",\"parameters\":{\"groupId\":\"gr1\",\"stickiness\":\"userId\",\"rollout\":\"73\"}}]},{\"name\":\"c\",\"enabled\":true,\"strategies\":[{\"name\":\"flexibleRollout\",\"parameters\":{\"groupId\":\"gr1\",\"stickiness\":\"userId\",\"rollout\":\"0\"}}]},{\"name\":\"d\",\"enabled\":true,\"strategies\":[{\"name\":\"flexibleRollout\",\"parameters\":{\"groupId\":\"gr1\",\"stickiness\":\"userId\",\"rollout\":\"abc\"}}]},{\"name\":\"e\",\"enabled\":true,\"strategies\":[{\"name\":\"flexibleRollout\",\"parameters\":{\"groupId\":\"gr1\",\"stickiness\":\"userId\",\"rollout\":100}}]},{\"name\":\"f\",\"enabled\":true,\"strategies\":[{\"name\":\"flexibleRollout\",\"parameters\":{\"stickiness\":\"team\",\"rollout\":\"100\"}}]}],\"segments\":[]}]}}\n{\"op\":\"ask\",\"token\":\"*:dev.f\",\"target\":\"/api/frontend?userId=123\",\"now\":0}\n",
+        "1: tokens generation 1 front 1\n2: apply number 1 front 2\n3: front 2 status 200 tag - body {\"toggles\":[{\"enabled\":true,\"impressionData\":false,\"name\":\"b\",\"variant\":{\"enabled\":false,\"feature_enabled\":true,\"name\":\"disabled\"}},{\"enabled\":true,\"impressionData\":false,\"name\":\"e\",\"variant\":{\"enabled\":false,\"feature_enabled\":true,\"name\":\"disabled\"}}]}\n",
+    ),
+    (
+        "{\"op\":\"tokens\",\"tokens\":[{\"token\":\"*:dev.f\",\"type\":\"frontend\"}]}\n{\"op\":\"batch\",\"environment\":\"dev\",\"batch\":{\"events\":[{\"type\":\"hydration\",\"eventId\":1,\"features\":[{\"name\":\"a\",\"enabled\":true,\"strategies\":[{\"name\":\"default\",\"segments\":[7]}]},{\"name\":\"b\",\"enabled\":true,\"strategies\":[{\"name\":\"default\",\"segments\":[8]}]}],\"segments\":[{\"id\":8,\"constraints\":[]}]}]}}\n{\"op\":\"ask\",\"token\":\"*:dev.f\",\"target\":\"/api/frontend\",\"now\":0}\n",
+        "1: tokens generation 1 front 1\n2: apply number 1 front 2\n3: front 2 status 200 tag - body {\"toggles\":[{\"enabled\":true,\"impressionData\":false,\"name\":\"b\",\"variant\":{\"enabled\":false,\"feature_enabled\":true,\"name\":\"disabled\"}}]}\n",
+    ),
+    (
+        "{\"op\":\"tokens\",\"tokens\":[{\"token\":\"*:dev.f\",\"type\":\"frontend\"}]}\n{\"op\":\"batch\",\"environment\":\"dev\",\"batch\":{\"events\":[{\"type\":\"hydration\",\"eventId\":1,\"features\":[{\"name\":\"a\",\"enabled\":true,\"strategies\":[{\"name\":\"default\",\"constraints\":[{\"contextName\":\"userId\",\"operator\":\"IN\",\"values\":[\"8\"]}]}]},{\"name\":\"b\",\"enabled\":true,\"strategies\":[{\"name\":\"default\",\"constraints\":[{\"contextName\":\"plan\",\"operator\":\"IN\",\"values\":[\"free\"]}]}]},{\"name\":\"c\",\"enabled\":true,\"strategies\":[{\"name\":\"default\",\"constraints\":[{\"contextName\":\"environment\",\"operator\":\"IN\",\"values\":[\"dev\"]}]}]}],\"segments\":[]}]}}\n{\"op\":\"ask\",\"token\":\"*:dev.f\",\"target\":\"/api/frontend?userId=7&plan=gold&properties%5Bplan%5D=free&userId=8&environment=prod\",\"now\":0}\n",
+        "1: tokens generation 1 front 1\n2: apply number 1 front 2\n3: front 2 status 200 tag - body {\"toggles\":[{\"enabled\":true,\"impressionData\":false,\"name\":\"a\",\"variant\":{\"enabled\":false,\"feature_enabled\":true,\"name\":\"disabled\"}},{\"enabled\":true,\"impressionData\":false,\"name\":\"b\",\"variant\":{\"enabled\":false,\"feature_enabled\":true,\"name\":\"disabled\"}},{\"enabled\":true,\"impressionData\":false,\"name\":\"c\",\"variant\":{\"enabled\":false,\"feature_enabled\":true,\"name\":\"disabled\"}}]}\n",
+    ),
+    (
+        "{\"op\":\"batch\",\"environment\":\"dev\",\"batch\":{\"events\":[{\"type\":\"hydration\",\"eventId\":3}]}}\n{\"op\":\"batch\",\"environment\":\"dev\",\"batch\":{\"after\":5,\"events\":[{\"type\":\"segment-removed\",\"eventId\":7,\"segmentId\":1}]}}\n{\"op\":\"batch\",\"environment\":\"dev\",\"batch\":{\"after\":3,\"events\":[{\"type\":\"segment-removed\",\"eventId\":4,\"segmentId\":1},{\"type\":\"segment-removed\",\"eventId\":5,\"segmentId\":1},{\"type\":\"segment-removed\",\"eventId\":6,\"segmentId\":1}]}}\n{\"op\":\"batch\",\"environment\":\"dev\",\"batch\":{\"events\":[{\"type\":\"hydration\",\"eventId\":7}]}}\n{\"op\":\"batch\",\"environment\":\"dev\",\"batch\":{\"events\":[{\"type\":\"hydration\",\"eventId\":2}]}}\n{\"op\":\"batch\",\"environment\":\"dev\",\"batch\":{\"events\":[{\"type\":\"hydration\",\"eventId\":7}]}}\n{\"op\":\"batch\",\"environment\":\"dev\",\"batch\":{\"events\":[]}}\n{\"op\":\"batch\",\"environment\":\"qa\",\"batch\":{\"events\":[{\"type\":\"segment-removed\",\"eventId\":1,\"segmentId\":1}]}}\n{\"op\":\"feed\",\"environment\":\"dev\",\"feed\":{\"meta\":{\"revisionId\":9}}}\n{\"op\":\"batch\",\"environment\":\"dev\",\"batch\":{\"events\":[{\"type\":\"segment-removed\",\"eventId\":10,\"segmentId\":1}]}}\n{\"op\":\"batch\",\"environment\":\"dev\",\"batch\":{\"events\":[{\"type\":\"segment-removed\",\"eventId\":11,\"segmentId\":1},{\"type\":\"segment-removed\",\"eventId\":12,\"segmentId\":1},{\"type\":\"segment-removed\",\"eventId\":11,\"segmentId\":1}]}}\n",
+        "1: apply number 3 front 1\n2: gap number 3 front 1\n3: held number 3 front 1\n4: apply number 7 front 2\n5: old number 7 front 2\n6: repeat number 7 front 2\n7: repeat number 7 front 2\n8: gap number - front 2\n9: apply number 9 front 3\n10: apply number 10 front 4\nrefused: line 11: BadBatch 4 2\n",
+    ),
+    (
+        "{\"op\":\"tokens\",\"tokens\":[{\"token\":\"A:dev.a\",\"type\":\"client\",\"projects\":[\"A\"]},{\"token\":\"B:dev.b\",\"type\":\"client\",\"projects\":[\"B\"]},{\"token\":\"C:dev.c\",\"type\":\"client\",\"projects\":[\"C\"]}]}\n{\"op\":\"batch\",\"environment\":\"dev\",\"batch\":{\"events\":[{\"type\":\"hydration\",\"eventId\":1,\"features\":[{\"name\":\"m\",\"project\":\"A\",\"enabled\":true}]}]}}\n{\"op\":\"batch\",\"environment\":\"dev\",\"batch\":{\"after\":1,\"events\":[{\"type\":\"feature-updated\",\"eventId\":2,\"feature\":{\"name\":\"m\",\"project\":\"B\",\"enabled\":true}}]}}\n{\"op\":\"ask\",\"token\":\"A:dev.a\",\"target\":\"/api/client/delta\",\"tag\":\"\\\"0000000000000000-1-0-1\\\"\"}\n{\"op\":\"ask\",\"token\":\"B:dev.b\",\"target\":\"/api/client/delta\",\"tag\":\"\\\"0000000000000000-1-1-1\\\"\"}\n{\"op\":\"ask\",\"token\":\"C:dev.c\",\"target\":\"/api/client/delta\",\"tag\":\"\\\"0000000000000000-1-2-1\\\"\"}\n{\"op\":\"ask\",\"token\":\"A:dev.a\",\"target\":\"/api/client/delta\",\"tag\":\"\\\"0000000000000000-1-0-2\\\"\"}\n{\"op\":\"ask\",\"token\":\"C:dev.c\",\"target\":\"/api/client/delta\"}\n{\"op\":\"ask\",\"token\":\"C:dev.c\",\"target\":\"/api/client/delta\",\"tag\":\"\\\"0000000000000000-1-2-01\\\"\"}\n",
+        "1: tokens generation 1 front 1\n2: apply number 1 front 2\n3: apply number 2 front 3\n4: front 3 status 200 tag \"0000000000000000-1-0-2\" body {\"after\":1,\"events\":[{\"eventId\":2,\"featureName\":\"m\",\"project\":\"A\",\"type\":\"feature-removed\"}]}\n5: front 3 status 200 tag \"0000000000000000-1-1-2\" body {\"after\":1,\"events\":[{\"eventId\":2,\"feature\":{\"dependencies\":[],\"enabled\":true,\"impressionData\":false,\"name\":\"m\",\"project\":\"B\",\"stale\":false,\"strategies\":[],\"type\":\"release\",\"variants\":[]},\"type\":\"feature-updated\"}]}\n6: front 3 status 304 tag \"0000000000000000-1-2-1\" body \n7: front 3 status 304 tag \"0000000000000000-1-0-2\" body \n8: front 3 status 200 tag \"0000000000000000-1-2-2\" body {\"events\":[{\"eventId\":2,\"features\":[],\"segments\":[],\"type\":\"hydration\"}]}\n9: front 3 status 200 tag \"0000000000000000-1-2-2\" body {\"events\":[{\"eventId\":2,\"features\":[],\"segments\":[],\"type\":\"hydration\"}]}\n",
+    ),
+    (
+        "{\"op\":\"batch\",\"environment\":\"e0\",\"batch\":{\"events\":[{\"type\":\"hydration\",\"eventId\":1}]}}\n{\"op\":\"batch\",\"environment\":\"e1\",\"batch\":{\"events\":[{\"type\":\"hydration\",\"eventId\":1}]}}\n{\"op\":\"batch\",\"environment\":\"e2\",\"batch\":{\"events\":[{\"type\":\"hydration\",\"eventId\":1}]}}\n{\"op\":\"batch\",\"environment\":\"e3\",\"batch\":{\"events\":[{\"type\":\"hydration\",\"eventId\":1}]}}\n{\"op\":\"batch\",\"environment\":\"e4\",\"batch\":{\"events\":[{\"type\":\"hydration\",\"eventId\":1}]}}\n{\"op\":\"batch\",\"environment\":\"e5\",\"batch\":{\"events\":[{\"type\":\"hydration\",\"eventId\":1}]}}\n{\"op\":\"batch\",\"environment\":\"e6\",\"batch\":{\"events\":[{\"type\":\"hydration\",\"eventId\":1}]}}\n{\"op\":\"batch\",\"environment\":\"e7\",\"batch\":{\"events\":[{\"type\":\"hydration\",\"eventId\":1}]}}\n{\"op\":\"batch\",\"environment\":\"e8\",\"batch\":{\"events\":[{\"type\":\"hydration\",\"eventId\":1}]}}\n",
+        "1: apply number 1 front 1\n2: apply number 1 front 2\n3: apply number 1 front 3\n4: apply number 1 front 4\n5: apply number 1 front 5\n6: apply number 1 front 6\n7: apply number 1 front 7\n8: apply number 1 front 8\nrefused: line 9: TooManyEnvironments\n",
+    ),
+    ("{\"op\":\"tokens\"}\n", "refused: line 1: BadBook 1\n"),
+    (
+        "{\"op\":\"tokens\",\"tokens\":[{\"type\":\"client\"}]}\n",
+        "refused: line 1: BadBook 2 0\n",
+    ),
+    (
+        "{\"op\":\"batch\",\"environment\":\"dev\"}\n",
+        "refused: line 1: Missing batch\n",
+    ),
+    (
+        "{\"op\":\"batch\",\"environment\":\"dev\",\"batch\":{}}\n",
+        "refused: line 1: BadBatch 1\n",
+    ),
+    (
+        "{\"op\":\"batch\",\"environment\":\"dev\",\"batch\":7}\n",
+        "refused: line 1: BadBatch 1\n",
+    ),
+    (
+        "{\"op\":\"batch\",\"environment\":\"dev\",\"batch\":{\"events\":[{\"type\":\"x\",\"eventId\":1}]}}\n",
+        "refused: line 1: BadBatch 2 0\n",
+    ),
+    (
+        "{\"op\":\"batch\",\"environment\":\"dev\",\"batch\":{\"events\":[{\"type\":\"segment-removed\",\"eventId\":1,\"segmentId\":1},{\"type\":\"hydration\",\"eventId\":2}]}}\n",
+        "refused: line 1: BadBatch 3 1\n",
+    ),
+    (
+        "{\"op\":\"batch\",\"environment\":\"\",\"batch\":{}}\n",
+        "refused: line 1: Missing environment\n",
+    ),
+    (
+        "{\"op\":\"feed\",\"environment\":\"dev\",\"feed\":7}\n",
+        "refused: line 1: WrongKind feed\n",
+    ),
+    (
+        "{\"op\":\"feed\",\"environment\":\"dev\",\"feed\":{}}\n",
+        "refused: line 1: NoNumber\n",
+    ),
+    (
+        "{\"op\":\"feed\",\"environment\":\"dev\",\"feed\":{\"features\":[{\"name\":\"a\\\"\",\"enabled\":true},{\"name\":\"a\\\"\",\"enabled\":true}]}}\n",
+        "refused: line 1: DuplicateName name \"a\\\"\"\n",
+    ),
+    (
+        "{\"op\":\"feed\",\"environment\":\"dev\",\"feed\":{\"segments\":[{\"id\":7},{\"id\":7}]}}\n",
+        "refused: line 1: DuplicateName id \"7\"\n",
+    ),
+    (
+        "{\"op\":\"feed\",\"environment\":\"dev\",\"feed\":{\"features\":[{\"name\":\"a\",\"enabled\":true,\"variants\":[{\"name\":\"v\",\"weight\":1001}]}]}}\n",
+        "refused: line 1: TooLarge weight 1001\n",
+    ),
+    (
+        "{\"op\":\"feed\",\"environment\":\"dev\",\"feed\":{\"features\":[{\"name\":\"a\",\"enabled\":true,\"variants\":[{\"name\":\"v\",\"weight\":1.5}]}]}}\n",
+        "refused: line 1: NotWhole weight\n",
+    ),
+];
+
+/// What the replay of an input prints.
+fn printed(alloc: Global, input: &str) -> Option<Vec<u8>> {
+    let mut words = Vec::new(alloc);
+    words.push(String::from_str(alloc, "replay").ok()?).ok()?;
+    let mut world = World {
+        input: MemorySource::new(input.as_bytes().to_vec(alloc).ok()?, 4096, Vec::new(alloc)),
+        output: MemorySink::new(alloc, ROOM, Vec::new(alloc)).ok()?,
+    };
+    run(alloc, &words, &mut world);
+    world.output.sent().to_vec(alloc).ok()
+}
+
+#[test]
+fn each_replay_prints(rt: HostRuntime) -> Result<(), Fail> {
+    let alloc = rt.alloc();
+    for (input, output) in &CASES {
+        let text = printed(alloc, input).expect(&rt, "there is memory");
+        assert_eq!(rt; str::from_utf8(&text).ok(), Some(*output));
+    }
+    Ok(())
+}
