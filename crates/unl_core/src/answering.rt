@@ -196,6 +196,7 @@ fn feature(
     }
 }
 
+#[tactic(auto, using(crate::proofs::Bodies::feature_written))]
 fn feature_of(alloc: Global, ready: &Ready, name: &str) -> Result<Answer, Memory>
     ensures { IfOk result (λ a. a.reply ≡ feature_reply (feature_named name.now (seen ready.now).features)) }
 {
@@ -223,6 +224,7 @@ fn feed(alloc: Global, board: &Board, request: &Request) -> Result<Answer, Memor
     }
 }
 
+#[tactic(auto, using(crate::proofs::Bodies::feed_written))]
 fn feed_for(
     alloc: Global,
     board: &Board,

@@ -1,0 +1,8 @@
+-- What a tag says of the number that is read from it.
+use Rattle.std.specs.Prelude.{◌≡◌, ℕ, List, Some}
+use Rattle.unl_core.specs.declared.board.Board.{Board}
+use Rattle.unl_core.specs.Tag.{number_of_tag, tag_text}
+
+-- a tag from which a number is read is the tag of that number
+abbrev pub TagIsOfItsNumber : Type 0
+TagIsOfItsNumber = (board : Board) (place : ℕ) (tag : List ℕ) (n : ℕ) → number_of_tag board place tag ≡ Some n → tag ≡ tag_text board place n
