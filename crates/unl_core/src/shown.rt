@@ -98,8 +98,8 @@ pub(crate) fn shown_by<'b>(
     Ok(shown)
 }
 
-fn where_ready<'b>(board: &'b Board, shown: Shown<'b>) -> Result<Ready<'b>, Unseen>
-    ensures { result ≡ where_ready shown (snapshot_in shown.token.environment board.now.slots) }
+fn where_ready<'b>(board: &'b Board, shown: &Shown<'b>) -> Result<Ready<'b>, Unseen>
+    ensures { result ≡ where_ready shown.now (snapshot_in shown.now.token.environment board.now.slots) }
 {
     match board.snapshot(shown.token.environment.as_str()) {
         None => Err(Unseen::NotReady),
@@ -121,6 +121,6 @@ pub(crate) fn ready_by<'b>(
 {
     match shown_by(board, request, kind) {
         Err(unseen) => Err(unseen),
-        Ok(shown) => where_ready(board, shown),
+        Ok(shown) => where_ready(board, &shown),
     }
 }
