@@ -1,5 +1,5 @@
 -- The bodies of replies have no number with a point.
-use Rattle.std.proofs.Common.{◌≡◌, ℕ, List, false, refl, ap, ◌∙◌}
+use Rattle.std.proofs.Common.{◌≡◌, false, refl, ap, ◌∙◌}
 use Rattle.serde_json.specs.Data.{Data, string}
 use Rattle.serde_json.specs.Written.{has_float}
 use Rattle.unl_delta.proofs.NoFloats.{no_float_in, no_float_feature, no_float_segment}

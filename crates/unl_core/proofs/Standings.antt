@@ -1,17 +1,20 @@
 -- The places of a desk and the slots of its board.
-use Rattle.std.proofs.Common.{◌≡◌, ℕ, zero, suc, ◌<◌, ◌≤◌, ◌+◌, List, [], ◌∷◌, ◌++◌, length, map, Some, None, Option, ap, refl, sym, ◌∙◌, arith, All, IfSome, subst, get_or}
+use Rattle.std.proofs.Common.{◌≡◌, ℕ, zero, suc, ◌<◌, ◌+◌, List, [], ◌∷◌, ◌++◌, length, map, Some, None, Option, ap, refl, sym, ◌∙◌, All, IfSome, subst, get_or, unwrap_or, true, false}
 use Rattle.std.proofs.Math.ListN.{set}
 use Rattle.std.proofs.Math.Seq.{map-set_same}
 use Rattle.std.proofs.lemmas.List.{map-set, map-append, length-map}
 use Rattle.std.proofs.lemmas.List.Elements.{All-set, All-append, All-cons, All-nil, All-get_or}
 use Rattle.unl_delta.specs.declared.version.EnvVersion.{EnvVersion}
 use Rattle.unl_delta.specs.declared.version.Place.{Place}
-use Rattle.unl_delta.specs.Batch.{empty_place}
+use Rattle.unl_delta.specs.Batch.{empty_place, next_version}
 use Rattle.unl_delta.specs.Valid.{IsValidPlace, IsValidVersion}
 use Rattle.unl_core.specs.declared.board.Board.{Board}
 use Rattle.unl_core.specs.declared.board.Slot.{Slot}
 use Rattle.unl_core.specs.Board.{AreSlots, empty_slot, slot_of, taking, with_snapshot}
-use Rattle.unl_core.specs.Standing.{IsStanding, place_at}
+use Rattle.unl_core.specs.Standing.{Standing, IsStanding, place_at, installed_by, with_hold, with_batch}
+use Rattle.unl_delta.specs.declared.batch.Batch.{Batch}
+use Rattle.unl_delta.specs.Installing.{place_of}
+use Rattle.std.proofs.lemmas.Option.{slice_get-get_or}
 use Rattle.unl_core.proofs.Slots.{slots_kept, slots_more}
 
 abbrev versions : List Place → List (Option EnvVersion)
@@ -23,6 +26,9 @@ snapshots slots = map (λ slot. slot.snapshot) slots
 versions_at : (slots : List Slot) → versions (map place_at slots) ≡ snapshots slots
 versions_at [] = refl
 versions_at (slot ∷ slots) = ap (λ vs. slot.snapshot ∷ vs) (versions_at slots)
+
+abbrev standing : Board → List Place → ℕ → Standing
+standing board places front = record { board = board; places = places; front = front }
 
 -- the places made for a board's slots
 pub standing_begun : (board : Board) (places : List Place) → AreSlots board.slots → places ≡ map place_at board.slots → All IsValidPlace places → IsStanding board places
@@ -77,3 +83,37 @@ standing_more board grown places environment slot standing room none made pushed
       ∙ ap snapshots (sym pushed);
   valid = All-append IsValidPlace places (empty_place ∷ []) standing.valid (All-cons IsValidPlace empty_place [] tt (All-nil IsValidPlace));
 }
+
+-- the place of a slot, as it stands
+place_is : (board : Board) (places : List Place) (front slot : ℕ) (p : Place) → slot < length places → p ≡ get_or places slot p
+    → place_of (installed_by (record { board = board; places = places; front = front })) slot ≡ p
+place_is board places front slot p low is = ap (λ o. unwrap_or o empty_place) (slice_get-get_or places slot p low) ∙ sym is
+
+-- a desk whose slot is held
+pub hold_is : (board : Board) (places : List Place) (front slot : ℕ) (p : Place) (s : Standing) → record { board = board; places = places; front = front } ≡ s → slot < length places
+    → p ≡ get_or places slot p → record { board = board; places = set places slot (record { version = p.version; held = true }); front = front } ≡ with_hold slot s
+hold_is board places front slot p s same low is =
+    ap (λ (v : Option EnvVersion). standing board (set places slot (record { version = v; held = true })) front) (ap (λ (q : Place). q.version) (sym (place_is board places front slot p low is)))
+    ∙ ap (with_hold slot) same
+
+-- a desk with the version after a batch
+pub install_is : (board new : Board) (places : List Place) (front slot : ℕ) (batch : Batch) (p : Place) (v kept shared : EnvVersion) (s : Standing)
+    → record { board = board; places = places; front = front } ≡ s → slot < length places → p ≡ get_or places slot p
+    → v ≡ next_version p batch → shared ≡ v → kept ≡ v → new ≡ with_snapshot slot shared board
+    → record { board = new; places = set places slot (record { version = Some kept; held = false }); front = front + 1 } ≡ with_batch slot batch s
+install_is board new places front slot batch p v kept shared s same low is next shared_is kept_is changed =
+    let made : v ≡ next_version (place_of (installed_by (standing board places front)) slot) batch =
+    next ∙ ap (λ (q : Place). next_version q batch) (sym (place_is board places front slot p low is)) in
+    let stands : new ≡ with_snapshot slot (next_version (place_of (installed_by (standing board places front)) slot) batch) board =
+    changed ∙ ap (λ (w : EnvVersion). with_snapshot slot w board) (shared_is ∙ made) in
+    ap (λ (b : Board). standing b (set places slot (record { version = Some kept; held = false })) (front + 1)) stands
+    ∙ ap (λ (w : EnvVersion). standing (with_snapshot slot (next_version (place_of (installed_by (standing board places front)) slot) batch) board)
+    (set places slot (record { version = Some w; held = false })) (front + 1)) (kept_is ∙ made)
+    ∙ ap (with_batch slot batch) same
+
+-- so it stands in order
+pub install_standing : (board new : Board) (places : List Place) (slot : ℕ) (v kept shared : EnvVersion) → IsStanding board places → new ≡ with_snapshot slot shared board
+    → shared ≡ v → kept ≡ v → IsValidVersion v → IsStanding new (set places slot (record { version = Some kept; held = false }))
+install_standing board new places slot v kept shared before changed shared_is kept_is valid =
+    subst (λ (b : Board). IsStanding b (set places slot (record { version = Some kept; held = false }))) (sym changed)
+    (standing_taking board places slot shared (record { version = Some kept; held = false }) before (ap Some (kept_is ∙ sym shared_is)) (subst IsValidVersion (sym shared_is) valid))

@@ -1,16 +1,15 @@
 -- The tag of an answer: in double quotes the board's boot number, its generation, the token's place in the book, and the
 -- number of what is answered. Chosen by this project.
-use Rattle.std.specs.Prelude.{ℕ, ◌-◌, ◌+◌, List, ◌++◌, codes, decimal, length, replicate, take, drop, false, Option, Some, None, option_and_then, if◌then◌else◌}
-use Rattle.std.specs.Fmt.{digits}
+use Rattle.std.specs.Prelude.{ℕ, ◌-◌, ◌+◌, ◌^◌, List, [], ◌++◌, codes, decimal, length, take, drop, false, Option, Some, None, option_and_then, if◌then◌else◌}
+use Rattle.std.specs.Fmt.{digits, format_spec, padded_integral}
 use Rattle.std.specs.Str.{bytes_eq}
-use Rattle.serde_json.specs.Data.{Data}
 use Rattle.serde_json.specs.Find.{as_number, as_u64}
 use Rattle.unl_documents.specs.Results.{json_of}
 use Rattle.unl_core.specs.declared.board.Board.{Board}
 
--- a number in 16 lower-case hexadecimal digits
-unfoldable pub hex_16 : ℕ → List ℕ
-hex_16 n = replicate (16 - length (digits 16 false n)) 48 ++ digits 16 false n
+-- a number in 16 lower-case hexadecimal digits: filled with zeros in front, as the standard library lays out `{:016x}`
+abbrev pub hex_16 : ℕ → List ℕ
+hex_16 n = padded_integral (format_spec 32 0 4 16 (2 ^ 64 - 1)) false [] (digits 16 false n)
 
 -- the tag for the token at a place, of what stands at a number
 abbrev pub tag_text : Board → ℕ → ℕ → List ℕ
