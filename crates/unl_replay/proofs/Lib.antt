@@ -1,4 +1,5 @@
 pub mod Books
 pub mod Lines
 pub mod RefusalLemmas
+pub mod Turns
 pub mod Whole

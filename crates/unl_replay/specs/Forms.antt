@@ -1,5 +1,5 @@
 -- What the objects of lines are read as.
-use Rattle.std.specs.Prelude.{ℕ, List, [], codes, Option, unwrap_or, ok_or, if◌then◌else◌, Ok, Err}
+use Rattle.std.specs.Prelude.{ℕ, List, [], codes, Option, unwrap_or, ok_or, if◌then◌else◌, false, Ok, Err}
 use Rattle.std.specs.Str.{bytes_eq}
 use Rattle.serde_json.specs.Data.{Data}
 use Rattle.serde_json.specs.Find.{as_str}
@@ -28,7 +28,7 @@ any_value field value = Ok value
 
 -- the batch of a line; without `after` it comes after the number that the environment has
 abbrev pub batch_in : Option ℕ → Data → LineReading Batch
-batch_in held line = and_then (documented (required any_value field.Batch line)) (λ value. refusing refusal_for_batch (batch_of value held))
+batch_in held line = and_then (documented (required any_value field.Batch line)) (λ value. refusing refusal_for_batch (batch_of held value))
 
 -- a feed with a number is a hydration
 abbrev pub as_batch : Feed → LineReading Batch
