@@ -5,8 +5,7 @@ use Rattle.std.specs.Option.{option_map_or}
 use Rattle.std.specs.Char.{is_ascii_digit}
 use Rattle.std.specs.Str.{bytes_eq}
 use Rattle.std.specs.Str.Parse.{digits_value}
-use Rattle.clap.specs.Walk.{is_empty}
-use Rattle.clap.specs.Words.{App, Row, Rule, Text, fault_of, first_of, matches_of, new_app, new_rule, takes, with_rule}
+use Rattle.clap.specs.Words.{App, Kinds, Row, Rule, Text, fault_of, first_of, matches_of, new_app, new_rule, takes, with_rule}
 use Rattle.clap.specs.declared.builder.action.ArgAction.TheVariants.{Set}
 use Rattle.unl_documents.specs.Results.{◌>>=◌, Gives}
 use Rattle.unl_words.specs.declared.refusal.WordsRefusal.{WordsRefusal}
@@ -24,10 +23,13 @@ WordsReading = Result Words WordsRefusal
 abbrev pub is_number : Text → Bool
 is_number text = nat_lt 0 (length text) && list_all is_ascii_digit text
 
+-- a number that is at most `most`
+abbrev pub up_to : ℕ → ℕ → Result ℕ WordsRefusal
+up_to most number = if nat_le number most then Ok number else Err Bad
+
 -- the number that a text writes, at most `most`
 unfoldable pub number_up_to : ℕ → Text → Result ℕ WordsRefusal
-number_up_to most text =
-    if is_number text && nat_le (digits_value 10 text) most then Ok (digits_value 10 text) else Err Bad
+number_up_to most text = if is_number text then up_to most (digits_value 10 text) else Err Bad
 
 -- the number of an option, 0 where it isn't given
 abbrev pub number_or_zero : ℕ → Option Text → Result ℕ WordsRefusal
@@ -81,9 +83,14 @@ command_of (name ∷ words) =
 
 -- ---- readings
 
+-- the rows, where no kind of fault is found
+abbrev pub faultless : Kinds → List Row → Result (List Row) WordsRefusal
+faultless [] rows = Ok rows
+faultless (kind ∷ kinds) rows = Err Bad
+
 -- the rows of values that clap finds in the words after the first, where it finds no fault
 unfoldable pub matched : App → List Text → Result (List Row) WordsRefusal
-matched app words = if is_empty (fault_of app words) then Ok (matches_of app words) else Err Bad
+matched app words = faultless (fault_of app words) (matches_of app words)
 
 -- what a command is to do by the words after the first
 abbrev pub asked_of : Command → List Text → WordsReading

@@ -26,7 +26,11 @@ pub(crate) fn check<'a>(alloc: Global) -> Result<Command<'a>, AllocError>
 }
 
 /// The command with one more option, which takes one value behind its long name.
-fn with_option<'a>(alloc: Global, command: Command<'a>, name: &'a str) -> Result<Command<'a>, AllocError>
+fn with_option<'a>(
+    alloc: Global,
+    command: Command<'a>,
+    name: &'a str,
+) -> Result<Command<'a>, AllocError>
     ensures { IfOk result (λ more. app_of more ≡ with_option (app_of command.entry) name.entry.now) }
 {
     command.arg(option_named(alloc, name))
@@ -41,7 +45,10 @@ fn option_named<'a>(alloc: Global, name: &'a str) -> Arg<'a>
 }
 
 /// What clap finds in the words behind the first.
-pub(crate) fn matched<'a>(command: Command<'a>, words: &'a [String]) -> Result<ArgMatches<'a>, WordsRefusal>
+pub(crate) fn matched<'a>(
+    command: Command<'a>,
+    words: &'a [String],
+) -> Result<ArgMatches<'a>, WordsRefusal>
     requires simple { is_simple_and_free (app_of command) ≡ true }
     ensures rows { IfOk result (λ matches. rows_of (found_of matches)
         ≡ matches_of (app_of command.entry) (map string_bytes words.entry.now)) }

@@ -22,8 +22,14 @@ fn words_good_and_bad(rt: HostRuntime) {
         ("check", check(0, 0)),
         ("check --now 5", check(5, 0)),
         ("check --word 7", check(0, 7)),
-        ("check --word 18446744073709551615 --now=100000000000000", check(100_000_000_000_000, u64::MAX)),
-        ("check --now 007 --word 00000000000000000000000000000001", check(7, 1)),
+        (
+            "check --word 18446744073709551615 --now=100000000000000",
+            check(100_000_000_000_000, u64::MAX),
+        ),
+        (
+            "check --now 007 --word 00000000000000000000000000000001",
+            check(7, 1),
+        ),
         ("", Err(WordsRefusal::Bad)),
         ("edges", Err(WordsRefusal::Bad)),
         ("Check", Err(WordsRefusal::Bad)),
