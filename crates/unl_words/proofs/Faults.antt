@@ -1,9 +1,8 @@
 -- What clap's errors and its definition of a fault say of the words.
-use Rattle.std.proofs.Common.{◌≡◌, ◌≢◌, List, [], ◌∷◌, Result, Ok, Err, refl, sym, subst, ap, inl, inr, true≢false}
+use Rattle.std.proofs.Common.{◌≡◌, ◌≢◌, List, [], ◌∷◌, Ok, Err, refl, sym, subst, ap, inl, inr, true≢false}
 use Rattle.std.specs.Prelude.{IsErr, IsErrAnd}
 use Rattle.clap.specs.Words.{HasKind, Kinds, Row, kind_of}
 use Rattle.clap.specs.declared.error.Error.{Error}
-use Rattle.clap.specs.declared.error.kind.ErrorKind.{ErrorKind}
 use Rattle.unl_documents.specs.Results.{Gives}
 use Rattle.unl_words.specs.Refusals.{refusal_of}
 use Rattle.unl_words.specs.Words.{WordsReading, faultless}

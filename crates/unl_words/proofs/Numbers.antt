@@ -1,5 +1,5 @@
 -- Texts of digits, as `parse` reads them.
-use Rattle.std.proofs.Common.{◌≡◌, ◌≢◌, ◌<◌, ℕ, Bool, true, false, nat_le, ◌^◌, List, [], ◌∷◌, Result, Ok, Err, refl, sym, subst, ap, true≢false, arith}
+use Rattle.std.proofs.Common.{◌≡◌, ◌<◌, ℕ, true, false, nat_le, ◌^◌, List, [], ◌∷◌, Err, refl, sym, true≢false, arith}
 use Rattle.clap.proofs.WalkLemmas.{both}
 use Rattle.std.proofs.lemmas.Bool.Decides.{nat_tests}
 use Rattle.std.specs.List.{list_all}
@@ -8,7 +8,6 @@ use Rattle.std.specs.Str.Parse.{AllDigits, IsNumeral, digits_value, without_lead
 use Rattle.std.proofs.lemmas.Str.{digit_value_digit}
 use Rattle.std.proofs.lemmas.Str.Parse.{tells_all_ascii_digits, without_leading_plus_none}
 use Rattle.unl_words.specs.Words.{is_number, number_up_to, up_to}
-use Rattle.unl_words.specs.declared.refusal.WordsRefusal.{WordsRefusal}
 use Rattle.unl_words.specs.declared.refusal.WordsRefusal.TheVariants.{Bad}
 
 all_digits : (text : List ℕ) → list_all is_ascii_digit text ≡ true → AllDigits 10 text

@@ -59,19 +59,21 @@ unfoldable pub check_app : App
 check_app = with_option (with_option (new_app (codes "check")) (codes "now")) (codes "word")
 
 -- the latest moment, in milliseconds since the epoch
-abbrev pub latest_moment : ℕ
-latest_moment = 100000000000000
+abbrev pub last_moment : ℕ
+last_moment = 100000000000000
 
 -- what `check` is to do
 unfoldable pub asks_check : List Row → WordsReading
 asks_check rows = do
-  now ← number_or_zero latest_moment (first_of (codes "now") rows)
+  now ← number_or_zero last_moment (first_of (codes "now") rows)
   word ← number_or_zero (2 ^ 64 - 1) (first_of (codes "word") rows)
   Ok (Check now word)
 
+-- reads lines and prints one line for each
 abbrev pub replay : Command
 replay = record { app = replay_app; asks = λ rows. Ok Replay }
 
+-- runs a test file
 abbrev pub check : Command
 check = record { app = check_app; asks = asks_check }
 

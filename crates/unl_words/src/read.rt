@@ -12,7 +12,7 @@ use clap::ArgMatches;
 use std::alloc::Global;
 
 /// The latest moment that `--now` takes, in milliseconds since the epoch (chosen by this project).
-const LATEST_MOMENT: u64 = 100_000_000_000_000;
+const LAST_MOMENT: u64 = 100_000_000_000_000;
 
 /// Reads the words of a command line, without the program's own name. The first word names the command; those behind
 /// it are read by clap as one simple command of its own, each option with one value behind its long name.
@@ -66,7 +66,7 @@ fn read_check(alloc: Global, words: &[String]) -> Result<Words, WordsRefusal>
 fn asked_check(matches: &ArgMatches<'_>) -> Result<Words, WordsRefusal>
     ensures { result ≡ asks_check (rows_of (found_of matches.now)) }
 {
-    let now = number_or_zero(matches, "now", LATEST_MOMENT)?;
+    let now = number_or_zero(matches, "now", LAST_MOMENT)?;
     let word = number_or_zero(matches, "word", u64::MAX)?;
     Ok(Words::Check { now, word })
 }

@@ -1,7 +1,7 @@
 use Rattle.std.proofs.Common.{◌∙◌, ap, sym, map, string_bytes, Ok}
 use Rattle.clap.proofs.WalkLemmas.{both}
 use Rattle.clap.proofs.TakesLemmas.{passed_up}
-use Rattle.clap.specs.Words.{app_of, found_of, kind_of, matches_of, rows_of}
+use Rattle.clap.specs.Words.{app_of, kind_of, matches_of}
 use Rattle.unl_words.specs.Refusals.{refusal_of}
 use Rattle.unl_words.specs.Words.{faultless, matched}
 use Rattle.unl_words.proofs.Faults.{faulted}

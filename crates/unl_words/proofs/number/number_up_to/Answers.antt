@@ -1,4 +1,4 @@
-use Rattle.std.proofs.Common.{rules, arith}
+use Rattle.std.proofs.Common.{rules}
 use Rattle.unl_words.proofs.Numbers.{number_too_great}
 use Rattle.unl_words.proofs.number.number_up_to.Goals as goal
 
