@@ -1,0 +1,4 @@
+mod Faults
+mod Named
+mod Numbers
+mod Simple

@@ -1,0 +1,12 @@
+-- The commands are simple, and no option of theirs has a rule on another.
+use Rattle.std.proofs.Common.{◌≡◌, true, refl}
+use Rattle.clap.specs.Words.{is_simple_and_free}
+use Rattle.unl_words.specs.Words.{check_app, replay_app}
+
+pub replay_simple : is_simple_and_free replay_app ≡ true
+unfolding replay_app
+replay_simple = refl
+
+pub check_simple : is_simple_and_free check_app ≡ true
+unfolding check_app
+check_simple = refl

@@ -1,0 +1,63 @@
+//! The commands, as clap takes them: one table of options a command.
+ghost use Rattle.std.specs.Prelude.{◌≡◌, ◌≢◌, true, false, map, IfOk, IfErr, Ok, Err, string_bytes};
+ghost use Rattle.clap.specs.Words.{app_of, found_of, is_simple_and_free, matches_of, rows_of, rule_of, takes};
+ghost use Rattle.unl_words.specs.Words.{check_app, matched, option_named, replay_app, with_option};
+ghost use Rattle.unl_words.specs.declared.refusal.WordsRefusal.TheVariants.{Memory};
+
+use crate::WordsRefusal;
+use clap::{Arg, ArgAction, ArgMatches, Command};
+use std::alloc::{AllocError, Global};
+
+/// `replay` has no options.
+#[tactic(auto, unfolding(crate::specs::Words::replay_app))]
+pub(crate) fn replay<'a>(alloc: Global) -> Command<'a>
+    ensures { app_of result ≡ replay_app }
+{
+    Command::new(alloc, "replay")
+}
+
+/// `check` takes a moment and a random word.
+#[tactic(auto, unfolding(crate::specs::Words::check_app))]
+pub(crate) fn check<'a>(alloc: Global) -> Result<Command<'a>, AllocError>
+    ensures { IfOk result (λ command. app_of command ≡ check_app) }
+{
+    let command = with_option(alloc, Command::new(alloc, "check"), "now")?;
+    with_option(alloc, command, "word")
+}
+
+/// The command with one more option, which takes one value behind its long name.
+fn with_option<'a>(
+    alloc: Global,
+    command: Command<'a>,
+    name: &'a str,
+) -> Result<Command<'a>, AllocError>
+    ensures { IfOk result (λ more. app_of more ≡ with_option (app_of command.entry) name.entry.now) }
+{
+    command.arg(option_named(alloc, name))
+}
+
+/// An option that takes one value behind its long name.
+fn option_named<'a>(alloc: Global, name: &'a str) -> Arg<'a>
+    ensures rule { rule_of result ≡ option_named name.entry.now }
+    ensures local { result.global ≡ false }
+{
+    Arg::new(alloc, name).long(name).action(ArgAction::Set)
+}
+
+/// What clap finds in the words behind the first.
+pub(crate) fn matched<'a>(
+    command: Command<'a>,
+    words: &'a [String],
+) -> Result<ArgMatches<'a>, WordsRefusal>
+    requires simple { is_simple_and_free (app_of command) ≡ true }
+    ensures rows { IfOk result (λ matches. rows_of (found_of matches)
+        ≡ matches_of (app_of command.entry) (map string_bytes words.entry.now)) }
+    ensures found { IfOk result (λ matches. matched (app_of command.entry) (map string_bytes words.entry.now)
+        ≡ Ok (rows_of (found_of matches))) }
+    ensures refused { IfErr result (λ refusal. refusal ≢ Memory
+        → matched (app_of command.entry) (map string_bytes words.entry.now) ≡ Err refusal) }
+    ensures taken { IfErr result (λ refusal. takes (app_of command.entry) (map string_bytes words.entry.now) ≡ true
+        → refusal ≡ Memory) }
+{
+    Ok(command.try_get_matches_from(words)?)
+}

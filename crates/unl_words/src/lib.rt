@@ -1,0 +1,15 @@
+//! The words of the command line: which command they name, and the values of its options.
+#![tactic(auto)]
+
+mod command;
+mod number;
+mod read;
+mod refusal;
+mod words;
+
+pub use read::read_words;
+pub use refusal::WordsRefusal;
+pub use words::Words;
+
+#[cfg(test)]
+mod tests;

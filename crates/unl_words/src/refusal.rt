@@ -1,0 +1,38 @@
+//! Why words are refused.
+ghost use Rattle.std.specs.Prelude.{◌≡◌};
+ghost use Rattle.clap.specs.Words.{kind_of};
+ghost use Rattle.unl_words.specs.Refusals.{refusal_of};
+ghost use Rattle.unl_words.specs.declared.refusal.WordsRefusal.TheVariants.{Memory};
+
+use clap::Error;
+use clap::error::ErrorKind;
+use std::alloc::AllocError;
+
+/// Why words name no command with values that it takes.
+#[derive(Clone, Copy, Debug, PartialEq, Eq)]
+pub enum WordsRefusal {
+    /// No word names a command, clap refuses the words behind the name, or a value is outside its range.
+    Bad,
+    /// Memory ran out.
+    Memory,
+}
+
+impl From<AllocError> for WordsRefusal {
+    ghost from_gives = { λ _ refusal. refusal ≡ Memory };
+
+    fn from(_: AllocError) -> WordsRefusal {
+        WordsRefusal::Memory
+    }
+}
+
+impl From<Error> for WordsRefusal {
+    ghost from_gives = { λ error refusal. refusal ≡ refusal_of (kind_of error) };
+
+    fn from(error: Error) -> WordsRefusal {
+        if error.kind() == ErrorKind::OutOfMemory {
+            WordsRefusal::Memory
+        } else {
+            WordsRefusal::Bad
+        }
+    }
+}
