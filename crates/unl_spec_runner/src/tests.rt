@@ -172,7 +172,7 @@ fn broken(alloc: Global, reads: &[u64], writes: &[u64]) -> Option<(Result<Summar
     Some((end, is_front))
 }
 
-// The file has 283 bytes, which are read in three calls, and the end in a fourth; the report is one write.
+// The file has 267 bytes, which are read in three calls, and the end in a fourth; the report is one write.
 #[test]
 fn faults(rt: HostRuntime) -> Result<(), Fail> {
     let alloc = rt.alloc();
@@ -196,33 +196,25 @@ fn faults(rt: HostRuntime) -> Result<(), Fail> {
     Ok(())
 }
 
-/// How a check ends where the first file stands before so many spaces that the input has this many bytes.
-fn padded(alloc: Global, length: usize) -> Option<Result<Summary, CheckFault>> {
-    let mut bytes = Vec::from_slice(alloc, ONE.as_bytes()).ok()?;
-    bytes.resize(length, b' ').ok()?;
+/// How a check ends where the input has so many bytes, none of which stands in JSON.
+fn ended(alloc: Global, length: usize) -> Option<Result<Summary, CheckFault>> {
+    let mut bytes = Vec::new(alloc);
+    bytes.resize(length, 0xFF).ok()?;
     let mut source = MemorySource::new(bytes, length, Vec::new(alloc));
-    let mut sink = MemorySink::new(alloc, ROOM, Vec::new(alloc)).ok()?;
-    let end = check(alloc, &mut source, &mut sink, &DRAW);
-    if sink.sent().is_empty() == end.is_ok() {
-        return None;
-    }
-    Some(end)
+    let mut sink = MemorySink::new(alloc, 0, Vec::new(alloc)).ok()?;
+    Some(check(alloc, &mut source, &mut sink, &DRAW))
 }
 
 #[test]
 fn lengths(rt: HostRuntime) -> Result<(), Fail> {
     let alloc = rt.alloc();
-    let whole = Summary {
-        passed: 1,
-        failed: 1,
-    };
     let table = [
-        (16_777_216, Ok(whole)),
-        (16_777_217, Err(CheckFault::TooLarge)),
+        (16_777_216, CheckFault::BadFile(BadDocument::NotJson)),
+        (16_777_217, CheckFault::TooLarge),
     ];
-    for (length, end) in table {
-        let found = padded(alloc, length).expect(&rt, "there is memory");
-        assert!(rt; found == end, "{length}");
+    for (length, fault) in table {
+        let end = ended(alloc, length).expect(&rt, "there is memory");
+        assert!(rt; end == Err(fault), "{length}");
     }
     Ok(())
 }
