@@ -7,7 +7,7 @@ use Rattle.unl_documents.specs.declared.variant.Override.{Override}
 use Rattle.unl_documents.specs.declared.variant.Variant.{Variant}
 use Rattle.unl_documents.specs.Limits.{IsListOf}
 use Rattle.unl_context.specs.Context.{Fields}
-use Rattle.unl_context.specs.Known.{field_of}
+use Rattle.unl_context.specs.Context.{field_of}
 use Rattle.unl_murmur.specs.Murmur3.{normalized_of}
 
 -- at most 100 variants, each of a weight of at most 1,000
