@@ -2,3 +2,4 @@ pub mod Taking
 pub mod Counting
 pub mod NoFloats
 pub mod LineBytes
+pub mod Ends

@@ -1,5 +1,5 @@
 -- The check of an input of test files: the report, or why the input is refused; and what is sent of it.
-use Rattle.std.specs.Prelude.{◌≡◌, ◌×◌, ℕ, List, Option, IfSome, Result, Ok, Err, nat_lt, length, if◌then◌else◌}
+use Rattle.std.specs.Prelude.{◌≡◌, ⊤, ℕ, List, Option, IfSome, Result, Ok, Err, nat_lt, length, if◌then◌else◌}
 use Rattle.unl_base.specs.Streams.{Sends, SendsFront}
 use Rattle.unl_base.specs.declared.draws.Draw.{Draw}
 use Rattle.unl_documents.specs.Reading.{Reading}

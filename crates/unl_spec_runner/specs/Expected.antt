@@ -1,5 +1,6 @@
 -- What a test expects, what it is given, and how both are printed.
-use Rattle.std.specs.Prelude.{◌≡◌, ℕ, List, Bool, false, beq, ◌&&◌, true, Option, Some, None, option_map}
+use Rattle.std.specs.Prelude.{ℕ, List, Bool, true, false, ◌&&◌, Option, Some, None, option_map}
+use Rattle.std.specs.Bool.{beq}
 use Rattle.std.specs.Str.{bytes_eq}
 use Rattle.serde_json.specs.Data.{Data, boolean, string, object, no_members}
 use Rattle.serde_json.specs.Written.{compact_text}

@@ -1,5 +1,5 @@
 -- What reading a whole input says of the bytes that were to come.
-use Rattle.std.specs.Prelude.{◌≡◌, ◌<◌, ◌≤◌, ⊤, ⊥, ℕ, List, length, Option, IfSome, Result, Ok, Err}
+use Rattle.std.specs.Prelude.{◌≡◌, ◌<◌, ◌≤◌, ⊤, ℕ, List, length, Option, IfSome, Result, Ok, Err}
 use Rattle.unl_spec_runner.specs.declared.fault.CheckFault.{CheckFault}
 use Rattle.unl_spec_runner.specs.declared.fault.CheckFault.TheVariants.{BadFile, TooLarge, ReadFault, WriteFault, Memory}
 

@@ -99,9 +99,13 @@ IsValidFile file = IsValidState file.state
 abbrev pub alone : TestFile → Reading (List TestFile)
 alone file = Ok (file ∷ [])
 
+-- one file that is the whole input
+unfoldable pub file_alone : Data → Reading (List TestFile)
+file_alone value = document file_of value >>= alone
+
 -- the files that a value holds: an array of them, or one
 unfoldable pub files_of : Data → Reading (List TestFile)
-files_of value = option_map_or (each (document file_of)) (as_array value) (document file_of value >>= alone)
+files_of value = option_map_or (each (document file_of)) (as_array value) (file_alone value)
 
 -- the files that an input spells
 unfoldable pub files_in : List ℕ → Reading (List TestFile)

@@ -1,13 +1,14 @@
 //! A state test file in the form of the Unleash client specification.
-ghost use Rattle.std.specs.Prelude.{◌≡◌, Result, IfOk, All, ok_or};
+ghost use Rattle.std.specs.Prelude.{◌≡◌, Result, IfOk, All};
 ghost use Rattle.serde_json.specs.Data.{Data};
 ghost use Rattle.serde_json.specs.View.{view};
 ghost use Rattle.unl_documents.specs.declared.fault.BadDocument.{BadDocument};
 ghost use Rattle.unl_documents.specs.Kinds.{always, is_object, object_of, document};
 ghost use Rattle.unl_documents.specs.Limits.{Anything};
+ghost use Rattle.unl_context.specs.Json.{json_context};
 ghost use Rattle.unl_documents.specs.Reading.{Gives};
 ghost use Rattle.unl_spec_runner.specs.declared.expected.Expected.{Expected};
-ghost use Rattle.unl_spec_runner.specs.TestFile.{IsValidFile, context_fault, context_in, expected_result, expected_variant, expected_variant_of, feature_enabled_in, file_of, files_in, files_of, test_of};
+ghost use Rattle.unl_spec_runner.specs.TestFile.{IsValidFile, at_context, context_fault, context_in, expected_result, expected_variant, expected_variant_of, feature_enabled_in, file_alone, file_of, files_in, files_of, test_of};
 
 use crate::expected::{Expected, ExpectedVariant};
 use serde_json::{Map, Value};
@@ -260,8 +261,10 @@ fn files_of(alloc: Global, value: &Value) -> Result<List<TestFile>, BadDocument>
     }
 }
 
+/// One file that is the whole input.
+#[tactic(auto, unfolding(crate::specs::TestFile::file_alone))]
 fn file_alone(alloc: Global, value: &Value) -> Result<List<TestFile>, BadDocument>
-    ensures gives { Gives result (document file_of (view value.now) >>= alone) }
+    ensures gives { Gives result (file_alone (view value.now)) }
     ensures valid { IfOk result (All IsValidFile) }
 {
     let file = read_document(alloc, value)?;

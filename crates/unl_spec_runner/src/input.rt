@@ -1,10 +1,10 @@
 //! Reading a whole input.
-ghost use Rattle.std.specs.Prelude.{◌≡◌, ◌≤◌, ◌++◌, length, take, IsErrOf, OnOk};
+ghost use Rattle.std.specs.Prelude.{◌≡◌, ◌<◌, ◌≤◌, ◌++◌, length, take, IfOk, IsErrOf, OnOk};
 ghost use Rattle.unl_base.specs.Faults.{Rose};
 ghost use Rattle.unl_spec_runner.specs.Input.{HasRead};
 
 use crate::fault::CheckFault;
-use std::alloc::Global;
+use std::alloc::{AllocError, Global};
 use unl_base::Source;
 use unl_documents::{List, Memory};
 
@@ -20,7 +20,7 @@ pub fn read_input<S: Source>(alloc: Global, source: &mut S) -> Result<List<u8>, 
     ensures failed { IsErrOf result CheckFault.ReadFault → Rose (S.faults source.old) (S.faults source.new) }
     ensures later { S.faults source.old ≤ S.faults source.new }
 {
-    let mut room = vec![in alloc; 0u8; ROOM]?;
+    let mut room = new_room(alloc)?;
     let mut bytes = Vec::new(alloc);
     'reads: while bytes.len() <= LONGEST {
         match source.read(&mut room) {
@@ -30,6 +30,13 @@ pub fn read_input<S: Source>(alloc: Global, source: &mut S) -> Result<List<u8>, 
         }
     }
     Err(CheckFault::TooLarge)
+}
+
+/// Room for the bytes that are read at once.
+fn new_room(alloc: Global) -> Result<Vec<u8>, AllocError>
+    ensures { IfOk result (λ room. 0 < length room.items) }
+{
+    vec![in alloc; 0u8; ROOM]
 }
 
 /// Adds the first bytes of a room.
