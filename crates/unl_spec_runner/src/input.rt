@@ -21,11 +21,25 @@ pub fn read_input<S: Source>(alloc: Global, source: &mut S) -> Result<List<u8>, 
     ensures later { S.faults source.old ≤ S.faults source.new }
 {
     let mut room = new_room(alloc)?;
+    read_to_end(alloc, source, &mut room)
+}
+
+/// All bytes to come, which are read through a room.
+fn read_to_end<S: Source>(
+    alloc: Global,
+    source: &mut S,
+    room: &mut [u8],
+) -> Result<List<u8>, CheckFault>
+    requires { 0 < length room.old }
+    ensures read { HasRead result (S.left source.old) }
+    ensures failed { IsErrOf result CheckFault.ReadFault → Rose (S.faults source.old) (S.faults source.new) }
+    ensures later { S.faults source.old ≤ S.faults source.new }
+{
     let mut bytes = Vec::new(alloc);
     'reads: while bytes.len() <= LONGEST {
-        match source.read(&mut room) {
+        match source.read(room) {
             Ok(0) => return Ok(List::from_vec(bytes)),
-            Ok(count) => take_front(&mut bytes, &room, count)?,
+            Ok(count) => take_front(&mut bytes, room, count)?,
             Err(_) => return Err(CheckFault::ReadFault),
         }
     }
