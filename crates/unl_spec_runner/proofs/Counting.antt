@@ -10,7 +10,7 @@ use Rattle.unl_spec_runner.specs.Report.{Report, Case, case_of, cases_of, line_o
 use Rattle.unl_spec_runner.specs.Steps.{none_yet, with_line, with_case, with_tests, with_file, with_files, with_counts}
 
 -- the report with cases more, one after the other
-with_cases : Draw → List Case → Report → Report
+abbrev with_cases : Draw → List Case → Report → Report
 with_cases draw [] r = r
 with_cases draw (c ∷ cs) r = with_cases draw cs (with_case draw c r)
 
@@ -42,19 +42,21 @@ files_are_cases draw (f ∷ fs) r =
     ∙ ap (with_cases draw (flat_map cases_of fs)) (file_is_cases draw f r)
     ∙ sym (cases_joined draw (cases_of f) (flat_map cases_of fs) r)
 
-report_is : (t u : List ℕ) (p q f g : ℕ) → t ≡ u → p ≡ q → f ≡ g
-    → the Report (record { text = t; passed = p; failed = f }) ≡ record { text = u; passed = q; failed = g }
-report_is t u p q f g text passed failed = λ i. record { text = text i; passed = passed i; failed = failed i }
+abbrev report : List ℕ → ℕ → ℕ → Report
+report text passed failed = record { text = text; passed = passed; failed = failed }
+
+report_is : (t u : List ℕ) (p q f g : ℕ) → t ≡ u → p ≡ q → f ≡ g → report t p f ≡ report u q g
+report_is t u p q f g text passed failed = λ i. report (text i) (passed i) (failed i)
 
 -- the report with these cases more, all at once
-added : Draw → Report → List Case → Report
+abbrev added : Draw → Report → List Case → Report
 added draw r cs = record {
   text = r.text ++ lines_from (r.passed + r.failed + 1) draw cs;
   passed = r.passed + count_by (passes draw) cs;
   failed = r.failed + count_by (fails draw) cs;
 }
 
-one : Bool → ℕ
+abbrev one : Bool → ℕ
 one b = cond b 1 0
 
 -- a case whose line is counted, before the others

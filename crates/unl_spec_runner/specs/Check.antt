@@ -2,24 +2,27 @@
 use Rattle.std.specs.Prelude.{◌≡◌, ⊤, ℕ, List, Option, IfSome, Result, Ok, Err, nat_lt, length, if◌then◌else◌}
 use Rattle.unl_base.specs.Streams.{Sends, SendsFront}
 use Rattle.unl_base.specs.declared.draws.Draw.{Draw}
-use Rattle.unl_documents.specs.Reading.{Reading}
-use Rattle.unl_documents.specs.Results.{◌>>=◌}
+use Rattle.unl_documents.specs.Reading.{Reading, ◌>>=◌}
 use Rattle.unl_spec_runner.specs.declared.fault.CheckFault.{CheckFault}
 use Rattle.unl_spec_runner.specs.declared.fault.CheckFault.TheVariants.{BadFile, TooLarge, ReadFault, WriteFault, Memory}
 use Rattle.unl_spec_runner.specs.declared.fault.Summary.{Summary}
 use Rattle.unl_spec_runner.specs.Report.{Report, report_of_files}
 use Rattle.unl_spec_runner.specs.TestFile.{files_in}
 
--- a reading whose fault refuses the input
+-- the report of the files that an input spells, or its first fault
+unfoldable pub accepted : Draw → List ℕ → Reading Report
+accepted draw bytes = do
+  files ← files_in bytes
+  Ok (report_of_files draw files)
+
+-- a fault of the input refuses it
 abbrev pub or_bad_file : {T : Type 0} → Reading T → Result T CheckFault
 or_bad_file (Ok x) = Ok x
 or_bad_file (Err fault) = Err (BadFile fault)
 
 -- the report of an input, or its refusal; its length comes first
 unfoldable pub report_of : Draw → List ℕ → Result Report CheckFault
-report_of draw bytes =
-    if nat_lt 16777216 (length bytes) then Err TooLarge
-    else (or_bad_file (files_in bytes) >>= λ files. Ok (report_of_files draw files))
+report_of draw bytes = if nat_lt 16777216 (length bytes) then Err TooLarge else or_bad_file (accepted draw bytes)
 
 -- the input has this report; all of it was sent, and these are its counts
 pub record IsReported (draw : Draw) (bytes : List ℕ) (summary : Summary) (old new : Option (List ℕ)) : Type 0 where

@@ -1,9 +1,8 @@
 //! The check of an input.
-ghost use Rattle.std.specs.Prelude.{◌≡◌, ◌≤◌, length, IsErrOf};
+ghost use Rattle.std.specs.Prelude.{◌≤◌, IsErrOf};
 ghost use Rattle.unl_base.specs.Faults.{Rose};
-ghost use Rattle.unl_documents.specs.Results.{Gives};
-ghost use Rattle.unl_spec_runner.specs.declared.fault.CheckFault.TheVariants.{Memory as memory};
-ghost use Rattle.unl_spec_runner.specs.Check.{Checks, report_of};
+ghost use Rattle.unl_documents.specs.Reading.{Gives};
+ghost use Rattle.unl_spec_runner.specs.Check.{Checks, accepted};
 
 use crate::document::files_in;
 use crate::fault::{CheckFault, Summary};
@@ -40,9 +39,10 @@ pub fn check<S: Source, K: Sink>(
         Ok(bytes) => bytes,
         Err(fault) => return Err(fault),
     };
-    let report = match report_of(alloc, bytes.as_slice(), draw) {
+    let report = match accepted(alloc, bytes.as_slice(), draw) {
         Ok(report) => report,
-        Err(fault) => return Err(fault),
+        Err(BadDocument::Memory) => return Err(CheckFault::Memory),
+        Err(fault) => return Err(CheckFault::BadFile(fault)),
     };
     match write_all(sink, report.text()) {
         Ok(()) => Ok(report.summary()),
@@ -50,15 +50,11 @@ pub fn check<S: Source, K: Sink>(
     }
 }
 
-/// The report of an input that isn't too long.
-#[tactic(auto, unfolding(crate::specs::Check::report_of))]
-fn report_of(alloc: Global, bytes: &[u8], draw: &Draw) -> Result<Report, CheckFault>
-    requires { length bytes.now ≤ 16777216 }
-    ensures { Gives memory result (report_of draw.entry.now bytes.now) }
+/// The report of the files that an input spells.
+#[tactic(auto, unfolding(crate::specs::Check::accepted))]
+fn accepted(alloc: Global, bytes: &[u8], draw: &Draw) -> Result<Report, BadDocument>
+    ensures { Gives result (accepted draw.entry.now bytes.now) }
 {
-    match files_in(alloc, bytes) {
-        Ok(files) => Ok(report_files(alloc, files.as_slice(), draw)?),
-        Err(BadDocument::Memory) => Err(CheckFault::Memory),
-        Err(fault) => Err(CheckFault::BadFile(fault)),
-    }
+    let files = files_in(alloc, bytes)?;
+    Ok(report_files(alloc, files.as_slice(), draw)?)
 }

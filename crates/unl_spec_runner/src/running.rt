@@ -17,6 +17,7 @@ use unl_documents::{Memory, State, Text};
 use unl_strategies::Moment;
 
 /// The report of files, one after the other, with the counts at its end.
+#[tactic(auto, using(crate::proofs::Counting::all_counted))]
 pub fn report_files(alloc: Global, files: &[TestFile], draw: &Draw) -> Result<Report, Memory>
     requires { All IsValidFile files.now }
     ensures { IfOk result (λ r. r ≡ report_of_files draw.entry.now files.now) }
@@ -27,6 +28,7 @@ pub fn report_files(alloc: Global, files: &[TestFile], draw: &Draw) -> Result<Re
     Ok(report)
 }
 
+#[tactic(auto, unfolding(crate::specs::Steps::with_files))]
 fn run_files(
     alloc: Global,
     report: &mut Report,
@@ -52,6 +54,7 @@ fn run_file(alloc: Global, report: &mut Report, file: &TestFile, draw: &Draw) ->
     run_tests(alloc, report, &file.state, file.variant_tests.as_slice(), draw)
 }
 
+#[tactic(auto, unfolding(crate::specs::Steps::with_tests))]
 fn run_tests(
     alloc: Global,
     report: &mut Report,
