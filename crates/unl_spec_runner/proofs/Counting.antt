@@ -2,6 +2,7 @@
 use Rattle.std.proofs.Common.{◌≡◌, ℕ, ◌+◌, List, [], ◌∷◌, ◌++◌, map, Bool, true, false, cond, not, refl, sym, ap, ◌∙◌, arith, append_assoc, append-nil}
 use Rattle.std.specs.List.{flat_map, count_by, sum_by}
 use Rattle.std.proofs.lemmas.List.{map-append}
+use Rattle.std.proofs.lemmas.List.Sums.{sum_by-cons}
 use Rattle.unl_base.specs.declared.draws.Draw.{Draw}
 use Rattle.unl_documents.specs.declared.state.State.{State}
 use Rattle.unl_spec_runner.specs.declared.document.Test.{Test}
@@ -70,20 +71,28 @@ one_added draw line true cs t p f =
     let number : p + 1 + f + 1 ≡ p + f + 1 + 1 = omega arith in
     report_is _ _ _ _ _ _
     (append_assoc t line (lines_from (p + 1 + f + 1) draw cs) ∙ ap (λ n. t ++ (line ++ lines_from n draw cs)) number)
-    (omega arith) refl
+    (omega arith) (omega arith)
 one_added draw line false cs t p f =
     let number : p + (f + 1) + 1 ≡ p + f + 1 + 1 = omega arith in
     report_is _ _ _ _ _ _
     (append_assoc t line (lines_from (p + (f + 1) + 1) draw cs) ∙ ap (λ n. t ++ (line ++ lines_from n draw cs)) number)
-    refl (omega arith)
+    (omega arith) (omega arith)
+
+counted : (p : Case → Bool) (c : Case) (cs : List Case) (n : ℕ) → n + count_by p (c ∷ cs) ≡ n + (one (p c) + count_by p cs)
+counted p c cs n = ap (λ k. n + k) (sum_by-cons (λ x. cond (p x) 1 0) c cs)
 
 cases_added : (draw : Draw) (cs : List Case) (r : Report) → with_cases draw cs r ≡ added draw r cs
 unfolding with_case
-cases_added draw [] r = report_is _ _ _ _ _ _ (sym (append-nil r.text)) refl refl
+cases_added draw [] r = report_is _ _ _ _ _ _ (sym (append-nil r.text)) (omega arith) (omega arith)
 cases_added draw (c ∷ cs) r =
     cases_added draw cs (with_case draw c r)
     ∙ one_added draw (line_of (r.passed + r.failed + 1) c.test (given draw c)) (passes draw c) cs r.text r.passed r.failed
+    ∙ report_is _ _ _ _ _ _ refl (sym (counted (passes draw) c cs r.passed)) (sym (counted (fails draw) c cs r.failed))
+
+from_none : (draw : Draw) (cs : List Case)
+    → added draw none_yet cs ≡ report (lines_from 1 draw cs) (count_by (passes draw) cs) (count_by (fails draw) cs)
+from_none draw cs = report_is _ _ _ _ _ _ refl (omega arith) (omega arith)
 
 pub all_counted : (draw : Draw) (files : List TestFile) → with_counts (with_files draw files none_yet) ≡ report_of_files draw files
 unfolding report_of_files report_of_cases
-all_counted draw files = ap with_counts (files_are_cases draw files none_yet ∙ cases_added draw (flat_map cases_of files) none_yet)
+all_counted draw files = ap with_counts (files_are_cases draw files none_yet ∙ cases_added draw (flat_map cases_of files) none_yet ∙ from_none draw (flat_map cases_of files))

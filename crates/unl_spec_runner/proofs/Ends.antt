@@ -1,6 +1,7 @@
 -- How a check ends, where the bytes to come are told.
-use Rattle.std.proofs.Common.{◌≡◌, ◌<◌, ◌≤◌, ℕ, List, length, Option, Some, None, refl, sym, ap, ◌∙◌, subst, cond}
-use Rattle.std.proofs.lemmas.Bool.{lt-ltb, ltb-false}
+use Rattle.std.proofs.Common.{◌≡◌, ◌<◌, ◌≤◌, ℕ, List, length, Option, Some, None, refl, sym, ap, ◌∙◌, subst, false, arith, ltb}
+use Rattle.std.proofs.lemmas.Bool.{lt-ltb}
+use Rattle.std.proofs.lemmas.Bool.Decides.{nat_tests}
 use Rattle.std.specs.Prelude.{IfSome, Ok, Err}
 use Rattle.unl_base.specs.declared.draws.Draw.{Draw}
 use Rattle.unl_base.specs.Streams.{Sends, SendsFront}
@@ -24,10 +25,13 @@ unfolding report_of
 too_long None draw long = tt
 too_long (Some all) draw long = rw (lt-ltb 16777216 (length all) long) refl
 
+not_longer : (n : ℕ) → n ≤ longest → ltb 16777216 n ≡ false
+not_longer n short = grind (arith, nat_tests)
+
 -- an input that isn't too long is refused for its first fault alone
 within : (draw : Draw) (bytes : List ℕ) (reading : Reading Report) → length bytes ≤ longest → accepted draw bytes ≡ reading → report_of draw bytes ≡ or_bad_file reading
 unfolding report_of
-within draw bytes reading short is = rw (ltb-false-le 16777216 (length bytes) short) (ap or_bad_file is)
+within draw bytes reading short is = rw (not_longer (length bytes) short) (ap or_bad_file is)
 
 -- reading the input didn't come to an end
 pub ends_reading : (fault : CheckFault) (draw : Draw) (left old : Option (List ℕ)) → HasRead (Err fault) left → Checks (Err fault) draw left old old
