@@ -210,8 +210,12 @@ impl Document for TestFile {
         let _name = defaulted::<AnyText>(alloc, none, Field::Name, value)?;
         let state = required::<Object<State>>(alloc, Field::State, value)?;
         let tests = list::<TestOf<ResultTest>>(alloc, MOST_TESTS, Field::Tests, value)?;
-        let variant_tests =
-            list::<TestOf<VariantTest>>(alloc, MOST_TESTS, Field::VariantTests, value)?;
+        let variant_tests = list::<TestOf<VariantTest>>(
+            alloc,
+            MOST_TESTS,
+            Field::VariantTests,
+            value,
+        )?;
         Ok(TestFile {
             state,
             tests,

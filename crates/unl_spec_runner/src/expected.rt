@@ -107,7 +107,12 @@ impl ExpectedVariant {
     {
         let mut members = Map::new(alloc);
         put(&mut members, alloc, Field::Name, &self.name)?;
-        put_some(&mut members, alloc, Field::FeatureEnabled, &self.feature_enabled)?;
+        put_some(
+            &mut members,
+            alloc,
+            Field::FeatureEnabled,
+            &self.feature_enabled,
+        )?;
         put(&mut members, alloc, Field::Enabled, &self.enabled)?;
         put_some(&mut members, alloc, Field::Payload, &self.payload)?;
         Ok(Value::Object(members))

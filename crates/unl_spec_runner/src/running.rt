@@ -51,7 +51,13 @@ fn run_file(alloc: Global, report: &mut Report, file: &TestFile, draw: &Draw) ->
     ensures { OnOk result (report.new ≡ with_file draw.entry.now file.now report.old) }
 {
     run_tests(alloc, report, &file.state, file.tests.as_slice(), draw)?;
-    run_tests(alloc, report, &file.state, file.variant_tests.as_slice(), draw)
+    run_tests(
+        alloc,
+        report,
+        &file.state,
+        file.variant_tests.as_slice(),
+        draw,
+    )
 }
 
 #[tactic(auto, unfolding(crate::specs::Steps::with_tests))]

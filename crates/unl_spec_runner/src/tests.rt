@@ -23,7 +23,8 @@ fn checked(
 }
 
 /// Two files, with tests of both kinds.
-const FILES: &str = r#"[{"name":"x","state":{"version":1,"features":[{"name":"F","enabled":true,"strategies":[{"name":"default"}]}]},"tests":[{"description":"on","context":{},"toggleName":"F","expectedResult":true},{"description":"none","context":{},"toggleName":"G","expectedResult":true}]},
+const FILES: &str =
+    r#"[{"name":"x","state":{"version":1,"features":[{"name":"F","enabled":true,"strategies":[{"name":"default"}]}]},"tests":[{"description":"on","context":{},"toggleName":"F","expectedResult":true},{"description":"none","context":{},"toggleName":"G","expectedResult":true}]},
 {"state":{"features":[
  {"name":"v","enabled":true,"strategies":[{"name":"default","constraints":[{"contextName":"environment","operator":"IN","values":["prod"]}]}],
   "variants":[{"name":"a","weight":1,"payload":{"type":"string","value":"p"}}]},
@@ -52,9 +53,11 @@ fail 11 "absent" expected {"enabled":false,"feature_enabled":true,"name":"disabl
 passed 5 failed 6
 "#;
 
-const ONE: &str = r#"{"name":"x","state":{"version":1,"features":[{"name":"F","enabled":true,"strategies":[{"name":"default"}]}]},"tests":[{"description":"on","context":{},"toggleName":"F","expectedResult":true},{"description":"none","context":{},"toggleName":"G","expectedResult":true}]}"#;
+const ONE: &str =
+    r#"{"name":"x","state":{"version":1,"features":[{"name":"F","enabled":true,"strategies":[{"name":"default"}]}]},"tests":[{"description":"on","context":{},"toggleName":"F","expectedResult":true},{"description":"none","context":{},"toggleName":"G","expectedResult":true}]}"#;
 
-const ONE_REPORT: &str = "pass 1 \"on\"\nfail 2 \"none\" expected true given false\npassed 1 failed 1\n";
+const ONE_REPORT: &str =
+    "pass 1 \"on\"\nfail 2 \"none\" expected true given false\npassed 1 failed 1\n";
 
 /// A test of a file, with the value that it has at a key.
 fn with_test(alloc: Global, list: &str, members: &str) -> Option<String> {
@@ -64,7 +67,11 @@ fn with_test(alloc: Global, list: &str, members: &str) -> Option<String> {
 /// The refusal of a file that has this test, where nothing is sent.
 fn refused(alloc: Global, input: &str) -> Option<CheckFault> {
     let (end, sink) = checked(alloc, input, Vec::new(alloc), Vec::new(alloc))?;
-    if sink.sent().is_empty() { end.err() } else { None }
+    if sink.sent().is_empty() {
+        end.err()
+    } else {
+        None
+    }
 }
 
 #[test]
@@ -164,7 +171,11 @@ fn refused_tests(rt: HostRuntime) -> Result<(), Fail> {
 }
 
 /// How a check of the first file ends where a call fails, and whether a front of its report was sent.
-fn broken(alloc: Global, reads: &[u64], writes: &[u64]) -> Option<(Result<Summary, CheckFault>, bool)> {
+fn broken(
+    alloc: Global,
+    reads: &[u64],
+    writes: &[u64],
+) -> Option<(Result<Summary, CheckFault>, bool)> {
     let reads = Vec::from_slice(alloc, reads).ok()?;
     let writes = Vec::from_slice(alloc, writes).ok()?;
     let (end, sink) = checked(alloc, ONE, reads, writes)?;
@@ -229,8 +240,10 @@ fn reports(rt: HostRuntime) -> Result<(), Fail> {
         (r#"{"state":{}}"#, "passed 0 failed 0\n", 0, 0),
     ];
     for (input, output, passed, failed) in table {
-        let (end, sink) = checked(alloc, input, Vec::new(alloc), Vec::new(alloc))
-            .expect(&rt, "there is memory");
+        let (end, sink) = checked(alloc, input, Vec::new(alloc), Vec::new(alloc)).expect(
+            &rt,
+            "there is memory",
+        );
         assert!(rt; end == Ok(Summary { passed, failed }), "{input}");
         assert!(rt; sink.sent() == output.as_bytes(), "{input}");
     }
