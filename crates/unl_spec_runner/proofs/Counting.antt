@@ -1,13 +1,13 @@
 -- A report that grew by one test after the other is the report of all of them.
 use Rattle.std.proofs.Common.{◌≡◌, ℕ, ◌+◌, List, [], ◌∷◌, ◌++◌, map, Bool, true, false, cond, not, refl, sym, ap, ◌∙◌, arith, append_assoc, append-nil}
-use Rattle.std.specs.List.{flat_map, count_by, sum_by}
+use Rattle.std.specs.List.{flat_map, count_by}
 use Rattle.std.proofs.lemmas.List.{map-append}
 use Rattle.std.proofs.lemmas.List.Sums.{sum_by-cons}
 use Rattle.unl_base.specs.declared.draws.Draw.{Draw}
 use Rattle.unl_documents.specs.declared.state.State.{State}
 use Rattle.unl_spec_runner.specs.declared.document.Test.{Test}
 use Rattle.unl_spec_runner.specs.declared.document.TestFile.{TestFile}
-use Rattle.unl_spec_runner.specs.Report.{Report, Case, case_of, cases_of, line_of, lines_from, given, passes, fails, counts_line, report_of_cases, report_of_files}
+use Rattle.unl_spec_runner.specs.Report.{Report, Case, case_of, cases_of, line_of, lines_from, given, passes, fails, report_of_cases, report_of_files}
 use Rattle.unl_spec_runner.specs.Steps.{none_yet, with_line, with_case, with_tests, with_file, with_files, with_counts}
 
 -- the report with cases more, one after the other

@@ -5,7 +5,6 @@ use Rattle.unl_documents.specs.declared.variant.Payload.{Payload}
 use Rattle.unl_documents.specs.Writing.{payload_data}
 use Rattle.unl_spec_runner.specs.declared.expected.Expected.{Expected}
 use Rattle.unl_spec_runner.specs.declared.expected.Expected.TheVariants.{Result, Variant}
-use Rattle.unl_spec_runner.specs.declared.expected.ExpectedVariant.{ExpectedVariant}
 use Rattle.unl_spec_runner.specs.Expected.{variant_data, expected_data}
 
 parts : (name : List ℕ) (enabled : Bool) (payload : Option Payload) (on : Option Bool)

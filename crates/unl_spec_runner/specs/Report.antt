@@ -1,5 +1,5 @@
 -- The report of test files: a line for each test, numbered over the whole input, and both counts at the end.
-use Rattle.std.specs.Prelude.{ℕ, ◌+◌, List, [], ◌∷◌, ◌++◌, codes, decimal, map, length, Bool, not, unwrap_or, if◌then◌else◌}
+use Rattle.std.specs.Prelude.{ℕ, ◌+◌, List, [], ◌∷◌, ◌++◌, codes, decimal, map, Bool, not, unwrap_or, if◌then◌else◌}
 use Rattle.std.specs.List.{flat_map, count_by}
 use Rattle.serde_json.specs.Data.{string}
 use Rattle.serde_json.specs.Written.{compact_text}

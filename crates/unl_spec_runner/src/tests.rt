@@ -112,58 +112,61 @@ fn refused_tests(rt: HostRuntime) -> Result<(), Fail> {
     let alloc = rt.alloc();
     let table = [
         (
-            "tests",
             r#""toggleName":"a""#,
             BadDocument::Missing(Field::ExpectedResult),
         ),
         (
-            "tests",
             r#""expectedResult":true"#,
             BadDocument::Missing(Field::ToggleName),
         ),
         (
-            "tests",
             r#""toggleName":"a","expectedResult":{}"#,
             BadDocument::WrongKind(Field::ExpectedResult),
         ),
         (
-            "tests",
             r#""context":7,"toggleName":"a","expectedResult":true"#,
             BadDocument::WrongKind(Field::Context),
         ),
         (
-            "tests",
             r#""context":{"userId":1.5},"description":"d","expectedResult":true"#,
             BadDocument::WrongKind(Field::Context),
         ),
         (
-            "tests",
             r#""context":{"properties":{"":"x"}},"toggleName":"a","expectedResult":true"#,
             BadDocument::TooLarge(Field::Context, 0),
         ),
+    ];
+    for (members, fault) in table {
+        let input = with_test(alloc, "tests", members).expect(&rt, "there is memory");
+        let found = refused(alloc, input.as_str()).expect(&rt, "it is refused");
+        assert!(rt; found == CheckFault::BadFile(fault), "{members}");
+    }
+    Ok(())
+}
+
+#[test]
+fn refused_variant_tests(rt: HostRuntime) -> Result<(), Fail> {
+    let alloc = rt.alloc();
+    let table = [
         (
-            "variantTests",
             r#""toggleName":"a","expectedResult":true"#,
             BadDocument::WrongKind(Field::ExpectedResult),
         ),
         (
-            "variantTests",
             r#""toggleName":"a","expectedResult":{"name":"v"}"#,
             BadDocument::Missing(Field::Enabled),
         ),
         (
-            "variantTests",
             r#""toggleName":"a","expectedResult":{"name":"v","enabled":true,"payload":{"type":"x"}}"#,
             BadDocument::Missing(Field::Value),
         ),
         (
-            "variantTests",
             r#""toggleName":"a","expectedResult":{"name":"v","enabled":true,"feature_enabled":true,"featureEnabled":0}"#,
             BadDocument::WrongKind(Field::FeatureEnabledCamelCase),
         ),
     ];
-    for (list, members, fault) in table {
-        let input = with_test(alloc, list, members).expect(&rt, "there is memory");
+    for (members, fault) in table {
+        let input = with_test(alloc, "variantTests", members).expect(&rt, "there is memory");
         let found = refused(alloc, input.as_str()).expect(&rt, "it is refused");
         assert!(rt; found == CheckFault::BadFile(fault), "{members}");
     }

@@ -1,4 +1,4 @@
-use Rattle.std.proofs.Common.{◌≡◌, ◌≤◌, ◌<◌, ◌-◌, length}
+use Rattle.std.proofs.Common.{◌≤◌, ◌<◌, ◌-◌, length}
 use Rattle.unl_base.specs.Streams.{Takes}
 use Rattle.unl_spec_runner.proofs.input.read_to_end.Given as goal
 
