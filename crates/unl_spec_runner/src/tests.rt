@@ -214,7 +214,7 @@ fn faults(rt: HostRuntime) -> Result<(), Fail> {
 fn ended(alloc: Global, length: usize) -> Option<Result<Summary, CheckFault>> {
     let mut bytes = Vec::new(alloc);
     bytes.resize(length, 0xFF).ok()?;
-    let mut source = MemorySource::new(bytes, length, Vec::new(alloc));
+    let mut source = MemorySource::new(bytes, 65_536, Vec::new(alloc));
     let mut sink = MemorySink::new(alloc, 0, Vec::new(alloc)).ok()?;
     Some(check(alloc, &mut source, &mut sink, &DRAW))
 }
