@@ -1,0 +1,5 @@
+pub mod Taking
+pub mod Counting
+pub mod NoFloats
+pub mod LineBytes
+pub mod Ends

@@ -1,0 +1,112 @@
+-- A state test file in the form of the Unleash client specification: each object's keys in order, each with its kind.
+use Rattle.std.specs.Prelude.{ℕ, List, [], ◌∷◌, Bool, Option, Result, Ok, Err, ok_or, unwrap_or}
+use Rattle.std.specs.Option.{option_or, option_map_or}
+use Rattle.serde_json.specs.Data.{Data, object, no_members}
+use Rattle.serde_json.specs.Find.{as_array}
+use Rattle.unl_context.specs.declared.fault.BadContext.{BadContext}
+use Rattle.unl_context.specs.declared.fault.BadContext.TheVariants as of_context
+use Rattle.unl_context.specs.Context.{Fields}
+use Rattle.unl_context.specs.Json.{json_context}
+use Rattle.unl_documents.specs.declared.fault.BadDocument.{BadDocument}
+use Rattle.unl_documents.specs.declared.fault.BadDocument.TheVariants.{NotJson, WrongKind, TooLarge, Memory}
+use Rattle.unl_documents.specs.declared.field.Field.TheVariants as field
+use Rattle.unl_documents.specs.Documents.{payload_of}
+use Rattle.unl_documents.specs.Kinds.{name, any_text, text, truth, at, required, optional, defaulted, object_of, objects, document, each}
+use Rattle.unl_documents.specs.Reading.{Reading, ◌>>=◌}
+use Rattle.unl_documents.specs.Results.{json_of}
+use Rattle.unl_documents.specs.States.{state_of, IsValidState}
+use Rattle.unl_spec_runner.specs.declared.expected.Expected.{Expected}
+use Rattle.unl_spec_runner.specs.declared.expected.Expected.TheVariants.{Result as On, Variant}
+use Rattle.unl_spec_runner.specs.declared.expected.ExpectedVariant.{ExpectedVariant}
+use Rattle.unl_spec_runner.specs.declared.document.Test.{Test}
+use Rattle.unl_spec_runner.specs.declared.document.TestFile.{TestFile}
+
+-- ---- tests
+
+-- a fault of a context, which is named at its key alone
+abbrev pub context_fault : BadContext → BadDocument
+context_fault of_context.NotObject = WrongKind field.Context
+context_fault (of_context.WrongKind part) = WrongKind field.Context
+context_fault of_context.TooLarge = TooLarge field.Context 0
+context_fault of_context.Memory = Memory
+
+-- a reading of a context, with its fault at the key
+abbrev pub at_context : Result Fields BadContext → Reading Fields
+at_context (Ok context) = Ok context
+at_context (Err fault) = Err (context_fault fault)
+
+-- the context at its key, which is an empty object where it is absent
+unfoldable pub context_in : Data → Reading Fields
+context_in value = at_context (json_context (unwrap_or (at field.Context value) (object no_members)))
+
+-- whether the feature is on, by its first spelling or else by its second
+unfoldable pub feature_enabled_in : Data → Reading (Option Bool)
+feature_enabled_in value = do
+  first ← optional truth field.FeatureEnabled value
+  second ← optional truth field.FeatureEnabledCamelCase value
+  Ok (option_or first second)
+
+-- the variant that a test expects
+unfoldable pub expected_variant_of : Data → Reading ExpectedVariant
+expected_variant_of value = do
+  named ← required name field.Name value
+  enabled ← required truth field.Enabled value
+  payload ← optional (object_of payload_of) field.Payload value
+  feature_enabled ← feature_enabled_in value
+  Ok (record { name = named; enabled = enabled; payload = payload; feature_enabled = feature_enabled })
+
+-- a test of a feature expects whether it is on
+unfoldable pub expected_result : Data → Reading Expected
+expected_result value = do
+  on ← required truth field.ExpectedResult value
+  Ok (On on)
+
+-- a test of a variant expects a variant
+unfoldable pub expected_variant : Data → Reading Expected
+expected_variant value = do
+  v ← required (object_of expected_variant_of) field.ExpectedResult value
+  Ok (Variant v)
+
+-- a test that expects what this reads
+unfoldable pub test_of : (Data → Reading Expected) → Data → Reading Test
+test_of expected_in value = do
+  description ← defaulted [] (text 65536) field.Description value
+  context ← context_in value
+  toggle ← required name field.ToggleName value
+  expected ← expected_in value
+  Ok (record { description = description; context = context; toggle = toggle; expected = expected })
+
+-- ---- files
+
+-- more tests than bytes fit into no input, so their count has no limit of its own
+abbrev pub most_tests : ℕ
+most_tests = 16777216
+
+-- one test file
+unfoldable pub file_of : Data → Reading TestFile
+file_of value = do
+  named ← defaulted [] any_text field.Name value
+  state ← required (object_of state_of) field.State value
+  tests ← defaulted [] (objects most_tests (test_of expected_result)) field.Tests value
+  variant_tests ← defaulted [] (objects most_tests (test_of expected_variant)) field.VariantTests value
+  Ok (record { state = state; tests = tests; variant_tests = variant_tests })
+
+-- the state of a file is within its limits
+abbrev pub IsValidFile : TestFile → Type 0
+IsValidFile file = IsValidState file.state
+
+-- one file alone
+abbrev pub alone : TestFile → Reading (List TestFile)
+alone file = Ok (file ∷ [])
+
+-- one file that is the whole input
+unfoldable pub file_alone : Data → Reading (List TestFile)
+file_alone value = document file_of value >>= alone
+
+-- the files that a value holds: an array of them, or one
+unfoldable pub files_of : Data → Reading (List TestFile)
+files_of value = option_map_or (each (document file_of)) (as_array value) (file_alone value)
+
+-- the files that an input spells
+unfoldable pub files_in : List ℕ → Reading (List TestFile)
+files_in bytes = ok_or (json_of bytes) NotJson >>= files_of

@@ -1,0 +1,290 @@
+//! A state test file in the form of the Unleash client specification.
+ghost use Rattle.std.specs.Prelude.{◌≡◌, Result, IfOk, All};
+ghost use Rattle.serde_json.specs.Data.{Data};
+ghost use Rattle.serde_json.specs.View.{view};
+ghost use Rattle.unl_documents.specs.declared.fault.BadDocument.{BadDocument};
+ghost use Rattle.unl_documents.specs.Kinds.{always, is_object, object_of, document};
+ghost use Rattle.unl_documents.specs.Limits.{Anything};
+ghost use Rattle.unl_context.specs.Json.{json_context};
+ghost use Rattle.unl_documents.specs.Reading.{Gives};
+ghost use Rattle.unl_spec_runner.specs.declared.expected.Expected.{Expected};
+ghost use Rattle.unl_spec_runner.specs.TestFile.{IsValidFile, at_context, context_fault, context_in, expected_result, expected_variant, expected_variant_of, feature_enabled_in, file_alone, file_of, files_in, files_of, test_of};
+
+use crate::expected::{Expected, ExpectedVariant};
+use serde_json::{Map, Value};
+use std::alloc::Global;
+use std::marker::PhantomData;
+use unl_context::{BadContext, Context};
+use unl_documents::document::{Document, Object, read_document};
+use unl_documents::items::{Item, each_item, list};
+use unl_documents::json::read_json;
+use unl_documents::keys::{defaulted, optional, required, value_at};
+use unl_documents::kind::{AnyText, Kind, Name, Truth, UpTo};
+use unl_documents::{BadDocument, Field, List, Payload, State, Text};
+
+/// More tests than bytes fit into no input, so their count has no limit of its own.
+const MOST_TESTS: usize = 16_777_216;
+
+/// A test of a feature, or of its variant.
+#[derive(Debug, Drop)]
+pub struct Test {
+    /// At most 65,536 bytes.
+    pub description: Text,
+    /// What the feature is evaluated for.
+    pub context: Context,
+    /// The feature's name.
+    pub toggle: Text,
+    /// What the evaluation should give.
+    pub expected: Expected,
+}
+
+/// A state with its tests.
+#[derive(Drop)]
+pub struct TestFile {
+    /// What the tests evaluate.
+    pub state: State,
+    /// The tests of features.
+    pub tests: List<Test>,
+    /// The tests of variants, which come after them.
+    pub variant_tests: List<Test>,
+}
+
+/// A kind of what a test expects.
+pub trait Expects {
+    // What a test is read to expect.
+    ghost expected_in: { Data → Result Expected BadDocument };
+
+    /// Reads what a test expects.
+    ///
+    /// # Errors
+    /// Those of the value at `expectedResult`.
+    fn read_expected(alloc: Global, test: &Value) -> Result<Expected, BadDocument>
+        ensures { Gives result (expected_in (view test.now)) };
+}
+
+/// Tests expect whether the feature is on.
+pub struct ResultTest;
+
+impl Expects for ResultTest {
+    ghost expected_in = { expected_result };
+
+    #[tactic(auto, unfolding(crate::specs::TestFile::expected_result))]
+    fn read_expected(alloc: Global, test: &Value) -> Result<Expected, BadDocument> {
+        let on = required::<Truth>(alloc, Field::ExpectedResult, test)?;
+        Ok(Expected::Result(on))
+    }
+}
+
+/// Tests expect a variant.
+pub struct VariantTest;
+
+impl Expects for VariantTest {
+    ghost expected_in = { expected_variant };
+
+    #[tactic(auto, unfolding(crate::specs::TestFile::expected_variant))]
+    fn read_expected(alloc: Global, test: &Value) -> Result<Expected, BadDocument> {
+        let variant = required::<Object<ExpectedVariant>>(alloc, Field::ExpectedResult, test)?;
+        Ok(Expected::Variant(variant))
+    }
+}
+
+impl Document for ExpectedVariant {
+    ghost reads_object = { expected_variant_of };
+
+    ghost is_valid = { Anything };
+
+    #[tactic(auto, unfolding(crate::specs::TestFile::expected_variant_of))]
+    fn read_object(alloc: Global, value: &Value) -> Result<ExpectedVariant, BadDocument> {
+        let name = required::<Name>(alloc, Field::Name, value)?;
+        let enabled = required::<Truth>(alloc, Field::Enabled, value)?;
+        let payload = optional::<Object<Payload>>(alloc, Field::Payload, value)?;
+        let feature_enabled = feature_enabled_in(alloc, value)?;
+        Ok(ExpectedVariant {
+            name,
+            enabled,
+            payload,
+            feature_enabled,
+        })
+    }
+}
+
+/// Whether the feature should be on: by `feature_enabled`, or else by `featureEnabled`.
+#[tactic(auto, unfolding(crate::specs::TestFile::feature_enabled_in))]
+fn feature_enabled_in(alloc: Global, value: &Value) -> Result<Option<bool>, BadDocument>
+    ensures { Gives result (feature_enabled_in (view value.now)) }
+{
+    let first = optional::<Truth>(alloc, Field::FeatureEnabled, value)?;
+    let second = optional::<Truth>(alloc, Field::FeatureEnabledCamelCase, value)?;
+    Ok(first.or(second))
+}
+
+/// A test that expects this.
+struct TestOf<E>(PhantomData<E>);
+
+impl<E: Expects> Kind for TestOf<E> {
+    type Out = Test;
+
+    ghost reads = { object_of (test_of E.expected_in) };
+
+    ghost is_valid = { Anything };
+
+    #[tactic(auto, unfolding(unl_documents::specs::Kinds::object_of))]
+    fn read(alloc: Global, field: Field, value: &Value) -> Result<Test, BadDocument> {
+        if !value.is_object() {
+            return Err(BadDocument::WrongKind(field));
+        }
+        read_test::<E>(alloc, value)
+    }
+}
+
+impl<E: Expects> Item for TestOf<E> {
+    ghost fits = { is_object };
+
+    ghost is_whole = { always };
+
+    fn fits(value: &Value) -> bool {
+        value.is_object()
+    }
+
+    fn is_whole(_value: &Value) -> bool {
+        true
+    }
+}
+
+#[tactic(auto, unfolding(crate::specs::TestFile::test_of))]
+fn read_test<E: Expects>(alloc: Global, value: &Value) -> Result<Test, BadDocument>
+    ensures { Gives result (test_of E.expected_in (view value.now)) }
+{
+    let none = Text::new(alloc, "")?;
+    let description = defaulted::<UpTo<65_536>>(alloc, none, Field::Description, value)?;
+    let context = context_in(alloc, value)?;
+    let toggle = required::<Name>(alloc, Field::ToggleName, value)?;
+    let expected = E::read_expected(alloc, value)?;
+    Ok(Test {
+        description,
+        context,
+        toggle,
+        expected,
+    })
+}
+
+/// The context of a test, which says nothing where it is absent.
+#[tactic(auto, unfolding(crate::specs::TestFile::context_in))]
+fn context_in(alloc: Global, value: &Value) -> Result<Context, BadDocument>
+    ensures { Gives result (context_in (view value.now)) }
+{
+    match value_at(Field::Context, value) {
+        Some(found) => context_of(alloc, found),
+        None => context_of(alloc, &Value::Object(Map::new(alloc))),
+    }
+}
+
+fn context_of(alloc: Global, value: &Value) -> Result<Context, BadDocument>
+    ensures { Gives result (at_context (json_context (view value.now))) }
+{
+    match Context::read_json(alloc, value) {
+        Ok(context) => Ok(context),
+        Err(fault) => Err(context_fault(fault)),
+    }
+}
+
+/// The fault of a context, which is named at its key alone.
+fn context_fault(fault: BadContext) -> BadDocument
+    ensures { result ≡ context_fault fault }
+{
+    match fault {
+        BadContext::NotObject | BadContext::WrongKind(_) => BadDocument::WrongKind(Field::Context),
+        BadContext::TooLarge => BadDocument::TooLarge(Field::Context, 0),
+        BadContext::Memory => BadDocument::Memory,
+    }
+}
+
+impl Document for TestFile {
+    ghost reads_object = { file_of };
+
+    ghost is_valid = { IsValidFile };
+
+    #[tactic(auto, unfolding(crate::specs::TestFile::file_of))]
+    fn read_object(alloc: Global, value: &Value) -> Result<TestFile, BadDocument> {
+        let none = Text::new(alloc, "")?;
+        let _name = defaulted::<AnyText>(alloc, none, Field::Name, value)?;
+        let state = required::<Object<State>>(alloc, Field::State, value)?;
+        let tests = list::<TestOf<ResultTest>>(alloc, MOST_TESTS, Field::Tests, value)?;
+        let variant_tests = list::<TestOf<VariantTest>>(
+            alloc,
+            MOST_TESTS,
+            Field::VariantTests,
+            value,
+        )?;
+        Ok(TestFile {
+            state,
+            tests,
+            variant_tests,
+        })
+    }
+}
+
+/// A test file that is a whole document.
+struct WholeFile;
+
+impl Kind for WholeFile {
+    type Out = TestFile;
+
+    ghost reads = { λ _ value. document file_of value };
+
+    ghost is_valid = { IsValidFile };
+
+    fn read(alloc: Global, _field: Field, value: &Value) -> Result<TestFile, BadDocument> {
+        read_document(alloc, value)
+    }
+}
+
+impl Item for WholeFile {
+    ghost fits = { always };
+
+    ghost is_whole = { always };
+
+    fn fits(_value: &Value) -> bool {
+        true
+    }
+
+    fn is_whole(_value: &Value) -> bool {
+        true
+    }
+}
+
+/// The files that a value holds: an array of them, or one.
+#[tactic(auto, unfolding(crate::specs::TestFile::files_of))]
+fn files_of(alloc: Global, value: &Value) -> Result<List<TestFile>, BadDocument>
+    ensures gives { Gives result (files_of (view value.now)) }
+    ensures valid { IfOk result (All IsValidFile) }
+{
+    match value.as_array() {
+        Some(values) => each_item::<WholeFile>(alloc, Field::State, values),
+        None => file_alone(alloc, value),
+    }
+}
+
+/// One file that is the whole input.
+#[tactic(auto, unfolding(crate::specs::TestFile::file_alone))]
+fn file_alone(alloc: Global, value: &Value) -> Result<List<TestFile>, BadDocument>
+    ensures gives { Gives result (file_alone (view value.now)) }
+    ensures valid { IfOk result (All IsValidFile) }
+{
+    let file = read_document(alloc, value)?;
+    let mut files = List::new(alloc);
+    files.push(file)?;
+    Ok(files)
+}
+
+/// The files that an input spells.
+#[tactic(auto, unfolding(crate::specs::TestFile::files_in))]
+pub fn files_in(alloc: Global, bytes: &[u8]) -> Result<List<TestFile>, BadDocument>
+    ensures gives { Gives result (files_in bytes.now) }
+    ensures valid { IfOk result (All IsValidFile) }
+{
+    let Some(value) = read_json(alloc, bytes)? else {
+        return Err(BadDocument::NotJson);
+    };
+    files_of(alloc, &value)
+}

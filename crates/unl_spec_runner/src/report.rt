@@ -1,0 +1,97 @@
+//! The report, as it grows.
+ghost use Rattle.std.specs.Prelude.{◌≡◌, ◌+◌, ◌<◌, length, OnOk, IfOk, string_bytes};
+ghost use Rattle.unl_spec_runner.specs.Report.{counts_line};
+ghost use Rattle.unl_spec_runner.specs.Steps.{none_yet, with_counts, with_line};
+
+use crate::fault::Summary;
+use std::alloc::{AllocError, Global};
+use std::marker::Model;
+use unl_documents::Memory;
+
+/// What is printed so far, and how many tests passed and failed.
+#[derive(Debug, Drop)]
+pub struct Report {
+    printed: Vec<u8>,
+    passed: u64,
+    failed: u64,
+}
+
+impl Model for Report {
+    ghost use Rattle.std.specs.Prelude.{◌+◌, ◌≤◌, length};
+    ghost use Rattle.unl_spec_runner.specs.Report.{Report as Plain};
+
+    ghost Value = { Plain };
+
+    ghost view = { λ r. record { text = r.printed.items; passed = r.passed; failed = r.failed } };
+
+    // Each test has a line, and each line has bytes.
+    ghost invariant = { λ r. r.passed + r.failed ≤ length r.printed.items };
+}
+
+impl Report {
+    /// A report of nothing.
+    pub fn new(alloc: Global) -> Report
+        ensures { result ≡ none_yet }
+    {
+        Report {
+            printed: Vec::new(alloc),
+            passed: 0,
+            failed: 0,
+        }
+    }
+
+    /// What is printed so far.
+    pub fn text(&self) -> &[u8]
+        ensures { result.now ≡ self.now.text }
+    {
+        &self.printed
+    }
+
+    /// Both counts.
+    pub fn summary(&self) -> Summary
+        ensures passed { result.passed ≡ self.now.passed }
+        ensures failed { result.failed ≡ self.now.failed }
+    {
+        Summary {
+            passed: self.passed,
+            failed: self.failed,
+        }
+    }
+
+    /// The number of the test that comes next, from 1.
+    pub fn next_number(&self) -> u64
+        ensures { result ≡ self.now.passed + self.now.failed + 1 }
+    {
+        self.passed + self.failed + 1
+    }
+
+    /// Adds the line of a test, and counts it.
+    pub fn add_line(&mut self, line: &[u8], passed: bool) -> Result<(), Memory>
+        requires { 0 < length line.now }
+        ensures { OnOk result (self.new ≡ with_line line.now passed self.old) }
+    {
+        self.printed.extend_from_slice(line)?;
+        if passed {
+            self.passed += 1;
+        } else {
+            self.failed += 1;
+        }
+        Ok(())
+    }
+
+    /// Adds the line of the counts.
+    pub fn add_counts(&mut self, alloc: Global) -> Result<(), Memory>
+        ensures { OnOk result (self.new ≡ with_counts self.old) }
+    {
+        let line = counts_line(alloc, self.passed, self.failed)?;
+        self.printed.extend_from_slice(line.as_bytes())?;
+        Ok(())
+    }
+}
+
+#[tactic(auto, unfolding(crate::specs::Report::counts_line))]
+fn counts_line(alloc: Global, passed: u64, failed: u64) -> Result<String, AllocError>
+    ensures { IfOk result (λ s. string_bytes s ≡ counts_line passed failed) }
+{
+    format!(in alloc; "passed {passed} failed {failed}\n")
+}
