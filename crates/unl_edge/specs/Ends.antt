@@ -1,0 +1,78 @@
+-- How each command ends, over the bytes to come and those sent, before and after.
+use Rattle.std.specs.Prelude.{◌≡◌, ⊤, ℕ, List, [], ◌++◌, codes, Option, IfSome, Result, Ok, Err}
+use Rattle.unl_base.specs.Streams.{Sends, SendsFront}
+use Rattle.unl_base.specs.declared.draws.Draw.{Draw}
+use Rattle.unl_documents.specs.FaultText.{fault_text}
+use Rattle.unl_edge.specs.Status.{status_of}
+use Rattle.unl_edge.specs.declared.status.Status.{Status}
+use Rattle.unl_edge.specs.declared.status.Status.TheVariants.{Done, TestFailed, BadWords, Refused, ReadFault, WriteFault, OutOfMemory}
+use Rattle.unl_replay.specs.Replay.{replay_of, whole_text}
+use Rattle.unl_replay.specs.Whole.{AnswersRead, IsAnswered, IsRefusing}
+use Rattle.unl_spec_runner.specs.Check.{report_of}
+use Rattle.unl_spec_runner.specs.Report.{Report}
+use Rattle.unl_spec_runner.specs.declared.fault.CheckFault.{CheckFault}
+use Rattle.unl_spec_runner.specs.declared.fault.CheckFault.TheVariants as fault
+use Rattle.unl_words.specs.Words.{WordsReading}
+use Rattle.unl_words.specs.declared.refusal.WordsRefusal.TheVariants.{Bad, Memory}
+use Rattle.unl_words.specs.declared.words.Words.TheVariants.{Replay, Check}
+
+-- A line was sent, and this is the ending. Or a front of it was sent before the output failed, or memory ran out.
+abbrev pub SendsLine : List ℕ → Status → Status → Option (List ℕ) → Option (List ℕ) → Type 0
+SendsLine line ending OutOfMemory old new = ⊤
+SendsLine line ending WriteFault old new = SendsFront old line new
+SendsLine line ending status old new = (status ≡ ending) × Sends old line new
+
+-- ---- a replay
+
+-- how a replay ends: all was answered, a line is refused, the input failed, the output failed, or memory ran out
+abbrev pub ReplayEnds : Status → Option (List ℕ) → Option (List ℕ) → Option (List ℕ) → Option (List ℕ) → Type 0
+ReplayEnds Done left left_after old new = IfSome left (λ bytes. IsAnswered (replay_of bytes) old new)
+ReplayEnds Refused left left_after old new = IfSome left (λ bytes. IsRefusing (replay_of bytes) old new)
+ReplayEnds ReadFault left left_after old new = AnswersRead left left_after old new
+ReplayEnds WriteFault left left_after old new = IfSome left (λ bytes. SendsFront old (whole_text (replay_of bytes)) new)
+ReplayEnds OutOfMemory left left_after old new = ⊤
+ReplayEnds TestFailed left left_after old new = ⊥
+ReplayEnds BadWords left left_after old new = ⊥
+
+-- ---- a check
+
+-- the line that says why an input is refused
+abbrev pub refused_line : List ℕ → List ℕ
+refused_line cause = codes "refused: " ++ (cause ++ codes "\n")
+
+-- what a check says, and how it ends
+pub record Said : Type 0 where
+  pub text : List ℕ
+  pub status : Status
+
+-- what is said of an input: its report, or why it is refused
+abbrev pub said_of : Result Report CheckFault → Said
+said_of (Ok report) = record { text = report.text; status = status_of report.failed }
+said_of (Err (fault.BadFile cause)) = record { text = refused_line (fault_text cause); status = Refused }
+said_of (Err fault.TooLarge) = record { text = codes "refused: TooLarge\n"; status = Refused }
+said_of (Err fault.ReadFault) = record { text = []; status = ReadFault }
+said_of (Err fault.WriteFault) = record { text = []; status = WriteFault }
+said_of (Err fault.Memory) = record { text = []; status = OutOfMemory }
+
+-- this was said of the input whole
+abbrev pub SaysAll : Said → Status → Option (List ℕ) → Option (List ℕ) → Type 0
+SaysAll said status old new = (status ≡ said.status) × Sends old said.text new
+
+-- How a check ends. Where the input failed, nothing was sent.
+abbrev pub CheckEnds : Draw → Status → Option (List ℕ) → Option (List ℕ) → Option (List ℕ) → Type 0
+CheckEnds draw OutOfMemory left old new = ⊤
+CheckEnds draw ReadFault left old new = new ≡ old
+CheckEnds draw WriteFault left old new = IfSome left (λ bytes. SendsFront old (said_of (report_of draw bytes)).text new)
+CheckEnds draw status left old new = IfSome left (λ bytes. SaysAll (said_of (report_of draw bytes)) status old new)
+
+-- ---- the program
+
+abbrev pub bad_words : List ℕ
+bad_words = codes "unl_edge: bad words\n"
+
+-- how the program ends, by what its words ask for
+abbrev pub Ends : WordsReading → Status → Option (List ℕ) → Option (List ℕ) → Option (List ℕ) → Option (List ℕ) → Type 0
+Ends (Ok Replay) status left left_after old new = ReplayEnds status left left_after old new
+Ends (Ok (Check now word)) status left left_after old new = CheckEnds (record { now = now; word = word }) status left old new
+Ends (Err Bad) status left left_after old new = SendsLine bad_words BadWords status old new
+Ends (Err Memory) status left left_after old new = status ≡ OutOfMemory
