@@ -1,4 +1,5 @@
 pub mod Books
+pub mod Judging
 pub mod Lines
 pub mod RefusalLemmas
 pub mod Turns

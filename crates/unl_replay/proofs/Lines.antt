@@ -69,7 +69,7 @@ gets_broken h i l m none empty same =
     (subst (λ (n : Option (List ℕ)). Gets h l [] i n) (sym same) (record { read = []; took = takes_nothing l; split = append-nil h ∙ none ∙ sym empty }), empty)
 
 -- where the bytes to come are told, they are those taken and those left
-pub WholeSplit : List ℕ → List ℕ → List ℕ → Option (List ℕ) → Type 0
+unfoldable pub WholeSplit : List ℕ → List ℕ → List ℕ → Option (List ℕ) → Type 0
 WholeSplit x out i m = (rest : List ℕ) × (x ≡ out ++ rest) × (IsAtEnd i m → rest ≡ [])
 
 pub whole_split : (x out i : List ℕ) (m : Option (List ℕ)) → Gets [] (Some x) out i m → WholeSplit x out i m
@@ -157,7 +157,7 @@ last_line [] none some = absurd (some refl)
 last_line (b ∷ bs) none some = ap lines (sym (append-nil (b ∷ bs))) ∙ unbroken (b ∷ bs) [] none ∙ begun-none b bs
 
 -- what begins a line that is too long
-pub LongFirst : List ℕ → Type 0
+abbrev pub LongFirst : List ℕ → Type 0
 LongFirst bytes = (line : List ℕ) × (more : List (List ℕ)) × (lines bytes ≡ line ∷ more) × (longest_line < length line)
 
 long_begun : (front : List ℕ) (ls : List (List ℕ)) → longest_line < length front
@@ -167,7 +167,6 @@ long_begun (x ∷ xs) [] long = (x ∷ xs, [], begun-none x xs, long)
 long_begun (x ∷ xs) (l ∷ ls) long = ((x ∷ xs) ++ l, ls, begun-line (x ∷ xs) l ls, omega (arith, long, length-append (x ∷ xs) l))
 
 pub long_first : (front rest : List ℕ) → has_end front ≡ false → longest_line < length front → LongFirst (front ++ rest)
-unfolding LongFirst
 long_first front rest none long =
     let first = long_begun front (lines rest) long in
     (first.0, first.1, unbroken front rest none ∙ first.2, first.3)

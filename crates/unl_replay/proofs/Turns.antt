@@ -1,5 +1,5 @@
 -- What stands next in the input, and what a turn makes of it.
-use Rattle.std.proofs.Common.{◌≡◌, ◌≢◌, ℕ, ◌<◌, ◌≤◌, List, [], ◌∷◌, ◌++◌, length, false, Unit, Result, Ok, Err, Option, refl, ap, subst, ◌∙◌, append-nil}
+use Rattle.std.proofs.Common.{◌≡◌, ◌≢◌, ℕ, ◌+◌, ◌<◌, ◌≤◌, List, [], ◌∷◌, ◌++◌, length, false, arith, Result, Ok, Err, Option, refl, ap, subst, ◌∙◌, append-nil}
 use Rattle.unl_base.specs.Streams.{Sends}
 use Rattle.unl_core.specs.Standing.{Standing}
 use Rattle.unl_replay.specs.declared.refusal.Refusal.{Refusal}
@@ -9,9 +9,10 @@ use Rattle.unl_replay.specs.declared.replaying.ReplayFault.TheVariants.{ReadFaul
 use Rattle.unl_replay.specs.Lines.{lines, has_end}
 use Rattle.unl_replay.specs.Reading.{Gets, IsAtEnd, IsLine, Begins, BeginsLong, longest_line}
 use Rattle.unl_replay.specs.Replay.{Answered, Replayed, done, begun_by, followed, answers, answer_line, answer_read, most_lines}
+use Rattle.unl_replay.specs.Whole.{Replays}
 use Rattle.unl_replay.specs.Turns.{Scene, Takes, Prints, GoesOn, ComesToEnd, StopsReading, Turns}
-use Rattle.unl_replay.proofs.Lines.{line_first, last_line, LongFirst, long_first, some_first, sends_nothing}
-use Rattle.unl_replay.proofs.Whole.{Heads, errs, within_limits, past_limit, past_last}
+use Rattle.unl_replay.proofs.Lines.{line_first, last_line, long_first, some_first, sends_nothing}
+use Rattle.unl_replay.proofs.Whole.{Heads, Sofar, ends_at, errs, within_limits, past_limit, past_last}
 
 -- ---- a line with its end
 
@@ -84,8 +85,7 @@ heads_long : (k : ℕ) (d : Standing) (front : List ℕ) (after : Scene) → k �
     → Heads k d front after (Err LineTooLong)
 unfolding Heads
 heads_long k d front after few unbroken long = λ rest may.
-    let begun = long_first front rest unbroken long in
-    let first = unfold LongFirst in begun in
+    let first = long_first front rest unbroken long in
     (first.0, first.1, first.2, past_limit k d first.0 few first.3)
 
 pub long_errs : (fault : ReplayFault) (k : ℕ) (before after : Scene) → k ≤ most_lines → BeginsLong before.held before.left after.held after.left
@@ -112,3 +112,10 @@ stops before after broken same = record {
   none = broken.1;
   sent = same;
 }
+
+-- the line after the last that is read was begun
+pub ends_past : (fault : ReplayFault) (start sent : Option (List ℕ)) (k : ℕ) (before after : Scene) (b : ℕ) → k ≡ 1000001 → Sofar start sent k before
+    → Takes before (b ∷ []) after → ((desk : Standing) → Prints (Err fault) 1000001 (Err TooManyLines) desk before.sent after.sent)
+    → Replays (Err fault) start after.left sent after.sent
+ends_past fault start sent k before after b is sofar got prints =
+    ends_at fault start sent 1000001 before after (subst (λ n. Sofar start sent n before) is sofar) (past_errs fault 1000001 before after b (omega arith) got prints)

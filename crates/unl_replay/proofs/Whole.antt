@@ -1,5 +1,5 @@
 -- The replay of a whole input, from its turns.
-use Rattle.std.proofs.Common.{◌≡◌, ℕ, ◌+◌, ◌<◌, ◌≤◌, List, [], ◌∷◌, ◌++◌, length, Bool, true, false, cond, ltb, Result, Ok, Err, Option, Some, None, IfSome, refl, sym, ap, subst, ◌∙◌, append_assoc, append-nil}
+use Rattle.std.proofs.Common.{◌≡◌, ℕ, ◌+◌, ◌<◌, ◌≤◌, List, [], ◌∷◌, ◌++◌, length, Bool, true, false, cond, ltb, Result, Ok, Err, Option, Some, None, IfSome, refl, sym, ap, subst, ◌∙◌, append_assoc, append-nil, arith}
 use Rattle.std.proofs.lemmas.Bool.{lt-ltb, ltb-false}
 use Rattle.std.proofs.lemmas.Bool.Decides.{nat_tests}
 use Rattle.unl_base.specs.Streams.{Sends, SendsFront}
@@ -42,7 +42,7 @@ past_last k d line past =
 -- ---- what a turn took
 
 -- a line begins what was taken, and this is said to it
-pub Heads : ℕ → Standing → List ℕ → Scene → Result Answered Refusal → Type 0
+unfoldable pub Heads : ℕ → Standing → List ℕ → Scene → Result Answered Refusal → Type 0
 Heads k d out after said = (rest : List ℕ) → MayFollow after rest
     → (line : List ℕ) × (more : List (List ℕ)) × (lines (out ++ rest) ≡ line ∷ more) × (answer_line k d line ≡ said)
 
@@ -125,9 +125,9 @@ goes_on start sent k before after sofar now =
 -- the answers to the whole input, where it is told, from what is said to the bytes taken last
 whole_of : (x : List ℕ) (sent : Option (List ℕ)) (k : ℕ) (before after : Scene) (out : List ℕ) → (sofar : Sofar (Some x) sent k before) → Takes before out after
     → (rest : List ℕ) × MayFollow after rest × (replay_of x ≡ begun_by sofar.text (answers k before.desk (lines (out ++ rest))))
+unfolding WholeSplit
 whole_of x sent k before after out sofar got =
-    let all = whole_split x (sofar.taken ++ out) after.held after.left (gets_trans [] before.held after.held (Some x) before.left after.left sofar.taken out sofar.got got) in
-    let parts = unfold WholeSplit in all in
+    let parts = whole_split x (sofar.taken ++ out) after.held after.left (gets_trans [] before.held after.held (Some x) before.left after.left sofar.taken out sofar.got got) in
     (parts.0, parts.2, ap (λ bytes. answers 1 opening (lines bytes)) (parts.1 ∙ append_assoc sofar.taken out parts.0) ∙ sofar.leads (out ++ parts.0))
 
 pub ends_over : (start sent : Option (List ℕ)) (k : ℕ) (before after : Scene) → Sofar start sent k before → ComesToEnd k before after

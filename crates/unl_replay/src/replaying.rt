@@ -82,6 +82,7 @@ fn refusal_line(alloc: Global, number: u64, refusal: &Refusal) -> Result<String,
 fn refuse<K: Sink>(alloc: Global, sink: &mut K, number: u64, refusal: &Refusal) -> ReplayFault
     requires { refusal.now ≢ Refusal.Memory }
     ensures prints { (desk : Standing) → Prints (Err result) number (Err refusal.now) desk (K.sent sink.old) (K.sent sink.new) }
+    ensures other { result ≢ ReplayFault.ReadFault }
     ensures cause { result ≡ ReplayFault.WriteFault → Rose (K.faults sink.old) (K.faults sink.new) }
     ensures later { K.faults sink.old ≤ K.faults sink.new }
 {
