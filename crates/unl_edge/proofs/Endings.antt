@@ -9,6 +9,7 @@ use Rattle.unl_edge.specs.declared.status.Status.{Status}
 use Rattle.unl_edge.specs.declared.status.Status.TheVariants.{Done, TestFailed, BadWords, Refused, ReadFault, WriteFault, OutOfMemory}
 use Rattle.unl_spec_runner.specs.Check.{report_of, IsReported, IsBrokenOff}
 use Rattle.unl_spec_runner.specs.Report.{Report}
+use Rattle.unl_spec_runner.specs.declared.fault.CheckFault.{CheckFault}
 use Rattle.unl_spec_runner.specs.declared.fault.Summary.{Summary}
 use Rattle.unl_words.specs.Words.{WordsReading}
 use Rattle.unl_words.specs.declared.refusal.WordsRefusal.TheVariants.{Bad, Memory}

@@ -24,7 +24,7 @@ pub enum Status {
 impl Status {
     /// The number that the program exits with.
     pub fn code(self) -> u8
-        ensures { result ≡ code_of self.entry }
+        ensures { result ≡ code_of self }
     {
         match self {
             Status::Done => 0,
