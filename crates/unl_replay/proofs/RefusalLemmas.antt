@@ -1,5 +1,5 @@
 -- Faults that are why a line is refused.
-use Rattle.std.proofs.Common.{◌≡◌, ◌≢◌, Result, Ok, Err, ap, ◌∙◌, sym, refl}
+use Rattle.std.proofs.Common.{◌≡◌, ◌≢◌, Result, Err, ap, ◌∙◌, sym, refl}
 use Rattle.unl_delta.specs.declared.fault.BadBatch.{BadBatch}
 use Rattle.unl_delta.specs.declared.fault.BadBatch.TheVariants as batch
 use Rattle.unl_documents.specs.declared.fault.BadDocument.{BadDocument}

@@ -5,10 +5,9 @@ use Rattle.unl_core.specs.Standing.{Standing}
 use Rattle.unl_replay.specs.declared.refusal.Refusal.{Refusal}
 use Rattle.unl_replay.specs.declared.refusal.Refusal.TheVariants.{LineTooLong, TooManyLines}
 use Rattle.unl_replay.specs.declared.replaying.ReplayFault.{ReplayFault}
-use Rattle.unl_replay.specs.declared.replaying.ReplayFault.TheVariants.{ReadFault}
 use Rattle.unl_replay.specs.Lines.{lines, has_end}
-use Rattle.unl_replay.specs.Reading.{Gets, IsAtEnd, IsLine, Begins, BeginsLong, longest_line}
-use Rattle.unl_replay.specs.Replay.{Answered, Replayed, done, begun_by, followed, answers, answer_line, answer_read, most_lines}
+use Rattle.unl_replay.specs.Reading.{IsAtEnd, IsLine, BeginsLong, longest_line}
+use Rattle.unl_replay.specs.Replay.{Answered, Replayed, done, followed, answers, answer_read, most_lines}
 use Rattle.unl_replay.specs.Whole.{Replays}
 use Rattle.unl_replay.specs.Turns.{Scene, Takes, Prints, GoesOn, ComesToEnd, StopsReading, Turns}
 use Rattle.unl_replay.proofs.Lines.{line_first, last_line, long_first, some_first, sends_nothing}

@@ -1,6 +1,6 @@
 -- The replay of a whole input, from its turns.
-use Rattle.std.proofs.Common.{◌≡◌, ℕ, ◌+◌, ◌<◌, ◌≤◌, List, [], ◌∷◌, ◌++◌, length, Bool, true, false, cond, ltb, Result, Ok, Err, Option, Some, None, IfSome, refl, sym, ap, subst, ◌∙◌, append_assoc, append-nil, arith}
-use Rattle.std.proofs.lemmas.Bool.{lt-ltb, ltb-false}
+use Rattle.std.proofs.Common.{◌≡◌, ℕ, ◌+◌, ◌<◌, ◌≤◌, List, [], ◌∷◌, ◌++◌, length, false, cond, ltb, Result, Ok, Err, Option, Some, None, IfSome, sym, ap, subst, ◌∙◌, append_assoc, append-nil, arith}
+use Rattle.std.proofs.lemmas.Bool.{lt-ltb}
 use Rattle.std.proofs.lemmas.Bool.Decides.{nat_tests}
 use Rattle.unl_base.specs.Streams.{Sends, SendsFront}
 use Rattle.unl_core.specs.Standing.{Standing}
@@ -8,8 +8,8 @@ use Rattle.unl_replay.specs.declared.refusal.Refusal.{Refusal}
 use Rattle.unl_replay.specs.declared.refusal.Refusal.TheVariants.{LineTooLong, TooManyLines}
 use Rattle.unl_replay.specs.declared.replaying.ReplayFault.{ReplayFault}
 use Rattle.unl_replay.specs.declared.replaying.ReplayFault.TheVariants.{Bad, ReadFault, WriteFault, Memory}
-use Rattle.unl_replay.specs.Lines.{lines, ended_lines, has_end}
-use Rattle.unl_replay.specs.Reading.{Gets, IsAtEnd, Begins, longest_line}
+use Rattle.unl_replay.specs.Lines.{lines, ended_lines}
+use Rattle.unl_replay.specs.Reading.{Gets, longest_line}
 use Rattle.unl_replay.specs.Refusals.{refusal_text}
 use Rattle.unl_replay.specs.Replay.{Answered, Replayed, done, refused, IsRefused, ending_text, whole_text, printed, refused_text, answers, begun_by, followed, replay_of, replay_of_ended, opening, most_lines, answer_line, answer_read}
 use Rattle.unl_replay.specs.Turns.{Scene, Takes, MayFollow, Prints, GoesOn, ComesToEnd, IsRefusedAt, BreaksOff, BeginsWith, StopsReading, Turns}

@@ -3,17 +3,15 @@ use Rattle.std.specs.Prelude.{ℕ, List, [], codes, Option, unwrap_or, ok_or, if
 use Rattle.std.specs.Str.{bytes_eq}
 use Rattle.serde_json.specs.Data.{Data}
 use Rattle.serde_json.specs.Find.{as_str}
-use Rattle.unl_base.specs.declared.draws.Draw.{Draw}
 use Rattle.unl_delta.specs.declared.batch.Batch.{Batch}
 use Rattle.unl_delta.specs.Reading.{batch_of, batch_of_feed}
 use Rattle.unl_documents.specs.declared.fault.BadDocument.TheVariants.{WrongKind}
 use Rattle.unl_documents.specs.declared.feed.Feed.{Feed}
 use Rattle.unl_documents.specs.declared.field.Field.{Field}
 use Rattle.unl_documents.specs.declared.field.Field.TheVariants as field
-use Rattle.unl_documents.specs.Kinds.{any_text, any_whole, whole, name, object_of, required, optional, defaulted}
+use Rattle.unl_documents.specs.Kinds.{any_text, any_whole, whole, object_of, required, optional, defaulted}
 use Rattle.unl_documents.specs.Reading.{Reading, ◌>>=◌}
 use Rattle.unl_documents.specs.States.{feed_of}
-use Rattle.unl_http_api.specs.declared.request.Request.{Request}
 use Rattle.unl_http_api.specs.declared.request.Method.{Method}
 use Rattle.unl_http_api.specs.declared.request.Method.TheVariants.{Get, Post}
 use Rattle.unl_replay.specs.declared.ask.Ask.{Ask}

@@ -6,16 +6,18 @@ use unl_documents::{Feed, List, Memory, Pair, Strategy, Text, read_feed};
 
 type Parameters = &'static [(&'static str, &'static str)];
 
+/// A strategy's name and parameters, the query of a context, and whether it is active.
+type Case = (&'static str, Parameters, &'static str, bool);
+
 const MOMENT: Moment = Moment {
     now: 0,
     word: 7,
     host: "Web.local",
 };
 
-// A strategy's name and parameters, the query of a context, and whether it is active. The numbers are those of another
-// MurmurHash3, in Python: `gr1:123` is 73 of 100, `groupX:999` 25, `flag:123` 48, `gr1:s1` 15, `:123` 93, `:s1` 56,
+// The numbers are those of another MurmurHash3, in Python: `gr1:123` is 73 of 100, `groupX:999` 25, `flag:123` 48, `gr1:s1` 15, `:123` 93, `:s1` 56,
 // `gr1:blue` 12, `gr1:9574` 72, where 9574 is the random id, and the random number itself is 74.
-const CASES: [(&str, Parameters, &str, bool); 60] = [
+const USERS: [Case; 9] = [
     ("default", &[], "", true),
     ("custom", &[("rollout", "100")], "userId=123", false),
     ("Default", &[], "", false),
@@ -39,6 +41,10 @@ const CASES: [(&str, Parameters, &str, bool); 60] = [
     ),
     ("userWithId", &[("userIds", "")], "userId=", false),
     ("userWithId", &[], "userId=123", false),
+    ("userWithId", &[("userids", "123")], "userId=123", false),
+];
+
+const FLEXIBLE: [Case; 12] = [
     (
         "flexibleRollout",
         &[
@@ -147,6 +153,9 @@ const CASES: [(&str, Parameters, &str, bool); 60] = [
         "userId=123",
         false,
     ),
+];
+
+const STICKY: [Case; 12] = [
     (
         "flexibleRollout",
         &[("groupId", ""), ("rollout", "48")],
@@ -226,6 +235,15 @@ const CASES: [(&str, Parameters, &str, bool); 60] = [
         true,
     ),
     (
+        "flexibleRollout",
+        &[("Rollout", "100")],
+        "userId=123",
+        false,
+    ),
+];
+
+const GRADUAL: [Case; 15] = [
+    (
         "gradualRolloutUserId",
         &[("groupId", "gr1"), ("percentage", "72")],
         "userId=123",
@@ -300,6 +318,9 @@ const CASES: [(&str, Parameters, &str, bool); 60] = [
     ("gradualRolloutRandom", &[("percentage", "73")], "", false),
     ("gradualRolloutRandom", &[("percentage", "74")], "", true),
     ("gradualRolloutRandom", &[], "", false),
+];
+
+const ADDRESSES: [Case; 8] = [
     (
         "remoteAddress",
         &[("IPs", "10.0.0.0/8, 2001:db8::/32,bad")],
@@ -348,6 +369,9 @@ const CASES: [(&str, Parameters, &str, bool); 60] = [
         "remoteAddress=10.0.0.1",
         true,
     ),
+];
+
+const HOSTS: [Case; 4] = [
     (
         "applicationHostname",
         &[("hostNames", "db.local, WEB.LOCAL")],
@@ -362,13 +386,6 @@ const CASES: [(&str, Parameters, &str, bool); 60] = [
     ),
     ("applicationHostname", &[("hostNames", "")], "", false),
     ("applicationHostname", &[], "", false),
-    ("userWithId", &[("userids", "123")], "userId=123", false),
-    (
-        "flexibleRollout",
-        &[("Rollout", "100")],
-        "userId=123",
-        false,
-    ),
 ];
 
 fn strategy(alloc: Global, name: &str, parameters: Parameters) -> Result<Strategy, Memory> {
@@ -410,14 +427,50 @@ fn outcome(
     Ok(Some((all, own)))
 }
 
-#[test]
-fn rules(rt: HostRuntime) -> Result<(), Fail> {
-    let alloc = rt.alloc();
-    for (place, (name, parameters, query, expected)) in CASES.iter().enumerate() {
+/// The place of the first case that comes out otherwise.
+fn first_wrong(alloc: Global, cases: &[Case]) -> Result<Option<usize>, Memory> {
+    for (place, (name, parameters, query, expected)) in cases.iter().enumerate() {
         let strategy = strategy(alloc, name, parameters)?;
-        let outcome = outcome(alloc, &strategy, query)?;
-        assert!(rt; outcome == Some((*expected, *expected)), "case {place}");
+        if outcome(alloc, &strategy, query)? != Some((*expected, *expected)) {
+            return Ok(Some(place));
+        }
     }
+    Ok(None)
+}
+
+#[test]
+fn listed_users(rt: HostRuntime) -> Result<(), Fail> {
+    assert_eq!(rt; first_wrong(rt.alloc(), &USERS)?, None);
+    Ok(())
+}
+
+#[test]
+fn flexible_rollouts(rt: HostRuntime) -> Result<(), Fail> {
+    assert_eq!(rt; first_wrong(rt.alloc(), &FLEXIBLE)?, None);
+    Ok(())
+}
+
+#[test]
+fn sticky_rollouts(rt: HostRuntime) -> Result<(), Fail> {
+    assert_eq!(rt; first_wrong(rt.alloc(), &STICKY)?, None);
+    Ok(())
+}
+
+#[test]
+fn gradual_rollouts(rt: HostRuntime) -> Result<(), Fail> {
+    assert_eq!(rt; first_wrong(rt.alloc(), &GRADUAL)?, None);
+    Ok(())
+}
+
+#[test]
+fn listed_addresses(rt: HostRuntime) -> Result<(), Fail> {
+    assert_eq!(rt; first_wrong(rt.alloc(), &ADDRESSES)?, None);
+    Ok(())
+}
+
+#[test]
+fn listed_hosts(rt: HostRuntime) -> Result<(), Fail> {
+    assert_eq!(rt; first_wrong(rt.alloc(), &HOSTS)?, None);
     Ok(())
 }
 
