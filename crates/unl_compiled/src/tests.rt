@@ -1,3 +1,6 @@
+ghost use Rattle.std.specs.Prelude.{IfSome};
+ghost use Rattle.unl_delta.specs.Valid.{IsValidBatch};
+
 use crate::Snapshot;
 use std::alloc::Global;
 use unl_context::Context;
@@ -12,7 +15,9 @@ const ALL: &str =
 const C_IS_ON: &str =
     "{\"after\":1,\"events\":[{\"type\":\"feature-updated\",\"eventId\":2,\"feature\":{\"name\":\"c\",\"project\":\"A\",\"enabled\":true}}]}";
 
-fn batch(alloc: Global, text: &str) -> Option<Batch> {
+fn batch(alloc: Global, text: &str) -> Option<Batch>
+    ensures { IfSome result IsValidBatch }
+{
     read_batch_bytes(alloc, text.as_bytes(), None).ok()
 }
 

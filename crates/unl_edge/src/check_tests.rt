@@ -22,15 +22,30 @@ const BAD_WORDS: &str = "unl_edge: bad words\n";
 
 /// Words with blanks between them, an input, what is printed, and the status.
 const CASES: [(&str, &str, &str, u8); 14] = [
-    ("check", ON, "pass 1 \"on\"\npass 2 \"\"\npassed 2 failed 0\n", 0),
+    (
+        "check",
+        ON,
+        "pass 1 \"on\"\npass 2 \"\"\npassed 2 failed 0\n",
+        0,
+    ),
     (
         "check",
         OFF,
         "fail 1 \"off\" expected false given true\npassed 0 failed 1\n",
         1,
     ),
-    ("check --now 5 --word 7", AT_5, "pass 1 \"\"\npassed 1 failed 0\n", 0),
-    ("check --word=7 --now=05", AT_5, "pass 1 \"\"\npassed 1 failed 0\n", 0),
+    (
+        "check --now 5 --word 7",
+        AT_5,
+        "pass 1 \"\"\npassed 1 failed 0\n",
+        0,
+    ),
+    (
+        "check --word=7 --now=05",
+        AT_5,
+        "pass 1 \"\"\npassed 1 failed 0\n",
+        0,
+    ),
     (
         "check --now 7 --word 5",
         AT_5,
@@ -40,7 +55,12 @@ const CASES: [(&str, &str, &str, u8); 14] = [
     ("check", "[]", "passed 0 failed 0\n", 0),
     ("check", "", "refused: NotJson\n", 3),
     ("check", "{}", "refused: Missing state\n", 3),
-    ("check --now 100000000000000", "[]", "passed 0 failed 0\n", 0),
+    (
+        "check --now 100000000000000",
+        "[]",
+        "passed 0 failed 0\n",
+        0,
+    ),
     ("check --now 100000000000001", "[]", BAD_WORDS, 2),
     ("check --now", "[]", BAD_WORDS, 2),
     ("check x", "[]", BAD_WORDS, 2),
