@@ -39,6 +39,7 @@ abbrev pub of_kind : Kind → Option Shown → Result Shown Unseen
 of_kind kind None = Err UnknownToken
 of_kind kind (Some shown) = if is_kind shown.token.kind kind then Ok shown else Err WrongKind
 
+-- what the token of a request is shown, if it has one that is known and of that kind
 abbrev pub shown_text : Board → Kind → Option (List ℕ) → Result Shown Unseen
 shown_text board kind None = Err NoToken
 shown_text board kind (Some text) = of_kind kind (entry_of text board.book)
@@ -47,10 +48,12 @@ shown_text board kind (Some text) = of_kind kind (entry_of text board.book)
 abbrev pub shown_by : Board → Request → Kind → Result Shown Unseen
 shown_by board q kind = shown_text board kind q.token
 
+-- what is shown, where something stands for the token's environment
 abbrev pub where_ready : Shown → Option EnvVersion → Result Ready Unseen
 where_ready shown None = Err NotReady
 where_ready shown (Some version) = Ok (record { place = shown.place; token = shown.token; version = version })
 
+-- what a token is shown with what stands for its environment
 abbrev pub ready_for : Board → Result Shown Unseen → Result Ready Unseen
 ready_for board (Err unseen) = Err unseen
 ready_for board (Ok shown) = where_ready shown (snapshot_in shown.token.environment board.slots)

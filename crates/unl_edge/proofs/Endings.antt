@@ -3,10 +3,12 @@ use Rattle.std.proofs.Common.{◌≡◌, ℕ, ◌==◌, List, Bool, true, false,
 use Rattle.unl_base.specs.Streams.{Sends, SendsFront}
 use Rattle.unl_base.specs.declared.draws.Draw.{Draw}
 use Rattle.unl_documents.specs.Results.{Gives}
-use Rattle.unl_edge.specs.Ends.{CheckEnds, Ends, Said, SaysAll, SendsLine, said_of}
-use Rattle.unl_edge.specs.Status.{status_of}
+use Rattle.unl_edge.specs.Ends.{CheckEnds, Ends, IsDecided, ReplayEnds, Said, SaysAll, SendsLine, ending_status, said_of, told_by}
+use Rattle.unl_edge.specs.Status.{code_of, status_of}
 use Rattle.unl_edge.specs.declared.status.Status.{Status}
 use Rattle.unl_edge.specs.declared.status.Status.TheVariants.{Done, TestFailed, BadWords, Refused, ReadFault, WriteFault, OutOfMemory}
+use Rattle.unl_replay.specs.Replay.{Ending, IsRefused, done, refused, replay_of}
+use Rattle.unl_replay.specs.Whole.{IsAnswered, IsRefusing}
 use Rattle.unl_spec_runner.specs.Check.{report_of, IsReported, IsBrokenOff}
 use Rattle.unl_spec_runner.specs.Report.{Report}
 use Rattle.unl_spec_runner.specs.declared.fault.CheckFault.{CheckFault}
@@ -71,3 +73,85 @@ pub broken_ends : (draw : Draw) (left old new : Option (List ℕ))
 broken_ends draw None old new told = tt
 broken_ends draw (Some bytes) old new told =
     subst (λ (t : List ℕ). SendsFront old t new) (sym (ap (λ (s : Said). s.text) (ap said_of told.is))) told.sent
+
+-- ---- what decides, where nothing fails and memory is found
+
+-- the number of a fault of the input is that ending's alone
+pub code_of_read_fault : (status : Status) → code_of status ≡ 4 → status ≡ ReadFault
+code_of_read_fault Done same = absurd (cc same)
+code_of_read_fault TestFailed same = absurd (cc same)
+code_of_read_fault BadWords same = absurd (cc same)
+code_of_read_fault Refused same = absurd (cc same)
+code_of_read_fault ReadFault same = refl
+code_of_read_fault WriteFault same = absurd (cc same)
+code_of_read_fault OutOfMemory same = absurd (cc same)
+
+-- the number of a fault of the output is that ending's alone
+pub code_of_write_fault : (status : Status) → code_of status ≡ 5 → status ≡ WriteFault
+code_of_write_fault Done same = absurd (cc same)
+code_of_write_fault TestFailed same = absurd (cc same)
+code_of_write_fault BadWords same = absurd (cc same)
+code_of_write_fault Refused same = absurd (cc same)
+code_of_write_fault ReadFault same = absurd (cc same)
+code_of_write_fault WriteFault same = refl
+code_of_write_fault OutOfMemory same = absurd (cc same)
+
+-- a replay that is refused ends so
+refused_is : (ending : Ending) → IsRefused ending → ending_status ending ≡ Refused
+refused_is done is = absurd is
+refused_is (refused k cause) is = refl
+
+-- the lines decide how a replay ends
+replay_decided : (status : Status) (left left_after old new : Option (List ℕ)) → ReplayEnds status left left_after old new
+    → status ≢ ReadFault → status ≢ WriteFault → status ≢ OutOfMemory
+    → IfSome left (λ bytes. code_of status ≡ code_of (ending_status (replay_of bytes).ending))
+replay_decided status None left_after old new ends read write memory = tt
+replay_decided Done (Some bytes) left_after old new ends read write memory = ap (λ e. code_of (ending_status e)) (sym ends.ending)
+replay_decided TestFailed (Some bytes) left_after old new ends read write memory = absurd ends
+replay_decided BadWords (Some bytes) left_after old new ends read write memory = absurd ends
+replay_decided Refused (Some bytes) left_after old new ends read write memory = ap code_of (sym (refused_is (replay_of bytes).ending ends.ending))
+replay_decided ReadFault (Some bytes) left_after old new ends read write memory = absurd (read refl)
+replay_decided WriteFault (Some bytes) left_after old new ends read write memory = absurd (write refl)
+replay_decided OutOfMemory (Some bytes) left_after old new ends read write memory = absurd (memory refl)
+
+-- the input decides how a check ends
+check_decided : (draw : Draw) (status : Status) (left old new : Option (List ℕ)) → CheckEnds draw status left old new
+    → status ≢ ReadFault → status ≢ WriteFault → status ≢ OutOfMemory
+    → IfSome left (λ bytes. code_of status ≡ code_of (said_of (report_of draw bytes)).status)
+check_decided draw status None old new ends read write memory = tt
+check_decided draw Done (Some bytes) old new ends read write memory = ap code_of ends.0
+check_decided draw TestFailed (Some bytes) old new ends read write memory = ap code_of ends.0
+check_decided draw BadWords (Some bytes) old new ends read write memory = ap code_of ends.0
+check_decided draw Refused (Some bytes) old new ends read write memory = ap code_of ends.0
+check_decided draw ReadFault (Some bytes) old new ends read write memory = absurd (read refl)
+check_decided draw WriteFault (Some bytes) old new ends read write memory = absurd (write refl)
+check_decided draw OutOfMemory (Some bytes) old new ends read write memory = absurd (memory refl)
+
+-- bad words decide by themselves
+bad_decided : (line : List ℕ) (status : Status) (old new : Option (List ℕ)) → SendsLine line BadWords status old new
+    → status ≢ WriteFault → status ≢ OutOfMemory → code_of status ≡ 2
+bad_decided line Done old new ends write memory = ap code_of ends.0
+bad_decided line TestFailed old new ends write memory = ap code_of ends.0
+bad_decided line BadWords old new ends write memory = refl
+bad_decided line Refused old new ends write memory = ap code_of ends.0
+bad_decided line ReadFault old new ends write memory = ap code_of ends.0
+bad_decided line WriteFault old new ends write memory = absurd (write refl)
+bad_decided line OutOfMemory old new ends write memory = absurd (memory refl)
+
+-- the words and the input decide how the program ends
+by_words : (words : WordsReading) (status : Status) (left left_after old new : Option (List ℕ)) → Ends words status left left_after old new
+    → status ≢ ReadFault → status ≢ WriteFault → status ≢ OutOfMemory → IsDecided words (code_of status) left
+by_words (Ok Replay) status left left_after old new ends read write memory = replay_decided status left left_after old new ends read write memory
+by_words (Ok (Check now word)) status left left_after old new ends read write memory =
+    check_decided (record { now = now; word = word }) status left old new ends read write memory
+by_words (Err Bad) status left left_after old new ends read write memory = bad_decided _ status old new ends write memory
+by_words (Err Memory) status left left_after old new ends read write memory = absurd (memory ends)
+
+-- so they decide its number, where neither count rose and memory was found
+pub decided : (words : WordsReading) (status : Status) (code : ℕ) (left left_after old new : Option (List ℕ)) {Read Write : Type 0}
+    → code ≡ code_of status → Ends words status left left_after old new → (status ≡ ReadFault → Read) → (status ≡ WriteFault → Write)
+    → ¬ Read → ¬ Write → code ≢ 6 → IsDecided words code left
+decided words status code left left_after old new is ends read write no_read no_write some =
+    subst (λ c. IsDecided words c left) (sym is)
+      (by_words words status left left_after old new ends (λ same. no_read (read same)) (λ same. no_write (write same))
+        (λ same. some (is ∙ ap code_of same)))

@@ -3,10 +3,10 @@ use Rattle.std.specs.Prelude.{◌≡◌, ⊤, ℕ, List, [], ◌++◌, codes, Op
 use Rattle.unl_base.specs.Streams.{Sends, SendsFront}
 use Rattle.unl_base.specs.declared.draws.Draw.{Draw}
 use Rattle.unl_documents.specs.FaultText.{fault_text}
-use Rattle.unl_edge.specs.Status.{status_of}
+use Rattle.unl_edge.specs.Status.{code_of, status_of}
 use Rattle.unl_edge.specs.declared.status.Status.{Status}
 use Rattle.unl_edge.specs.declared.status.Status.TheVariants.{Done, TestFailed, BadWords, Refused, ReadFault, WriteFault, OutOfMemory}
-use Rattle.unl_replay.specs.Replay.{replay_of, whole_text}
+use Rattle.unl_replay.specs.Replay.{Ending, done, refused, replay_of, whole_text}
 use Rattle.unl_replay.specs.Whole.{AnswersRead, IsAnswered, IsRefusing}
 use Rattle.unl_spec_runner.specs.Check.{report_of}
 use Rattle.unl_spec_runner.specs.Report.{Report}
@@ -67,6 +67,7 @@ CheckEnds draw status left old new = IfSome left (λ bytes. SaysAll (said_of (re
 
 -- ---- the program
 
+-- the line that is said of bad words
 abbrev pub bad_words : List ℕ
 bad_words = codes "unl_edge: bad words\n"
 
@@ -76,3 +77,26 @@ Ends (Ok Replay) status left left_after old new = ReplayEnds status left left_af
 Ends (Ok (Check now word)) status left left_after old new = CheckEnds (record { now = now; word = word }) status left old new
 Ends (Err Bad) status left left_after old new = SendsLine bad_words BadWords status old new
 Ends (Err Memory) status left left_after old new = status ≡ OutOfMemory
+
+-- the number is that of an ending, and so the program ended
+abbrev pub Exits : ℕ → (Status → Type 0) → Type 0
+Exits code Ended = (status : Status) × (code ≡ code_of status) × Ended status
+
+-- ---- what decides, where nothing fails and memory is found
+
+-- how a replay ends by its lines
+abbrev pub ending_status : Ending → Status
+ending_status done = Done
+ending_status (refused k cause) = Refused
+
+-- how the program ends by its words and its input
+abbrev pub told_by : WordsReading → List ℕ → Status
+told_by (Ok Replay) bytes = ending_status (replay_of bytes).ending
+told_by (Ok (Check now word)) bytes = (said_of (report_of (record { now = now; word = word }) bytes)).status
+told_by (Err Bad) bytes = BadWords
+told_by (Err Memory) bytes = OutOfMemory
+
+-- The number is that of the ending that the words and the input tell. Bad words tell it by themselves.
+abbrev pub IsDecided : WordsReading → ℕ → Option (List ℕ) → Type 0
+IsDecided (Err Bad) code left = code ≡ 2
+IsDecided words code left = IfSome left (λ bytes. code ≡ code_of (told_by words bytes))

@@ -85,7 +85,7 @@ fn each_check(rt: HostRuntime) -> Result<(), Fail> {
             input: MemorySource::new(input.as_bytes().to_vec(alloc)?, 7, Vec::new(alloc)),
             output: MemorySink::new(alloc, ROOM, Vec::new(alloc))?,
         };
-        assert_eq!(rt; run(alloc, &words, &mut world).code(), status);
+        assert_eq!(rt; run(alloc, &words, &mut world), status);
         assert_eq!(rt; str::from_utf8(world.output.sent()).ok(), Some(output));
     }
     Ok(())

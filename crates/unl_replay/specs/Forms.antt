@@ -38,9 +38,11 @@ feed_in line = and_then (documented (required (object_of feed_of) field.Feed lin
 
 -- ---- asks
 
+-- the method of that name
 abbrev pub method_by : Field → List ℕ → Reading Method
 method_by field word = if bytes_eq word (codes "GET") then Ok Get else (if bytes_eq word (codes "POST") then Ok Post else Err (WrongKind field))
 
+-- the method that a value names
 unfoldable pub method : Field → Data → Reading Method
 method field value = do
   word ← ok_or (as_str value) (WrongKind field)

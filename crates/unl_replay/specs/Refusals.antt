@@ -11,6 +11,7 @@ use Rattle.unl_tokens.specs.declared.fault.BadBook.TheVariants as book
 use Rattle.unl_replay.specs.declared.refusal.Refusal.{Refusal}
 use Rattle.unl_replay.specs.declared.refusal.Refusal.TheVariants.{Document, Book, Batch, NoNumber, TooManyEnvironments, LineTooLong, TooManyLines, NotBuilt, Memory}
 
+-- what a line is read as, or why it is refused
 abbrev pub LineReading : Type 0 → Type 0
 LineReading T = Result T Refusal
 
@@ -64,12 +65,14 @@ Gives (Err e) reading = e ≢ Memory → reading ≡ Err e
 abbrev pub numbered : List ℕ → ℕ → List ℕ
 numbered word n = word ++ (codes " " ++ decimal n)
 
+-- the cause that names what is wrong with a book
 abbrev pub book_text : BadBook → List ℕ
 book_text book.NotJson = codes "BadBook 1"
 book_text (book.BadEntry place) = numbered (codes "BadBook 2") place
 book_text (book.TooMany count) = numbered (codes "BadBook 3") count
 book_text book.Memory = []
 
+-- the cause that names what is wrong with a batch
 abbrev pub batch_text : BadBatch → List ℕ
 batch_text batch.NotJson = codes "BadBatch 1"
 batch_text (batch.BadEvent place) = numbered (codes "BadBatch 2") place

@@ -32,6 +32,7 @@ pub data Ending : Type 0 where
   done : Ending
   refused : ℕ → Refusal → Ending
 
+-- a line is refused
 abbrev pub IsRefused : Ending → Type 0
 IsRefused done = ⊥
 IsRefused (refused k cause) = Unit {0}
@@ -43,9 +44,11 @@ pub record Replayed : Type 0 where
 
 -- ---- the printed lines
 
+-- the line for a book that stands already
 abbrev pub same_line : ℕ → List ℕ
 same_line k = decimal k ++ codes ": same\n"
 
+-- the line for a book that is published
 abbrev pub tokens_line : ℕ → ℕ → ℕ → List ℕ
 tokens_line k generation front = decimal k ++ (codes ": tokens generation " ++ (decimal generation ++ (codes " front " ++ (decimal front ++ codes "\n"))))
 
@@ -63,12 +66,15 @@ abbrev pub tag_or_dash : Option (List ℕ) → List ℕ
 tag_or_dash None = codes "-"
 tag_or_dash (Some tag) = tag
 
+-- the line for an ask, up to its body
 abbrev pub ask_start : ℕ → ℕ → ℕ → List ℕ → List ℕ
 ask_start k front status tag = decimal k ++ (codes ": front " ++ (decimal front ++ (codes " status " ++ (decimal status ++ (codes " tag " ++ (tag ++ codes " body "))))))
 
+-- the line for an ask
 abbrev pub ask_line : ℕ → ℕ → Reply → List ℕ
 ask_line k front reply = ask_start k front reply.status (tag_or_dash reply.tag) ++ reply.body ++ codes "\n"
 
+-- the line for a line that is refused
 abbrev pub refused_text : ℕ → List ℕ → List ℕ
 refused_text k cause = codes "refused: line " ++ (decimal k ++ (codes ": " ++ (cause ++ codes "\n")))
 
@@ -106,6 +112,7 @@ number_at slot d = option_map (λ version. version.number) (place_of (installed_
 abbrev pub judged_as : ℕ → List ℕ → ℕ → Standing → Answered
 judged_as k word slot after = record { text = verdict_line k word (number_text (number_at slot after)) after.front; desk = after }
 
+-- what a batch does by its verdict, and its line
 abbrev pub judged : ℕ → ℕ → Batch → Standing → Verdict → Answered
 judged k slot batch d Apply = judged_as k (codes "apply") slot (with_batch slot batch d)
 judged k slot batch d Repeat = judged_as k (codes "repeat") slot d
@@ -126,17 +133,21 @@ put_batch k environment d batch = arrive k batch (with_name environment d) (slot
 abbrev pub put_ask : ℕ → Standing → Ask → Answered
 put_ask k d ask = record { text = ask_line k d.front (answer_of d.board ask.request ask.draw); desk = d }
 
+-- the answer to a line of tokens
 abbrev pub tokens_of_line : ℕ → Standing → Data → LineReading Answered
 tokens_of_line k d line = and_then (refusing refusal_for_book (book_of line)) (λ tokens. Ok (put_tokens k tokens d))
 
+-- the answer to a line with a batch
 abbrev pub batch_of_line : ℕ → Standing → Data → LineReading Answered
 batch_of_line k d line = and_then (documented (required name field.Environment line)) (λ environment.
     and_then (batch_in (number_in environment d.board) line) (put_batch k environment d))
 
+-- the answer to a line with a feed
 abbrev pub feed_of_line : ℕ → Standing → Data → LineReading Answered
 feed_of_line k d line = and_then (documented (required name field.Environment line)) (λ environment.
     and_then (feed_in line) (put_batch k environment d))
 
+-- the answer to an ask
 abbrev pub ask_of_line : ℕ → Standing → Data → LineReading Answered
 ask_of_line k d line = and_then (documented (ask_of line)) (λ ask. Ok (put_ask k d ask))
 
@@ -149,6 +160,7 @@ answer_op k d line op =
     else (if bytes_eq op (codes "ask") then ask_of_line k d line
     else (if bytes_eq op (codes "metrics") then Err NotBuilt else Err (Document (WrongKind field.Op))))))
 
+-- the answer to a line by its op
 abbrev pub answer_object : ℕ → Standing → Data → LineReading Answered
 answer_object k d line = and_then (documented (required any_text field.Op line)) (answer_op k d line)
 
@@ -156,6 +168,7 @@ answer_object k d line = and_then (documented (required any_text field.Op line))
 unfoldable pub answer_read : ℕ → Standing → List ℕ → LineReading Answered
 answer_read k d bytes = and_then (ok_or (object_in bytes) (Document NotJson)) (answer_object k d)
 
+-- the most lines that a replay takes
 abbrev pub most_lines : ℕ
 most_lines = 1000000
 
@@ -170,6 +183,7 @@ printed k (Err cause) = refused_text k (refusal_text cause)
 
 -- ---- all lines
 
+-- a replay before which some text was printed
 abbrev pub begun_by : List ℕ → Replayed → Replayed
 begun_by text r = record { text = text ++ r.text; ending = r.ending }
 

@@ -79,6 +79,7 @@ pub record StopsReading (before after : Scene) : Type 0 where
   pub none : after.held ≡ []
   pub sent : after.sent ≡ before.sent
 
+-- what one turn does: a line is answered, the input has ended, or why neither is so
 abbrev pub Turns : Result Progress ReplayFault → ℕ → Scene → Scene → Type 0
 Turns (Ok Line) k before after = GoesOn k before after
 Turns (Ok Over) k before after = ComesToEnd k before after

@@ -21,6 +21,7 @@ pub record AnswersRead (left left_after old new : Option (List ℕ)) : Type 0 wh
   pub took : Takes left read left_after
   pub answered : IsAnswered (replay_of_ended read) old new
 
+-- How a replay ends, over the bytes to come and those sent, before and after.
 abbrev pub Replays : Result (Unit {0}) ReplayFault → Option (List ℕ) → Option (List ℕ) → Option (List ℕ) → Option (List ℕ) → Type 0
 Replays (Ok u) left left_after old new = IfSome left (λ bytes. IsAnswered (replay_of bytes) old new)
 Replays (Err Bad) left left_after old new = IfSome left (λ bytes. IsRefusing (replay_of bytes) old new)
