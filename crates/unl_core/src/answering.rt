@@ -1,11 +1,12 @@
 //! The answer to one request.
 ghost use Rattle.std.specs.Prelude.{◌≡◌, ◌∷◌, [], codes, IfOk, Ok, Some};
-ghost use Rattle.unl_core.specs.Answer.{answer_of, asked_context, at_route, bad_method, fed, featured, feature_reply, has_tag, listed, news_since, one_text, registered, reply, seen, still_at, told, toggled, toggles_for, validated};
+ghost use Rattle.unl_core.specs.Answer.{answer_of, asked_context, at_route, bad_method, fed, featured, feature_reply, has_tag, listed, news_since, one_text, plain, registered, reply, reported, reported_by, seen, still_at, told, toggled, toggles_for, validated};
 ghost use Rattle.unl_core.specs.Board.{AreSlots};
 ghost use Rattle.unl_core.specs.Shown.{ready_by, shown_by};
 ghost use Rattle.unl_dependencies.specs.Evaluation.{feature_named};
 ghost use Rattle.unl_context.specs.declared.fault.BadContext.TheVariants.{Memory as memory};
 ghost use Rattle.unl_documents.specs.Results.{Gives};
+ghost use Rattle.unl_metrics.specs.Report.{bulk_report_of, single_report_of};
 ghost use Rattle.unl_tokens.specs.Requests.{asked_in};
 
 use crate::board::Board;
@@ -21,9 +22,10 @@ use unl_delta::{DeltaAnswer, answer as delta_answer, view, write_batch};
 use unl_dependencies::feature_named;
 use unl_documents::json::read_object;
 use unl_documents::{Copied, FeedHead, List, Memory, Text, write_feature, write_feed};
-use unl_http_api::{Request, Route, is_post, query_of};
+use unl_http_api::{Reply, Request, Route, is_post, query_of};
+use unl_metrics::{BadReport, Report};
 use unl_strategies::Moment;
-use unl_tokens::{BadRequest, Kind, Projects, read_request, write_answer};
+use unl_tokens::{BadRequest, Kind, Projects, Token, read_request, write_answer};
 
 /// Answers a request by the first case that fits: no route, a method that the route doesn't have, and then what the route
 /// answers. What a token is answered is over what it sees of its environment's state: the features of its projects, and
@@ -36,27 +38,39 @@ pub fn answer(
     draw: &Draw,
 ) -> Result<Answer, Memory>
     requires { AreSlots board.now.slots }
-    ensures { IfOk result (λ a. a.reply ≡ answer_of board.now request.now draw.entry.now) }
+    ensures { IfOk result (λ a. a ≡ answer_of board.now request.now draw.entry.now) }
 {
     let Some(route) = Route::of(alloc, request.target.as_slice())? else {
-        return refuse(alloc, StatusCode::NOT_FOUND, "NoSuchRoute");
+        return Ok(plain(refuse(alloc, StatusCode::NOT_FOUND, "NoSuchRoute")?));
     };
     if !route.methods().allows(request.method) {
-        return refuse_method(alloc, &route);
+        return Ok(plain(refuse_method(alloc, &route)?));
     }
     at_route(alloc, board, request, draw, &route)
 }
 
 /// The refusal of a method, with those that the route has.
-fn refuse_method(alloc: Global, route: &Route) -> Result<Answer, Memory>
-    ensures { IfOk result (λ a. a.reply ≡ bad_method route.now) }
+fn refuse_method(alloc: Global, route: &Route) -> Result<Reply, Memory>
+    ensures { IfOk result (λ r. r ≡ bad_method route.now) }
 {
     let allow = Text::new(alloc, route.methods().text())?;
-    let mut answer = refuse(alloc, StatusCode::METHOD_NOT_ALLOWED, "BadMethod")?;
-    answer.reply.allow = Some(allow);
-    Ok(answer)
+    let mut reply = refuse(alloc, StatusCode::METHOD_NOT_ALLOWED, "BadMethod")?;
+    reply.allow = Some(allow);
+    Ok(reply)
 }
 
+/// A reply to a request that reports nothing.
+fn plain(reply: Reply) -> Answer
+    ensures { result ≡ plain reply }
+{
+    Answer {
+        reply,
+        report: None,
+        environment: None,
+    }
+}
+
+/// What the route answers, whose methods have the request's.
 fn at_route(
     alloc: Global,
     board: &Board,
@@ -64,31 +78,79 @@ fn at_route(
     draw: &Draw,
     route: &Route,
 ) -> Result<Answer, Memory>
-    ensures { IfOk result (λ a. a.reply ≡ at_route board.now request.now draw.entry.now route.now) }
+    ensures { IfOk result (λ a. a ≡ at_route board.now request.now draw.entry.now route.now) }
 {
     match route {
-        Route::Health => healthy(alloc),
-        Route::Validate => validate(alloc, board, request),
-        Route::Features => feed(alloc, board, request),
-        Route::Feature(name) => feature(alloc, board, request, name),
-        Route::Delta => changes(alloc, board, request),
-        Route::Enabled => toggles(alloc, board, request, draw, false),
-        Route::All => toggles(alloc, board, request, draw, true),
-        Route::Register => register(alloc, board, request, Kind::Client),
-        Route::FrontRegister => register(alloc, board, request, Kind::Frontend),
+        Route::Health => Ok(plain(healthy(alloc)?)),
+        Route::Validate => Ok(plain(validate(alloc, board, request)?)),
+        Route::Features => Ok(plain(feed(alloc, board, request)?)),
+        Route::Feature(name) => Ok(plain(feature(alloc, board, request, name)?)),
+        Route::Delta => Ok(plain(changes(alloc, board, request)?)),
+        Route::Enabled => Ok(plain(toggles(alloc, board, request, draw, false)?)),
+        Route::All => Ok(plain(toggles(alloc, board, request, draw, true)?)),
+        Route::Register => Ok(plain(register(alloc, board, request, Kind::Client)?)),
+        Route::FrontRegister => Ok(plain(register(alloc, board, request, Kind::Frontend)?)),
+        Route::Metrics => report(alloc, board, request, Kind::Client),
+        Route::FrontMetrics => report(alloc, board, request, Kind::Frontend),
+        Route::Bulk => bulk_report(alloc, board, request),
     }
 }
 
-fn healthy(alloc: Global) -> Result<Answer, Memory>
-    ensures { IfOk result (λ a. a.reply ≡ reply 200 (one_text (codes "status") (codes "OK"))) }
+/// Takes in what an application counted at its toggles.
+fn report(alloc: Global, board: &Board, request: &Request, kind: Kind) -> Result<Answer, Memory>
+    ensures { IfOk result (λ a. a ≡ reported (shown_by board.now request.now kind) (single_report_of request.now.body)) }
+{
+    match shown_by(board, request, kind) {
+        Err(unseen) => Ok(plain(refuse_unseen(alloc, unseen)?)),
+        Ok(shown) => {
+            let reading = Report::read_single(alloc, request.body.as_slice());
+            reported_by(alloc, shown.token, reading)
+        }
+    }
+}
+
+/// Takes in what an edge summed up.
+fn bulk_report(alloc: Global, board: &Board, request: &Request) -> Result<Answer, Memory>
+    ensures { IfOk result (λ a. a ≡ reported (shown_by board.now request.now Kind.Client) (bulk_report_of request.now.body)) }
+{
+    match shown_by(board, request, Kind::Client) {
+        Err(unseen) => Ok(plain(refuse_unseen(alloc, unseen)?)),
+        Ok(shown) => {
+            let reading = Report::read_bulk(alloc, request.body.as_slice());
+            reported_by(alloc, shown.token, reading)
+        }
+    }
+}
+
+/// A report for the environment of a token, or the refusal of one that can't be read.
+fn reported_by(
+    alloc: Global,
+    token: &Token,
+    reading: Result<Report, BadReport>,
+) -> Result<Answer, Memory>
+    ensures { IfOk result (λ a. (reading ≢ Err BadReport.Memory) × (a ≡ reported_by token.now reading)) }
+{
+    match reading {
+        Err(BadReport::Memory) => Err(Memory),
+        Err(_) => Ok(plain(refuse(alloc, StatusCode::BAD_REQUEST, "BadReport")?)),
+        Ok(report) => Ok(Answer {
+            reply: bare(alloc, StatusCode::ACCEPTED)?,
+            report: Some(report),
+            environment: Some(token.environment.copy(alloc)?),
+        }),
+    }
+}
+
+fn healthy(alloc: Global) -> Result<Reply, Memory>
+    ensures { IfOk result (λ r. r ≡ reply 200 (one_text (codes "status") (codes "OK"))) }
 {
     let body = one_text(alloc, "status", "OK")?;
     made(alloc, StatusCode::OK, &body)
 }
 
 /// Which of the tokens asked for are known.
-fn validate(alloc: Global, board: &Board, request: &Request) -> Result<Answer, Memory>
-    ensures { IfOk result (λ a. a.reply ≡ validated board.now (asked_in request.now.body)) }
+fn validate(alloc: Global, board: &Board, request: &Request) -> Result<Reply, Memory>
+    ensures { IfOk result (λ r. r ≡ validated board.now (asked_in request.now.body)) }
 {
     match read_request(alloc, request.body.as_slice()) {
         Err(BadRequest::Memory) => Err(Memory),
@@ -101,8 +163,8 @@ fn validate(alloc: Global, board: &Board, request: &Request) -> Result<Answer, M
 }
 
 /// Takes note of nothing: a client that registers need only send an object.
-fn register(alloc: Global, board: &Board, request: &Request, kind: Kind) -> Result<Answer, Memory>
-    ensures { IfOk result (λ a. a.reply ≡ registered request.now (shown_by board.now request.now kind)) }
+fn register(alloc: Global, board: &Board, request: &Request, kind: Kind) -> Result<Reply, Memory>
+    ensures { IfOk result (λ r. r ≡ registered request.now (shown_by board.now request.now kind)) }
 {
     match shown_by(board, request, kind) {
         Err(unseen) => refuse_unseen(alloc, unseen),
@@ -120,8 +182,8 @@ fn toggles(
     request: &Request,
     draw: &Draw,
     all: bool,
-) -> Result<Answer, Memory>
-    ensures { IfOk result (λ a. a.reply ≡ toggled board.now request.now draw.entry.now all (ready_by board.now request.now Kind.Frontend)) }
+) -> Result<Reply, Memory>
+    ensures { IfOk result (λ r. r ≡ toggled board.now request.now draw.entry.now all (ready_by board.now request.now Kind.Frontend)) }
 {
     match ready_by(board, request, Kind::Frontend) {
         Err(unseen) => refuse_unseen(alloc, unseen),
@@ -136,8 +198,8 @@ fn toggles_for(
     draw: &Draw,
     all: bool,
     ready: &Ready,
-) -> Result<Answer, Memory>
-    ensures { IfOk result (λ a. a.reply ≡ toggles_for board.now draw.entry.now all ready.now (asked_context request.now)) }
+) -> Result<Reply, Memory>
+    ensures { IfOk result (λ r. r ≡ toggles_for board.now draw.entry.now all ready.now (asked_context request.now)) }
 {
     match asked_context(alloc, request) {
         Err(BadContext::Memory) => Err(Memory),
@@ -184,8 +246,8 @@ fn feature(
     board: &Board,
     request: &Request,
     name: &Option<Text>,
-) -> Result<Answer, Memory>
-    ensures { IfOk result (λ a. a.reply ≡ featured name.now (ready_by board.now request.now Kind.Client)) }
+) -> Result<Reply, Memory>
+    ensures { IfOk result (λ r. r ≡ featured name.now (ready_by board.now request.now Kind.Client)) }
 {
     match ready_by(board, request, Kind::Client) {
         Err(unseen) => refuse_unseen(alloc, unseen),
@@ -197,8 +259,8 @@ fn feature(
 }
 
 #[tactic(auto, using(crate::proofs::Bodies::feature_written))]
-fn feature_of(alloc: Global, ready: &Ready, name: &str) -> Result<Answer, Memory>
-    ensures { IfOk result (λ a. a.reply ≡ feature_reply (feature_named name.now (seen ready.now).features)) }
+fn feature_of(alloc: Global, ready: &Ready, name: &str) -> Result<Reply, Memory>
+    ensures { IfOk result (λ r. r ≡ feature_reply (feature_named name.now (seen ready.now).features)) }
 {
     let seen = view(
         alloc,
@@ -215,8 +277,8 @@ fn feature_of(alloc: Global, ready: &Ready, name: &str) -> Result<Answer, Memory
 }
 
 /// The features and segments that the request's token sees, unless the asker has them.
-fn feed(alloc: Global, board: &Board, request: &Request) -> Result<Answer, Memory>
-    ensures { IfOk result (λ a. a.reply ≡ fed board.now request.now (ready_by board.now request.now Kind.Client)) }
+fn feed(alloc: Global, board: &Board, request: &Request) -> Result<Reply, Memory>
+    ensures { IfOk result (λ r. r ≡ fed board.now request.now (ready_by board.now request.now Kind.Client)) }
 {
     match ready_by(board, request, Kind::Client) {
         Err(unseen) => refuse_unseen(alloc, unseen),
@@ -230,8 +292,8 @@ fn feed_for(
     board: &Board,
     request: &Request,
     ready: &Ready,
-) -> Result<Answer, Memory>
-    ensures { IfOk result (λ a. a.reply ≡ fed board.now request.now (Ok ready.now)) }
+) -> Result<Reply, Memory>
+    ensures { IfOk result (λ r. r ≡ fed board.now request.now (Ok ready.now)) }
 {
     let version = ready.snapshot.version();
     let tag = tag_of(alloc, board, ready.place, version.number)?;
@@ -250,8 +312,8 @@ fn feed_for(
 }
 
 /// What changed since the number of the request's tag, as its token sees it.
-fn changes(alloc: Global, board: &Board, request: &Request) -> Result<Answer, Memory>
-    ensures { IfOk result (λ a. a.reply ≡ told board.now request.now (ready_by board.now request.now Kind.Client)) }
+fn changes(alloc: Global, board: &Board, request: &Request) -> Result<Reply, Memory>
+    ensures { IfOk result (λ r. r ≡ told board.now request.now (ready_by board.now request.now Kind.Client)) }
 {
     match ready_by(board, request, Kind::Client) {
         Err(unseen) => refuse_unseen(alloc, unseen),
@@ -264,8 +326,8 @@ fn changes_for(
     board: &Board,
     request: &Request,
     ready: &Ready,
-) -> Result<Answer, Memory>
-    ensures { IfOk result (λ a. a.reply ≡ told board.now request.now (Ok ready.now)) }
+) -> Result<Reply, Memory>
+    ensures { IfOk result (λ r. r ≡ told board.now request.now (Ok ready.now)) }
 {
     let since = since_of(alloc, board, ready.place, &request.tag)?;
     news_since(alloc, board, ready, since)
@@ -277,8 +339,8 @@ fn news_since(
     board: &Board,
     ready: &Ready,
     since: Option<u64>,
-) -> Result<Answer, Memory>
-    ensures { IfOk result (λ a. a.reply ≡ news_since board.now ready.now since) }
+) -> Result<Reply, Memory>
+    ensures { IfOk result (λ r. r ≡ news_since board.now ready.now since) }
 {
     match delta_answer(
         alloc,
@@ -301,8 +363,8 @@ fn still_at(
     board: &Board,
     ready: &Ready,
     since: Option<u64>,
-) -> Result<Answer, Memory>
-    ensures { IfOk result (λ a. a.reply ≡ still_at board.now ready.now since) }
+) -> Result<Reply, Memory>
+    ensures { IfOk result (λ r. r ≡ still_at board.now ready.now since) }
 {
     match since {
         None => bare(alloc, StatusCode::NOT_MODIFIED),

@@ -6,6 +6,8 @@ mod receive;
 mod serve;
 mod served;
 #[cfg(test)]
+mod poll_tests;
+#[cfg(test)]
 mod tests;
 
 pub use serve::serve_connection;

@@ -1,0 +1,42 @@
+//! What a report does: it is summed up, or refused where the book of metrics has no room for it.
+ghost use Rattle.std.specs.Prelude.{◌≡◌, Err, IfOk, Ok, OnErr, OnOk};
+ghost use Rattle.unl_core.specs.Settling.{final_book, final_reply, summed};
+
+use crate::desk::Answer;
+use crate::reply::refuse;
+use http::StatusCode;
+use std::alloc::Global;
+use unl_documents::{Memory, Text};
+use unl_http_api::Reply;
+use unl_metrics::{AddRefusal, MetricsBook, Report};
+
+/// Sums up what an answer reports, and gives the reply: the answer's own, or that the book is full, which then stays as it
+/// was. An `Err` changes nothing.
+pub fn settle(alloc: Global, book: &mut MetricsBook, answer: Answer) -> Result<Reply, Memory>
+    ensures reply { IfOk result (λ reply. reply ≡ final_reply book.old answer) }
+    ensures book { OnOk result (book.new ≡ final_book book.old answer) }
+    ensures memory { OnErr result (book.new ≡ book.old) }
+{
+    match sum_up(alloc, book, &answer.report, &answer.environment) {
+        Ok(()) => Ok(answer.reply),
+        Err(AddRefusal::Full) => refuse(alloc, StatusCode::SERVICE_UNAVAILABLE, "MetricsFull"),
+        Err(AddRefusal::Memory) => Err(Memory),
+    }
+}
+
+/// Sums up a report for its environment, where there is one.
+fn sum_up(
+    alloc: Global,
+    book: &mut MetricsBook,
+    report: &Option<Report>,
+    environment: &Option<Text>,
+) -> Result<(), AddRefusal>
+    ensures summed { OnOk result (summed book.old report.now environment.now ≡ Ok book.new) }
+    ensures full { result ≡ Err AddRefusal.Full → summed book.old report.now environment.now ≡ Err AddRefusal.Full }
+    ensures same { OnErr result (book.new ≡ book.old) }
+{
+    match (report, environment) {
+        (Some(report), Some(environment)) => book.add(alloc, report, environment.as_str()),
+        _ => Ok(()),
+    }
+}
