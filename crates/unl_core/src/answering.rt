@@ -1,12 +1,12 @@
 //! The answer to one request.
-ghost use Rattle.std.specs.Prelude.{◌≡◌, ◌∷◌, [], codes, IfOk, Ok, Some};
+ghost use Rattle.std.specs.Prelude.{◌≡◌, ◌≢◌, ◌∷◌, [], codes, IfOk, IfSome, Err, Ok, Some};
 ghost use Rattle.unl_core.specs.Answer.{answer_of, asked_context, at_route, bad_method, fed, featured, feature_reply, has_tag, listed, news_since, one_text, plain, registered, reply, reported, reported_by, seen, still_at, told, toggled, toggles_for, validated};
 ghost use Rattle.unl_core.specs.Board.{AreSlots};
 ghost use Rattle.unl_core.specs.Shown.{ready_by, shown_by};
 ghost use Rattle.unl_dependencies.specs.Evaluation.{feature_named};
 ghost use Rattle.unl_context.specs.declared.fault.BadContext.TheVariants.{Memory as memory};
 ghost use Rattle.unl_documents.specs.Results.{Gives};
-ghost use Rattle.unl_metrics.specs.Report.{bulk_report_of, single_report_of};
+ghost use Rattle.unl_metrics.specs.Reports.{IsReport, bulk_report_of, single_report_of};
 ghost use Rattle.unl_tokens.specs.Requests.{asked_in};
 
 use crate::board::Board;
@@ -38,7 +38,8 @@ pub fn answer(
     draw: &Draw,
 ) -> Result<Answer, Memory>
     requires { AreSlots board.now.slots }
-    ensures { IfOk result (λ a. a ≡ answer_of board.now request.now draw.entry.now) }
+    ensures answer { IfOk result (λ a. a ≡ answer_of board.now request.now draw.entry.now) }
+    ensures report { IfOk result (λ a. IfSome a.report IsReport) }
 {
     let Some(route) = Route::of(alloc, request.target.as_slice())? else {
         return Ok(plain(refuse(alloc, StatusCode::NOT_FOUND, "NoSuchRoute")?));
@@ -78,7 +79,8 @@ fn at_route(
     draw: &Draw,
     route: &Route,
 ) -> Result<Answer, Memory>
-    ensures { IfOk result (λ a. a ≡ at_route board.now request.now draw.entry.now route.now) }
+    ensures answer { IfOk result (λ a. a ≡ at_route board.now request.now draw.entry.now route.now) }
+    ensures report { IfOk result (λ a. IfSome a.report IsReport) }
 {
     match route {
         Route::Health => Ok(plain(healthy(alloc)?)),
@@ -98,7 +100,8 @@ fn at_route(
 
 /// Takes in what an application counted at its toggles.
 fn report(alloc: Global, board: &Board, request: &Request, kind: Kind) -> Result<Answer, Memory>
-    ensures { IfOk result (λ a. a ≡ reported (shown_by board.now request.now kind) (single_report_of request.now.body)) }
+    ensures answer { IfOk result (λ a. a ≡ reported (shown_by board.now request.now kind) (single_report_of request.now.body)) }
+    ensures report { IfOk result (λ a. IfSome a.report IsReport) }
 {
     match shown_by(board, request, kind) {
         Err(unseen) => Ok(plain(refuse_unseen(alloc, unseen)?)),
@@ -111,7 +114,8 @@ fn report(alloc: Global, board: &Board, request: &Request, kind: Kind) -> Result
 
 /// Takes in what an edge summed up.
 fn bulk_report(alloc: Global, board: &Board, request: &Request) -> Result<Answer, Memory>
-    ensures { IfOk result (λ a. a ≡ reported (shown_by board.now request.now Kind.Client) (bulk_report_of request.now.body)) }
+    ensures answer { IfOk result (λ a. a ≡ reported (shown_by board.now request.now Kind.Client) (bulk_report_of request.now.body)) }
+    ensures report { IfOk result (λ a. IfSome a.report IsReport) }
 {
     match shown_by(board, request, Kind::Client) {
         Err(unseen) => Ok(plain(refuse_unseen(alloc, unseen)?)),
@@ -128,7 +132,9 @@ fn reported_by(
     token: &Token,
     reading: Result<Report, BadReport>,
 ) -> Result<Answer, Memory>
-    ensures { IfOk result (λ a. (reading ≢ Err BadReport.Memory) × (a ≡ reported_by token.now reading)) }
+    requires { IfOk reading IsReport }
+    ensures answer { IfOk result (λ a. (reading ≢ Err BadReport.Memory) × (a ≡ reported_by token.now reading)) }
+    ensures report { IfOk result (λ a. IfSome a.report IsReport) }
 {
     match reading {
         Err(BadReport::Memory) => Err(Memory),

@@ -1,6 +1,7 @@
 //! What a report does: it is summed up, or refused where the book of metrics has no room for it.
-ghost use Rattle.std.specs.Prelude.{◌≡◌, Err, IfOk, Ok, OnErr, OnOk};
+ghost use Rattle.std.specs.Prelude.{◌≡◌, Err, IfOk, IfSome, Ok, OnErr, OnOk};
 ghost use Rattle.unl_core.specs.Settling.{final_book, final_reply, summed};
+ghost use Rattle.unl_metrics.specs.Reports.{IsReport};
 
 use crate::desk::Answer;
 use crate::reply::refuse;
@@ -13,6 +14,7 @@ use unl_metrics::{AddRefusal, MetricsBook, Report};
 /// Sums up what an answer reports, and gives the reply: the answer's own, or that the book is full, which then stays as it
 /// was. An `Err` changes nothing.
 pub fn settle(alloc: Global, book: &mut MetricsBook, answer: Answer) -> Result<Reply, Memory>
+    requires { IfSome answer.report IsReport }
     ensures reply { IfOk result (λ reply. reply ≡ final_reply book.old answer) }
     ensures book { OnOk result (book.new ≡ final_book book.old answer) }
     ensures memory { OnErr result (book.new ≡ book.old) }
@@ -31,6 +33,7 @@ fn sum_up(
     report: &Option<Report>,
     environment: &Option<Text>,
 ) -> Result<(), AddRefusal>
+    requires { IfSome report.now IsReport }
     ensures summed { OnOk result (summed book.old report.now environment.now ≡ Ok book.new) }
     ensures full { result ≡ Err AddRefusal.Full → summed book.old report.now environment.now ≡ Err AddRefusal.Full }
     ensures same { OnErr result (book.new ≡ book.old) }
