@@ -1,0 +1,4 @@
+pub mod Hours
+pub mod Reports
+pub mod Book
+pub mod Bulk

@@ -1,0 +1,46 @@
+//! Why a report could not be read.
+ghost use Rattle.std.specs.Prelude.{◌≡◌};
+ghost use Rattle.unl_metrics.specs.Reports.{report_fault};
+ghost use Rattle.unl_metrics.specs.declared.fault.BadReport.TheVariants.{Memory as memory};
+
+use unl_documents::{BadDocument, Field, Memory};
+
+/// Why bytes are no report: the first fault, or want of memory.
+#[derive(Clone, Copy, Debug, PartialEq, Eq)]
+pub enum BadReport {
+    /// No JSON, or no object.
+    NotJson,
+    /// The key is required and absent, or a name at it has no bytes.
+    Missing(Field),
+    /// The value at the key is of another kind than the key takes: also a count that is no whole number from 0 on, and a
+    /// text that is no instant of the years 1970 to 9999.
+    WrongKind(Field),
+    /// With the length or the count that is past its limit.
+    TooLarge(Field, u64),
+    /// Memory ran out.
+    Memory,
+}
+
+impl From<Memory> for BadReport {
+    ghost from_gives = { λ _ e. e ≡ memory };
+
+    fn from(_e: Memory) -> BadReport {
+        BadReport::Memory
+    }
+}
+
+impl From<BadDocument> for BadReport {
+    ghost from_gives = { λ document e. e ≡ report_fault document };
+
+    fn from(document: BadDocument) -> BadReport {
+        match document {
+            BadDocument::NotJson => BadReport::NotJson,
+            BadDocument::Missing(key) => BadReport::Missing(key),
+            BadDocument::WrongKind(key) => BadReport::WrongKind(key),
+            BadDocument::TooLarge(key, count) => BadReport::TooLarge(key, count),
+            BadDocument::DuplicateName(key, _) => BadReport::WrongKind(key),
+            BadDocument::NotWhole(key) => BadReport::WrongKind(key),
+            BadDocument::Memory => BadReport::Memory,
+        }
+    }
+}

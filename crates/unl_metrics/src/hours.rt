@@ -1,0 +1,70 @@
+//! Hours since 1970.
+ghost use Rattle.std.specs.Prelude.{◌≡◌, ◌<◌, IfOk, IfSome};
+ghost use Rattle.unl_metrics.specs.Hours.{hour_of, hour_text, hours_of_years};
+
+use jiff::ToSpan;
+use jiff::civil::{Date, date};
+use serde_json::Value;
+use std::alloc::Global;
+use unl_constraints::read_instant;
+use unl_documents::kind::Kind;
+use unl_documents::{BadDocument, Field, Memory, Text};
+
+/// The hour of an instant of the years 1970 to 9999, which is given as a text.
+pub(crate) struct Hour;
+
+impl Kind for Hour {
+    ghost use Rattle.unl_metrics.specs.Reports.{hour};
+
+    type Out = u32;
+
+    ghost reads = { hour };
+
+    ghost is_valid = { λ h. h < hours_of_years };
+
+    #[tactic(auto, unfolding(crate::specs::Reports::hour))]
+    fn read(alloc: Global, field: Field, value: &Value) -> Result<u32, BadDocument> {
+        let Some(text) = value.as_str() else {
+            return Err(BadDocument::WrongKind(field));
+        };
+        let instant = read_instant(alloc, text)?;
+        instant
+            .and_then(hour_of)
+            .ok_or(BadDocument::WrongKind(field))
+    }
+}
+
+/// The whole hours from 1970 to an instant in nanoseconds, if it is of the years 1970 to 9999.
+#[tactic(auto, unfolding(crate::specs::Hours::hour_of))]
+fn hour_of(instant: i128) -> Option<u32>
+    ensures hour { result ≡ hour_of instant }
+    ensures below { IfSome result (λ h. h < hours_of_years) }
+{
+    if instant < 0 {
+        return None;
+    }
+    let hour = instant / 3_600_000_000_000;
+    if hour < 70_389_528 {
+        Some(hour as u32)
+    } else {
+        None
+    }
+}
+
+/// The day so many days after 1970-01-01.
+fn day_after(days: u32) -> Date
+    requires { days < 2_932_897 }
+{
+    let epoch = date(1970, 1, 1);
+    epoch.checked_add((days as i64).days()).unwrap()
+}
+
+/// An hour as a text, `YYYY-MM-DDTHH:00:00Z`.
+pub(crate) fn hour_text(alloc: Global, hour: u32) -> Result<Text, Memory>
+    requires { hour < hours_of_years }
+    ensures { IfOk result (λ t. t ≡ hour_text hour) }
+{
+    let day = day_after(hour / 24);
+    let time = day.at((hour % 24) as i8, 0, 0, 0);
+    Ok(Text::from(format!(in alloc; "{time}Z")?))
+}

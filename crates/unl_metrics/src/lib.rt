@@ -1,0 +1,20 @@
+//! Metrics of features: reports of how often each was on and off, and the book that sums them until they are sent on.
+#![tactic(auto)]
+
+mod book;
+mod bulk;
+mod fault;
+mod hours;
+mod reading;
+mod refusal;
+mod report;
+mod row;
+mod sums;
+
+pub use book::MetricsBook;
+pub use fault::BadReport;
+pub use refusal::AddRefusal;
+pub use report::{MetricEntry, Report, VariantCount};
+
+#[cfg(test)]
+mod tests;

@@ -1,0 +1,241 @@
+//! Reading the values of reports.
+ghost use Rattle.std.specs.Prelude.{◌≡◌, ◌<◌, IfOk, All, map, length};
+ghost use Rattle.serde_json.specs.Events.{members_len};
+ghost use Rattle.serde_json.specs.View.{view, members_view};
+ghost use Rattle.unl_documents.specs.Kinds.{object_of, required as required_at};
+ghost use Rattle.unl_documents.specs.Parameters.{AreRising};
+ghost use Rattle.unl_documents.specs.Reading.{Gives};
+ghost use Rattle.unl_metrics.specs.Hours.{hours_of_years};
+ghost use Rattle.unl_metrics.specs.Reports.{variant_count, each_member, members as members_at, entry_of, toggle_of, bucket_of, single_of, bulk_of, IsEntry, IsReport};
+
+use crate::hours::Hour;
+use crate::report::{MetricEntry, Report, VariantCount};
+use serde_json::{Map, Value};
+use std::alloc::Global;
+use unl_documents::document::{Document, Object};
+use unl_documents::items::ListOf;
+use unl_documents::keys::{defaulted, required, value_at};
+use unl_documents::kind::{AnyWhole, Kind, Name, name_of};
+use unl_documents::{BadDocument, Copied, Field, List, Text};
+
+/// How often each variant was given: an object of whole numbers.
+struct Variants;
+
+impl Kind for Variants {
+    type Out = List<VariantCount>;
+
+    ghost reads = { members_at 100 variant_count };
+
+    ghost is_valid = { λ variants. AreRising (map (λ v. v.name) variants) };
+
+    #[tactic(auto, unfolding(crate::specs::Reports::members))]
+    fn read(alloc: Global, field: Field, value: &Value) -> Result<List<VariantCount>, BadDocument> {
+        let Some(members) = value.as_object() else {
+            return Err(BadDocument::WrongKind(field));
+        };
+        let count = count_of(members);
+        if count > 100 {
+            return Err(BadDocument::TooLarge(field, count as u64));
+        }
+        each_variant(alloc, field, members)
+    }
+}
+
+fn count_of(members: &Map<String, Value>) -> usize
+    ensures { result ≡ members_len (members_view members.now.entries) }
+{
+    members.len()
+}
+
+fn each_variant(
+    alloc: Global,
+    field: Field,
+    members: &Map<String, Value>,
+) -> Result<List<VariantCount>, BadDocument>
+    ensures gives { Gives result (each_member (variant_count field) (members_view members.now.entries)) }
+    ensures valid { IfOk result (λ variants. AreRising (map (λ v. v.name) variants)) }
+{
+    let mut variants = List::new(alloc);
+    for (name, value) in members.iter() {
+        variants.push(variant_of(alloc, field, name.as_str(), value)?)?;
+    }
+    Ok(variants)
+}
+
+#[tactic(auto, unfolding(crate::specs::Reports::variant_count))]
+fn variant_of(
+    alloc: Global,
+    field: Field,
+    name: &str,
+    value: &Value,
+) -> Result<VariantCount, BadDocument>
+    ensures gives { Gives result (variant_count field name.now (view value.now)) }
+    ensures same { IfOk result (λ v. v.name ≡ name.now) }
+{
+    let name = name_of(alloc, field, name)?;
+    let count = AnyWhole::read(alloc, field, value)?;
+    Ok(VariantCount { name, count })
+}
+
+/// What an object counts of a feature of an app in an hour.
+#[tactic(auto, unfolding(crate::specs::Reports::entry_of))]
+fn entry_of(
+    alloc: Global,
+    app: Text,
+    feature: Text,
+    hour: u32,
+    value: &Value,
+) -> Result<MetricEntry, BadDocument>
+    requires { hour < hours_of_years }
+    ensures gives { Gives result (entry_of app feature hour (view value.now)) }
+    ensures valid { IfOk result IsEntry }
+{
+    let none = List::new(alloc);
+    let yes = defaulted::<AnyWhole>(alloc, 0, Field::Yes, value)?;
+    let no = defaulted::<AnyWhole>(alloc, 0, Field::No, value)?;
+    let variants = defaulted::<Variants>(alloc, none, Field::Variants, value)?;
+    Ok(MetricEntry {
+        app,
+        feature,
+        hour,
+        yes,
+        no,
+        variants,
+    })
+}
+
+#[tactic(auto, unfolding(crate::specs::Reports::toggle_of))]
+fn toggle_of(
+    alloc: Global,
+    app: &Text,
+    hour: u32,
+    field: Field,
+    feature: &str,
+    value: &Value,
+) -> Result<MetricEntry, BadDocument>
+    requires { hour < hours_of_years }
+    ensures gives { Gives result (toggle_of app.now hour field feature.now (view value.now)) }
+    ensures valid { IfOk result IsEntry }
+{
+    let feature = name_of(alloc, field, feature)?;
+    if !value.is_object() {
+        return Err(BadDocument::WrongKind(field));
+    }
+    entry_of(alloc, app.copy(alloc)?, feature, hour, value)
+}
+
+fn each_toggle(
+    alloc: Global,
+    app: &Text,
+    hour: u32,
+    field: Field,
+    members: &Map<String, Value>,
+) -> Result<List<MetricEntry>, BadDocument>
+    requires { hour < hours_of_years }
+    ensures gives { Gives result (each_member (toggle_of app.now hour field) (members_view members.now.entries)) }
+    ensures valid { IfOk result (All IsEntry) }
+{
+    let mut entries = List::new(alloc);
+    for (feature, value) in members.iter() {
+        entries.push(toggle_of(alloc, app, hour, field, feature.as_str(), value)?)?;
+    }
+    Ok(entries)
+}
+
+/// The toggles of an app in an hour: an object of objects.
+#[tactic(auto, unfolding(crate::specs::Reports::members))]
+fn toggles_of(
+    alloc: Global,
+    app: &Text,
+    hour: u32,
+    field: Field,
+    value: &Value,
+) -> Result<List<MetricEntry>, BadDocument>
+    requires { hour < hours_of_years }
+    ensures gives { Gives result (members_at 10000 (toggle_of app.now hour) field (view value.now)) }
+    ensures valid { IfOk result (All IsEntry) }
+{
+    let Some(members) = value.as_object() else {
+        return Err(BadDocument::WrongKind(field));
+    };
+    let count = count_of(members);
+    if count > 10_000 {
+        return Err(BadDocument::TooLarge(field, count as u64));
+    }
+    each_toggle(alloc, app, hour, field, members)
+}
+
+#[tactic(auto, unfolding(crate::specs::Reports::bucket_of))]
+fn bucket_of(
+    alloc: Global,
+    app: &Text,
+    value: &Value,
+) -> Result<List<MetricEntry>, BadDocument>
+    ensures gives { Gives result (bucket_of app.now (view value.now)) }
+    ensures valid { IfOk result (All IsEntry) }
+{
+    let hour = required::<Hour>(alloc, Field::Start, value)?;
+    match value_at(Field::Toggles, value) {
+        None => Ok(List::new(alloc)),
+        Some(toggles) => toggles_of(alloc, app, hour, Field::Toggles, toggles),
+    }
+}
+
+/// The report that one app sends.
+///
+/// # Errors
+/// The first fault of its keys.
+#[tactic(auto, unfolding(crate::specs::Reports::single_of))]
+pub(crate) fn read_single(alloc: Global, value: &Value) -> Result<Report, BadDocument>
+    ensures gives { Gives result (single_of (view value.now)) }
+    ensures valid { IfOk result IsReport }
+{
+    let app = required::<Name>(alloc, Field::AppName, value)?;
+    let entries = entries_of(alloc, &app, Field::Bucket, value)?;
+    Ok(Report { entries })
+}
+
+fn entries_of(
+    alloc: Global,
+    app: &Text,
+    field: Field,
+    value: &Value,
+) -> Result<List<MetricEntry>, BadDocument>
+    ensures gives { Gives result (required_at (object_of (bucket_of app.now)) field (view value.now)) }
+    ensures valid { IfOk result (All IsEntry) }
+{
+    match value_at(field, value) {
+        None => Err(BadDocument::Missing(field)),
+        Some(bucket) if bucket.is_object() => bucket_of(alloc, app, bucket),
+        Some(_) => Err(BadDocument::WrongKind(field)),
+    }
+}
+
+impl Document for MetricEntry {
+    ghost use Rattle.unl_metrics.specs.Reports.{bulk_entry_of};
+
+    ghost reads_object = { bulk_entry_of };
+
+    ghost is_valid = { IsEntry };
+
+    #[tactic(auto, unfolding(crate::specs::Reports::bulk_entry_of))]
+    fn read_object(alloc: Global, value: &Value) -> Result<MetricEntry, BadDocument> {
+        let feature = required::<Name>(alloc, Field::FeatureName, value)?;
+        let app = required::<Name>(alloc, Field::AppName, value)?;
+        let hour = required::<Hour>(alloc, Field::Timestamp, value)?;
+        entry_of(alloc, app, feature, hour, value)
+    }
+}
+
+/// The report that a replica sends for its apps.
+///
+/// # Errors
+/// The first fault of its keys.
+#[tactic(auto, unfolding(crate::specs::Reports::bulk_of))]
+pub(crate) fn read_bulk(alloc: Global, value: &Value) -> Result<Report, BadDocument>
+    ensures gives { Gives result (bulk_of (view value.now)) }
+    ensures valid { IfOk result IsReport }
+{
+    let entries = required::<ListOf<Object<MetricEntry>, 10_000>>(alloc, Field::Metrics, value)?;
+    Ok(Report { entries })
+}

@@ -1,0 +1,23 @@
+//! Why a book did not grow.
+ghost use Rattle.std.specs.Prelude.{◌≡◌};
+ghost use Rattle.unl_metrics.specs.declared.refusal.AddRefusal.TheVariants.{Memory as memory};
+
+use std::alloc::{AllocError, AllocFailed};
+use unl_documents::Memory;
+
+/// Why nothing was added to a book.
+#[derive(Clone, Copy, Debug, PartialEq, Eq)]
+pub enum AddRefusal {
+    /// The sum would hold more than 10,000 keys, or more than 100 variant names at one key.
+    Full,
+    /// Memory ran out.
+    Memory,
+}
+
+impl From<Memory> for AddRefusal {
+    ghost from_gives = { λ _ e. e ≡ memory };
+
+    fn from(_e: Memory) -> AddRefusal {
+        AddRefusal::Memory
+    }
+}

@@ -1,0 +1,180 @@
+//! A key of a book, and what was counted at it.
+ghost use Rattle.std.specs.Prelude.{◌≡◌, ◌++◌, IfOk, OnOk, map};
+ghost use Rattle.std.specs.Cmp.Lexicographic.{slice_cmp};
+ghost use Rattle.std.specs.List.Sorted.{IsBinarySearchResult};
+ghost use Rattle.std.specs.Ordering.{nat_cmp};
+ghost use Rattle.serde_json.specs.Data.{no_members};
+ghost use Rattle.serde_json.specs.View.{view, members_view};
+ghost use Rattle.unl_metrics.specs.Bulk.{variants_data, with_counts, counted_data};
+ghost use Rattle.unl_metrics.specs.Book.{counted, key_cmp, is_of, has_few_variants, tally_sum, sum, with_variant, pair, IsCounted};
+
+use crate::hours::hour_text;
+use crate::report::{MetricEntry, VariantCount};
+use serde_json::{Map, Value};
+use std::alloc::Global;
+use std::cmp::Ordering;
+use std::marker::Model;
+use unl_documents::written::{Written, put, put_value};
+use unl_documents::{Copied, Field, List, Memory, Text};
+
+/// A key of a book and its tally, as the entry of a report and the environment that this is for.
+#[derive(Drop)]
+pub(crate) struct Row {
+    environment: Text,
+    entry: MetricEntry,
+}
+
+impl Model for Row {
+    ghost use Rattle.unl_metrics.specs.Book.{Key, Tally};
+
+    ghost Value = { Key × Tally };
+
+    ghost view = { λ r. counted r.environment r.entry };
+}
+
+impl Row {
+    /// The row of an entry for an environment.
+    pub(crate) fn new(alloc: Global, environment: &str, entry: &MetricEntry) -> Result<Row, Memory>
+        ensures { IfOk result (λ row. row ≡ counted environment.now entry.now) }
+    {
+        Ok(Row {
+            environment: Text::new(alloc, environment)?,
+            entry: entry.copy(alloc)?,
+        })
+    }
+
+    /// The order of the keys: by environment, app, feature and hour.
+    pub(crate) fn compare(&self, other: &Row) -> Ordering
+        ensures { result ≡ key_cmp self.now.0 other.now.0 }
+    {
+        compare(self.environment.as_str(), other.environment.as_str())
+            .then(compare(self.entry.app.as_str(), other.entry.app.as_str()))
+            .then(compare(self.entry.feature.as_str(), other.entry.feature.as_str()))
+            .then(self.entry.hour.cmp(&other.entry.hour))
+    }
+
+    /// Whether the key is of the environment.
+    pub(crate) fn is_of(&self, environment: &str) -> bool
+        ensures { result ≡ is_of environment.now self.now.0 }
+    {
+        self.environment.as_str() == environment
+    }
+
+    /// Whether there are at most 100 variants.
+    pub(crate) fn has_few_variants(&self) -> bool
+        ensures { result ≡ has_few_variants self.now }
+    {
+        self.entry.variants.len() <= 100
+    }
+
+    /// This key with the sum of both tallies.
+    pub(crate) fn plus(&self, alloc: Global, other: &Row) -> Result<Row, Memory>
+        ensures { IfOk result (λ row. row ≡ (self.now.0, tally_sum self.now.1 other.now.1)) }
+    {
+        Ok(Row {
+            environment: self.environment.copy(alloc)?,
+            entry: entry_sum(alloc, &self.entry, &other.entry)?,
+        })
+    }
+}
+
+fn compare(this: &str, that: &str) -> Ordering
+    ensures { result ≡ slice_cmp nat_cmp this.now that.now }
+{
+    this.cmp(that)
+}
+
+/// The sum, which ends at 2^64 - 1.
+fn sum(a: u64, b: u64) -> u64
+    ensures { result ≡ sum a b }
+{
+    a.saturating_add(b)
+}
+
+/// The first entry with the sums of both.
+fn entry_sum(alloc: Global, this: &MetricEntry, that: &MetricEntry) -> Result<MetricEntry, Memory>
+{
+    Ok(MetricEntry {
+        app: this.app.copy(alloc)?,
+        feature: this.feature.copy(alloc)?,
+        hour: this.hour,
+        yes: sum(this.yes, that.yes),
+        no: sum(this.no, that.no),
+        variants: variants_sum(alloc, &this.variants, &that.variants)?,
+    })
+}
+
+fn variants_sum(
+    alloc: Global,
+    these: &List<VariantCount>,
+    those: &List<VariantCount>,
+) -> Result<List<VariantCount>, Memory>
+{
+    let mut counts = these.copy(alloc)?.into_vec();
+    for count in those.as_slice() {
+        add_variant(&mut counts, alloc, count)?;
+    }
+    Ok(List::from_vec(counts))
+}
+
+fn add_variant(
+    counts: &mut Vec<VariantCount>,
+    alloc: Global,
+    count: &VariantCount,
+) -> Result<(), Memory>
+{
+    match place_of(counts.as_slice(), count.name.as_str()) {
+        Ok(place) => {
+            let old = counts[place].count;
+            counts[place].count = sum(old, count.count);
+        }
+        Err(place) => counts.insert(place, count.copy(alloc)?)?,
+    }
+    Ok(())
+}
+
+fn place_of(counts: &[VariantCount], name: &str) -> Result<usize, usize>
+    ensures { IsBinarySearchResult (λ v. slice_cmp nat_cmp v.name name.now) counts.now result }
+{
+    counts.binary_search_by(|count| compare(count.name.as_str(), name))
+}
+
+impl Row {
+    /// The key and its tally as they are written.
+    #[tactic(auto, unfolding(crate::specs::Bulk::counted_data))]
+    pub(crate) fn write(&self, alloc: Global) -> Result<Value, Memory>
+        requires { IsCounted self.now }
+        ensures { IfOk result (λ v. view v ≡ counted_data self.now) }
+    {
+        let mut members = Map::new(alloc);
+        put(&mut members, alloc, Field::Yes, &self.entry.yes)?;
+        let variants = variants_value(alloc, self.entry.variants.as_slice())?;
+        put_value(&mut members, alloc, Field::Variants, variants)?;
+        let hour = hour_text(alloc, self.entry.hour)?;
+        put(&mut members, alloc, Field::Timestamp, &hour)?;
+        put(&mut members, alloc, Field::No, &self.entry.no)?;
+        put(&mut members, alloc, Field::FeatureName, &self.entry.feature)?;
+        put(&mut members, alloc, Field::Environment, &self.environment)?;
+        put(&mut members, alloc, Field::AppName, &self.entry.app)?;
+        Ok(Value::Object(members))
+    }
+}
+
+/// The counts of variants as an object.
+#[tactic(auto, unfolding(crate::specs::Bulk::variants_data))]
+fn variants_value(alloc: Global, counts: &[VariantCount]) -> Result<Value, Memory>
+    ensures { IfOk result (λ v. view v ≡ variants_data (map pair counts.now)) }
+{
+    Ok(Value::Object(members_of(alloc, counts)?))
+}
+
+fn members_of(alloc: Global, counts: &[VariantCount]) -> Result<Map<String, Value>, Memory>
+    ensures { IfOk result (λ m. members_view m.entries ≡ with_counts (map pair counts.now) no_members) }
+{
+    let mut members = Map::new(alloc);
+    for count in counts {
+        let value = count.count.write(alloc)?;
+        serde_json::put(&mut members, alloc, count.name.as_str(), value)?;
+    }
+    Ok(members)
+}
