@@ -1,0 +1,155 @@
+//! A door whose links are kept in memory.
+ghost use Rattle.std.specs.Prelude.{◌≡◌, ◌<◌, ◌+◌, ◌-◌, ◌∷◌, ◌++◌, [], All, drop, false, length, map, option_map, slice_get, IfSome, IsNone, ◌↔◌};
+ghost use Rattle.unl_base.specs.Doors.{count_of, next_of};
+ghost use Rattle.unl_base.specs.Memory.{IsNew, to_come};
+
+use crate::door::Door;
+use crate::memory::{Calls, MemoryLink};
+use crate::Failed;
+use std::marker::Model;
+
+/// The links of a door. Those that came back stand first, each in the place of one that was handed out; those to come
+/// stand last.
+#[derive(Debug, Drop)]
+struct Stock {
+    links: Vec<Option<MemoryLink>>,
+    given: usize,
+    back: usize,
+}
+
+impl Model for Stock {
+    ghost use Rattle.std.specs.Prelude.{◌≤◌, ◌-◌, All, drop, take, map, vec_len};
+    ghost use Rattle.unl_base.specs.Memory.{IsStocked, Stock, brought, to_come};
+
+    ghost Value = { Stock };
+
+    ghost view = { λ stock. record { links = map to_come (drop stock.given stock.links.items); out = stock.given - stock.back; returned = map brought (take stock.back stock.links.items) } };
+
+    ghost invariant = { λ stock. (stock.given ≤ vec_len stock.links) × IsStocked stock.links.items stock.given stock.back };
+}
+
+impl Stock {
+    fn new(links: Vec<Option<MemoryLink>>) -> Self
+        requires { All IsNew links.items }
+        ensures { result ≡ record { links = map to_come links.items; out = 0; returned = [] } }
+    {
+        Stock {
+            links,
+            given: 0,
+            back: 0,
+        }
+    }
+
+    /// Hands out the next link.
+    fn take(&mut self) -> Option<MemoryLink>
+        ensures ends { IsNone result ↔ (self.old.links ≡ []) }
+        ensures comes { IfSome result (λ link. link ≡ record { left = next_of self.old.links; sent = []; faults = 0 }) }
+        ensures rest { self.new ≡ record { links = drop 1 self.old.links; out = self.old.out + count_of result; returned = self.old.returned } }
+    {
+        if self.given == self.links.len() {
+            return None;
+        }
+        let link = self.links[self.given].take();
+        self.given += 1;
+        link
+    }
+
+    /// Takes back a link.
+    fn put(&mut self, link: MemoryLink)
+        requires { 0 < self.old.out }
+        ensures { self.new ≡ record { links = self.old.links; out = self.old.out - 1; returned = self.old.returned ++ (link.sent, link.faults) ∷ [] } }
+    {
+        self.links[self.back] = Some(link);
+        self.back += 1;
+    }
+
+    /// What the link had sent that came back at a place.
+    fn sent(&self, place: usize) -> Option<&[u8]>
+        ensures { option_map (λ sent. sent.now) result ≡ option_map (λ link. link.0) (slice_get self.now.returned place) }
+    {
+        match &self.links[..self.back].get(place)? {
+            Some(link) => Some(link.sent()),
+            None => None,
+        }
+    }
+}
+
+/// A door whose links are kept in memory, for tests. It is closed once all of them were handed out.
+#[derive(Debug, Drop)]
+pub struct MemoryDoor {
+    listening: bool,
+    stock: Stock,
+    calls: Calls,
+}
+
+impl Model for MemoryDoor {
+    ghost use Rattle.unl_base.specs.Memory.{Gate};
+
+    ghost Value = { Gate };
+
+    ghost view = { λ door. record { listening = door.listening; stock = door.stock; faults = door.calls.faults } };
+}
+
+impl MemoryDoor {
+    /// A door that hands out these links in order, each of which is there, has sent nothing and has counted no fault.
+    /// The calls of `listen` and `accept` whose numbers, from 0, are in `failing` fail.
+    pub fn new(links: Vec<Option<MemoryLink>>, failing: Vec<u64>) -> Self
+        requires { All IsNew links.items }
+        ensures { result ≡ record { listening = false; stock = record { links = map to_come links.items; out = 0; returned = [] }; faults = 0 } }
+    {
+        MemoryDoor {
+            listening: false,
+            stock: Stock::new(links),
+            calls: Calls::new(failing),
+        }
+    }
+
+    /// What the link that was handed back at a place, from 0, had sent: none where no more than so many came back.
+    pub fn sent(&self, place: usize) -> Option<&[u8]>
+        ensures { option_map (λ sent. sent.now) result ≡ option_map (λ link. link.0) (slice_get self.now.stock.returned place) }
+    {
+        self.stock.sent(place)
+    }
+}
+
+impl Door for MemoryDoor {
+    ghost use Rattle.std.specs.Prelude.{◌+◌, Some, length, nat_eq};
+    ghost use Rattle.std.proofs.Common.{rules};
+
+    type L = MemoryLink;
+
+    ghost listening = { λ door. door.listening };
+
+    ghost closed = { λ door. nat_eq (length door.stock.links) 0 };
+
+    ghost given = { λ door. length door.stock.returned + door.stock.out };
+
+    ghost back = { λ door. length door.stock.returned };
+
+    ghost links = { λ door. Some door.stock.links };
+
+    ghost returned = { λ door. Some door.stock.returned };
+
+    ghost faults = { λ door. door.faults };
+
+    fn listen(&mut self, _port: u16) -> Result<(), Failed> {
+        if self.calls.fails() {
+            return Err(Failed);
+        }
+        self.listening = true;
+        Ok(())
+    }
+
+    fn accept(&mut self) -> Result<Option<MemoryLink>, Failed> {
+        if self.calls.fails() {
+            return Err(Failed);
+        }
+        Ok(self.stock.take())
+    }
+
+    fn give_back(&mut self, link: MemoryLink) {
+        self.stock.put(link);
+    }
+
+    ghost within = { Prim.search rules };
+}

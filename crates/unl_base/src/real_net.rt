@@ -1,0 +1,229 @@
+//! The adapters over the network. They tell no content, and each counts its own errors.
+ghost use Rattle.std.specs.Prelude.{◌≤◌, None};
+
+use crate::Failed;
+use crate::door::Door;
+use crate::link::{Link, Sink, Source};
+use crate::peer::Peer;
+use crate::real::RealLink;
+use std::io;
+use std::io::{ErrorKind, Read, Write};
+use std::net::{Ipv4Addr, Net, OpenListener, OpenStream, TcpListener, TcpStream, ToSocketAddrs};
+use std::time::Duration;
+
+/// How long a read or a write of a socket may take, in seconds.
+const TIME_LIMIT: u64 = 30;
+
+/// The stream with its limit of time.
+fn limited<S: OpenStream + Drop>(stream: S) -> io::Result<S> {
+    let limit = Some(Duration::from_secs(TIME_LIMIT));
+    stream.set_read_timeout(limit)?;
+    stream.set_write_timeout(limit)?;
+    Ok(stream)
+}
+
+/// A door over the network: it listens on each IPv4 address of this machine.
+#[derive(Drop)]
+pub struct RealDoor<N: Net + Drop> {
+    net: N,
+    listener: Option<N::Listener>,
+    bound: u64,
+    given: u64,
+    back: u64,
+    faults: u64,
+    ghost in_order: { back ≤ given },
+}
+
+impl<N: Net + Drop> RealDoor<N> {
+    /// A door that doesn't listen yet and has counted no error. It closes after `bound` links; without a bound, after
+    /// more links than can ever come.
+    pub fn new(net: N, bound: Option<u64>) -> Self {
+        RealDoor {
+            net,
+            listener: None,
+            bound: bound.unwrap_or(u64::MAX),
+            given: 0,
+            back: 0,
+            faults: 0,
+        }
+    }
+
+    /// Waits for the next stream.
+    fn next(&self) -> io::Result<N::Stream> {
+        match &self.listener {
+            Some(listener) => limited(listener.accept()?.0),
+            None => Err(io::Error::from(ErrorKind::NotConnected)),
+        }
+    }
+}
+
+impl<N: Net + Drop> Door for RealDoor<N> {
+    ghost use Rattle.std.specs.Prelude.{is_some, nat_le};
+
+    type L = RealLink<N::Stream>;
+
+    ghost listening = { λ door. is_some door.listener };
+
+    ghost closed = { λ door. nat_le door.bound door.given };
+
+    ghost given = { λ door. door.given };
+
+    ghost back = { λ door. door.back };
+
+    ghost links = { λ _. None };
+
+    ghost returned = { λ _. None };
+
+    ghost faults = { λ door. door.faults };
+
+    fn listen(&mut self, port: u16) -> Result<(), Failed> {
+        match TcpListener::bind(&self.net, (Ipv4Addr::UNSPECIFIED, port)) {
+            Ok(listener) => {
+                self.listener = Some(listener);
+                Ok(())
+            }
+            Err(_) => {
+                self.faults = self.faults.saturating_add(1);
+                Err(Failed)
+            }
+        }
+    }
+
+    fn accept(&mut self) -> Result<Option<Self::L>, Failed> {
+        if self.bound <= self.given {
+            return Ok(None);
+        }
+        match self.next() {
+            Ok(stream) => {
+                self.given += 1;
+                Ok(Some(RealLink::new(stream)))
+            }
+            Err(_) => {
+                self.faults = self.faults.saturating_add(1);
+                Err(Failed)
+            }
+        }
+    }
+
+    fn give_back(&mut self, _link: Self::L) {
+        self.back += 1;
+    }
+
+    ghost within = { λ door. door.in_order };
+}
+
+/// A peer over the network, to which each connect connects anew.
+#[derive(Drop)]
+pub struct RealPeer<N: Net + Drop, A: ToSocketAddrs> {
+    net: N,
+    address: A,
+    stream: Option<N::Stream>,
+    faults: u64,
+}
+
+impl<N: Net + Drop, A: ToSocketAddrs> RealPeer<N, A> {
+    /// A peer at an address, as `HOST:PORT`, that isn't connected yet and has counted no error.
+    pub fn new(net: N, address: A) -> Self {
+        RealPeer {
+            net,
+            address,
+            stream: None,
+            faults: 0,
+        }
+    }
+}
+
+impl<N: Net + Drop, A: ToSocketAddrs> Source for RealPeer<N, A> {
+    ghost use Rattle.std.specs.Prelude.{is_some};
+
+    ghost left = { λ _. None };
+
+    ghost faults = { λ peer. peer.faults };
+
+    ghost sent_beside = { λ _. None };
+
+    ghost connected_beside = { λ peer. is_some peer.stream };
+
+    /// Reads from the last connection. Where there is none, nothing is to come.
+    fn read(&mut self, room: &mut [u8]) -> Result<usize, Failed> {
+        let Some(stream) = &mut self.stream else {
+            return Ok(0);
+        };
+        match stream.read(room) {
+            Ok(count) => Ok(count),
+            Err(_) => {
+                self.faults = self.faults.saturating_add(1);
+                Err(Failed)
+            }
+        }
+    }
+}
+
+impl<N: Net + Drop, A: ToSocketAddrs> Sink for RealPeer<N, A> {
+    ghost use Rattle.std.specs.Prelude.{is_some};
+
+    ghost sent = { λ _. None };
+
+    ghost faults = { λ peer. peer.faults };
+
+    ghost left_beside = { λ _. None };
+
+    ghost connected_beside = { λ peer. is_some peer.stream };
+
+    /// Writes to the last connection. Where there is none, the piece is dropped.
+    fn write(&mut self, piece: &[u8]) -> Result<usize, Failed> {
+        let Some(stream) = &mut self.stream else {
+            return Ok(piece.len());
+        };
+        match stream.write(piece) {
+            Ok(count) if count > 0 => Ok(count),
+            _ => {
+                self.faults = self.faults.saturating_add(1);
+                Err(Failed)
+            }
+        }
+    }
+}
+
+impl<N: Net + Drop, A: ToSocketAddrs> Link for RealPeer<N, A> {
+    ghost use Rattle.std.proofs.Common.{refl};
+
+    ghost one_count = { λ peer. refl };
+
+    ghost reads_beside = { λ peer. refl };
+
+    ghost writes_beside = { λ peer. refl };
+}
+
+impl<N: Net + Drop, A: ToSocketAddrs> Peer for RealPeer<N, A> {
+    ghost use Rattle.std.specs.Prelude.{is_some};
+    ghost use Rattle.std.proofs.Common.{refl};
+
+    ghost connected = { λ peer. is_some peer.stream };
+
+    ghost replies = { λ _. None };
+
+    fn connect(&mut self) -> Result<(), Failed> {
+        self.stream = None;
+        match TcpStream::connect(&self.net, &self.address).and_then(limited) {
+            Ok(stream) => {
+                self.stream = Some(stream);
+                Ok(())
+            }
+            Err(_) => {
+                self.faults = self.faults.saturating_add(1);
+                Err(Failed)
+            }
+        }
+    }
+
+    ghost idle = { λ peer off. tt };
+
+    ghost reads_connected = { λ peer. refl };
+
+    ghost reads_replies = { λ peer. refl };
+
+    ghost writes_connected = { λ peer. refl };
+
+    ghost writes_replies = { λ peer. refl };
+}
