@@ -1,5 +1,5 @@
 -- A book of metrics: a finite map from keys to what was counted at each. It is the list of its entries, with keys rising.
-use Rattle.std.specs.Prelude.{◌≡◌, ◌<◌, ◌+◌, ◌-◌, ◌^◌, ℕ, min, List, [], ◌∷◌, map, length, fold, All, Bool, true, ◌&&◌, nat_le, Option, Some, None, unwrap_or, Result, Ok, Err, if◌then◌else◌}
+use Rattle.std.specs.Prelude.{◌≡◌, ◌<◌, ◌+◌, ◌-◌, ◌^◌, ℕ, zero, suc, min, List, [], ◌∷◌, map, length, fold, All, Bool, true, ◌&&◌, nat_le, Option, Some, None, unwrap_or, Result, Ok, Err, if◌then◌else◌}
 use Rattle.std.specs.Cmp.Lexicographic.{slice_cmp}
 use Rattle.std.specs.FinMap.Entries.{put, find, is_sorted, where_key}
 use Rattle.std.specs.List.{list_all}
@@ -79,9 +79,17 @@ sum_of book others = fold with_tally book others
 abbrev pub pair : VariantCount → List ℕ × ℕ
 pair v = (v.name, v.count)
 
+-- an entry's key, in an environment
+abbrev pub key_of : List ℕ → MetricEntry → Key
+key_of environment e = record { environment = environment; app = e.app; feature = e.feature; hour = e.hour }
+
+-- an entry's tally
+abbrev pub tally_of : MetricEntry → Tally
+tally_of e = record { yes = e.yes; no = e.no; variants = map pair e.variants }
+
 -- an entry's key in an environment, and its tally
 abbrev pub counted : List ℕ → MetricEntry → Key × Tally
-counted environment e = (record { environment = environment; app = e.app; feature = e.feature; hour = e.hour }, record { yes = e.yes; no = e.no; variants = map pair e.variants })
+counted environment e = (key_of environment e, tally_of e)
 
 -- the sum of a book and a report for an environment
 unfoldable pub book_sum : Book → List ℕ → Report → Book
@@ -106,11 +114,15 @@ pub record IsCounted (entry : Key × Tally) : Type 0 where
   pub hour : entry.0.hour < hours_of_years
   pub variants : is_sorted (slice_cmp nat_cmp) entry.1.variants ≡ true
 
+-- each key once and in order
+pub record IsInOrder (book : Book) : Type 0 where
+  pub rising : is_sorted key_cmp book ≡ true
+  pub each : All IsCounted book
+
 -- each key once and in order, within the limits
 pub record IsBook (book : Book) : Type 0 where
-  pub rising : is_sorted key_cmp book ≡ true
+  pub order : IsInOrder book
   pub fit : fits book ≡ true
-  pub each : All IsCounted book
 
 -- ---- environments
 
@@ -124,6 +136,6 @@ counted_in environment book = where_key key_cmp (is_of environment) book
 
 -- all but the first so many keys of an environment
 unfoldable pub acknowledge : List ℕ → ℕ → Book → Book
-acknowledge environment count [] = []
-acknowledge environment 0 (e ∷ book) = e ∷ book
+acknowledge environment zero book = book
+acknowledge environment (suc count) [] = []
 acknowledge environment (suc count) (e ∷ book) = if is_of environment e.0 then acknowledge environment count book else e ∷ acknowledge environment (suc count) book

@@ -1,6 +1,7 @@
 -- The bulk report that a book is sent as.
-use Rattle.std.specs.Prelude.{ℕ, zero, suc, List, [], ◌∷◌, length, take, Bool, nat_le, Option, Some, None, if◌then◌else◌}
-use Rattle.serde_json.specs.Data.{Data, string, object, Members, no_members, put}
+use Rattle.std.specs.Prelude.{ℕ, zero, suc, List, [], ◌∷◌, length, map, take, Bool, nat_le, Option, Some, None, if◌then◌else◌}
+use Rattle.serde_json.specs.Data.{Data, string, array, object, Items, Members, no_members, put}
+use Rattle.serde_json.specs.View.{items_of}
 use Rattle.serde_json.specs.Written.{compact_text}
 use Rattle.unl_documents.specs.declared.field.Field.TheVariants as field
 use Rattle.unl_documents.specs.Writing.{with, count, list}
@@ -30,12 +31,16 @@ counted_data (key, tally) = object (
     with field.Yes (count tally.yes)
     no_members)))))))
 
--- the bulk report of these keys
-unfoldable pub bulk_data : Book → Data
-bulk_data book = object (
+-- a bulk report of these items
+unfoldable pub bulk_of_items : Items → Data
+bulk_of_items items = object (
     with field.Applications (list string []) (
-    with field.Metrics (list counted_data book)
+    with field.Metrics (array items)
     no_members))
+
+-- the bulk report of these keys
+abbrev pub bulk_data : Book → Data
+bulk_data book = bulk_of_items (items_of (map counted_data book))
 
 -- ---- as much as there is room for
 

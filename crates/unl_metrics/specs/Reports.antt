@@ -64,10 +64,10 @@ variant_count key name value = do
 -- what an object counts of a feature of an app in an hour
 unfoldable pub entry_of : List ℕ → List ℕ → ℕ → Data → Reading MetricEntry
 entry_of app feature at value = do
-  yes ← defaulted 0 any_whole field.Yes value
-  no ← defaulted 0 any_whole field.No value
+  ons ← defaulted 0 any_whole field.Yes value
+  offs ← defaulted 0 any_whole field.No value
   variants ← defaulted [] (members 100 variant_count) field.Variants value
-  Ok (record { app = app; feature = feature; hour = at; yes = yes; no = no; variants = variants })
+  Ok (record { app = app; feature = feature; hour = at; yes = ons; no = offs; variants = variants })
 
 -- what a toggle counts: first the feature's name, which is the toggle's key
 unfoldable pub toggle_of : List ℕ → ℕ → Field → List ℕ → Data → Reading MetricEntry

@@ -1,8 +1,9 @@
 //! The book of metrics.
-ghost use Rattle.std.specs.Prelude.{◌≡◌, ◌≢◌, [], length, Ok, Err, IfOk, IfErr, IfSome, OnOk, OnErr, option_map};
+ghost use Rattle.std.specs.Prelude.{◌≡◌, ◌≢◌, ◌≤◌, ◌==◌, [], length, not, Ok, Err, false, IfOk, IfErr, IfSome, OnOk, OnErr, option_map};
+ghost use Rattle.std.specs.List.{prefix_len, remove_range};
 ghost use Rattle.serde_json.specs.View.{view};
-ghost use Rattle.serde_json.specs.Written.{has_float, compact_text};
-ghost use Rattle.unl_metrics.specs.Book.{book_sum, sum_of, if_fits, acknowledge, IsBook};
+ghost use Rattle.serde_json.specs.Written.{has_float};
+ghost use Rattle.unl_metrics.specs.Book.{book_sum, sum_of, if_fits, acknowledge, is_of};
 ghost use Rattle.unl_metrics.specs.Bulk.{bulk as bulk_of};
 ghost use Rattle.unl_metrics.specs.Reports.{IsReport};
 ghost use Rattle.unl_metrics.specs.declared.refusal.AddRefusal.TheVariants.{Memory as memory};
@@ -53,6 +54,7 @@ impl MetricsBook {
 
     /// Whether there are none. Takes no memory.
     pub fn is_empty(&self) -> bool
+        ensures { result ≡ (length self.now == 0) }
     {
         self.rows.is_empty()
     }
@@ -123,19 +125,27 @@ impl MetricsBook {
 }
 
 /// The place of the first row of an environment, or how many rows there are.
-fn first_of(rows: &[Shared<Row>], environment: &str) -> usize {
+fn first_of(rows: &[Shared<Row>], environment: &str) -> usize
+    ensures { result ≡ prefix_len (λ row. not (is_of environment.now row.0)) rows.now }
+{
     rows.iter()
         .position(|row| row.get().is_of(environment))
         .unwrap_or(rows.len())
 }
 
 /// How many rows of an environment stand at the front.
-fn run_of(rows: &[Shared<Row>], environment: &str) -> usize {
+fn run_of(rows: &[Shared<Row>], environment: &str) -> usize
+    ensures { result ≡ prefix_len (λ row. is_of environment.now row.0) rows.now }
+{
     rows.iter()
         .position(|row| !row.get().is_of(environment))
         .unwrap_or(rows.len())
 }
 
-fn drop_range(rows: &mut Vec<Shared<Row>>, start: usize, end: usize) {
+fn drop_range(rows: &mut Vec<Shared<Row>>, start: usize, end: usize)
+    requires order { start ≤ end }
+    requires inside { end ≤ length rows.old.items }
+    ensures { rows.new.items ≡ remove_range rows.old.items start end }
+{
     rows.drain(start..end);
 }

@@ -1,8 +1,9 @@
 //! The bulk report that a book is sent as.
-ghost use Rattle.std.specs.Prelude.{◌≡◌, IfOk, OnOk, map};
-ghost use Rattle.serde_json.specs.View.{view, members_view};
-ghost use Rattle.unl_metrics.specs.Book.{counted_in};
-ghost use Rattle.unl_metrics.specs.Bulk.{bulk_data, bulk_report};
+ghost use Rattle.std.specs.Prelude.{◌≡◌, ◌<◌, ◌==◌, ◌^◌, false, if◌then◌else◌, IfOk, All, length, map, option_map, take};
+ghost use Rattle.serde_json.specs.View.{view, items_of};
+ghost use Rattle.serde_json.specs.Written.{has_float, compact_text};
+ghost use Rattle.unl_metrics.specs.Book.{counted_in, IsCounted};
+ghost use Rattle.unl_metrics.specs.Bulk.{bulk, bulk_of_items, counted_data, room_for};
 
 use crate::row::Row;
 use serde_json::{Map, Value};
@@ -17,7 +18,12 @@ const LONGEST: usize = 1_048_576;
 const EMPTY: usize = 32;
 
 /// The rows of an environment.
-fn rows_of(alloc: Global, rows: &[Shared<Row>], environment: &str) -> Result<Vec<Shared<Row>>, Memory>
+fn rows_of(
+    alloc: Global,
+    rows: &[Shared<Row>],
+    environment: &str,
+) -> Result<Vec<Shared<Row>>, Memory>
+    ensures { IfOk result (λ found. found.items ≡ counted_in environment.now rows.now) }
 {
     let mut found = Vec::new(alloc);
     for row in rows {
@@ -30,6 +36,9 @@ fn rows_of(alloc: Global, rows: &[Shared<Row>], environment: &str) -> Result<Vec
 
 /// The rows as they are written, from the first on, as many as a bulk report has room for.
 fn front_of(alloc: Global, rows: &[Shared<Row>]) -> Result<Vec<Value>, Memory>
+    requires { All IsCounted rows.now }
+    ensures values { IfOk result (λ values. map view values.items ≡ map counted_data (take (room_for rows.now) rows.now)) }
+    ensures count { IfOk result (λ values. length values.items ≡ room_for rows.now) }
 {
     let mut values = Vec::new(alloc);
     let mut length = EMPTY;
@@ -47,17 +56,23 @@ fn front_of(alloc: Global, rows: &[Shared<Row>]) -> Result<Vec<Value>, Memory>
 
 /// How many bytes the text of a value has.
 fn length_of(alloc: Global, value: &Value) -> Result<usize, Memory>
+    requires { has_float (view value.now) ≡ false }
+    ensures length { IfOk result (λ n. n ≡ length (compact_text (view value.now))) }
+    ensures bound { IfOk result (λ n. n < 2 ^ 63) }
 {
     Ok(value.to_string(alloc)?.len())
 }
 
 /// How many bytes stand between an item and those before it.
-fn comma(before: usize) -> usize {
+fn comma(before: usize) -> usize
+    ensures { result ≡ (if before == 0 then 0 else 1) }
+{
     if before == 0 { 0 } else { 1 }
 }
 
 /// The bulk report of these rows.
 fn bulk_value(alloc: Global, values: Vec<Value>) -> Result<Value, Memory>
+    ensures { IfOk result (λ v. view v ≡ bulk_of_items (items_of (map view values.items))) }
 {
     let mut members = Map::new(alloc);
     put_value(&mut members, alloc, Field::Metrics, Value::Array(values))?;
@@ -72,6 +87,8 @@ pub(crate) fn bulk(
     rows: &[Shared<Row>],
     environment: &str,
 ) -> Result<Option<(Value, usize)>, Memory>
+    requires { All IsCounted rows.now }
+    ensures { IfOk result (λ found. option_map (λ sent. (view sent.0, sent.1)) found ≡ bulk environment.now rows.now) }
 {
     let rows = rows_of(alloc, rows, environment)?;
     if rows.is_empty() {

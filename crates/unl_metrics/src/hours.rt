@@ -1,5 +1,7 @@
 //! Hours since 1970.
-ghost use Rattle.std.specs.Prelude.{◌≡◌, ◌<◌, IfOk, IfSome};
+ghost use Rattle.std.specs.Prelude.{◌≡◌, ◌<◌, pos, IfOk, IfSome, option_and_then};
+ghost use Rattle.unl_constraints.specs.Instant.{instant_of};
+ghost use Rattle.jiff.specs.Words.{epoch_day};
 ghost use Rattle.unl_metrics.specs.Hours.{hour_of, hour_text, hours_of_years};
 
 use jiff::ToSpan;
@@ -27,10 +29,21 @@ impl Kind for Hour {
         let Some(text) = value.as_str() else {
             return Err(BadDocument::WrongKind(field));
         };
-        let instant = read_instant(alloc, text)?;
-        instant
-            .and_then(hour_of)
-            .ok_or(BadDocument::WrongKind(field))
+        match hour_in(alloc, text)? {
+            Some(hour) => Ok(hour),
+            None => Err(BadDocument::WrongKind(field)),
+        }
+    }
+}
+
+/// The hour of the instant that a text names, if it is of the years 1970 to 9999.
+fn hour_in(alloc: Global, text: &str) -> Result<Option<u32>, Memory>
+    ensures hour { IfOk result (λ hour. hour ≡ option_and_then hour_of (instant_of text.now)) }
+    ensures below { IfOk result (λ hour. IfSome hour (λ h. h < hours_of_years)) }
+{
+    match read_instant(alloc, text)? {
+        Some(instant) => Ok(hour_of(instant)),
+        None => Ok(None),
     }
 }
 
@@ -53,7 +66,8 @@ fn hour_of(instant: i128) -> Option<u32>
 
 /// The day so many days after 1970-01-01.
 fn day_after(days: u32) -> Date
-    requires { days < 2_932_897 }
+    requires { days < 2932897 }
+    ensures { epoch_day result ≡ pos days }
 {
     let epoch = date(1970, 1, 1);
     epoch.checked_add((days as i64).days()).unwrap()

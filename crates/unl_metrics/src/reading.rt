@@ -166,11 +166,7 @@ fn toggles_of(
 }
 
 #[tactic(auto, unfolding(crate::specs::Reports::bucket_of))]
-fn bucket_of(
-    alloc: Global,
-    app: &Text,
-    value: &Value,
-) -> Result<List<MetricEntry>, BadDocument>
+fn bucket_of(alloc: Global, app: &Text, value: &Value) -> Result<List<MetricEntry>, BadDocument>
     ensures gives { Gives result (bucket_of app.now (view value.now)) }
     ensures valid { IfOk result (All IsEntry) }
 {

@@ -1,12 +1,13 @@
 //! A key of a book, and what was counted at it.
-ghost use Rattle.std.specs.Prelude.{◌≡◌, ◌++◌, IfOk, OnOk, map};
+ghost use Rattle.std.specs.Prelude.{◌≡◌, ℕ, List, true, fold, IfOk, OnOk, map};
 ghost use Rattle.std.specs.Cmp.Lexicographic.{slice_cmp};
+ghost use Rattle.std.specs.FinMap.Entries.{is_sorted};
 ghost use Rattle.std.specs.List.Sorted.{IsBinarySearchResult};
 ghost use Rattle.std.specs.Ordering.{nat_cmp};
 ghost use Rattle.serde_json.specs.Data.{no_members};
 ghost use Rattle.serde_json.specs.View.{view, members_view};
 ghost use Rattle.unl_metrics.specs.Bulk.{variants_data, with_counts, counted_data};
-ghost use Rattle.unl_metrics.specs.Book.{counted, key_cmp, is_of, has_few_variants, tally_sum, sum, with_variant, pair, IsCounted};
+ghost use Rattle.unl_metrics.specs.Book.{counted, key_cmp, is_of, has_few_variants, tally_sum, sum, with_variant, pair, key_of, tally_of, IsCounted};
 
 use crate::hours::hour_text;
 use crate::report::{MetricEntry, VariantCount};
@@ -25,7 +26,7 @@ pub(crate) struct Row {
 }
 
 impl Model for Row {
-    ghost use Rattle.unl_metrics.specs.Book.{Key, Tally};
+    ghost use Rattle.unl_metrics.specs.Book.{Key, Tally, counted};
 
     ghost Value = { Key × Tally };
 
@@ -69,6 +70,7 @@ impl Row {
 
     /// This key with the sum of both tallies.
     pub(crate) fn plus(&self, alloc: Global, other: &Row) -> Result<Row, Memory>
+        requires { IsCounted self.now }
         ensures { IfOk result (λ row. row ≡ (self.now.0, tally_sum self.now.1 other.now.1)) }
     {
         Ok(Row {
@@ -92,7 +94,11 @@ fn sum(a: u64, b: u64) -> u64
 }
 
 /// The first entry with the sums of both.
+#[tactic(auto, unfolding(crate::specs::Book::tally_sum))]
 fn entry_sum(alloc: Global, this: &MetricEntry, that: &MetricEntry) -> Result<MetricEntry, Memory>
+    requires { is_sorted (slice_cmp nat_cmp) (map pair this.now.variants) ≡ true }
+    ensures key { IfOk result (λ e. (environment : List ℕ) → key_of environment e ≡ key_of environment this.now) }
+    ensures tally { IfOk result (λ e. tally_of e ≡ tally_sum (tally_of this.now) (tally_of that.now)) }
 {
     Ok(MetricEntry {
         app: this.app.copy(alloc)?,
@@ -109,6 +115,8 @@ fn variants_sum(
     these: &List<VariantCount>,
     those: &List<VariantCount>,
 ) -> Result<List<VariantCount>, Memory>
+    requires { is_sorted (slice_cmp nat_cmp) (map pair these.now) ≡ true }
+    ensures { IfOk result (λ counts. map pair counts ≡ fold with_variant (map pair these.now) (map pair those.now)) }
 {
     let mut counts = these.copy(alloc)?.into_vec();
     for count in those.as_slice() {
@@ -122,6 +130,8 @@ fn add_variant(
     alloc: Global,
     count: &VariantCount,
 ) -> Result<(), Memory>
+    requires { is_sorted (slice_cmp nat_cmp) (map pair counts.old.items) ≡ true }
+    ensures { OnOk result (map pair counts.new.items ≡ with_variant (map pair counts.old.items) (pair count.now)) }
 {
     match place_of(counts.as_slice(), count.name.as_str()) {
         Ok(place) => {

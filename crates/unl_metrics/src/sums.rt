@@ -1,9 +1,11 @@
 //! Sums of rows.
-ghost use Rattle.std.specs.Prelude.{◌≡◌, IfOk, OnOk, map};
+ghost use Rattle.std.specs.Prelude.{◌≡◌, IfOk, OnOk, All, map};
+ghost use Rattle.std.specs.List.{list_all};
 ghost use Rattle.std.specs.List.Sorted.{IsBinarySearchResult};
-ghost use Rattle.unl_metrics.specs.Book.{counted, key_cmp, with_tally, sum_of, book_sum, fits};
+ghost use Rattle.unl_metrics.specs.Book.{counted, key_cmp, with_tally, sum_of, fits, has_few_variants, IsCounted, IsInOrder};
+ghost use Rattle.unl_metrics.specs.Reports.{IsEntry};
 
-use crate::report::{MetricEntry, Report};
+use crate::report::MetricEntry;
 use crate::row::Row;
 use std::alloc::Global;
 use unl_documents::{Memory, Shared};
@@ -28,6 +30,8 @@ fn place_of(rows: &[Shared<Row>], row: &Row) -> Result<usize, usize>
 
 /// Adds a row's tally at its key.
 fn add_row(rows: &mut Vec<Shared<Row>>, alloc: Global, row: Shared<Row>) -> Result<(), Memory>
+    requires { IsInOrder rows.old.items }
+    ensures { OnOk result (rows.new.items ≡ with_tally rows.old.items row) }
 {
     match place_of(rows.as_slice(), row.get()) {
         Ok(place) => {
@@ -45,6 +49,10 @@ pub(crate) fn sum_of(
     rows: &[Shared<Row>],
     others: &[Shared<Row>],
 ) -> Result<Vec<Shared<Row>>, Memory>
+    requires rows { IsInOrder rows.now }
+    requires others { All IsCounted others.now }
+    ensures sum { IfOk result (λ all. all.items ≡ sum_of rows.now others.now) }
+    ensures order { IfOk result (λ all. IsInOrder all.items) }
 {
     let mut all = copies(alloc, rows)?;
     for other in others {
@@ -60,6 +68,10 @@ pub(crate) fn report_sum(
     environment: &str,
     entries: &[MetricEntry],
 ) -> Result<Vec<Shared<Row>>, Memory>
+    requires rows { IsInOrder rows.now }
+    requires entries { All IsEntry entries.now }
+    ensures sum { IfOk result (λ all. all.items ≡ sum_of rows.now (map (counted environment.now) entries.now)) }
+    ensures order { IfOk result (λ all. IsInOrder all.items) }
 {
     let mut all = copies(alloc, rows)?;
     for entry in entries {
@@ -78,6 +90,7 @@ pub(crate) fn fits(rows: &[Shared<Row>]) -> bool
 }
 
 fn have_few_variants(rows: &[Shared<Row>]) -> bool
+    ensures { result ≡ list_all has_few_variants rows.now }
 {
     rows.iter().all(|row| row.get().has_few_variants())
 }
