@@ -1,0 +1,105 @@
+//! The head of a reply, and what it makes of the bytes after it.
+ghost use Rattle.std.specs.Prelude.{◌≡◌, ◌≤◌, ℕ, List, length, drop, IfOk, IfSome, IfNone};
+ghost use Rattle.httparse.specs.Grammar.{ResponseHead, ReadsResponse};
+ghost use Rattle.httparse.specs.Spans.{IsResponseWithin, IsResponseOf};
+ghost use Rattle.unl_documents.specs.Results.{Answers, Gives};
+ghost use Rattle.unl_http_api.specs.declared.got.BadReply.{BadReply};
+ghost use Rattle.unl_http_api.specs.Received.{body_size, size_among, reading_with, IsReply, HasOneReply};
+
+use crate::fields::Fields;
+use crate::got::{BadReply, Got};
+use crate::head::{after, window};
+use crate::parts::copied;
+use httparse::Status;
+use httparse::spans::{EMPTY_HEADER_SPAN, HeaderSpan, ResponseSpans, parse_response};
+use std::alloc::Global;
+use unl_documents::List;
+
+/// The head of a reply has at most so many fields.
+pub(crate) const MOST_FIELDS: usize = 64;
+
+/// The body of a reply has at most so many bytes.
+const MOST_BODY: u64 = 16_777_216;
+
+/// The head at the front of the window, if one of few fields stands there.
+fn see_reply(window: &[u8], spans: &mut [HeaderSpan]) -> Option<ResponseSpans>
+    ensures some { IfSome result (λ head. IsResponseWithin window.now spans.new head × IsResponseOf window.now spans.new head) }
+    ensures none { IfNone result ((head : ResponseHead) (rest : List ℕ) → ReadsResponse window.now head rest
+        → length head.fields ≤ length spans.old → ⊥) }
+{
+    match parse_response(window, spans) {
+        Ok(Status::Complete(head)) => Some(head),
+        _ => None,
+    }
+}
+
+/// How many of the bytes after the head are the body.
+fn body_size(status: u16, fields: &Fields, following: usize) -> Result<usize, BadReply>
+    ensures size { result ≡ body_size status fields.now following }
+    ensures fits { IfOk result (λ size. size ≤ following) }
+{
+    if fields.count(b"transfer-encoding") > 0 || fields.body_length().is_none() {
+        return Err(BadReply::Head);
+    }
+    if status == 304 {
+        return Ok(0);
+    }
+    size_among(fields.stated_length(), following)
+}
+
+/// How many of the bytes after the head are the body, by the length that is stated.
+fn size_among(stated: Option<u64>, following: usize) -> Result<usize, BadReply>
+    ensures size { result ≡ size_among stated following }
+    ensures fits { IfOk result (λ size. size ≤ following) }
+{
+    match stated {
+        Some(size) if size > MOST_BODY => Err(BadReply::TooLarge),
+        Some(size) if size > following as u64 => Err(BadReply::Short),
+        Some(size) => Ok(size as usize),
+        None if following as u64 > MOST_BODY => Err(BadReply::TooLarge),
+        None => Ok(following),
+    }
+}
+
+/// The reply of a status, fields and the bytes after the head.
+fn reply_with(alloc: Global, status: u16, fields: &Fields, rest: &[u8]) -> Result<Got, BadReply>
+    ensures { Gives BadReply.Memory result (reading_with status fields.now rest.now) }
+{
+    let size = body_size(status, fields, rest.len())?;
+    Ok(Got {
+        status,
+        tag: copied(alloc, fields.first(b"etag"))?,
+        body: List::from_slice(alloc, &rest[..size])?,
+    })
+}
+
+/// Reads bytes as a reply, with room for the spans of its head.
+pub(crate) fn read_reply(
+    alloc: Global,
+    bytes: &[u8],
+    spans: &mut [HeaderSpan],
+) -> Result<Got, BadReply>
+    requires { length spans.old ≡ MOST_FIELDS }
+    ensures { Answers BadReply.Memory (IsReply bytes.now) result }
+{
+    let front = window(bytes);
+    match see_reply(front, spans) {
+        Some(head) => {
+            let fields = Fields::new(front, &spans[..head.headers]);
+            reply_with(alloc, head.code, &fields, after(bytes, head.len))
+        }
+        None => Err(BadReply::Head),
+    }
+}
+
+/// Each list of bytes is read as a reply in exactly one way. That there is one is told by looking for its head, which
+/// takes no memory but the stack's.
+pub fn has_one_reply(bytes: &[u8])
+    ensures { HasOneReply bytes.now }
+{
+    let mut spans = [EMPTY_HEADER_SPAN; MOST_FIELDS];
+    match see_reply(window(bytes), &mut spans) {
+        Some(_) => (),
+        None => (),
+    }
+}

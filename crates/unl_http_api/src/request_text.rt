@@ -1,0 +1,101 @@
+//! Requests that this client asks, and how they are written.
+ghost use Rattle.std.specs.Prelude.{◌≡◌, ◌≢◌, ◌++◌, IfOk, OnOk, IsTrue, length, option_copied};
+ghost use Rattle.std.specs.Fmt.{decimal};
+ghost use Rattle.unl_http_api.specs.declared.request.Method.{Method};
+ghost use Rattle.unl_http_api.specs.Reply.{header};
+ghost use Rattle.unl_http_api.specs.RequestText.{fits_line, fits_if_any, method_name, request_line, json_headers, body_headers, request_text};
+
+use crate::header::push_header;
+use crate::request::{Bytes, Method};
+use std::alloc::Global;
+use unl_documents::{List, Memory};
+
+/// Whether a text can stand in a line: it has no CR, LF or NUL.
+pub fn fits_line(text: &[u8]) -> bool
+    ensures { result ≡ fits_line text.now }
+{
+    text.iter().all(|byte| !matches!(*byte, 0 | b'\n' | b'\r'))
+}
+
+/// The text of a request of version 1.0 by GET or POST, after which the connection ends. A token stands in the field
+/// `Authorization`, a tag in `If-None-Match`, and a POST tells what its body is and how long.
+pub fn write_request(
+    alloc: Global,
+    method: Method,
+    target: &str,
+    host: &str,
+    token: Option<&str>,
+    tag: Option<&[u8]>,
+    body: &[u8],
+) -> Result<Bytes, Memory>
+    requires method { method ≢ Method.Other }
+    requires target { IsTrue (fits_line target.now) }
+    requires host { IsTrue (fits_line host.now) }
+    requires token { IsTrue (fits_if_any (option_copied token)) }
+    requires tag { IsTrue (fits_if_any (option_copied tag)) }
+    ensures { IfOk result (λ text. text
+        ≡ request_text method target.now host.now (option_copied token.entry) (option_copied tag.entry) body.now) }
+{
+    let mut text = Vec::new(alloc);
+    push_request_line(&mut text, method, target)?;
+    push_header(&mut text, "Host", host.as_bytes())?;
+    if let Some(token) = token {
+        push_header(&mut text, "Authorization", token.as_bytes())?;
+    }
+    if let Some(tag) = tag {
+        push_header(&mut text, "If-None-Match", tag)?;
+    }
+    push_body_headers(alloc, &mut text, method, body)?;
+    push_header(&mut text, "Connection", b"close")?;
+    text.extend_from_slice(b"\r\n")?;
+    text.extend_from_slice(body)?;
+    Ok(List::from_vec(text))
+}
+
+/// The name of a method.
+fn method_name(method: Method) -> &'static str
+    ensures { result.now ≡ method_name method }
+{
+    match method {
+        Method::Get => "GET",
+        Method::Post => "POST",
+        Method::Other => "",
+    }
+}
+
+/// Adds the first line.
+fn push_request_line(text: &mut Vec<u8>, method: Method, target: &str) -> Result<(), Memory>
+    ensures { OnOk result (text.new.items ≡ text.old.items ++ request_line method target.now) }
+{
+    text.extend_from_slice(method_name(method).as_bytes())?;
+    text.extend_from_slice(b" ")?;
+    text.extend_from_slice(target.as_bytes())?;
+    text.extend_from_slice(b" HTTP/1.0\r\n")?;
+    Ok(())
+}
+
+/// Adds what the body is and how long, at POST.
+fn push_body_headers(
+    alloc: Global,
+    text: &mut Vec<u8>,
+    method: Method,
+    body: &[u8],
+) -> Result<(), Memory>
+    ensures { OnOk result (text.new.items ≡ text.old.items ++ body_headers method body.now) }
+{
+    match method {
+        Method::Post => push_json_headers(alloc, text, body),
+        Method::Get => Ok(()),
+        Method::Other => Ok(()),
+    }
+}
+
+/// Adds that the body is a document of JSON, and how long it is.
+fn push_json_headers(alloc: Global, text: &mut Vec<u8>, body: &[u8]) -> Result<(), Memory>
+    ensures { OnOk result (text.new.items ≡ text.old.items ++ json_headers body.now) }
+{
+    let length = format!(in alloc; "{}", body.len())?;
+    push_header(text, "Content-Type", b"application/json")?;
+    push_header(text, "Content-Length", length.as_bytes())?;
+    Ok(())
+}

@@ -1,0 +1,192 @@
+ghost use Rattle.std.specs.Prelude.{◌<◌};
+
+use crate::{BadReply, Got, Method, ReplyReader, has_one_reply, write_request};
+use std::alloc::Global;
+use std::test::Fail;
+use unl_documents::Memory;
+
+/// What is read of a reply: its status, its tag and its body.
+type Seen = (u16, Option<&'static str>, &'static str);
+
+/// Replies with a body, each beside what is read of it.
+const BODIES: [(&str, Result<Seen, BadReply>); 11] = [
+    (
+        "HTTP/1.1 200 OK\r\nContent-Length: 3\r\n\r\nabc",
+        Ok((200, None, "abc")),
+    ),
+    (
+        "HTTP/1.1 200 OK\r\nContent-Length: 3\r\n\r\nabcdef",
+        Ok((200, None, "abc")),
+    ),
+    (
+        "HTTP/1.1 200 OK\r\nContent-Length: 0000000000000000001\r\n\r\nab",
+        Ok((200, None, "a")),
+    ),
+    ("HTTP/1.0 404\n\nabc", Ok((404, None, "abc"))),
+    (
+        "\r\nHTTP/1.1 200 OK\r\nETag: \"a\"\r\netag: \"b\"\r\n\r\n",
+        Ok((200, Some("\"a\""), "")),
+    ),
+    (
+        "HTTP/1.1 200 OK\r\nX: y\r\neTAG:  W/\"a b\" \r\n\r\nabc",
+        Ok((200, Some("W/\"a b\""), "abc")),
+    ),
+    (
+        "HTTP/1.1 200 OK\r\nETag:\r\n\r\n",
+        Ok((200, Some(""), "")),
+    ),
+    (
+        "HTTP/1.1 304 Not Modified\r\nContent-Length: 3\r\nETag: x\r\n\r\n",
+        Ok((304, Some("x"), "")),
+    ),
+    (
+        "HTTP/1.1 304 Not Modified\r\nContent-Length: 9999999999999999999\r\n\r\nabc",
+        Ok((304, None, "")),
+    ),
+    (
+        "HTTP/1.1 200 OK\r\nContent-Length: 3\r\n\r\nab",
+        Err(BadReply::Short),
+    ),
+    (
+        "HTTP/1.1 200 OK\r\nContent-Length: 9999999999999999999\r\n\r\nab",
+        Err(BadReply::TooLarge),
+    ),
+];
+
+/// Bytes that have no head that is read.
+const NO_HEADS: [&str; 11] = [
+    "",
+    "HTTP/1.1 200 OK\r\nContent-Length: 0\r\n",
+    "HTTP/2.0 200 OK\r\n\r\n",
+    "HTTP/1.1 20 OK\r\n\r\n",
+    "HTTP/1.1 200 OK\r\nETag : x\r\n\r\n",
+    "HTTP/1.1 200 OK\r\ntransfer-encoding: identity\r\n\r\n",
+    "HTTP/1.1 304 Not Modified\r\nTransfer-Encoding: chunked\r\n\r\n",
+    "HTTP/1.1 200 OK\r\nContent-Length: 1\r\ncontent-length: 1\r\n\r\na",
+    "HTTP/1.1 200 OK\r\nContent-Length: +1\r\n\r\na",
+    "HTTP/1.1 304 Not Modified\r\nContent-Length:\r\n\r\n",
+    "HTTP/1.1 200 OK\r\nContent-Length: 00000000000000000001\r\n\r\na",
+];
+
+/// Reads a reply that comes in pieces of so many bytes.
+fn read(alloc: Global, bytes: &[u8], most: usize) -> Option<Result<Got, BadReply>>
+    requires { 0 < most }
+{
+    let mut reader = ReplyReader::new(alloc);
+    for piece in bytes.chunks(most) {
+        reader.feed(piece).ok()?;
+    }
+    Some(reader.finish(alloc))
+}
+
+/// Whether this was read.
+fn agrees(reading: Option<Result<Got, BadReply>>, seen: Result<Seen, BadReply>) -> bool {
+    match (reading, seen) {
+        (Some(Ok(got)), Ok((status, tag, body))) => {
+            got.status == status
+                && got.tag.as_ref().map(|tag| tag.as_slice()) == tag.map(|tag| tag.as_bytes())
+                && got.body.as_slice() == body.as_bytes()
+        }
+        (Some(Err(fault)), Err(other)) => fault == other,
+        _ => false,
+    }
+}
+
+#[test]
+fn replies_in_any_cutting(rt: HostRuntime) -> Result<(), Fail> {
+    let alloc = rt.alloc();
+    for most in [1, 7, 16_384] {
+        for (bytes, seen) in BODIES {
+            assert!(rt; agrees(read(alloc, bytes.as_bytes(), most), seen), "{bytes}");
+        }
+        for bytes in NO_HEADS {
+            assert!(rt; agrees(read(alloc, bytes.as_bytes(), most), Err(BadReply::Head)), "{bytes}");
+        }
+    }
+    Ok(())
+}
+
+const CUT: &[u8] = b"HTTP/1.1 200 OK\r\nContent-Length: 5\r\n\r\nabcde";
+
+#[test]
+fn a_reply_that_is_cut(rt: HostRuntime) -> Result<(), Fail> {
+    let alloc = rt.alloc();
+    for count in 0..CUT.len() {
+        let fault = if count < CUT.len() - 5 {
+            BadReply::Head
+        } else {
+            BadReply::Short
+        };
+        assert!(rt; agrees(read(alloc, &CUT[..count], 11), Err(fault)), "{count}");
+    }
+    assert!(rt; agrees(read(alloc, CUT, 11), Ok((200, None, "abcde"))));
+    has_one_reply(CUT);
+    Ok(())
+}
+
+/// Reads a reply of one piece, another piece so many times, and a last one: how long its body is.
+fn read_repeated(
+    alloc: Global,
+    start: &[u8],
+    more: &[u8],
+    count: usize,
+    end: &[u8],
+) -> Result<Result<usize, BadReply>, Memory> {
+    let mut reader = ReplyReader::new(alloc);
+    reader.feed(start)?;
+    for _ in 0..count {
+        reader.feed(more)?;
+    }
+    reader.feed(end)?;
+    Ok(reader.finish(alloc).map(|got| got.body.len()))
+}
+
+#[test]
+fn limits(rt: HostRuntime) -> Result<(), Fail> {
+    let alloc = rt.alloc();
+    let piece = vec![in alloc; b'a'; 16_384]?;
+    for (start, more, count, end, size) in [
+        ("HTTP/1.1 200 OK\r\n", b"a: b\r\n".as_slice(), 64, "\r\n", Ok(0)),
+        ("HTTP/1.1 200 OK\r\n", b"a: b\r\n", 65, "\r\n", Err(BadReply::Head)),
+        ("HTTP/1.1 200 OK\r\na: ", b"b", 8_168, "\r\n\r\n", Ok(0)),
+        ("HTTP/1.1 200 OK\r\na: ", b"b", 8_169, "\r\n\r\n", Err(BadReply::Head)),
+        ("HTTP/1.1 200 OK\r\n\r\n", &piece, 1_024, "", Ok(16_777_216)),
+        ("HTTP/1.1 200 OK\r\n\r\n", &piece, 1_024, "a", Err(BadReply::TooLarge)),
+        ("HTTP/1.1 200 OK\r\nContent-Length: 16777216\r\n\r\n", &piece, 1_024, "a", Ok(16_777_216)),
+        ("HTTP/1.1 200 OK\r\nContent-Length: 16777216\r\n\r\n", &piece, 1_023, "", Err(BadReply::Short)),
+        ("HTTP/1.1 200 OK\r\nContent-Length: 16777217\r\n\r\n", &piece, 0, "", Err(BadReply::TooLarge)),
+    ] {
+        let read = read_repeated(alloc, start.as_bytes(), more, count, end.as_bytes())?;
+        assert_eq!(rt; read, size);
+    }
+    Ok(())
+}
+
+#[test]
+fn requests(rt: HostRuntime) -> Result<(), Fail> {
+    let alloc = rt.alloc();
+    let text = write_request(alloc, Method::Get, "/api/client/delta", "edge:80", None, None, b"")?;
+    assert_eq!(rt;
+        text.as_slice(),
+        b"GET /api/client/delta HTTP/1.0\r\nHost: edge:80\r\nConnection: close\r\n\r\n".as_slice()
+    );
+    let text = write_request(
+        alloc,
+        Method::Get,
+        "/api/client/features",
+        "edge",
+        Some("*:dev.secret"),
+        Some(b"\"1\""),
+        b"",
+    )?;
+    assert_eq!(rt;
+        text.as_slice(),
+        b"GET /api/client/features HTTP/1.0\r\nHost: edge\r\nAuthorization: *:dev.secret\r\nIf-None-Match: \"1\"\r\nConnection: close\r\n\r\n".as_slice()
+    );
+    let text = write_request(alloc, Method::Post, "/edge/validate", "edge", None, None, b"{\"tokens\":[]}")?;
+    assert_eq!(rt;
+        text.as_slice(),
+        b"POST /edge/validate HTTP/1.0\r\nHost: edge\r\nContent-Type: application/json\r\nContent-Length: 13\r\nConnection: close\r\n\r\n{\"tokens\":[]}".as_slice()
+    );
+    Ok(())
+}
