@@ -1,7 +1,7 @@
 use Rattle.std.proofs.Common.{◌≡◌, ◌≤◌, ◌-◌, length, false}
-use Rattle.unl_replay.specs.Lines.{has_end}
-use Rattle.unl_replay.specs.Reading.{Gets}
-use Rattle.unl_replay.proofs.reader.LineReader.next_line.Given as goal
+use Rattle.unl_lines.specs.Lines.{has_end}
+use Rattle.unl_lines.specs.Reading.{Gets}
+use Rattle.unl_lines.proofs.reader.LineReader.next_line.Given as goal
 
 -- the line so far was taken, and has no end in it
 abbrev pub invariant-bytes : goal.invariant-bytes

@@ -6,8 +6,8 @@ use Rattle.std.proofs.lemmas.List.Recursion.{is_count_by}
 use Rattle.std.proofs.lemmas.List.Sums.{sum_by-append}
 use Rattle.std.proofs.lemmas.List.Folds.{list_any-append}
 use Rattle.unl_base.specs.Streams.{Takes, HasEnded, Sends, SendsFront}
-use Rattle.unl_replay.specs.Lines.{is_end, has_end, lines, begun_with, ended_lines}
-use Rattle.unl_replay.specs.Reading.{Gets, IsAtEnd, IsLine, BeginsLong, longest_line}
+use Rattle.unl_lines.specs.Lines.{is_end, has_end, lines, begun_with, ended_lines}
+use Rattle.unl_lines.specs.Reading.{Gets, IsAtEnd, IsLine, BeginsLong, longest_line}
 use Rattle.std.proofs.lemmas.Bool.Decides.{nat_tests}
 
 -- ---- bytes taken one after another

@@ -1,11 +1,11 @@
 -- What reading a line takes from the bytes that are held and from the source.
 use Rattle.std.specs.Prelude.{◌≡◌, ◌≢◌, ⊤, ℕ, ◌<◌, ◌≤◌, List, [], ◌∷◌, ◌++◌, length, Option, false}
 use Rattle.unl_base.specs.Streams.{Takes, HasEnded}
-use Rattle.unl_replay.specs.declared.reader.Next.{Next}
-use Rattle.unl_replay.specs.declared.reader.Next.TheVariants.{Line, Last, End}
-use Rattle.unl_replay.specs.declared.reader.ReadFault.{ReadFault}
-use Rattle.unl_replay.specs.declared.reader.ReadFault.TheVariants.{Failed, TooLong, Memory}
-use Rattle.unl_replay.specs.Lines.{has_end}
+use Rattle.unl_lines.specs.declared.reader.Next.{Next}
+use Rattle.unl_lines.specs.declared.reader.Next.TheVariants.{Line, Last, End}
+use Rattle.unl_lines.specs.declared.reader.ReadFault.{ReadFault}
+use Rattle.unl_lines.specs.declared.reader.ReadFault.TheVariants.{Failed, TooLong, Memory}
+use Rattle.unl_lines.specs.Lines.{has_end}
 
 -- the source gave some bytes, and these were taken from the front of what was held and what it gave
 pub record Gets

@@ -1,6 +1,6 @@
 use Rattle.std.proofs.Common.{arith}
-use Rattle.unl_replay.proofs.Lines.{line_ends, line_grows, line_is_long}
-use Rattle.unl_replay.proofs.reader.LineReader.next_line.Goals as goal
+use Rattle.unl_lines.proofs.Lines.{line_ends, line_grows, line_is_long}
+use Rattle.unl_lines.proofs.reader.LineReader.next_line.Goals as goal
 
 pub returns-in-Some-eq10-clause-next : goal.returns-in-Some-eq10-clause-next
 returns-in-Some-eq10-clause-next g c =

@@ -2,7 +2,7 @@
 ghost use Rattle.std.specs.Prelude.{◌≡◌, ◌<◌, ◌≤◌, [], ◌∷◌, ℕ, length, take, IfOk, IfErr, IfSome, OnErr, IsErrOf, MatchOption};
 ghost use Rattle.unl_base.specs.Faults.{HasCause, Rose};
 ghost use Rattle.unl_base.specs.Streams.{Takes, HasEnded};
-ghost use Rattle.unl_replay.specs.Reading.{Gets, IsAtEnd, TakesNext, Breaks};
+ghost use Rattle.unl_lines.specs.Reading.{Gets, IsAtEnd, TakesNext, Breaks};
 
 use std::alloc::{AllocError, AllocFailed, Global};
 use std::marker::Model;
@@ -38,7 +38,7 @@ pub enum ReadFault {
 
 impl From<AllocError> for ReadFault {
     ghost use Rattle.std.specs.Prelude.{◌≡◌};
-    ghost use Rattle.unl_replay.specs.declared.reader.ReadFault.TheVariants.{Memory};
+    ghost use Rattle.unl_lines.specs.declared.reader.ReadFault.TheVariants.{Memory};
 
     ghost from_gives = { λ _ e. e ≡ Memory };
 
@@ -49,7 +49,7 @@ impl From<AllocError> for ReadFault {
 
 impl<T: Drop> From<AllocFailed<T>> for ReadFault {
     ghost use Rattle.std.specs.Prelude.{◌≡◌};
-    ghost use Rattle.unl_replay.specs.declared.reader.ReadFault.TheVariants.{Memory};
+    ghost use Rattle.unl_lines.specs.declared.reader.ReadFault.TheVariants.{Memory};
 
     ghost from_gives = { λ _ e. e ≡ Memory };
 
@@ -60,7 +60,7 @@ impl<T: Drop> From<AllocFailed<T>> for ReadFault {
 
 impl From<Failed> for ReadFault {
     ghost use Rattle.std.specs.Prelude.{◌≡◌};
-    ghost use Rattle.unl_replay.specs.declared.reader.ReadFault.TheVariants.{Failed};
+    ghost use Rattle.unl_lines.specs.declared.reader.ReadFault.TheVariants.{Failed};
 
     ghost from_gives = { λ _ e. e ≡ Failed };
 

@@ -1,0 +1,232 @@
+-- The lines of a whole input, from their turns.
+use Rattle.std.proofs.Common.{◌≡◌, ℕ, ◌+◌, ◌<◌, ◌≤◌, List, [], ◌∷◌, ◌++◌, length, false, cond, ltb, Result, Ok, Err, Option, Some, None, IfSome, refl, sym, ap, subst, ◌∙◌, append_assoc, append-nil, arith}
+use Rattle.std.specs.Prelude.{codes}
+use Rattle.std.proofs.lemmas.Bool.{lt-ltb}
+use Rattle.std.proofs.lemmas.Bool.Decides.{nat_tests}
+use Rattle.unl_base.specs.Streams.{HasEnded, Sends, SendsFront}
+use Rattle.unl_base.specs.Streams as stream
+use Rattle.unl_lines.specs.declared.taking.LinesFault.{LinesFault}
+use Rattle.unl_lines.specs.declared.taking.LinesFault.TheVariants.{Bad, ReadFault, WriteFault, Memory}
+use Rattle.unl_lines.specs.Lines.{lines, ended_lines}
+use Rattle.unl_lines.specs.Reading.{Gets, longest_line}
+use Rattle.unl_lines.specs.Taken.{LineResult, Outcome, Taking, done, refused, IsRefused, ending_text, whole_text, printed, refused_text, begun_by, followed, take_line, take_from, outcome_of, outcome_of_ended, most_lines}
+use Rattle.unl_lines.specs.Turns.{Scene, Takes, MayFollow, Prints, GoesOn, ComesToEnd, IsRefusedAt, BreaksOff, BeginsWith, StopsReading, Turns}
+use Rattle.unl_lines.specs.Whole.{IsAnswered, IsRefusing, AnswersRead, AnswersAll, TakesLines}
+use Rattle.unl_lines.proofs.Lines.{gets_trans, gets_nothing, WholeSplit, whole_split, sends_nothing, sends_trans, sends_then_front, front_of_longer, IsWhole, whole_none, whole_more, ended_whole, line_first}
+
+-- ---- one line
+
+-- a line within the limits is taken
+pub within_limits : {D : Type 0} (taking : Taking D) (k : ℕ) (d : D) (line : List ℕ) → k ≤ most_lines → length line ≤ longest_line
+    → take_line taking k d line ≡ taking k d line
+within_limits taking k d line few short =
+    ap (λ t. cond t (Err (codes "TooManyLines")) (cond (ltb longest_line (length line)) (Err (codes "LineTooLong")) (taking k d line))) (not_below most_lines k few)
+    ∙ ap (λ t. cond t (Err (codes "LineTooLong")) (taking k d line)) (not_below longest_line (length line) short)
+  where
+    not_below : (m n : ℕ) → n ≤ m → ltb m n ≡ false
+    not_below m n most = grind (arith, nat_tests)
+
+pub past_limit : {D : Type 0} (taking : Taking D) (k : ℕ) (d : D) (line : List ℕ) → k ≤ most_lines → longest_line < length line
+    → take_line taking k d line ≡ Err (codes "LineTooLong")
+past_limit taking k d line few long =
+    ap (λ t. cond t (Err (codes "TooManyLines")) (cond (ltb longest_line (length line)) (Err (codes "LineTooLong")) (taking k d line))) (not_below most_lines k few)
+    ∙ ap (λ t. cond t (Err (codes "LineTooLong")) (taking k d line)) (lt-ltb longest_line (length line) long)
+  where
+    not_below : (m n : ℕ) → n ≤ m → ltb m n ≡ false
+    not_below m n most = grind (arith, nat_tests)
+
+pub past_last : {D : Type 0} (taking : Taking D) (k : ℕ) (d : D) (line : List ℕ) → most_lines < k → take_line taking k d line ≡ Err (codes "TooManyLines")
+past_last taking k d line past =
+    ap (λ t. cond t (Err (codes "TooManyLines")) (cond (ltb longest_line (length line)) (Err (codes "LineTooLong")) (taking k d line))) (lt-ltb most_lines k past)
+
+-- ---- what a turn took
+
+-- a line begins what was taken, and this comes of it
+unfoldable pub Heads : {D : Type 0} → Taking D → ℕ → D → List ℕ → Scene D → LineResult D → Type 0
+Heads taking k d out after comes = (rest : List ℕ) → MayFollow after rest
+    → (line : List ℕ) × (more : List (List ℕ)) × (lines (out ++ rest) ≡ line ∷ more) × (take_line taking k d line ≡ comes)
+
+headed : {D : Type 0} (taking : Taking D) (k : ℕ) (d : D) (out rest : List ℕ) (after : Scene D) (comes : LineResult D)
+    → Heads taking k d out after comes → MayFollow after rest
+    → (more : List (List ℕ)) × (take_from taking k d (lines (out ++ rest)) ≡ followed k d comes (λ next. take_from taking (k + 1) next more))
+unfolding Heads
+headed taking k d out rest after comes heads may =
+    let first = heads rest may in
+    (first.1, ap (take_from taking k d) first.2 ∙ ap (λ r. followed k d r (λ next. take_from taking (k + 1) next first.1)) first.3)
+
+-- what is printed begins with what the line prints
+prints_first : {D : Type 0} (k : ℕ) (d : D) (comes : LineResult D) (next : D → Outcome D) → BeginsWith (printed k comes) (followed k d comes next)
+prints_first k d (Ok taken) next = (whole_text (next taken.desk), append_assoc taken.text (next taken.desk).text (ending_text (next taken.desk).ending))
+prints_first k d (Err cause) next = ([], sym (append-nil (refused_text k cause)))
+
+-- a line that isn't taken whole
+pub errs : {D : Type 0} (taking : Taking D) (fault : LinesFault) (k : ℕ) (before after : Scene D) (out : List ℕ) (comes : LineResult D) (desk : D)
+    → Prints (Err fault) k comes desk before.sent after.sent → Takes before out after → Heads taking k before.desk out after comes
+    → Turns taking (Err fault) k before after
+errs taking Bad k before after out comes desk prints got heads = record {
+  out = out;
+  cause = prints.0;
+  got = got;
+  is = λ rest may. (headed taking k before.desk out rest after comes heads may).1
+      ∙ ap (λ r. followed k before.desk r (λ next. take_from taking (k + 1) next (headed taking k before.desk out rest after comes heads may).0)) prints.1;
+  sent = prints.2;
+}
+errs taking ReadFault k before after out comes desk prints got heads = absurd prints
+errs taking WriteFault k before after out comes desk prints got heads = record {
+  out = out;
+  text = printed k comes;
+  got = got;
+  is = λ rest may. let told = headed taking k before.desk out rest after comes heads may in
+      subst (BeginsWith (printed k comes)) (sym told.1) (prints_first k before.desk comes (λ next. take_from taking (k + 1) next told.0));
+  sent = prints;
+}
+errs taking Memory k before after out comes desk prints got heads = tt
+
+-- ---- how far the lines have come
+
+pub record Sofar {D : Type 0} (taking : Taking D) (first : D) (start sent : Option (List ℕ)) (k : ℕ) (scene : Scene D) : Type 0 where
+  pub taken : List ℕ
+  pub text : List ℕ
+  pub got : Gets [] start taken scene.held scene.left
+  pub whole : IsWhole taken
+  pub leads : (rest : List ℕ) → take_from taking 1 first (lines (taken ++ rest)) ≡ begun_by text (take_from taking k scene.desk (lines rest))
+  pub sends : Sends sent text scene.sent
+
+pub begins : {D : Type 0} (taking : Taking D) (first : D) (start sent : Option (List ℕ)) (scene : Scene D)
+    → scene.desk ≡ first → scene.held ≡ [] → scene.left ≡ start → scene.sent ≡ sent → Sofar taking first start sent 1 scene
+begins taking first start sent scene desk held left same = record {
+  taken = [];
+  text = [];
+  got = subst (λ (h : List ℕ). Gets [] start [] h scene.left) (sym held) (subst (λ (l : Option (List ℕ)). Gets [] start [] [] l) (sym left) (gets_nothing [] start));
+  whole = whole_none;
+  leads = λ rest. ap (λ d. take_from taking 1 d (lines rest)) (sym desk);
+  sends = subst (λ (s : Option (List ℕ)). Sends sent [] s) (sym same) (sends_nothing sent);
+}
+
+begun_twice : {D : Type 0} (text more : List ℕ) (outcome : Outcome D) → begun_by text (begun_by more outcome) ≡ begun_by (text ++ more) outcome
+begun_twice {D = D} text more outcome =
+    ap (λ t. let x : Outcome D = record { text = t; ending = outcome.ending; desk = outcome.desk } in x) (sym (append_assoc text more outcome.text))
+
+-- one line more was taken
+pub goes_on : {D : Type 0} (taking : Taking D) (first : D) (start sent : Option (List ℕ)) (k : ℕ) (before after : Scene D)
+    → Sofar taking first start sent k before → GoesOn taking k before after → Sofar taking first start sent (k + 1) after
+goes_on taking first start sent k before after sofar now =
+    let out : List ℕ = now.line ++ 10 ∷ [] in record {
+      taken = sofar.taken ++ out;
+      text = sofar.text ++ now.text;
+      got = gets_trans [] before.held after.held start before.left after.left sofar.taken out sofar.got now.got;
+      whole = whole_more sofar.taken now.line sofar.whole now.unbroken;
+      leads = λ rest.
+          ap (λ bytes. take_from taking 1 first (lines bytes)) (append_assoc sofar.taken out rest)
+          ∙ sofar.leads (out ++ rest)
+          ∙ ap (λ ls. begun_by sofar.text (take_from taking k before.desk ls)) (line_first now.line rest now.unbroken)
+          ∙ ap (λ r. begun_by sofar.text (followed k before.desk r (λ next. take_from taking (k + 1) next (lines rest)))) now.is
+          ∙ begun_twice sofar.text now.text (take_from taking (k + 1) after.desk (lines rest));
+      sends = sends_trans sent before.sent after.sent sofar.text now.text sofar.sends now.sent;
+    }
+
+-- ---- how they end
+
+-- all of it was taken, whether or not the input is told
+pub ends_all : {D : Type 0} (taking : Taking D) (first : D) (start sent : Option (List ℕ)) (k : ℕ) (before after : Scene D)
+    → Sofar taking first start sent k before → ComesToEnd taking k before after
+    → AnswersAll taking first after.desk start after.left sent after.sent
+ends_all {D = D} taking first start sent k before after sofar now =
+    let all = gets_trans [] before.held after.held start before.left after.left sofar.taken now.out sofar.got now.got in
+    let read : all.read ≡ sofar.taken ++ now.out = all.split ∙ ap (λ h. (sofar.taken ++ now.out) ++ h) now.end.0 ∙ append-nil (sofar.taken ++ now.out) in
+    let whole : Outcome D = record { text = sofar.text ++ now.text; ending = done; desk = after.desk } in
+    let is : outcome_of taking first all.read ≡ whole =
+    ap (λ bytes. take_from taking 1 first (lines bytes)) read ∙ sofar.leads now.out ∙ ap (begun_by sofar.text) now.is in
+    record {
+      read = all.read;
+      took = all.took;
+      end = now.end.1;
+      answered = record {
+        ending = ap (λ r. r.ending) is;
+        sent = subst (λ text. Sends sent text after.sent) (sym (ap (λ r. r.text) is)) (sends_trans sent before.sent after.sent sofar.text now.text sofar.sends now.sent);
+      };
+      leaves = ap (λ r. r.desk) is;
+    }
+
+-- where the bytes to come are told, they were read
+read_all : (x read : List ℕ) (left : Option (List ℕ)) → stream.Takes (Some x) read left → HasEnded left → read ≡ x
+read_all x read None took end = absurd (cc took)
+read_all x read (Some y) took end =
+    let parts : x ≡ read ++ y = let t = took in cc in
+    sym (parts ∙ ap (λ ys. read ++ ys) end ∙ append-nil read)
+
+pub ends_over : {D : Type 0} (taking : Taking D) (first last : D) (start left sent after : Option (List ℕ))
+    → AnswersAll taking first last start left sent after → IfSome start (λ bytes. IsAnswered (outcome_of taking first bytes) sent after)
+ends_over taking first last None left sent after all = tt
+ends_over taking first last (Some x) left sent after all =
+    subst (λ bytes. IsAnswered (outcome_of taking first bytes) sent after) (read_all x all.read left all.took all.end) all.answered
+
+pub ends_leaving : {D : Type 0} (taking : Taking D) (first last : D) (start left sent after : Option (List ℕ))
+    → AnswersAll taking first last start left sent after → IfSome start (λ bytes. (outcome_of taking first bytes).desk ≡ last)
+ends_leaving taking first last None left sent after all = tt
+ends_leaving taking first last (Some x) left sent after all =
+    subst (λ bytes. (outcome_of taking first bytes).desk ≡ last) (read_all x all.read left all.took all.end) all.leaves
+
+-- what comes of the whole input, where it is told, from what comes of the bytes taken last
+whole_of : {D : Type 0} (taking : Taking D) (first : D) (x : List ℕ) (sent : Option (List ℕ)) (k : ℕ) (before after : Scene D) (out : List ℕ)
+    → (sofar : Sofar taking first (Some x) sent k before) → Takes before out after
+    → (rest : List ℕ) × MayFollow after rest × (outcome_of taking first x ≡ begun_by sofar.text (take_from taking k before.desk (lines (out ++ rest))))
+unfolding WholeSplit
+whole_of taking first x sent k before after out sofar got =
+    let parts = whole_split x (sofar.taken ++ out) after.held after.left (gets_trans [] before.held after.held (Some x) before.left after.left sofar.taken out sofar.got got) in
+    (parts.0, parts.2, ap (λ bytes. take_from taking 1 first (lines bytes)) (parts.1 ∙ append_assoc sofar.taken out parts.0) ∙ sofar.leads (out ++ parts.0))
+
+pub ends_refused : {D : Type 0} (taking : Taking D) (first : D) (start sent : Option (List ℕ)) (k : ℕ) (before after : Scene D)
+    → Sofar taking first start sent k before → IsRefusedAt taking k before after
+    → IfSome start (λ bytes. IsRefusing (outcome_of taking first bytes) sent after.sent)
+ends_refused taking first None sent k before after sofar now = tt
+ends_refused {D = D} taking first (Some x) sent k before after sofar now =
+    let told = whole_of taking first x sent k before after now.out sofar now.got in
+    let whole : Outcome D = record { text = sofar.text ++ []; ending = refused k now.cause; desk = before.desk } in
+    let all : outcome_of taking first x ≡ whole = told.2 ∙ ap (begun_by sofar.text) (now.is told.0 told.1) in
+    let text : whole_text (outcome_of taking first x) ≡ sofar.text ++ refused_text k now.cause =
+    ap whole_text all ∙ ap (λ t. t ++ refused_text k now.cause) (append-nil sofar.text) in
+    record {
+      ending = subst IsRefused (sym (ap (λ r. r.ending) all)) tt;
+      sent = subst (λ t. Sends sent t after.sent) (sym text) (sends_trans sent before.sent after.sent sofar.text (refused_text k now.cause) sofar.sends now.sent);
+    }
+
+pub ends_broken : {D : Type 0} (taking : Taking D) (first : D) (start sent : Option (List ℕ)) (k : ℕ) (before after : Scene D)
+    → Sofar taking first start sent k before → BreaksOff taking k before after
+    → IfSome start (λ bytes. SendsFront sent (whole_text (outcome_of taking first bytes)) after.sent)
+ends_broken taking first None sent k before after sofar now = tt
+ends_broken taking first (Some x) sent k before after sofar now =
+    let told = whole_of taking first x sent k before after now.out sofar now.got in
+    let tail = now.is told.0 told.1 in
+    let r = take_from taking k before.desk (lines (now.out ++ told.0)) in
+    let text : whole_text (outcome_of taking first x) ≡ (sofar.text ++ now.text) ++ tail.0 =
+    ap whole_text told.2 ∙ append_assoc sofar.text r.text (ending_text r.ending) ∙ ap (λ t. sofar.text ++ t) tail.1 ∙ sym (append_assoc sofar.text now.text tail.0) in
+    front_of_longer sent after.sent (sofar.text ++ now.text) tail.0 (whole_text (outcome_of taking first x))
+    (sends_then_front sent before.sent after.sent sofar.text now.text sofar.sends now.sent) text
+
+pub ends_unread : {D : Type 0} (taking : Taking D) (first : D) (start sent : Option (List ℕ)) (k : ℕ) (before after : Scene D)
+    → Sofar taking first start sent k before → StopsReading before after → AnswersRead taking first start after.left sent after.sent
+ends_unread {D = D} taking first start sent k before after sofar now =
+    let all = gets_trans [] before.held after.held start before.left after.left sofar.taken now.begun.front sofar.got now.begun.got in
+    let read : all.read ≡ sofar.taken ++ now.begun.front = all.split ∙ ap (λ h. (sofar.taken ++ now.begun.front) ++ h) now.none ∙ append-nil (sofar.taken ++ now.begun.front) in
+    let whole : Outcome D = record { text = sofar.text ++ []; ending = done; desk = before.desk } in
+    let is : outcome_of_ended taking first all.read ≡ whole =
+    ap (λ bytes. take_from taking 1 first (ended_lines bytes)) read
+    ∙ ap (take_from taking 1 first) (ended_whole sofar.taken now.begun.front sofar.whole now.begun.unbroken ∙ ap lines (sym (append-nil sofar.taken)))
+    ∙ sofar.leads [] in
+    record {
+      read = all.read;
+      took = all.took;
+      answered = record {
+        ending = ap (λ r. r.ending) is;
+        sent = subst (λ t. Sends sent t after.sent) (sym (ap (λ r. r.text) is ∙ append-nil sofar.text)) (now.sent ∙ sofar.sends);
+      };
+    }
+
+-- how the lines end at a fault of a turn
+pub ends_at : {D : Type 0} (taking : Taking D) (first : D) (fault : LinesFault) (start sent : Option (List ℕ)) (k : ℕ) (before after : Scene D)
+    → Sofar taking first start sent k before → Turns taking (Err fault) k before after → TakesLines taking first (Err fault) start after.left sent after.sent
+ends_at taking first Bad start sent k before after sofar now = ends_refused taking first start sent k before after sofar now
+ends_at taking first ReadFault start sent k before after sofar now = ends_unread taking first start sent k before after sofar now
+ends_at taking first WriteFault start sent k before after sofar now = ends_broken taking first start sent k before after sofar now
+ends_at taking first Memory start sent k before after sofar now = tt

@@ -1,0 +1,6 @@
+pub mod Lines
+pub mod Reading
+pub mod Taken
+pub mod Taking
+pub mod Turns
+pub mod Whole

@@ -1,0 +1,38 @@
+-- How the lines of a whole input end, over the bytes to come and those sent, before and after.
+use Rattle.std.specs.Prelude.{◌≡◌, ⊤, List, ℕ, Option, IfSome, Result, Ok, Err}
+use Rattle.unl_base.specs.Streams.{Takes, HasEnded, Sends, SendsFront}
+use Rattle.unl_lines.specs.declared.taking.LinesFault.{LinesFault}
+use Rattle.unl_lines.specs.declared.taking.LinesFault.TheVariants.{Bad, ReadFault, WriteFault, Memory}
+use Rattle.unl_lines.specs.Taken.{Outcome, Taking, done, IsRefused, whole_text, outcome_of, outcome_of_ended}
+
+-- each line was answered, and all answers were sent
+pub record IsAnswered {D : Type 0} (outcome : Outcome D) (old new : Option (List ℕ)) : Type 0 where
+  pub ending : outcome.ending ≡ done
+  pub sent : Sends old outcome.text new
+
+-- a line is refused; the answers before it and the cause were sent
+pub record IsRefusing {D : Type 0} (outcome : Outcome D) (old new : Option (List ℕ)) : Type 0 where
+  pub ending : IsRefused outcome.ending
+  pub sent : Sends old (whole_text outcome) new
+
+-- some bytes were read, and the lines that ended among them were answered
+pub record AnswersRead {D : Type 0} (taking : Taking D) (desk : D) (left left_after old new : Option (List ℕ)) : Type 0 where
+  pub read : List ℕ
+  pub took : Takes left read left_after
+  pub answered : IsAnswered (outcome_of_ended taking desk read) old new
+
+-- the input was read to its end, its lines were answered, and what then stands is what they leave
+pub record AnswersAll {D : Type 0} (taking : Taking D) (desk desk_after : D) (left left_after old new : Option (List ℕ)) : Type 0 where
+  pub read : List ℕ
+  pub took : Takes left read left_after
+  pub end : HasEnded left_after
+  pub answered : IsAnswered (outcome_of taking desk read) old new
+  pub leaves : (outcome_of taking desk read).desk ≡ desk_after
+
+-- How the lines end, over the bytes to come and those sent, before and after.
+abbrev pub TakesLines : {D : Type 0} → Taking D → D → Result (Unit {0}) LinesFault → Option (List ℕ) → Option (List ℕ) → Option (List ℕ) → Option (List ℕ) → Type 0
+TakesLines taking desk (Ok u) left left_after old new = IfSome left (λ bytes. IsAnswered (outcome_of taking desk bytes) old new)
+TakesLines taking desk (Err Bad) left left_after old new = IfSome left (λ bytes. IsRefusing (outcome_of taking desk bytes) old new)
+TakesLines taking desk (Err ReadFault) left left_after old new = AnswersRead taking desk left left_after old new
+TakesLines taking desk (Err WriteFault) left left_after old new = IfSome left (λ bytes. SendsFront old (whole_text (outcome_of taking desk bytes)) new)
+TakesLines taking desk (Err Memory) left left_after old new = ⊤

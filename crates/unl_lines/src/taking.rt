@@ -1,0 +1,174 @@
+//! The lines of an input, one after another.
+ghost use Rattle.std.specs.Prelude.{◌≡◌, ◌≢◌, ◌+◌, ◌≤◌, ℕ, IfOk, IfSome, OnOk, IsErrOf, string_bytes};
+ghost use Rattle.unl_base.specs.Faults.{Rose};
+ghost use Rattle.unl_lines.specs.Taken.{most_lines, outcome_of, refused_text};
+ghost use Rattle.unl_lines.specs.Turns.{FitsAfter, Prints, Refuses, Turns};
+ghost use Rattle.unl_lines.specs.Whole.{AnswersAll, TakesLines};
+
+use crate::line::{LineRefusal, LineTaking};
+use crate::reader::{LineReader, Next, ReadFault};
+use std::alloc::{AllocError, Global};
+use unl_base::{Sink, Source, write_all};
+
+const MOST_LINES: u64 = 1_000_000;
+
+const PAST_LINES: u64 = MOST_LINES + 1;
+
+/// Why not all lines were taken.
+#[derive(Clone, Copy, Debug, PartialEq, Eq)]
+pub enum LinesFault {
+    /// A line is refused, and the cause was printed.
+    Bad,
+    /// The source failed.
+    ReadFault,
+    /// The sink failed.
+    WriteFault,
+    /// Memory is wanting.
+    Memory,
+}
+
+/// What one turn did.
+#[derive(Clone, Copy, Debug, PartialEq, Eq)]
+pub enum Progress {
+    /// A line was answered, and more may follow.
+    Answered,
+    /// The input is over, and all of it was answered.
+    Over,
+}
+
+impl From<AllocError> for LinesFault {
+    ghost use Rattle.std.specs.Prelude.{◌≡◌};
+    ghost use Rattle.unl_lines.specs.declared.taking.LinesFault.TheVariants.{Memory as memory};
+
+    ghost from_gives = { λ _ e. e ≡ memory };
+
+    fn from(_: AllocError) -> Self {
+        LinesFault::Memory
+    }
+}
+
+/// The line that says why a line is refused.
+fn refused_line(alloc: Global, number: u64, cause: &str) -> Result<String, AllocError>
+    ensures { IfOk result (λ s. string_bytes s ≡ refused_text number cause.now) }
+{
+    format!(in alloc; "refused: line {number}: {cause}\n")
+}
+
+/// Prints why a line is refused.
+fn refuse<K: Sink>(alloc: Global, sink: &mut K, number: u64, cause: &str) -> LinesFault
+    ensures prints { Refuses result number cause.now (K.sent sink.old) (K.sent sink.new) }
+    ensures other { result ≢ LinesFault.ReadFault }
+    ensures cause { result ≡ LinesFault.WriteFault → Rose (K.faults sink.old) (K.faults sink.new) }
+    ensures later { K.faults sink.old ≤ K.faults sink.new }
+{
+    let Ok(line) = refused_line(alloc, number, cause) else {
+        return LinesFault::Memory;
+    };
+    match write_all(sink, line.as_bytes()) {
+        Ok(()) => LinesFault::Bad,
+        Err(_) => LinesFault::WriteFault,
+    }
+}
+
+/// Takes a line, and prints the answer, or why the line is refused.
+fn print_answer<A: LineTaking, K: Sink>(
+    alloc: Global,
+    desk: &mut A::Desk,
+    sink: &mut K,
+    number: u64,
+    line: &[u8],
+) -> Result<(), LinesFault>
+    requires room { A.fits number desk.old }
+    requires few { number ≤ most_lines }
+    ensures prints { Prints result number (A.taken number desk.old line.now) desk.new (K.sent sink.old) (K.sent sink.new) }
+    ensures room { OnOk result (A.fits (number + 1) desk.new) }
+    ensures cause { IsErrOf result LinesFault.WriteFault → Rose (K.faults sink.old) (K.faults sink.new) }
+    ensures later { K.faults sink.old ≤ K.faults sink.new }
+{
+    match A::take(alloc, desk, number, line) {
+        Ok(text) => match write_all(sink, &text) {
+            Ok(()) => Ok(()),
+            Err(_) => Err(LinesFault::WriteFault),
+        },
+        Err(LineRefusal::Cause(cause)) => Err(refuse(alloc, sink, number, cause.as_str())),
+        Err(LineRefusal::Memory) => Err(LinesFault::Memory),
+    }
+}
+
+/// Reads what stands next, and takes it.
+fn turn<A: LineTaking, S: Source, K: Sink>(
+    alloc: Global,
+    desk: &mut A::Desk,
+    reader: &mut LineReader,
+    source: &mut S,
+    sink: &mut K,
+    number: u64,
+) -> Result<Progress, LinesFault>
+    requires room { A.fits number desk.old }
+    requires few { number ≤ most_lines }
+    ensures turns { Turns A.taken result number
+        (record { desk = desk.old; held = reader.old; left = S.left source.old; sent = K.sent sink.old })
+        (record { desk = desk.new; held = reader.new; left = S.left source.new; sent = K.sent sink.new }) }
+    ensures room { IfOk result (λ progress. FitsAfter A.fits number progress desk.new) }
+    ensures read { IsErrOf result LinesFault.ReadFault → Rose (S.faults source.old) (S.faults source.new) }
+    ensures write { IsErrOf result LinesFault.WriteFault → Rose (K.faults sink.old) (K.faults sink.new) }
+    ensures source_later { S.faults source.old ≤ S.faults source.new }
+    ensures sink_later { K.faults sink.old ≤ K.faults sink.new }
+{
+    match reader.next_line(alloc, source) {
+        Ok(Next::Line(line)) => match print_answer::<A, K>(alloc, desk, sink, number, &line) {
+            Ok(()) => Ok(Progress::Answered),
+            Err(fault) => Err(fault),
+        },
+        Ok(Next::Last(line)) => match print_answer::<A, K>(alloc, desk, sink, number, &line) {
+            Ok(()) => Ok(Progress::Over),
+            Err(fault) => Err(fault),
+        },
+        Ok(Next::End) => Ok(Progress::Over),
+        Err(ReadFault::TooLong) => Err(refuse(alloc, sink, number, "LineTooLong")),
+        Err(ReadFault::Failed) => Err(LinesFault::ReadFault),
+        Err(ReadFault::Memory) => Err(LinesFault::Memory),
+    }
+}
+
+/// Takes the lines of an input, one after another, to its end.
+///
+/// A line has at most 16,777,216 bytes before its end, and there are at most 1,000,000 lines; the next one is refused.
+pub fn take_lines<A: LineTaking, S: Source, K: Sink>(
+    alloc: Global,
+    desk: &mut A::Desk,
+    source: &mut S,
+    sink: &mut K,
+) -> Result<(), LinesFault>
+    requires { A.fits 1 desk.old }
+    // What was sent, at each end: the whole text; the text up to the refused line and the cause; the answers to the
+    // lines that were read whole; a front of the text.
+    ensures lines { TakesLines A.taken desk.old result (S.left source.old) (S.left source.new) (K.sent sink.old) (K.sent sink.new) }
+
+    // Where all were taken the input has ended, and what stands is what they leave.
+    ensures all { OnOk result (AnswersAll A.taken desk.old desk.new (S.left source.old) (S.left source.new) (K.sent sink.old) (K.sent sink.new)) }
+    ensures leaves { OnOk result (IfSome (S.left source.old) (λ bytes. (outcome_of A.taken desk.old bytes).desk ≡ desk.new)) }
+
+    // There is room for a line more.
+    ensures room { OnOk result ((number : ℕ) × (number ≤ most_lines + 1) × A.fits number desk.new) }
+
+    // It doesn't give up by itself.
+    ensures read { IsErrOf result LinesFault.ReadFault → Rose (S.faults source.old) (S.faults source.new) }
+    ensures write { IsErrOf result LinesFault.WriteFault → Rose (K.faults sink.old) (K.faults sink.new) }
+    ensures source_later { S.faults source.old ≤ S.faults source.new }
+    ensures sink_later { K.faults sink.old ≤ K.faults sink.new }
+{
+    let mut reader = LineReader::new(alloc)?;
+    for number in 1..PAST_LINES {
+        match turn::<A, S, K>(alloc, desk, &mut reader, source, sink, number) {
+            Ok(Progress::Answered) => {}
+            Ok(Progress::Over) => return Ok(()),
+            Err(fault) => return Err(fault),
+        }
+    }
+    match reader.next_byte(source) {
+        Ok(None) => Ok(()),
+        Ok(Some(_)) => Err(refuse(alloc, sink, PAST_LINES, "TooManyLines")),
+        Err(_) => Err(LinesFault::ReadFault),
+    }
+}
