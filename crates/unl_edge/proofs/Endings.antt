@@ -7,8 +7,9 @@ use Rattle.unl_edge.specs.Ends.{CheckEnds, Ends, IsDecided, ReplayEnds, Said, Sa
 use Rattle.unl_edge.specs.Status.{code_of, status_of}
 use Rattle.unl_edge.specs.declared.status.Status.{Status}
 use Rattle.unl_edge.specs.declared.status.Status.TheVariants.{Done, TestFailed, BadWords, Refused, ReadFault, WriteFault, OutOfMemory}
-use Rattle.unl_replay.specs.Replay.{Ending, IsRefused, done, refused, replay_of}
-use Rattle.unl_replay.specs.Whole.{IsAnswered, IsRefusing}
+use Rattle.unl_lines.specs.Taken.{Ending, IsRefused, done, refused}
+use Rattle.unl_lines.specs.Whole.{IsAnswered, IsRefusing}
+use Rattle.unl_replay.specs.Replay.{replay_of}
 use Rattle.unl_spec_runner.specs.Check.{report_of, IsReported, IsBrokenOff}
 use Rattle.unl_spec_runner.specs.Report.{Report}
 use Rattle.unl_spec_runner.specs.declared.fault.CheckFault.{CheckFault}
@@ -153,5 +154,5 @@ pub decided : (words : WordsReading) (status : Status) (code : ℕ) (left left_a
     → ¬ Read → ¬ Write → code ≢ 6 → IsDecided words code left
 decided words status code left left_after old new is ends read write no_read no_write some =
     subst (λ c. IsDecided words c left) (sym is)
-      (by_words words status left left_after old new ends (λ same. no_read (read same)) (λ same. no_write (write same))
-        (λ same. some (is ∙ ap code_of same)))
+    (by_words words status left left_after old new ends (λ same. no_read (read same)) (λ same. no_write (write same))
+    (λ same. some (is ∙ ap code_of same)))

@@ -6,8 +6,9 @@ use Rattle.unl_documents.specs.FaultText.{fault_text}
 use Rattle.unl_edge.specs.Status.{code_of, status_of}
 use Rattle.unl_edge.specs.declared.status.Status.{Status}
 use Rattle.unl_edge.specs.declared.status.Status.TheVariants.{Done, TestFailed, BadWords, Refused, ReadFault, WriteFault, OutOfMemory}
-use Rattle.unl_replay.specs.Replay.{Ending, done, refused, replay_of, whole_text}
-use Rattle.unl_replay.specs.Whole.{AnswersRead, IsAnswered, IsRefusing}
+use Rattle.unl_lines.specs.Taken.{Ending, done, refused, whole_text}
+use Rattle.unl_lines.specs.Whole.{AnswersRead, IsAnswered, IsRefusing}
+use Rattle.unl_replay.specs.Replay.{line_answer, opening, replay_of}
 use Rattle.unl_spec_runner.specs.Check.{report_of}
 use Rattle.unl_spec_runner.specs.Report.{Report}
 use Rattle.unl_spec_runner.specs.declared.fault.CheckFault.{CheckFault}
@@ -28,7 +29,7 @@ SendsLine line ending status old new = (status ≡ ending) × Sends old line new
 abbrev pub ReplayEnds : Status → Option (List ℕ) → Option (List ℕ) → Option (List ℕ) → Option (List ℕ) → Type 0
 ReplayEnds Done left left_after old new = IfSome left (λ bytes. IsAnswered (replay_of bytes) old new)
 ReplayEnds Refused left left_after old new = IfSome left (λ bytes. IsRefusing (replay_of bytes) old new)
-ReplayEnds ReadFault left left_after old new = AnswersRead left left_after old new
+ReplayEnds ReadFault left left_after old new = AnswersRead line_answer opening left left_after old new
 ReplayEnds WriteFault left left_after old new = IfSome left (λ bytes. SendsFront old (whole_text (replay_of bytes)) new)
 ReplayEnds OutOfMemory left left_after old new = ⊤
 ReplayEnds TestFailed left left_after old new = ⊥

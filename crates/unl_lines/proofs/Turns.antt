@@ -1,12 +1,12 @@
 -- What stands next in the input, and what a turn makes of it.
-use Rattle.std.proofs.Common.{◌≡◌, ◌≢◌, ℕ, ◌+◌, ◌<◌, ◌≤◌, List, [], ◌∷◌, ◌++◌, length, false, arith, Result, Ok, Err, Option, refl, sym, ap, subst, ◌∙◌, append-nil}
+use Rattle.std.proofs.Common.{◌≡◌, ◌≢◌, ℕ, ◌+◌, ◌<◌, ◌≤◌, List, [], ◌∷◌, ◌++◌, length, false, arith, Ok, Err, Option, refl, sym, ap, subst, ◌∙◌, append-nil}
 use Rattle.std.specs.Prelude.{codes}
 use Rattle.unl_base.specs.Streams.{Sends}
 use Rattle.unl_lines.specs.declared.taking.LinesFault.{LinesFault}
 use Rattle.unl_lines.specs.declared.taking.LinesFault.TheVariants.{Bad, ReadFault, WriteFault, Memory}
 use Rattle.unl_lines.specs.Lines.{lines, has_end}
 use Rattle.unl_lines.specs.Reading.{IsAtEnd, IsLine, BeginsLong, longest_line}
-use Rattle.unl_lines.specs.Taken.{LineResult, Outcome, Taking, done, followed, take_from, take_line, most_lines}
+use Rattle.unl_lines.specs.Taken.{LineResult, Outcome, Taking, done, followed, take_from, most_lines}
 use Rattle.unl_lines.specs.Whole.{TakesLines}
 use Rattle.unl_lines.specs.Turns.{Scene, Takes, Prints, Refuses, GoesOn, ComesToEnd, StopsReading, Turns}
 use Rattle.unl_lines.proofs.Lines.{line_first, last_line, long_first, some_first, sends_nothing}

@@ -9,6 +9,7 @@ use crate::line::{LineRefusal, LineTaking};
 use crate::reader::{LineReader, Next, ReadFault};
 use std::alloc::{AllocError, Global};
 use unl_base::{Sink, Source, write_all};
+use unl_documents::Memory;
 
 const MOST_LINES: u64 = 1_000_000;
 
@@ -43,6 +44,17 @@ impl From<AllocError> for LinesFault {
     ghost from_gives = { λ _ e. e ≡ memory };
 
     fn from(_: AllocError) -> Self {
+        LinesFault::Memory
+    }
+}
+
+impl From<Memory> for LinesFault {
+    ghost use Rattle.std.specs.Prelude.{◌≡◌};
+    ghost use Rattle.unl_lines.specs.declared.taking.LinesFault.TheVariants.{Memory as memory};
+
+    ghost from_gives = { λ _ e. e ≡ memory };
+
+    fn from(_: Memory) -> Self {
         LinesFault::Memory
     }
 }

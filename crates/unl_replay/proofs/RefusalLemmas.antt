@@ -8,7 +8,12 @@ use Rattle.unl_tokens.specs.declared.fault.BadBook.{BadBook}
 use Rattle.unl_tokens.specs.declared.fault.BadBook.TheVariants as book
 use Rattle.unl_replay.specs.declared.refusal.Refusal.{Refusal}
 use Rattle.unl_replay.specs.declared.refusal.Refusal.TheVariants.{Memory}
-use Rattle.unl_replay.specs.Refusals.{refusing, refusal_for, refusal_for_batch, refusal_for_book}
+use Rattle.unl_lines.specs.Taken.{Taken}
+use Rattle.unl_lines.specs.Taking.{TakesLine}
+use Rattle.unl_lines.specs.declared.line.LineRefusal.{LineRefusal}
+use Rattle.unl_lines.specs.declared.line.LineRefusal.TheVariants.{Cause}
+use Rattle.unl_lines.specs.declared.line.LineRefusal.TheVariants as line
+use Rattle.unl_replay.specs.Refusals.{Causes, LineReading, refusal_text, refusing, refusal_for, refusal_for_batch, refusal_for_book}
 
 -- a fault that is handed on, where one of the faults is want of memory
 handed_on : {A E : Type 0} (becomes : E → Refusal) (memory : E) → becomes memory ≡ Memory → (e : E) (refusal : Refusal) (reading : Result A E)
@@ -30,3 +35,9 @@ refused_batch e refusal reading made told other = handed_on refusal_for_batch ba
 pub refused_book : {A : Type 0} (e : BadBook) (refusal : Refusal) (reading : Result A BadBook) → refusal ≡ refusal_for_book e → (e ≢ book.Memory → reading ≡ Err e)
     → refusal ≢ Memory → refusing refusal_for_book reading ≡ Err refusal
 refused_book e refusal reading made told other = handed_on refusal_for_book book.Memory refl e refusal reading made told other
+
+-- a refused line, by the cause that is printed for it
+pub refused_line : {A : Type 0} (r : LineRefusal) (refusal : Refusal) (stated : LineReading (Taken A)) (desk : A) → Causes r refusal
+    → (refusal ≢ Memory → stated ≡ Err refusal) → TakesLine (Err r) desk (refusing refusal_text stated)
+refused_line (Cause text) refusal stated desk causes told = ap (refusing refusal_text) (told causes.0) ∙ ap Err (sym causes.1)
+refused_line line.Memory refusal stated desk causes told = tt

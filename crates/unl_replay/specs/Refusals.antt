@@ -1,15 +1,17 @@
 -- What reading a line gives: something, or why the line is refused.
-use Rattle.std.specs.Prelude.{◌≡◌, ◌≢◌, ℕ, List, [], ◌++◌, codes, decimal, Result, Ok, Err}
+use Rattle.std.specs.Prelude.{◌≡◌, ◌≢◌, ⊤, ℕ, List, [], ◌++◌, codes, decimal, Result, Ok, Err}
 use Rattle.unl_delta.specs.declared.fault.BadBatch.{BadBatch}
 use Rattle.unl_delta.specs.declared.fault.BadBatch.TheVariants as batch
 use Rattle.unl_documents.specs.declared.fault.BadDocument.{BadDocument}
 use Rattle.unl_documents.specs.declared.fault.BadDocument.TheVariants as document
 use Rattle.unl_documents.specs.FaultText.{fault_text}
 use Rattle.unl_documents.specs.Reading.{Reading}
+use Rattle.unl_lines.specs.declared.line.LineRefusal.{LineRefusal}
+use Rattle.unl_lines.specs.declared.line.LineRefusal.TheVariants.{Cause}
 use Rattle.unl_tokens.specs.declared.fault.BadBook.{BadBook}
 use Rattle.unl_tokens.specs.declared.fault.BadBook.TheVariants as book
 use Rattle.unl_replay.specs.declared.refusal.Refusal.{Refusal}
-use Rattle.unl_replay.specs.declared.refusal.Refusal.TheVariants.{Document, Book, Batch, NoNumber, TooManyEnvironments, LineTooLong, TooManyLines, NotBuilt, Memory}
+use Rattle.unl_replay.specs.declared.refusal.Refusal.TheVariants.{Document, Book, Batch, NoNumber, TooManyEnvironments, NotBuilt, Memory}
 
 -- what a line is read as, or why it is refused
 abbrev pub LineReading : Type 0 → Type 0
@@ -45,10 +47,10 @@ refusal_for_batch (batch.HydrationNotFirst place) = Batch (batch.HydrationNotFir
 refusal_for_batch (batch.NotRising place) = Batch (batch.NotRising place)
 refusal_for_batch batch.Memory = Memory
 
--- a reading in a line, whose faults are why the line is refused
-abbrev pub refusing : {A E : Type 0} → (E → Refusal) → Result A E → LineReading A
-refusing refusal (Ok x) = Ok x
-refusing refusal (Err e) = Err (refusal e)
+-- a reading whose faults are why something else is refused
+abbrev pub refusing : {A E F : Type 0} → (E → F) → Result A E → Result A F
+refusing fault (Ok x) = Ok x
+refusing fault (Err e) = Err (fault e)
 
 -- the reading of a document in a line
 abbrev pub documented : {A : Type 0} → Reading A → LineReading A
@@ -87,7 +89,10 @@ refusal_text (Book fault) = book_text fault
 refusal_text (Batch fault) = batch_text fault
 refusal_text NoNumber = codes "NoNumber"
 refusal_text TooManyEnvironments = codes "TooManyEnvironments"
-refusal_text LineTooLong = codes "LineTooLong"
-refusal_text TooManyLines = codes "TooManyLines"
 refusal_text NotBuilt = codes "NotBuilt"
 refusal_text Memory = []
+
+-- the cause of a refused line is that text; where memory ran out there is none
+abbrev pub Causes : LineRefusal → Refusal → Type 0
+Causes (Cause text) refusal = (refusal ≢ Memory) × (text ≡ refusal_text refusal)
+Causes no_memory refusal = ⊤

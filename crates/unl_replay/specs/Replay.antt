@@ -1,5 +1,5 @@
 -- What a replay of an input prints, and how it ends.
-use Rattle.std.specs.Prelude.{ℕ, ◌+◌, List, [], ◌∷◌, ◌++◌, length, codes, decimal, if◌then◌else◌, nat_lt, Option, Some, None, option_map, ok_or, Ok, Err}
+use Rattle.std.specs.Prelude.{ℕ, List, [], ◌++◌, codes, decimal, if◌then◌else◌, Option, Some, None, option_map, ok_or, Ok, Err}
 use Rattle.std.specs.Str.{bytes_eq}
 use Rattle.serde_json.specs.Data.{Data}
 use Rattle.unl_core.specs.declared.board.Board.{Board}
@@ -17,30 +17,13 @@ use Rattle.unl_documents.specs.declared.field.Field.TheVariants as field
 use Rattle.unl_documents.specs.Kinds.{any_text, name, required}
 use Rattle.unl_documents.specs.Results.{object_in}
 use Rattle.unl_http_api.specs.declared.reply.Reply.{Reply}
+use Rattle.unl_lines.specs.Taken.{Taken, LineResult, Outcome, outcome_of}
 use Rattle.unl_tokens.specs.declared.token.Token.{Token}
 use Rattle.unl_tokens.specs.Books.{book_of}
 use Rattle.unl_replay.specs.declared.ask.Ask.{Ask}
-use Rattle.unl_replay.specs.declared.refusal.Refusal.{Refusal}
-use Rattle.unl_replay.specs.declared.refusal.Refusal.TheVariants.{Document, TooManyEnvironments, LineTooLong, TooManyLines, NotBuilt}
+use Rattle.unl_replay.specs.declared.refusal.Refusal.TheVariants.{Document, TooManyEnvironments, NotBuilt}
 use Rattle.unl_replay.specs.Forms.{batch_in, feed_in, ask_of}
-use Rattle.unl_replay.specs.Lines.{lines, ended_lines}
-use Rattle.unl_replay.specs.Reading.{longest_line}
 use Rattle.unl_replay.specs.Refusals.{LineReading, and_then, documented, refusing, refusal_for_book, refusal_text}
-
--- how a replay ends: at the end of its input, or at a line that is refused
-pub data Ending : Type 0 where
-  done : Ending
-  refused : ℕ → Refusal → Ending
-
--- a line is refused
-abbrev pub IsRefused : Ending → Type 0
-IsRefused done = ⊥
-IsRefused (refused k cause) = Unit {0}
-
--- the answers to the lines, and the end
-pub record Replayed : Type 0 where
-  pub text : List ℕ
-  pub ending : Ending
 
 -- ---- the printed lines
 
@@ -74,25 +57,11 @@ ask_start k front status tag = decimal k ++ (codes ": front " ++ (decimal front 
 abbrev pub ask_line : ℕ → ℕ → Reply → List ℕ
 ask_line k front reply = ask_start k front reply.status (tag_or_dash reply.tag) ++ reply.body ++ codes "\n"
 
--- the line for a line that is refused
-abbrev pub refused_text : ℕ → List ℕ → List ℕ
-refused_text k cause = codes "refused: line " ++ (decimal k ++ (codes ": " ++ (cause ++ codes "\n")))
-
--- what is printed last
-abbrev pub ending_text : Ending → List ℕ
-ending_text done = []
-ending_text (refused k cause) = refused_text k (refusal_text cause)
-
--- all that is printed
-abbrev pub whole_text : Replayed → List ℕ
-whole_text r = r.text ++ ending_text r.ending
-
 -- ---- one line
 
 -- what a line prints, and the desk after it
-pub record Answered : Type 0 where
-  pub text : List ℕ
-  pub desk : Standing
+abbrev pub Answered : Type 0
+Answered = Taken Standing
 
 -- the book that stands is published no second time
 abbrev pub put_tokens : ℕ → List Token → Standing → Answered
@@ -168,43 +137,16 @@ answer_object k d line = and_then (documented (required any_text field.Op line))
 unfoldable pub answer_read : ℕ → Standing → List ℕ → LineReading Answered
 answer_read k d bytes = and_then (ok_or (object_in bytes) (Document NotJson)) (answer_object k d)
 
--- the most lines that a replay takes
-abbrev pub most_lines : ℕ
-most_lines = 1000000
-
--- the line k
-abbrev pub answer_line : ℕ → Standing → List ℕ → LineReading Answered
-answer_line k d bytes = if nat_lt most_lines k then Err TooManyLines else (if nat_lt longest_line (length bytes) then Err LineTooLong else answer_read k d bytes)
-
--- what a line prints, a refused one too
-abbrev pub printed : ℕ → LineReading Answered → List ℕ
-printed k (Ok answered) = answered.text
-printed k (Err cause) = refused_text k (refusal_text cause)
+-- what comes of a line, with the text of the cause where it is refused
+abbrev pub line_answer : ℕ → Standing → List ℕ → LineResult Standing
+line_answer k d bytes = refusing refusal_text (answer_read k d bytes)
 
 -- ---- all lines
-
--- a replay before which some text was printed
-abbrev pub begun_by : List ℕ → Replayed → Replayed
-begun_by text r = record { text = text ++ r.text; ending = r.ending }
-
--- a line, and what follows it unless it is refused
-abbrev pub followed : ℕ → LineReading Answered → (Standing → Replayed) → Replayed
-followed k (Err cause) rest = record { text = []; ending = refused k cause }
-followed k (Ok answered) rest = begun_by answered.text (rest answered.desk)
-
--- the lines from the line k on
-abbrev pub answers : ℕ → Standing → List (List ℕ) → Replayed
-answers k d [] = record { text = []; ending = done }
-answers k d (line ∷ more) = followed k (answer_line k d line) (λ after. answers (k + 1) after more)
 
 -- no environment, no tokens, and nothing published
 abbrev pub opening : Standing
 opening = record { board = record { boot = 0; host = []; generation = 0; book = []; slots = [] }; places = []; front = 0 }
 
--- the replay of a whole input
-abbrev pub replay_of : List ℕ → Replayed
-replay_of bytes = answers 1 opening (lines bytes)
-
--- the replay of the lines whose end stands among the bytes
-abbrev pub replay_of_ended : List ℕ → Replayed
-replay_of_ended bytes = answers 1 opening (ended_lines bytes)
+-- the replay of a whole input: the text, and the end
+abbrev pub replay_of : List ℕ → Outcome Standing
+replay_of bytes = outcome_of line_answer opening bytes

@@ -3,12 +3,11 @@
 
 mod ask;
 mod batch;
-mod reader;
 mod refusal;
 mod replaying;
 mod step;
 
-pub use replaying::{ReplayFault, replay};
+pub use replaying::replay;
 
 #[cfg(test)]
 mod tests;

@@ -20,10 +20,6 @@ pub enum Refusal {
     NoNumber,
     /// The environment is new, and eight stand.
     TooManyEnvironments,
-    /// More than 16,777,216 bytes came before the line's end.
-    LineTooLong,
-    /// It is the line 1,000,001.
-    TooManyLines,
     /// The line's form isn't built yet.
     NotBuilt,
     Memory,
@@ -104,8 +100,6 @@ impl Refusal {
             Refusal::Batch(fault) => batch_text(alloc, fault),
             Refusal::NoNumber => Ok(String::from_str(alloc, "NoNumber")?),
             Refusal::TooManyEnvironments => Ok(String::from_str(alloc, "TooManyEnvironments")?),
-            Refusal::LineTooLong => Ok(String::from_str(alloc, "LineTooLong")?),
-            Refusal::TooManyLines => Ok(String::from_str(alloc, "TooManyLines")?),
             Refusal::NotBuilt => Ok(String::from_str(alloc, "NotBuilt")?),
             Refusal::Memory => Ok(String::new(alloc)),
         }

@@ -1,17 +1,18 @@
-use crate::{ReplayFault, replay};
+use crate::replay;
 use std::test::Fail;
 use unl_base::{MemorySink, MemorySource};
+use unl_lines::LinesFault;
 
 const ROOM: usize = 4096;
 
 /// What lines print, and how the replay ends.
-const CASES: [(&str, &str, Result<(), ReplayFault>); 3] = [
+const CASES: [(&str, &str, Result<(), LinesFault>); 3] = [
     ("", "", Ok(())),
-    ("{", "refused: line 1: NotJson\n", Err(ReplayFault::Bad)),
+    ("{", "refused: line 1: NotJson\n", Err(LinesFault::Bad)),
     (
         "{}\n",
         "refused: line 1: Missing op\n",
-        Err(ReplayFault::Bad),
+        Err(LinesFault::Bad),
     ),
 ];
 

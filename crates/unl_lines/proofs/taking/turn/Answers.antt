@@ -1,4 +1,4 @@
-use Rattle.unl_lines.proofs.Turns.{last_answered, last_errs, line_answered, line_errs, long_errs, none_left}
+use Rattle.unl_lines.proofs.Turns.{last_answered, last_errs, line_errs, long_errs}
 use Rattle.unl_lines.proofs.taking.turn.Goals as goal
 
 pub returns-in-Ok-Line-clause-turns : goal.returns-in-Ok-Line-clause-turns
