@@ -194,7 +194,7 @@ reading_stays : (status : ℕ) (fields : List (List ℕ × List ℕ)) (rest more
 reading_stays status fields rest more many =
     taken_stays status fields rest more (body_size status fields (length rest)) refl
     ∙ ap (λ size. size >>= λ n. Ok (got_with status fields (take n (rest ++ more))))
-      (body_size_stays status fields (length rest) (length (rest ++ more)) many (omega (arith, length-append rest more)))
+    (body_size_stays status fields (length rest) (length (rest ++ more)) many (omega (arith, length-append rest more)))
 
 -- once enough bytes have come, more of them change nothing
 pub IsReply-append : (bytes more : List ℕ) (reading : Result Got BadReply) → 16785409 ≤ length bytes

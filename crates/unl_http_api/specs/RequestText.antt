@@ -1,11 +1,14 @@
 -- The text of a request that this client asks.
-use Rattle.std.specs.Prelude.{ℕ, List, [], ◌++◌, Bool, true, not, ◌==◌, ◌||◌, length, Option, codes}
+use Rattle.std.specs.Prelude.{◌≡◌, ◌≢◌, ℕ, ◌+◌, ◌<◌, ◌≤◌, List, [], ◌++◌, Bool, true, not, ◌==◌, ◌||◌, length, Option, None, IfSome, IsUtf8, codes}
 use Rattle.std.specs.List.{list_all}
-use Rattle.std.specs.Option.{option_map_or}
+use Rattle.std.specs.Option.{option_map, option_map_or}
 use Rattle.std.specs.Fmt.{decimal}
 use Rattle.httparse.specs.Ascii.{crlf_bytes}
+use Rattle.httparse.specs.Grammar.{AllPass, is_uri_byte, is_value_byte, trim_ows}
 use Rattle.unl_http_api.specs.declared.request.Method.{Method}
 use Rattle.unl_http_api.specs.declared.request.Method.TheVariants.{Get, Post, Other}
+use Rattle.unl_http_api.specs.declared.request.Request.{Request}
+use Rattle.unl_http_api.specs.Fields.{without_prefix}
 use Rattle.unl_http_api.specs.Reply.{header}
 
 -- the text can stand in a line: it has no CR, LF or NUL
@@ -49,3 +52,30 @@ request_text method target host token tag body =
     ++ header (codes "Connection") (codes "close")
     ++ crlf_bytes
     ++ body
+
+-- A request of these parts can be read again: the target is one of the grammar, no value has a control byte but the
+-- tab, the head and the body are within their limits, and only a POST has a body.
+pub record CanBeRead
+    (method : Method) (target host : List ℕ) (token tag : Option (List ℕ)) (body : List ℕ) : Type 0 where
+  pub method_is : method ≢ Other
+  pub target_some : 0 < length target
+  pub target_bytes : AllPass is_uri_byte target
+  pub target_text : IsUtf8 target
+  pub host_bytes : AllPass is_value_byte host
+  pub token_bytes : IfSome token (AllPass is_value_byte)
+  pub tag_bytes : IfSome tag (AllPass is_value_byte)
+  pub head_fits : length (request_text method target host token tag body) ≤ 8192 + length body
+  pub body_fits : length body ≤ 1048576
+  pub body_told : method ≡ Get → body ≡ []
+
+-- what a server reads of such a request; of a token and of a tag it takes no white space around them
+abbrev pub request_read : Method → List ℕ → Option (List ℕ) → Option (List ℕ) → List ℕ → Request
+request_read method target token tag body = record {
+  method = method;
+  target = target;
+  token = option_map (λ text. without_prefix (codes "Bearer ") (trim_ows text)) token;
+  tag = option_map (λ text. without_prefix (codes "W/") (trim_ows text)) tag;
+  spec = None;
+  close = true;
+  body = body;
+}

@@ -1,11 +1,11 @@
 //! Requests that this client asks, and how they are written.
-ghost use Rattle.std.specs.Prelude.{◌≡◌, ◌≢◌, ◌++◌, IfOk, OnOk, IsTrue, length, option_copied};
-ghost use Rattle.std.specs.Fmt.{decimal};
+ghost use Rattle.std.specs.Prelude.{◌≡◌, ◌≢◌, ◌++◌, [], IfOk, OnOk, IsTrue, codes, option_copied};
+ghost use Rattle.std.specs.Option.{option_map_or};
 ghost use Rattle.unl_http_api.specs.declared.request.Method.{Method};
 ghost use Rattle.unl_http_api.specs.Reply.{header};
 ghost use Rattle.unl_http_api.specs.RequestText.{fits_line, fits_if_any, method_name, request_line, json_headers, body_headers, request_text};
 
-use crate::header::push_header;
+use crate::header::{push_header, push_length};
 use crate::request::{Bytes, Method};
 use std::alloc::Global;
 use unl_documents::{List, Memory};
@@ -19,6 +19,7 @@ pub fn fits_line(text: &[u8]) -> bool
 
 /// The text of a request of version 1.0 by GET or POST, after which the connection ends. A token stands in the field
 /// `Authorization`, a tag in `If-None-Match`, and a POST tells what its body is and how long.
+#[tactic(auto, unfolding(crate::specs::RequestText::request_text))]
 pub fn write_request(
     alloc: Global,
     method: Method,
@@ -39,12 +40,8 @@ pub fn write_request(
     let mut text = Vec::new(alloc);
     push_request_line(&mut text, method, target)?;
     push_header(&mut text, "Host", host.as_bytes())?;
-    if let Some(token) = token {
-        push_header(&mut text, "Authorization", token.as_bytes())?;
-    }
-    if let Some(tag) = tag {
-        push_header(&mut text, "If-None-Match", tag)?;
-    }
+    push_token(&mut text, token)?;
+    push_tag(&mut text, tag)?;
     push_body_headers(alloc, &mut text, method, body)?;
     push_header(&mut text, "Connection", b"close")?;
     text.extend_from_slice(b"\r\n")?;
@@ -74,6 +71,28 @@ fn push_request_line(text: &mut Vec<u8>, method: Method, target: &str) -> Result
     Ok(())
 }
 
+/// Adds the token, where there is one.
+fn push_token(text: &mut Vec<u8>, token: Option<&str>) -> Result<(), Memory>
+    ensures { OnOk result (text.new.items
+        ≡ text.old.items ++ option_map_or (header (codes "Authorization")) (option_copied token.entry) []) }
+{
+    match token {
+        Some(token) => push_header(text, "Authorization", token.as_bytes()),
+        None => Ok(()),
+    }
+}
+
+/// Adds the tag, where there is one.
+fn push_tag(text: &mut Vec<u8>, tag: Option<&[u8]>) -> Result<(), Memory>
+    ensures { OnOk result (text.new.items
+        ≡ text.old.items ++ option_map_or (header (codes "If-None-Match")) (option_copied tag.entry) []) }
+{
+    match tag {
+        Some(tag) => push_header(text, "If-None-Match", tag),
+        None => Ok(()),
+    }
+}
+
 /// Adds what the body is and how long, at POST.
 fn push_body_headers(
     alloc: Global,
@@ -94,8 +113,6 @@ fn push_body_headers(
 fn push_json_headers(alloc: Global, text: &mut Vec<u8>, body: &[u8]) -> Result<(), Memory>
     ensures { OnOk result (text.new.items ≡ text.old.items ++ json_headers body.now) }
 {
-    let length = format!(in alloc; "{}", body.len())?;
     push_header(text, "Content-Type", b"application/json")?;
-    push_header(text, "Content-Length", length.as_bytes())?;
-    Ok(())
+    push_length(alloc, text, body.len())
 }

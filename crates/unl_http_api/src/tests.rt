@@ -31,10 +31,7 @@ const BODIES: [(&str, Result<Seen, BadReply>); 11] = [
         "HTTP/1.1 200 OK\r\nX: y\r\neTAG:  W/\"a b\" \r\n\r\nabc",
         Ok((200, Some("W/\"a b\""), "abc")),
     ),
-    (
-        "HTTP/1.1 200 OK\r\nETag:\r\n\r\n",
-        Ok((200, Some(""), "")),
-    ),
+    ("HTTP/1.1 200 OK\r\nETag:\r\n\r\n", Ok((200, Some(""), ""))),
     (
         "HTTP/1.1 304 Not Modified\r\nContent-Length: 3\r\nETag: x\r\n\r\n",
         Ok((304, Some("x"), "")),
@@ -97,10 +94,16 @@ fn replies_in_any_cutting(rt: HostRuntime) -> Result<(), Fail> {
     let alloc = rt.alloc();
     for most in [1, 7, 16_384] {
         for (bytes, seen) in BODIES {
-            assert!(rt; agrees(read(alloc, bytes.as_bytes(), most), seen), "{bytes}");
+            assert!(rt;
+                agrees(read(alloc, bytes.as_bytes(), most), seen),
+                "{bytes}"
+            );
         }
         for bytes in NO_HEADS {
-            assert!(rt; agrees(read(alloc, bytes.as_bytes(), most), Err(BadReply::Head)), "{bytes}");
+            assert!(rt;
+                agrees(read(alloc, bytes.as_bytes(), most), Err(BadReply::Head)),
+                "{bytes}"
+            );
         }
     }
     Ok(())
@@ -117,7 +120,10 @@ fn a_reply_that_is_cut(rt: HostRuntime) -> Result<(), Fail> {
         } else {
             BadReply::Short
         };
-        assert!(rt; agrees(read(alloc, &CUT[..count], 11), Err(fault)), "{count}");
+        assert!(rt;
+            agrees(read(alloc, &CUT[..count], 11), Err(fault)),
+            "{count}"
+        );
     }
     assert!(rt; agrees(read(alloc, CUT, 11), Ok((200, None, "abcde"))));
     has_one_reply(CUT);
@@ -146,15 +152,57 @@ fn limits(rt: HostRuntime) -> Result<(), Fail> {
     let alloc = rt.alloc();
     let piece = vec![in alloc; b'a'; 16_384]?;
     for (start, more, count, end, size) in [
-        ("HTTP/1.1 200 OK\r\n", b"a: b\r\n".as_slice(), 64, "\r\n", Ok(0)),
-        ("HTTP/1.1 200 OK\r\n", b"a: b\r\n", 65, "\r\n", Err(BadReply::Head)),
+        (
+            "HTTP/1.1 200 OK\r\n",
+            b"a: b\r\n".as_slice(),
+            64,
+            "\r\n",
+            Ok(0),
+        ),
+        (
+            "HTTP/1.1 200 OK\r\n",
+            b"a: b\r\n",
+            65,
+            "\r\n",
+            Err(BadReply::Head),
+        ),
         ("HTTP/1.1 200 OK\r\na: ", b"b", 8_168, "\r\n\r\n", Ok(0)),
-        ("HTTP/1.1 200 OK\r\na: ", b"b", 8_169, "\r\n\r\n", Err(BadReply::Head)),
+        (
+            "HTTP/1.1 200 OK\r\na: ",
+            b"b",
+            8_169,
+            "\r\n\r\n",
+            Err(BadReply::Head),
+        ),
         ("HTTP/1.1 200 OK\r\n\r\n", &piece, 1_024, "", Ok(16_777_216)),
-        ("HTTP/1.1 200 OK\r\n\r\n", &piece, 1_024, "a", Err(BadReply::TooLarge)),
-        ("HTTP/1.1 200 OK\r\nContent-Length: 16777216\r\n\r\n", &piece, 1_024, "a", Ok(16_777_216)),
-        ("HTTP/1.1 200 OK\r\nContent-Length: 16777216\r\n\r\n", &piece, 1_023, "", Err(BadReply::Short)),
-        ("HTTP/1.1 200 OK\r\nContent-Length: 16777217\r\n\r\n", &piece, 0, "", Err(BadReply::TooLarge)),
+        (
+            "HTTP/1.1 200 OK\r\n\r\n",
+            &piece,
+            1_024,
+            "a",
+            Err(BadReply::TooLarge),
+        ),
+        (
+            "HTTP/1.1 200 OK\r\nContent-Length: 16777216\r\n\r\n",
+            &piece,
+            1_024,
+            "a",
+            Ok(16_777_216),
+        ),
+        (
+            "HTTP/1.1 200 OK\r\nContent-Length: 16777216\r\n\r\n",
+            &piece,
+            1_023,
+            "",
+            Err(BadReply::Short),
+        ),
+        (
+            "HTTP/1.1 200 OK\r\nContent-Length: 16777217\r\n\r\n",
+            &piece,
+            0,
+            "",
+            Err(BadReply::TooLarge),
+        ),
     ] {
         let read = read_repeated(alloc, start.as_bytes(), more, count, end.as_bytes())?;
         assert_eq!(rt; read, size);
@@ -165,7 +213,15 @@ fn limits(rt: HostRuntime) -> Result<(), Fail> {
 #[test]
 fn requests(rt: HostRuntime) -> Result<(), Fail> {
     let alloc = rt.alloc();
-    let text = write_request(alloc, Method::Get, "/api/client/delta", "edge:80", None, None, b"")?;
+    let text = write_request(
+        alloc,
+        Method::Get,
+        "/api/client/delta",
+        "edge:80",
+        None,
+        None,
+        b"",
+    )?;
     assert_eq!(rt;
         text.as_slice(),
         b"GET /api/client/delta HTTP/1.0\r\nHost: edge:80\r\nConnection: close\r\n\r\n".as_slice()
@@ -183,7 +239,15 @@ fn requests(rt: HostRuntime) -> Result<(), Fail> {
         text.as_slice(),
         b"GET /api/client/features HTTP/1.0\r\nHost: edge\r\nAuthorization: *:dev.secret\r\nIf-None-Match: \"1\"\r\nConnection: close\r\n\r\n".as_slice()
     );
-    let text = write_request(alloc, Method::Post, "/edge/validate", "edge", None, None, b"{\"tokens\":[]}")?;
+    let text = write_request(
+        alloc,
+        Method::Post,
+        "/edge/validate",
+        "edge",
+        None,
+        None,
+        b"{\"tokens\":[]}",
+    )?;
     assert_eq!(rt;
         text.as_slice(),
         b"POST /edge/validate HTTP/1.0\r\nHost: edge\r\nContent-Type: application/json\r\nContent-Length: 13\r\nConnection: close\r\n\r\n{\"tokens\":[]}".as_slice()

@@ -21,6 +21,6 @@ pub returns-in-None : goal.returns-in-None
 returns-in-None c not_memory =
     inr (
       no_reply_head c.args.bytes.now _ c.window-front.ensures.value
-      (λ head rest reads few. c.in-None.ensures.none head rest reads (omega (arith, few, c.requires))),
+          (λ head rest reads few. c.in-None.ensures.none head rest reads (omega (arith, few, c.requires))),
       refl,
     )
