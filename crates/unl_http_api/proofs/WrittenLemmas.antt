@@ -1,5 +1,5 @@
 -- A request that is written is read again.
-use Rattle.std.proofs.Common.{◌≡◌, ◌≢◌, ℕ, ◌+◌, ◌^◌, ◌<◌, ◌≤◌, Bool, true, false, List, [], ◌∷◌, ◌++◌, length, map, reverse, refl, sym, ap, ◌∙◌, subst, arith, append_assoc, append-nil, length-append, Option, Some, None, codes, IsTrue}
+use Rattle.std.proofs.Common.{◌≡◌, ◌≢◌, ℕ, ◌<◌, ◌≤◌, true, false, List, [], ◌∷◌, ◌++◌, length, map, reverse, refl, sym, ap, ◌∙◌, arith, append_assoc, append-nil, length-append, Option, Some, None, codes}
 use Rattle.std.proofs.lemmas.Bool.Decides.{nat_tests}
 use Rattle.std.proofs.lemmas.Fmt.{decimal_is_IsNumeral, length-decimal-le}
 use Rattle.std.proofs.lemmas.List.Elements.{All-nil, All-cons, All-head, All-weaker}
@@ -11,16 +11,16 @@ use Rattle.std.specs.Fmt.{decimal}
 use Rattle.std.specs.List.{flat_map, list_all}
 use Rattle.std.specs.Option.{option_map_or}
 use Rattle.std.specs.Str.Parse.{AllDigits, digits_value}
-use Rattle.httparse.specs.Grammar.{AllPass, LineEnd, crlf, Field, IsField, IsToken, is_ows, is_token_byte, is_value_byte, print_field, print_section, print_version, RequestHead, IsRequestHead, print_request, skip_ows, trim_ows}
+use Rattle.httparse.specs.Grammar.{AllPass, crlf, Field, IsField, IsToken, is_ows, is_token_byte, is_value_byte, print_field, print_version, RequestHead, print_request, skip_ows, trim_ows}
 use Rattle.httparse.specs.Spans.{name_and_value}
 use Rattle.httparse.proofs.GrammarLemmas.{cons-append, print_request-append}
 use Rattle.httparse.proofs.TrimLemmas.{AllPass-reverse, trim_ows_space}
 use Rattle.unl_documents.specs.Texts.{trimmed}
 use Rattle.unl_http_api.specs.declared.request.Method.{Method}
 use Rattle.unl_http_api.specs.declared.request.Method.TheVariants.{Get, Post, Other}
-use Rattle.unl_http_api.specs.Fields.{body_length, fault_of, lists_word, plain_number}
+use Rattle.unl_http_api.specs.Fields.{body_length, fault_of, plain_number}
 use Rattle.unl_http_api.specs.Reply.{header}
-use Rattle.unl_http_api.specs.Requests.{IsRequest, announced, fields_of, head_fault, request_of, request_with}
+use Rattle.unl_http_api.specs.Requests.{IsRequest, request_with}
 use Rattle.unl_http_api.specs.RequestText.{body_headers, method_name, request_text, CanBeRead, request_read}
 
 -- ---- the head that is written

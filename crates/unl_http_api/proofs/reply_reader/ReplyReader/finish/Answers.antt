@@ -1,5 +1,3 @@
-use Rattle.std.proofs.Common.{subst, sym, ◌∙◌}
-use Rattle.unl_documents.specs.Results.{Answers}
 use Rattle.unl_http_api.specs.declared.got.BadReply.TheVariants.{Memory}
 use Rattle.unl_http_api.specs.Received.{IsReply}
 use Rattle.unl_http_api.proofs.ReceivedLemmas.{Gives-from_answers, IsReply_unique, tag_fits_if_ok}
