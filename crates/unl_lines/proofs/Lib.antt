@@ -1,3 +1,4 @@
 pub mod Lines
+pub mod Silent
 pub mod Turns
 pub mod Whole

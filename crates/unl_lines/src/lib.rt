@@ -2,6 +2,7 @@
 //! out, and so is why the first one that is refused is refused.
 #![tactic(auto)]
 
+pub mod laws;
 mod line;
 mod reader;
 mod taking;

@@ -1,5 +1,6 @@
 ghost use Rattle.std.specs.Prelude.{◌≡◌, ◌==◌, ⊤, ◌-◌, ◌≤◌, length, take, codes, if◌then◌else◌, Ok, Err};
 
+use crate::laws::silent_lines;
 use crate::{LineRefusal, LineTaking, LinesFault, take_lines};
 use std::alloc::Global;
 use std::test::Fail;
@@ -80,6 +81,7 @@ const CASES: [(&str, &str, Result<(), LinesFault>, u64); 6] = [
 #[test]
 fn lines_are_taken_in_every_cutting(rt: HostRuntime) -> Result<(), Fail> {
     let alloc = rt.alloc();
+    silent_lines::<Fronts>();
     for (input, output, end, last) in CASES {
         for most in [1, 2, 4096] {
             let bytes = input.as_bytes().to_vec(alloc)?;
