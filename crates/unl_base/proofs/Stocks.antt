@@ -15,7 +15,7 @@ pub gone : (links : List (Option Wire)) (given back : ℕ) (left : Option Wire) 
 gone links given back left more stocked = record {
   within = omega (arith, stocked.within);
   new = rw (drop-set-lt (given + 1) links given left (omega arith))
-    (All-tail IsNew (slice_index_or links given None) (drop (given + 1) links) (subst (All IsNew) (drop_more links given None more) stocked.new));
+      (All-tail IsNew (slice_index_or links given None) (drop (given + 1) links) (subst (All IsNew) (drop_more links given None more) stocked.new));
   there = rw (take-set-le back links given left stocked.within) stocked.there;
 }
 
@@ -26,7 +26,7 @@ came links given back wire out held stocked = record {
   within = omega (arith, out);
   new = rw (drop-set-lt given links back (Some wire) out) stocked.new;
   there = rw (take_more_set links back (Some wire) (omega (arith, out, held)))
-    (All-push IsThere (take back links) (Some wire) stocked.there refl);
+      (All-push IsThere (take back links) (Some wire) stocked.there refl);
 }
 
 -- a new link is known by what it gives

@@ -33,6 +33,10 @@ pub trait Door {
     ghost faults: { Self → ℕ };
 
     /// Begins to listen at a port, and listens from then on.
+    ///
+    /// # Errors
+    ///
+    /// `Failed`: the port can't be listened at. The fault is counted, and all else is as before.
     fn listen(&mut self, port: u16) -> Result<(), Failed>
         ensures listens { OnOk result (listening self.new ≡ true) }
         ensures kept { OnErr result (listening self.new ≡ listening self.old) }
@@ -45,6 +49,10 @@ pub trait Door {
 
     /// Waits for the next link, and hands it out: none exactly where the door is closed. The link has sent nothing and
     /// has counted no fault.
+    ///
+    /// # Errors
+    ///
+    /// `Failed`: no link could be had. The fault is counted, and all else is as before.
     fn accept(&mut self) -> Result<Option<Self::L>, Failed>
         requires { listening self.old ≡ true }
         ensures listens { listening self.new ≡ true }

@@ -3,9 +3,9 @@ ghost use Rattle.std.specs.Prelude.{◌≡◌, ◌<◌, ◌+◌, ◌-◌, ◌∷
 ghost use Rattle.unl_base.specs.Doors.{count_of, next_of};
 ghost use Rattle.unl_base.specs.Memory.{IsNew, to_come};
 
+use crate::Failed;
 use crate::door::Door;
 use crate::memory::{Calls, MemoryLink};
-use crate::Failed;
 use std::marker::Model;
 
 /// The links of a door. Those that came back stand first, each in the place of one that was handed out; those to come

@@ -15,8 +15,11 @@ pub trait Peer: Link {
     /// What each of the next connects gives to read, where that is told.
     ghost replies: { Self → Option (List (List ℕ)) };
 
-    /// Connects anew, in place of a connection that stands. Nothing is sent on the new one yet. After a fault there is
-    /// no connection.
+    /// Connects anew, in place of a connection that stands. Nothing is sent on the new one yet.
+    ///
+    /// # Errors
+    ///
+    /// `Failed`: the peer can't be connected to. The fault is counted, and there is no connection.
     fn connect(&mut self) -> Result<(), Failed>
         ensures connects { OnOk result (connected self.new ≡ true) }
         ensures comes { OnOk result (Self.Source.left self.new ≡ option_map next_of (replies self.old)) }

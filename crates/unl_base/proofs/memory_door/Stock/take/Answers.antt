@@ -1,6 +1,6 @@
-use Rattle.std.proofs.Common.{◌≡◌, ◌∙◌, ◌<◌, ◌+◌, ◌-◌, [], Some, drop, length, map, ap, is_some, sym, refl, arith, true≢false}
+use Rattle.std.proofs.Common.{◌≡◌, ◌∙◌, ◌<◌, ◌+◌, [], Some, drop, length, ap, is_some, sym, refl, arith, true≢false}
 use Rattle.unl_base.specs.Doors.{count_of, next_of}
-use Rattle.unl_base.specs.Memory.{Stock, Wire, to_come}
+use Rattle.unl_base.specs.Memory.{Stock}
 use Rattle.unl_base.proofs.Stocks.{gone, gone_view, next_new, some_to_come}
 use Rattle.unl_base.proofs.memory_door.Stock.take.Goals as goal
 
@@ -19,15 +19,17 @@ next c =
 
 pub invariant_of-self : goal.invariant_of-self
 invariant_of-self c =
-    let stock = c.self.inside in
-    (omega (arith, c.self.invariant.0, c.if-self-len.false),
-    gone stock.links.items stock.given stock.back _ (more c) c.self.invariant.1)
+    let stock = c.self.inside in (
+      omega (arith, c.self.invariant.0, c.if-self-len.false),
+      gone stock.links.items stock.given stock.back _ (more c) c.self.invariant.1,
+    )
 
 pub returns-clause-ends : goal.returns-clause-ends
 returns-clause-ends c =
-    let stock = c.self.inside in
-    (λ none. absurd (true≢false (sym (ap is_some (next c)) ∙ none)),
-    λ empty. absurd (some_to_come stock.links.items stock.given (more c) (ap (λ (s : Stock). s.links) c.self.view_is ∙ empty)))
+    let stock = c.self.inside in (
+      λ none. absurd (true≢false (sym (ap is_some (next c)) ∙ none)),
+      λ empty. absurd (some_to_come stock.links.items stock.given (more c) (ap (λ (s : Stock). s.links) c.self.view_is ∙ empty)),
+    )
 
 pub returns-clause-comes : goal.returns-clause-comes
 returns-clause-comes c = rw (next c) refl
