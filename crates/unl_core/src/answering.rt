@@ -1,6 +1,6 @@
 //! The answer to one request.
 ghost use Rattle.std.specs.Prelude.{◌≡◌, ◌≢◌, ◌∷◌, [], codes, IfOk, IfSome, Err, Ok, Some};
-ghost use Rattle.unl_core.specs.Answer.{answer_of, asked_context, at_route, bad_method, fed, featured, feature_reply, has_tag, listed, news_since, one_text, plain, registered, reply, reported, reported_by, seen, still_at, told, toggled, toggles_for, validated};
+ghost use Rattle.unl_core.specs.Answer.{answer_of, asked_context, at_route, fed, featured, feature_reply, has_tag, listed, news_since, one_text, plain, registered, reply, reported, reported_by, seen, still_at, told, toggled, toggles_for, validated};
 ghost use Rattle.unl_core.specs.Board.{AreSlots};
 ghost use Rattle.unl_core.specs.Shown.{ready_by, shown_by};
 ghost use Rattle.unl_dependencies.specs.Evaluation.{feature_named};
@@ -11,7 +11,9 @@ ghost use Rattle.unl_tokens.specs.Requests.{asked_in};
 
 use crate::board::Board;
 use crate::desk::Answer;
-use crate::reply::{bare, made, one_text, refuse, refuse_unseen, tagged, unchanged};
+use crate::reply::{
+    bare, made, one_text, refuse, refuse_method, refuse_unseen, tagged, unchanged,
+};
 use crate::shown::{Ready, ready_by, shown_by};
 use crate::tag::{since_of, tag_of};
 use http::StatusCode;
@@ -44,20 +46,10 @@ pub fn answer(
     let Some(route) = Route::of(alloc, request.target.as_slice())? else {
         return Ok(plain(refuse(alloc, StatusCode::NOT_FOUND, "NoSuchRoute")?));
     };
-    if !route.methods().allows(request.method) {
+    if !route.is_commands() && !route.methods().allows(request.method) {
         return Ok(plain(refuse_method(alloc, &route)?));
     }
     at_route(alloc, board, request, draw, &route)
-}
-
-/// The refusal of a method, with those that the route has.
-fn refuse_method(alloc: Global, route: &Route) -> Result<Reply, Memory>
-    ensures { IfOk result (λ r. r ≡ bad_method route.now) }
-{
-    let allow = Text::new(alloc, route.methods().text())?;
-    let mut reply = refuse(alloc, StatusCode::METHOD_NOT_ALLOWED, "BadMethod")?;
-    reply.allow = Some(allow);
-    Ok(reply)
 }
 
 /// A reply to a request that reports nothing.
@@ -95,6 +87,7 @@ fn at_route(
         Route::Metrics => report(alloc, board, request, Kind::Client),
         Route::FrontMetrics => report(alloc, board, request, Kind::Frontend),
         Route::Bulk => bulk_report(alloc, board, request),
+        Route::Commands => Ok(plain(refuse(alloc, StatusCode::NOT_FOUND, "NoSuchRoute")?)),
     }
 }
 

@@ -24,10 +24,18 @@ type Case = (
 );
 
 /// Each refusal in the order of the cases, and answers of each route.
-const CASES: [Case; 26] = [
+const CASES: [Case; 27] = [
     (
         Method::Get,
         "/api/nothing",
+        None,
+        "",
+        404,
+        "{\"error\":\"NoSuchRoute\"}",
+    ),
+    (
+        Method::Get,
+        "/commands",
         None,
         "",
         404,
