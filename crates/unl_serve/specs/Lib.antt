@@ -1,3 +1,1 @@
-pub mod Conversation
-pub mod Exchange
-pub mod Receive
+pub mod Notes

@@ -1,8 +1,7 @@
 //! Serving one connection: its requests are read from a link, answered by a desk, noted and replied to in their order.
 #![tactic(auto)]
 
-mod exchange;
-mod receive;
+mod by_desk;
 mod serve;
 mod served;
 #[cfg(test)]

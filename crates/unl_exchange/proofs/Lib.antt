@@ -1,0 +1,6 @@
+mod CompleteLemmas
+mod ConversationLemmas
+mod ExchangeLemmas
+mod ReachesLemmas
+mod ReceiveLemmas
+pub mod ShowsLemmas

@@ -1,0 +1,30 @@
+use Rattle.std.proofs.Common.{◌≡◌, ◌≤◌, List, [], length}
+use Rattle.unl_http_api.specs.declared.request.Request.{Request}
+use Rattle.unl_http_api.specs.Session.{StayOpen}
+use Rattle.unl_exchange.specs.Answering.{Answers, answerer}
+use Rattle.unl_exchange.proofs.ConversationLemmas.{Talk}
+use Rattle.unl_exchange.proofs.conversation.converse.Given as goal
+
+-- as many requests as turns were answered and noted, and none of them ends the connection
+abbrev pub invariant-loop-turn : goal.invariant-loop-turn
+invariant-loop-turn g l = record {
+  requests : List Request;
+  talk : Talk (Answers g.A.Answering.noted g.A.Answering.gives)
+      (record {
+        held = [];
+        left = g.L.Source.left l.initial.link;
+        state = answerer l.initial.desk l.initial.book l.initial.notes (g.R.Draws.coming l.initial.draws);
+        sent = g.L.Sink.sent l.initial.link;
+      })
+      (record {
+        held = l.reader;
+        left = g.L.Source.left l.link;
+        state = answerer l.desk l.book l.notes (g.R.Draws.coming l.draws);
+        sent = g.L.Sink.sent l.link;
+      })
+      requests;
+  stay : StayOpen requests;
+  asked : length requests ≡ l.turn;
+  noted : g.A.Answering.noted l.notes ≡ l.turn;
+  later : g.L.Source.faults l.initial.link ≤ g.L.Source.faults l.link;
+}

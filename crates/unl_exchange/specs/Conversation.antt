@@ -1,0 +1,141 @@
+-- What a whole connection was: its requests, the reply to each, and how it ended. `Step before request reply after` is
+-- what one answer does with the state of whoever answers, and `Lacks before request after` what want of memory at a
+-- request leaves of it.
+use Rattle.std.specs.Prelude.{◌≡◌, ℕ, ◌+◌, ◌⊎◌, ◌==◌, ◌||◌, List, [], ◌∷◌, ◌++◌, length, Option, Some, ⊤}
+use Rattle.unl_base.specs.Streams.{Sends, SendsFront}
+use Rattle.unl_http_api.specs.declared.end.End.{End}
+use Rattle.unl_http_api.specs.declared.end.End.TheVariants.{Closed, Asked, Limit, Refused, CutOff, ReadFault, WriteFault, Memory}
+use Rattle.unl_http_api.specs.declared.reply.Reply.{Reply}
+use Rattle.unl_http_api.specs.declared.request.Request.{Request}
+use Rattle.unl_http_api.specs.Reply.{reply_text, refusal_text}
+use Rattle.unl_http_api.specs.Requests.{BeginsWith}
+use Rattle.unl_http_api.specs.Session.{Reads, IsOpen, Session}
+use Rattle.unl_exchange.specs.Exchange.{Unreplied, Tells500}
+
+-- The text answers the requests, of which so many came before: each by one step, and the connection ends after one that
+-- asks for it and after the 1,000th.
+abbrev pub Answered : {S : Type 0} → (S → Request → Reply → S → Type 0) → ℕ → S → List Request → List ℕ → S → Type 0
+Answered {S} Step count before [] text after = (text ≡ []) × (after ≡ before)
+Answered {S} Step count before (q ∷ qs) text after =
+    (reply : Reply) × (middle : S) × (more : List ℕ) × Step before q reply middle
+    × (text ≡ reply_text reply (q.close || count == 999) ++ more)
+    × Answered Step (count + 1) middle qs more after
+
+-- what is sent after the replies
+abbrev pub farewell : End → List ℕ
+farewell Closed = []
+farewell Asked = []
+farewell Limit = []
+farewell (Refused status) = refusal_text status
+farewell CutOff = []
+farewell ReadFault = []
+farewell WriteFault = []
+farewell Memory = []
+
+-- the bytes' session ended so, and each of its requests was answered
+pub record Serves
+    {S : Type 0} (Step : S → Request → Reply → S → Type 0) (bytes : List ℕ) (sent : Option (List ℕ)) (before : S)
+    (end : End) (after : S) (sent_after : Option (List ℕ)) : Type 0 where
+  pub requests : List Request
+  pub text : List ℕ
+  pub session : Session bytes requests end
+  pub answered : Answered Step 0 before requests text after
+  pub sends : Sends sent (text ++ farewell end) sent_after
+
+-- The bytes that were read before a read failed, all but those that are left, are a session of their own, whose requests
+-- were answered.
+pub record ServesFront
+    {S : Type 0} (Step : S → Request → Reply → S → Type 0) (bytes : List ℕ) (sent : Option (List ℕ)) (before after : S)
+    (left_after sent_after : Option (List ℕ)) : Type 0 where
+  pub read : List ℕ
+  pub rest : List ℕ
+  pub split : bytes ≡ read ++ rest
+  pub left : left_after ≡ Some rest
+  pub serves : Serves Step read sent before Closed after sent_after ⊎ Serves Step read sent before CutOff after sent_after
+
+-- These requests were asked and answered, and of the replies' text only a front was sent: the last request may be one
+-- that ends the connection.
+pub record CutInReply
+    {S : Type 0} (Step : S → Request → Reply → S → Type 0) (bytes : List ℕ) (sent : Option (List ℕ)) (before after : S)
+    (sent_after : Option (List ℕ)) : Type 0 where
+  pub earlier : List Request
+  pub request : Request
+  pub rest : List ℕ
+  pub text : List ℕ
+  pub reads : Reads bytes (earlier ++ request ∷ []) rest
+  pub first : IsOpen 1000 earlier
+  pub answered : Answered Step 0 before (earlier ++ request ∷ []) text after
+  pub sends : SendsFront sent text sent_after
+
+-- the session is refused there, and of the replies' and the refusal's text only a front was sent
+pub record CutInRefusal
+    {S : Type 0} (Step : S → Request → Reply → S → Type 0) (bytes : List ℕ) (sent : Option (List ℕ)) (before after : S)
+    (sent_after : Option (List ℕ)) : Type 0 where
+  pub requests : List Request
+  pub status : ℕ
+  pub text : List ℕ
+  pub session : Session bytes requests (Refused status)
+  pub answered : Answered Step 0 before requests text after
+  pub sends : SendsFront sent (text ++ refusal_text status) sent_after
+
+-- a request begins the bytes, and has no whole reply
+pub record IsUnreplied
+    {S : Type 0} (Step : S → Request → Reply → S → Type 0) (Lacks : S → Request → S → Type 0) (bytes : List ℕ)
+    (before after : S) : Type 0 where
+  pub request : Request
+  pub rest : List ℕ
+  pub begins : BeginsWith bytes request rest
+  pub unreplied : Unreplied Step Lacks before request after
+
+-- These requests were asked and answered before memory was wanting, and then its answer was sent. The next one may have
+-- been asked too, and then its reply was not sent.
+pub record GivesUp
+    {S : Type 0} (Step : S → Request → Reply → S → Type 0) (Lacks : S → Request → S → Type 0) (bytes : List ℕ)
+    (sent : Option (List ℕ)) (faults : ℕ) (before after : S) (sent_after : Option (List ℕ)) (faults_after : ℕ) : Type 0 where
+  pub requests : List Request
+  pub rest : List ℕ
+  pub reads : Reads bytes requests rest
+  pub first : IsOpen 1000 requests
+  pub text : List ℕ
+  pub replied : S
+  pub answered : Answered Step 0 before requests text replied
+  pub next : (after ≡ replied) ⊎ IsUnreplied Step Lacks rest replied after
+  pub sent_before : Option (List ℕ)
+  pub sends : Sends sent text sent_before
+  pub told : Tells500 sent_before faults sent_after faults_after
+
+-- what stands at each end but at want of memory
+abbrev pub Concludes :
+    {S : Type 0} → (S → Request → Reply → S → Type 0) → List ℕ → Option (List ℕ) → S → End → S → Option (List ℕ)
+    → Option (List ℕ) → Type 0
+Concludes Step bytes sent before Closed after left_after sent_after = Serves Step bytes sent before Closed after sent_after
+Concludes Step bytes sent before Asked after left_after sent_after = Serves Step bytes sent before Asked after sent_after
+Concludes Step bytes sent before Limit after left_after sent_after = Serves Step bytes sent before Limit after sent_after
+Concludes Step bytes sent before (Refused status) after left_after sent_after =
+    Serves Step bytes sent before (Refused status) after sent_after
+Concludes Step bytes sent before CutOff after left_after sent_after = Serves Step bytes sent before CutOff after sent_after
+Concludes Step bytes sent before ReadFault after left_after sent_after =
+    ServesFront Step bytes sent before after left_after sent_after
+Concludes Step bytes sent before WriteFault after left_after sent_after =
+    CutInReply Step bytes sent before after sent_after ⊎ CutInRefusal Step bytes sent before after sent_after
+Concludes Step bytes sent before Memory after left_after sent_after = ⊤
+
+-- each of these requests was answered, and then what this end sends was sent
+pub record AnswersAll
+    {S : Type 0} (Step : S → Request → Reply → S → Type 0) (requests : List Request) (sent : Option (List ℕ)) (before : S)
+    (end : End) (after : S) (sent_after : Option (List ℕ)) : Type 0 where
+  pub text : List ℕ
+  pub answered : Answered Step 0 before requests text after
+  pub sends : Sends sent (text ++ farewell end) sent_after
+
+-- So many requests were answered one after another, whether or not the bytes are told. At want of memory one more may
+-- have been asked that was not answered.
+pub record Reaches
+    {S : Type 0} (Step : S → Request → Reply → S → Type 0) (Lacks : S → Request → S → Type 0) (before : S) (end : End)
+    (after : S) (count : ℕ) : Type 0 where
+  pub requests : List Request
+  pub text : List ℕ
+  pub answered_to : S
+  pub answered : Answered Step 0 before requests text answered_to
+  pub counted : length requests ≡ count
+  pub next : (after ≡ answered_to) ⊎ ((end ≡ Memory) × (request : Request) × Lacks answered_to request after)

@@ -1,0 +1,4 @@
+pub mod Answering
+pub mod Conversation
+pub mod Exchange
+pub mod Receive

@@ -1,0 +1,39 @@
+-- What was read of a link, and what then stood next.
+use Rattle.std.specs.Prelude.{◌≡◌, ◌≢◌, ℕ, ◌<◌, List, [], ◌++◌, length, Option, Some, None, ⊤}
+use Rattle.unl_base.specs.Streams.{Takes, HasEnded}
+use Rattle.http.specs.StatusCode.{IsStatusCode}
+use Rattle.unl_http_api.specs.Requests.{BeginsWith, IsBad, IsUnfinished}
+use Rattle.unl_exchange.specs.declared.receive.Received.{Received}
+use Rattle.unl_exchange.specs.declared.receive.Received.TheVariants.{Request as Whole, Bad, Closed, CutOff, ReadFault, Memory}
+
+-- what stood next in the bytes, of which the held ones are left
+abbrev pub Stands : List ℕ → Option (List ℕ) → Received → List ℕ → Type 0
+Stands bytes left (Whole request) held = BeginsWith bytes request held
+Stands bytes left (Bad status) held = IsBad bytes status × IsStatusCode status
+Stands bytes left Closed held = (bytes ≡ []) × HasEnded left
+Stands bytes left CutOff held = (bytes ≢ []) × IsUnfinished bytes × HasEnded left
+Stands bytes left ReadFault held = IsUnfinished bytes
+Stands bytes left Memory held = ⊤
+
+-- Bytes were taken from the link and added to the held ones, and then this stood next.
+pub record Receives
+    (held : List ℕ) (left : Option (List ℕ)) (found : Received) (held_after : List ℕ)
+    (left_after : Option (List ℕ)) : Type 0 where
+  pub read : List ℕ
+  pub took : Takes left read left_after
+  pub stands : Stands (held ++ read) left_after found held_after
+
+-- a piece was taken from the link and added to the held bytes, which were not too many
+pub record TakesPiece
+    (held : List ℕ) (left : Option (List ℕ)) (held_after : List ℕ) (left_after : Option (List ℕ)) : Type 0 where
+  pub piece : List ℕ
+  pub some : 0 < length piece
+  pub took : Takes left piece left_after
+  pub added : held_after ≡ held ++ piece
+  pub room : length held < 1056768
+
+-- one turn: what stands next was found, or a piece was taken
+abbrev pub Turns :
+    List ℕ → Option (List ℕ) → Option Received → List ℕ → Option (List ℕ) → Type 0
+Turns held left (Some found) held_after left_after = Receives held left found held_after left_after
+Turns held left None held_after left_after = TakesPiece held left held_after left_after

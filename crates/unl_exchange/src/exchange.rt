@@ -1,0 +1,137 @@
+//! One exchange on a connection: a request is received, answered, noted and replied to.
+ghost use Rattle.std.specs.Prelude.{◌≡◌, ◌<◌, ◌≤◌, if◌then◌else◌};
+ghost use Rattle.http.specs.StatusCode.{IsStatusCode};
+ghost use Rattle.unl_base.specs.Faults.{Rose};
+ghost use Rattle.unl_http_api.specs.Reply.{reply_text};
+ghost use Rattle.unl_exchange.specs.Answering.{Answers, LacksMemory, answerer};
+ghost use Rattle.unl_exchange.specs.Exchange.{Goes, Refuses, Replied, Tells500, Writes};
+
+use crate::answering::{Answering, MOST_REQUESTS};
+use crate::receive::{Received, receive};
+use std::alloc::Global;
+use unl_base::{Draws, Link};
+use unl_documents::{List, Memory};
+use unl_http_api::{End, Reader, Reply, Request, WriteRefusal, write_500, write_reply};
+
+/// Serves one request. None: it was answered, and the connection goes on.
+pub(crate) fn exchange<A: Answering, L: Link, R: Draws>(
+    alloc: Global,
+    reader: &mut Reader,
+    desk: &mut A::Desk,
+    book: &mut A::Book,
+    notes: &mut A::Notes,
+    link: &mut L,
+    draws: &mut R,
+    last: bool,
+) -> Option<End>
+    requires { A.noted notes.old < MOST_REQUESTS }
+    ensures goes { Goes (Answers A.noted A.gives) (LacksMemory A.noted A.gives_up) last
+        (record { held = reader.old; left = L.left link.old; state = answerer desk.old book.old notes.old (R.coming draws.old); sent = L.sent link.old }) result
+        (record { held = reader.new; left = L.left link.new; state = answerer desk.new book.new notes.new (R.coming draws.new); sent = L.sent link.new }) }
+    ensures later { L.Source.faults link.old ≤ L.Source.faults link.new }
+    ensures read_cause { result ≡ Some End.ReadFault → Rose (L.Source.faults link.old) (L.Source.faults link.new) }
+    ensures write_cause { result ≡ Some End.WriteFault → Rose (L.Source.faults link.old) (L.Source.faults link.new) }
+    ensures gave_up { result ≡ Some End.Memory
+        → Tells500 (L.sent link.old) (L.Source.faults link.old) (L.sent link.new) (L.Source.faults link.new) }
+{
+    match receive(alloc, reader, link) {
+        Received::Request(request) => {
+            let close = request.close || last;
+            match reply_to::<A, L, R>(alloc, desk, book, notes, link, draws, &request, close) {
+                Some(end) => Some(end),
+                None => asked(request.close),
+            }
+        }
+        Received::Bad(status) => Some(refuse(alloc, link, status)),
+        Received::Closed => Some(End::Closed),
+        Received::CutOff => Some(End::CutOff),
+        Received::ReadFault => Some(End::ReadFault),
+        Received::Memory => Some(give_up(link)),
+    }
+}
+
+/// The end that a request asks for, if it does.
+fn asked(close: bool) -> Option<End>
+    ensures { result ≡ (if close then Some End.Asked else None) }
+{
+    if close { Some(End::Asked) } else { None }
+}
+
+/// Answers a request, and sends the reply. None: the reply was sent.
+fn reply_to<A: Answering, L: Link, R: Draws>(
+    alloc: Global,
+    desk: &mut A::Desk,
+    book: &mut A::Book,
+    notes: &mut A::Notes,
+    link: &mut L,
+    draws: &mut R,
+    request: &Request,
+    close: bool,
+) -> Option<End>
+    requires { A.noted notes.old < MOST_REQUESTS }
+    ensures replied { Replied (Answers A.noted A.gives) (LacksMemory A.noted A.gives_up) request.now close
+        (answerer desk.old book.old notes.old (R.coming draws.old)) (answerer desk.new book.new notes.new (R.coming draws.new))
+        (L.sent link.old) result (L.sent link.new) }
+    ensures left { L.left link.new ≡ L.left link.old }
+    ensures later { L.Source.faults link.old ≤ L.Source.faults link.new }
+    ensures cause { result ≡ Some End.WriteFault → Rose (L.Source.faults link.old) (L.Source.faults link.new) }
+    ensures gave_up { result ≡ Some End.Memory
+        → Tells500 (L.sent link.old) (L.Source.faults link.old) (L.sent link.new) (L.Source.faults link.new) }
+{
+    let draw = draws.draw();
+    let reply = match A::answer(alloc, desk, book, notes, request, &draw) {
+        Ok(reply) => reply,
+        Err(Memory) => return Some(give_up(link)),
+    };
+    send(alloc, &reply, close, link)
+}
+
+/// Answers bad bytes by their status.
+fn refuse<L: Link>(alloc: Global, link: &mut L, status: u16) -> End
+    requires { IsStatusCode status }
+    ensures refuses { Refuses status (L.sent link.old) result (L.sent link.new) }
+    ensures left { L.left link.new ≡ L.left link.old }
+    ensures later { L.Source.faults link.old ≤ L.Source.faults link.new }
+    ensures cause { result ≡ End.WriteFault → Rose (L.Source.faults link.old) (L.Source.faults link.new) }
+    ensures gave_up { result ≡ End.Memory
+        → Tells500 (L.sent link.old) (L.Source.faults link.old) (L.sent link.new) (L.Source.faults link.new) }
+{
+    let reply = Reply {
+        status,
+        tag: None,
+        allow: None,
+        body: List::new(alloc),
+    };
+    match send(alloc, &reply, true, link) {
+        None => End::Refused(status),
+        Some(end) => end,
+    }
+}
+
+/// Sends a reply. None: all of it was sent.
+fn send<L: Link>(alloc: Global, reply: &Reply, close: bool, link: &mut L) -> Option<End>
+    requires { IsStatusCode reply.now.status }
+    ensures writes { Writes (reply_text reply.now close) (L.sent link.old) result (L.sent link.new) }
+    ensures left { L.left link.new ≡ L.left link.old }
+    ensures later { L.Source.faults link.old ≤ L.Source.faults link.new }
+    ensures cause { result ≡ Some End.WriteFault → Rose (L.Source.faults link.old) (L.Source.faults link.new) }
+    ensures gave_up { result ≡ Some End.Memory
+        → Tells500 (L.sent link.old) (L.Source.faults link.old) (L.sent link.new) (L.Source.faults link.new) }
+{
+    match write_reply(alloc, reply, close, link) {
+        Ok(()) => None,
+        Err(WriteRefusal::Fault) => Some(End::WriteFault),
+        Err(WriteRefusal::Memory) => Some(give_up(link)),
+    }
+}
+
+/// Tries to tell the other side that memory is wanting.
+fn give_up<L: Link>(link: &mut L) -> End
+    ensures end { result ≡ End.Memory }
+    ensures told { Tells500 (L.sent link.old) (L.Source.faults link.old) (L.sent link.new) (L.Source.faults link.new) }
+    ensures left { L.left link.new ≡ L.left link.old }
+    ensures later { L.Source.faults link.old ≤ L.Source.faults link.new }
+{
+    let _ = write_500(link);
+    End::Memory
+}

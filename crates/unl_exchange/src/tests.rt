@@ -1,0 +1,169 @@
+ghost use Rattle.std.specs.Prelude.{◌<◌};
+
+use crate::answering::Answering;
+use crate::conversation::converse;
+use std::alloc::Global;
+use std::test::Fail;
+use unl_base::{Draw, ListDraws, MemoryLink};
+use unl_documents::{List, Memory};
+use unl_http_api::{End, Reply, Request};
+
+/// Counts down by one with each answer, and says it by the status. At 0 it wants memory.
+struct Countdown;
+
+impl Answering for Countdown {
+    ghost use Rattle.std.specs.Prelude.{◌≡◌, ◌+◌, ◌%◌};
+
+    type Desk = u16;
+
+    type Book = ();
+
+    type Notes = usize;
+
+    ghost noted = { λ noted. noted };
+
+    ghost gives = { λ left book noted request draw reply left_after book_after noted_after.
+        (reply.status ≡ 200 + left % 3) × (left_after + 1 ≡ left) };
+
+    ghost gives_up = { λ left book noted request draw left_after book_after noted_after.
+        (left ≡ 0) × (left_after ≡ 0) };
+
+    fn answer(
+        alloc: Global,
+        desk: &mut u16,
+        book: &mut (),
+        notes: &mut usize,
+        request: &Request,
+        draw: &Draw,
+    ) -> Result<Reply, Memory> {
+        if *desk == 0 {
+            return Err(Memory);
+        }
+        let status = 200 + *desk % 3;
+        *desk -= 1;
+        *notes += 1;
+        Ok(Reply {
+            status,
+            tag: None,
+            allow: None,
+            body: List::new(alloc),
+        })
+    }
+}
+
+/// What a connection was sent, how many answers were noted, where the countdown stands, and how it ended.
+#[derive(Drop)]
+struct Outcome {
+    sent: Vec<u8>,
+    noted: usize,
+    left: u16,
+    end: End,
+}
+
+/// Converses about bytes that come in pieces of at most `most` bytes, over a link whose calls of these numbers fail.
+fn talk(
+    alloc: Global,
+    bytes: &[u8],
+    start: u16,
+    most: usize,
+    failing: &[u64],
+) -> Result<Outcome, Memory>
+    requires { 0 < most }
+{
+    let failing = failing.to_vec(alloc)?;
+    let Ok(mut link) = MemoryLink::new(alloc, bytes.to_vec(alloc)?, most, 200_000, failing) else {
+        return Err(Memory);
+    };
+    let mut draws = ListDraws::new(Vec::new(alloc));
+    let mut left = start;
+    let mut noted = 0;
+    let end = converse::<Countdown, MemoryLink, ListDraws>(
+        alloc,
+        &mut left,
+        &mut (),
+        &mut noted,
+        &mut link,
+        &mut draws,
+    );
+    Ok(Outcome {
+        sent: link.sent().to_vec(alloc)?,
+        noted,
+        left,
+        end,
+    })
+}
+
+const ONE: &[u8] = b"GET / HTTP/1.1\r\nHost: x\r\n\r\n";
+
+/// Bytes, where the countdown starts, what is then sent, how many answers are noted, and how it ends.
+const TALKS: [(&[u8], u16, &[u8], usize, End); 6] = [
+    (b"", 5, b"", 0, End::Closed),
+    (b"GET / HTTP/1.1\r\n", 5, b"", 0, End::CutOff),
+    (
+        b"GET / HTTP/1.1\r\nHost: x\r\n\r\nGET / HTTP/1.1\r\nHost: x\r\n\r\n",
+        5,
+        b"HTTP/1.1 202 Accepted\r\nContent-Length: 0\r\n\r\nHTTP/1.1 201 Created\r\nContent-Length: 0\r\n\r\n",
+        2,
+        End::Closed,
+    ),
+    (
+        b"GET / HTTP/1.1\r\nHost: x\r\n\r\nGET / HTTP/1.1\r\nHost: x\r\n\r\n",
+        1,
+        b"HTTP/1.1 201 Created\r\nContent-Length: 0\r\n\r\nHTTP/1.1 500 Internal Server Error\r\nContent-Length: 0\r\nConnection: close\r\n\r\n",
+        1,
+        End::Memory,
+    ),
+    (
+        b"GET / HTTP/1.0\r\n\r\nGET / HTTP/1.0\r\n\r\n",
+        3,
+        b"HTTP/1.1 200 OK\r\nContent-Length: 0\r\nConnection: close\r\n\r\n",
+        1,
+        End::Asked,
+    ),
+    (
+        b"GET / HTTP/1.1\r\nHost: x\r\n\r\nGET  / HTTP/1.1\r\n",
+        3,
+        b"HTTP/1.1 200 OK\r\nContent-Length: 0\r\n\r\nHTTP/1.1 400 Bad Request\r\nContent-Length: 0\r\nConnection: close\r\n\r\n",
+        1,
+        End::Refused(400),
+    ),
+];
+
+#[test]
+fn talks(rt: HostRuntime) -> Result<(), Fail> {
+    let alloc = rt.alloc();
+    for (bytes, start, sent, noted, end) in TALKS {
+        for most in 1..9 {
+            let outcome = talk(alloc, bytes, start, most, &[])?;
+            assert_eq!(rt; outcome.sent.as_slice(), sent);
+            assert_eq!(rt; outcome.noted, noted);
+            assert_eq!(rt; outcome.end, end);
+        }
+    }
+    Ok(())
+}
+
+#[test]
+fn limits_and_faults(rt: HostRuntime) -> Result<(), Fail> {
+    let alloc = rt.alloc();
+    let mut many = Vec::new(alloc);
+    for _ in 0..1001 {
+        many.extend_from_slice(ONE)?;
+    }
+    let outcome = talk(alloc, &many, 1001, 16_384, &[])?;
+    assert_eq!(rt; outcome.noted, 1000);
+    assert_eq!(rt; outcome.left, 1);
+    assert_eq!(rt; outcome.end, End::Limit);
+    assert!(rt; outcome.sent.ends_with(b"HTTP/1.1 202 Accepted\r\nContent-Length: 0\r\nConnection: close\r\n\r\n"));
+    for (failing, noted, end) in [
+        (0, 0, End::ReadFault),
+        (1, 1, End::WriteFault),
+        (2, 1, End::ReadFault),
+    ] {
+        let outcome = talk(alloc, ONE, 7, 100, &[failing])?;
+        assert_eq!(rt; outcome.noted, noted);
+        assert_eq!(rt; outcome.left, if noted == 0 { 7 } else { 6 });
+        assert_eq!(rt; outcome.end, end);
+    }
+    Ok(())
+}

@@ -1,0 +1,79 @@
+-- What is noted of the answered requests of a connection, and what the notes say.
+use Rattle.std.specs.Prelude.{◌≡◌, ℕ, ◌≤◌, ◌⊎◌, List, [], ◌∷◌, ◌++◌, map, Option, Some}
+use Rattle.unl_base.specs.declared.draws.Draw.{Draw}
+use Rattle.unl_base.specs.Draws.{TakesDraw, TakesAtMostOne}
+use Rattle.unl_http_api.specs.declared.end.End.{End}
+use Rattle.unl_http_api.specs.declared.end.End.TheVariants.{Memory}
+use Rattle.unl_http_api.specs.declared.reply.Reply.{Reply}
+use Rattle.unl_http_api.specs.declared.request.Request.{Request}
+use Rattle.unl_core.specs.declared.board.Board.{Board}
+use Rattle.unl_core.specs.Answer.{answer_of}
+use Rattle.unl_core.specs.Desk.{Keeps, Enters, EntersAtMostOnce}
+use Rattle.unl_serve.specs.declared.served.ServedOne.{ServedOne}
+
+-- one more answer is noted: the reply is that over the board at the front of its note, with the draw of its note
+pub record Notes
+    (board_at : ℕ → Option Board) (ones : List ServedOne) (request : Request) (reply : Reply)
+    (ones_after : List ServedOne) : Type 0 where
+  pub one : ServedOne
+  pub board : Board
+  pub added : ones_after ≡ ones ++ one ∷ []
+  pub known : board_at one.front ≡ Some board
+  pub is : reply ≡ answer_of board request one.draw
+
+-- nothing is noted of a request
+abbrev pub NotesNothing : List ServedOne → Request → List ServedOne → Type 0
+NotesNothing ones request ones_after = ones_after ≡ ones
+
+-- the fronts never fall, from the first one to the last
+abbrev pub Rise : ℕ → List ServedOne → ℕ → Type 0
+Rise first [] last = first ≤ last
+Rise first (one ∷ ones) last = (first ≤ one.front) × Rise one.front ones last
+
+-- the front of each note
+abbrev pub fronts_of : List ServedOne → List ℕ
+fronts_of ones = map (λ one. one.front) ones
+
+-- the desk looked at the fronts of the notes, and at want of memory at most at one more
+abbrev pub LooksFor : Option (List ℕ) → List ServedOne → End → Option (List ℕ) → Type 0
+LooksFor fronts ones end fronts_after =
+    Enters fronts (fronts_of ones) fronts_after
+    ⊎ ((end ≡ Memory) × (front : ℕ) × Enters fronts (fronts_of ones ++ front ∷ []) fronts_after)
+
+-- the draws of the notes were taken one after another
+abbrev pub Draws : Option (List Draw × Draw) → List ServedOne → Option (List Draw × Draw) → Type 0
+Draws coming [] after = after ≡ coming
+Draws coming (one ∷ ones) after = (middle : Option (List Draw × Draw)) × TakesDraw coming one.draw middle × Draws middle ones after
+
+-- and at most one more was
+abbrev pub DrawsAtLeast : Option (List Draw × Draw) → List ServedOne → Option (List Draw × Draw) → Type 0
+DrawsAtLeast coming ones after = (middle : Option (List Draw × Draw)) × Draws coming ones middle × TakesAtMostOne middle after
+
+-- what is known of a desk: how many boards were published when it last looked, the boards, and the fronts at which it looked
+pub record Known : Type 0 where
+  pub front : ℕ
+  pub board_at : ℕ → Option Board
+  pub fronts : Option (List ℕ)
+
+-- the desk looked once and answered over the board that it saw, and its front and the draw were noted
+pub record AnswersOver
+    (before : Known) (ones : List ServedOne) (request : Request) (draw : Draw) (reply : Reply) (after : Known)
+    (ones_after : List ServedOne) : Type 0 where
+  pub board : Board
+  pub known : after.board_at after.front ≡ Some board
+  pub is : reply ≡ answer_of board request draw
+  pub one : ServedOne
+  pub added : ones_after ≡ ones ++ one ∷ []
+  pub front : one.front ≡ after.front
+  pub draw : one.draw ≡ draw
+  pub rises : before.front ≤ after.front
+  pub keeps : Keeps before.board_at after.board_at
+  pub entered : Enters before.fronts (after.front ∷ []) after.fronts
+
+-- memory was wanting: nothing was noted, and the desk looked once at most
+pub record AnswersNothing
+    (before : Known) (ones : List ServedOne) (after : Known) (ones_after : List ServedOne) : Type 0 where
+  pub same : ones_after ≡ ones
+  pub rises : before.front ≤ after.front
+  pub keeps : Keeps before.board_at after.board_at
+  pub entered : EntersAtMostOnce before.fronts after.fronts
