@@ -9,21 +9,33 @@ use Rattle.unl_http_api.specs.declared.request.Request.{Request}
 use Rattle.unl_core.specs.declared.board.Board.{Board}
 use Rattle.unl_core.specs.Answer.{answer_of}
 use Rattle.unl_core.specs.Desk.{Keeps, Enters, EntersAtMostOnce}
+use Rattle.unl_core.specs.Settling.{final_book, final_reply}
+use Rattle.unl_metrics.specs.Book.{Book}
 use Rattle.unl_serve.specs.declared.served.ServedOne.{ServedOne}
 
--- one more answer is noted: the reply is that over the board at the front of its note, with the draw of its note
+-- the notes of answered requests, and what their reports sum to
+pub record Noted : Type 0 where
+  pub ones : List ServedOne
+  pub book : Book
+
+-- these together
+abbrev pub noted : List ServedOne → Book → Noted
+noted ones book = record { ones = ones; book = book }
+
+-- One more answer is noted: it is that over the board at the front of its note, with the draw of its note. The reply is the
+-- answer's own, or that the book is full; and the book has what the answer reports, unless it is full.
 pub record Notes
-    (board_at : ℕ → Option Board) (ones : List ServedOne) (request : Request) (reply : Reply)
-    (ones_after : List ServedOne) : Type 0 where
+    (board_at : ℕ → Option Board) (before : Noted) (request : Request) (reply : Reply) (after : Noted) : Type 0 where
   pub one : ServedOne
   pub board : Board
-  pub added : ones_after ≡ ones ++ one ∷ []
+  pub added : after.ones ≡ before.ones ++ one ∷ []
   pub known : board_at one.front ≡ Some board
-  pub is : reply ≡ answer_of board request one.draw
+  pub is : reply ≡ final_reply before.book (answer_of board request one.draw)
+  pub summed : after.book ≡ final_book before.book (answer_of board request one.draw)
 
--- nothing is noted of a request
-abbrev pub NotesNothing : List ServedOne → Request → List ServedOne → Type 0
-NotesNothing ones request ones_after = ones_after ≡ ones
+-- nothing is noted of a request, nor summed
+abbrev pub NotesNothing : Noted → Request → Noted → Type 0
+NotesNothing before request after = after ≡ before
 
 -- the fronts never fall, from the first one to the last
 abbrev pub Rise : ℕ → List ServedOne → ℕ → Type 0
@@ -55,13 +67,14 @@ pub record Known : Type 0 where
   pub board_at : ℕ → Option Board
   pub fronts : Option (List ℕ)
 
--- the desk looked once and answered over the board that it saw, and its front and the draw were noted
+-- the desk looked once and answered over the board that it saw; its front and the draw were noted, and what was reported is summed
 pub record AnswersOver
-    (before : Known) (ones : List ServedOne) (request : Request) (draw : Draw) (reply : Reply) (after : Known)
-    (ones_after : List ServedOne) : Type 0 where
+    (before : Known) (book : Book) (ones : List ServedOne) (request : Request) (draw : Draw) (reply : Reply) (after : Known)
+    (book_after : Book) (ones_after : List ServedOne) : Type 0 where
   pub board : Board
   pub known : after.board_at after.front ≡ Some board
-  pub is : reply ≡ answer_of board request draw
+  pub is : reply ≡ final_reply book (answer_of board request draw)
+  pub summed : book_after ≡ final_book book (answer_of board request draw)
   pub one : ServedOne
   pub added : ones_after ≡ ones ++ one ∷ []
   pub front : one.front ≡ after.front
@@ -70,10 +83,11 @@ pub record AnswersOver
   pub keeps : Keeps before.board_at after.board_at
   pub entered : Enters before.fronts (after.front ∷ []) after.fronts
 
--- memory was wanting: nothing was noted, and the desk looked once at most
+-- memory was wanting: nothing was noted or summed, and the desk looked once at most
 pub record AnswersNothing
-    (before : Known) (ones : List ServedOne) (after : Known) (ones_after : List ServedOne) : Type 0 where
+    (before : Known) (book : Book) (ones : List ServedOne) (after : Known) (book_after : Book) (ones_after : List ServedOne) : Type 0 where
   pub same : ones_after ≡ ones
+  pub same_book : book_after ≡ book
   pub rises : before.front ≤ after.front
   pub keeps : Keeps before.board_at after.board_at
   pub entered : EntersAtMostOnce before.fronts after.fronts

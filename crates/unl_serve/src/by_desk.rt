@@ -4,12 +4,13 @@ use crate::served::{Served, ServedOne};
 use std::alloc::Global;
 use std::marker::PhantomData;
 use unl_base::Draw;
-use unl_core::Desk;
+use unl_core::{Desk, settle};
 use unl_documents::Memory;
 use unl_exchange::Answering;
 use unl_http_api::{Reply, Request};
+use unl_metrics::MetricsBook;
 
-/// Answers each request by a desk, and notes its front and its draw.
+/// Answers each request by a desk, sums up what it reports, and notes the desk's front and the draw.
 pub(crate) struct ByDesk<D> {
     desk: PhantomData<D>,
 }
@@ -20,7 +21,7 @@ impl<D: Desk> Answering for ByDesk<D> {
 
     type Desk = D;
 
-    type Book = ();
+    type Book = MetricsBook;
 
     type Notes = Served;
 
@@ -28,24 +29,25 @@ impl<D: Desk> Answering for ByDesk<D> {
 
     ghost gives = { λ desk book ones request draw reply desk_after book_after ones_after.
         AnswersOver
-        (record { front = D.front desk; board_at = D.board_at desk; fronts = D.fronts desk }) ones request draw reply
-        (record { front = D.front desk_after; board_at = D.board_at desk_after; fronts = D.fronts desk_after }) ones_after };
+        (record { front = D.front desk; board_at = D.board_at desk; fronts = D.fronts desk }) book ones request draw reply
+        (record { front = D.front desk_after; board_at = D.board_at desk_after; fronts = D.fronts desk_after }) book_after ones_after };
 
     ghost gives_up = { λ desk book ones request draw desk_after book_after ones_after.
         AnswersNothing
-        (record { front = D.front desk; board_at = D.board_at desk; fronts = D.fronts desk }) ones
-        (record { front = D.front desk_after; board_at = D.board_at desk_after; fronts = D.fronts desk_after }) ones_after };
+        (record { front = D.front desk; board_at = D.board_at desk; fronts = D.fronts desk }) book ones
+        (record { front = D.front desk_after; board_at = D.board_at desk_after; fronts = D.fronts desk_after }) book_after ones_after };
 
     fn answer(
         alloc: Global,
         desk: &mut D,
-        book: &mut (),
+        book: &mut MetricsBook,
         notes: &mut Served,
         request: &Request,
         draw: &Draw,
     ) -> Result<Reply, Memory> {
         let (front, answer) = desk.answer(alloc, request, draw)?;
+        let reply = settle(alloc, book, answer)?;
         notes.note(ServedOne { front, draw: *draw });
-        Ok(answer.reply)
+        Ok(reply)
     }
 }

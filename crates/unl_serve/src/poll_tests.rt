@@ -8,6 +8,7 @@ use unl_core::{Board, OneDesk};
 use unl_delta::{Installer, Verdict, read_batch_bytes, verdict};
 use unl_documents::List;
 use unl_http_api::End;
+use unl_metrics::MetricsBook;
 use unl_tokens::Book;
 
 const TOKENS: &[u8] =
@@ -46,7 +47,15 @@ fn polled(alloc: Global, most: usize) -> Option<(bool, End)> {
     let mut link = MemoryLink::new(alloc, bytes, most, 1_000, Vec::new(alloc)).ok()?;
     let mut draws = ListDraws::new(vec![in alloc; Draw { now: 0, word: 0 }].ok()?);
     let mut served = Served::new(alloc).ok()?;
-    let end = serve_connection(alloc, &mut desk, &mut link, &mut draws, &mut served);
+    let mut book = MetricsBook::new(alloc);
+    let end = serve_connection(
+        alloc,
+        &mut desk,
+        &mut book,
+        &mut link,
+        &mut draws,
+        &mut served,
+    );
     Some((link.sent() == UNCHANGED, end))
 }
 
