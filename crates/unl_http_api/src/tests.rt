@@ -1,6 +1,6 @@
 ghost use Rattle.std.specs.Prelude.{◌<◌};
 
-use crate::{BadReply, Got, Method, ReplyReader, has_one_reply, write_request};
+use crate::{BadReply, Got, Method, ReplyReader, fits_line, has_one_reply, write_request};
 use std::alloc::Global;
 use std::test::Fail;
 use unl_documents::Memory;
@@ -148,66 +148,77 @@ fn read_repeated(
 }
 
 #[test]
-fn limits(rt: HostRuntime) -> Result<(), Fail> {
+fn limits_of_a_head(rt: HostRuntime) -> Result<(), Fail> {
     let alloc = rt.alloc();
-    let piece = vec![in alloc; b'a'; 16_384]?;
     for (start, more, count, end, size) in [
+        ("HTTP/1.1 200 OK\r\n", "a: b\r\n", 64, "\r\n", Ok(0)),
         (
             "HTTP/1.1 200 OK\r\n",
-            b"a: b\r\n".as_slice(),
-            64,
-            "\r\n",
-            Ok(0),
-        ),
-        (
-            "HTTP/1.1 200 OK\r\n",
-            b"a: b\r\n",
+            "a: b\r\n",
             65,
             "\r\n",
             Err(BadReply::Head),
         ),
-        ("HTTP/1.1 200 OK\r\na: ", b"b", 8_168, "\r\n\r\n", Ok(0)),
+        ("HTTP/1.1 200 OK\r\na: ", "b", 8_168, "\r\n\r\n", Ok(0)),
         (
             "HTTP/1.1 200 OK\r\na: ",
-            b"b",
+            "b",
             8_169,
             "\r\n\r\n",
             Err(BadReply::Head),
         ),
-        ("HTTP/1.1 200 OK\r\n\r\n", &piece, 1_024, "", Ok(16_777_216)),
+    ] {
+        let read = read_repeated(
+            alloc,
+            start.as_bytes(),
+            more.as_bytes(),
+            count,
+            end.as_bytes(),
+        )?;
+        assert_eq!(rt; read, size);
+    }
+    Ok(())
+}
+
+#[test]
+fn limits_of_a_body(rt: HostRuntime) -> Result<(), Fail> {
+    let alloc = rt.alloc();
+    let piece = vec![in alloc; b'a'; 16_384]?;
+    for (stated, count, end, size) in [
+        ("", 1_024, "", Ok(16_777_216)),
+        ("", 1_024, "a", Err(BadReply::TooLarge)),
+        ("Content-Length: 16777216\r\n", 1_024, "a", Ok(16_777_216)),
         (
-            "HTTP/1.1 200 OK\r\n\r\n",
-            &piece,
-            1_024,
-            "a",
-            Err(BadReply::TooLarge),
-        ),
-        (
-            "HTTP/1.1 200 OK\r\nContent-Length: 16777216\r\n\r\n",
-            &piece,
-            1_024,
-            "a",
-            Ok(16_777_216),
-        ),
-        (
-            "HTTP/1.1 200 OK\r\nContent-Length: 16777216\r\n\r\n",
-            &piece,
+            "Content-Length: 16777216\r\n",
             1_023,
             "",
             Err(BadReply::Short),
         ),
         (
-            "HTTP/1.1 200 OK\r\nContent-Length: 16777217\r\n\r\n",
-            &piece,
+            "Content-Length: 16777217\r\n",
             0,
             "",
             Err(BadReply::TooLarge),
         ),
     ] {
-        let read = read_repeated(alloc, start.as_bytes(), more, count, end.as_bytes())?;
+        let start = format!(in alloc; "HTTP/1.1 200 OK\r\n{stated}\r\n")?;
+        let read = read_repeated(alloc, start.as_bytes(), &piece, count, end.as_bytes())?;
         assert_eq!(rt; read, size);
     }
     Ok(())
+}
+
+#[test]
+fn texts_of_a_line(rt: HostRuntime) {
+    for (text, fits) in [
+        ("", true),
+        ("a b\t\u{7f}", true),
+        ("a\r", false),
+        ("\na", false),
+        ("a\0b", false),
+    ] {
+        assert_eq!(rt; fits_line(text.as_bytes()), fits, "{text}");
+    }
 }
 
 #[test]
