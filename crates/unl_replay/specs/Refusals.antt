@@ -11,7 +11,7 @@ use Rattle.unl_lines.specs.declared.line.LineRefusal.TheVariants.{Cause}
 use Rattle.unl_tokens.specs.declared.fault.BadBook.{BadBook}
 use Rattle.unl_tokens.specs.declared.fault.BadBook.TheVariants as book
 use Rattle.unl_replay.specs.declared.refusal.Refusal.{Refusal}
-use Rattle.unl_replay.specs.declared.refusal.Refusal.TheVariants.{Document, Book, Batch, NoNumber, TooManyEnvironments, NotBuilt, Memory}
+use Rattle.unl_replay.specs.declared.refusal.Refusal.TheVariants.{Document, Book, Batch, NoNumber, TooManyEnvironments, Memory}
 
 -- what a line is read as, or why it is refused
 abbrev pub LineReading : Type 0 → Type 0
@@ -89,7 +89,6 @@ refusal_text (Book fault) = book_text fault
 refusal_text (Batch fault) = batch_text fault
 refusal_text NoNumber = codes "NoNumber"
 refusal_text TooManyEnvironments = codes "TooManyEnvironments"
-refusal_text NotBuilt = codes "NotBuilt"
 refusal_text Memory = []
 
 -- the cause of a refused line is that text; where memory ran out there is none

@@ -2,10 +2,13 @@
 use Rattle.std.specs.Prelude.{ℕ, List, [], ◌++◌, codes, decimal, if◌then◌else◌, Option, Some, None, option_map, ok_or, Ok, Err}
 use Rattle.std.specs.Str.{bytes_eq}
 use Rattle.serde_json.specs.Data.{Data}
+use Rattle.serde_json.specs.Written.{compact_text}
 use Rattle.unl_core.specs.declared.board.Board.{Board}
 use Rattle.unl_core.specs.Answer.{answer_of}
 use Rattle.unl_core.specs.Board.{slot_of, snapshot_in}
 use Rattle.unl_core.specs.Same.{same_book}
+use Rattle.unl_core.specs.declared.desk.Answer.{Answer}
+use Rattle.unl_core.specs.Settling.{final_book, final_reply}
 use Rattle.unl_core.specs.Standing.{Standing, installed_by, with_name, with_batch, with_hold, with_book}
 use Rattle.unl_delta.specs.declared.batch.Batch.{Batch}
 use Rattle.unl_delta.specs.declared.batch.Verdict.{Verdict}
@@ -18,10 +21,13 @@ use Rattle.unl_documents.specs.Kinds.{any_text, name, required}
 use Rattle.unl_documents.specs.Results.{object_in}
 use Rattle.unl_http_api.specs.declared.reply.Reply.{Reply}
 use Rattle.unl_lines.specs.Taken.{Taken, LineResult, Outcome, outcome_of}
+use Rattle.unl_metrics.specs.Book.{Book, acknowledge}
+use Rattle.unl_metrics.specs.Bulk.{bulk}
 use Rattle.unl_tokens.specs.declared.token.Token.{Token}
 use Rattle.unl_tokens.specs.Books.{book_of}
 use Rattle.unl_replay.specs.declared.ask.Ask.{Ask}
-use Rattle.unl_replay.specs.declared.refusal.Refusal.TheVariants.{Document, TooManyEnvironments, NotBuilt}
+use Rattle.unl_replay.specs.declared.bench.Bench.{Bench}
+use Rattle.unl_replay.specs.declared.refusal.Refusal.TheVariants.{Document, TooManyEnvironments}
 use Rattle.unl_replay.specs.Forms.{batch_in, feed_in, ask_of}
 use Rattle.unl_replay.specs.Refusals.{LineReading, and_then, documented, refusing, refusal_for_book, refusal_text}
 
@@ -98,10 +104,6 @@ arrive k batch d (Some slot) = Ok (judged k slot batch d (verdict_of (place_of (
 abbrev pub put_batch : ℕ → List ℕ → Standing → Batch → LineReading Answered
 put_batch k environment d batch = arrive k batch (with_name environment d) (slot_of environment (with_name environment d).board.slots)
 
--- a request is answered
-abbrev pub put_ask : ℕ → Standing → Ask → Answered
-put_ask k d ask = record { text = ask_line k d.front (answer_of d.board ask.request ask.draw); desk = d }
-
 -- the answer to a line of tokens
 abbrev pub tokens_of_line : ℕ → Standing → Data → LineReading Answered
 tokens_of_line k d line = and_then (refusing refusal_for_book (book_of line)) (λ tokens. Ok (put_tokens k tokens d))
@@ -116,37 +118,81 @@ abbrev pub feed_of_line : ℕ → Standing → Data → LineReading Answered
 feed_of_line k d line = and_then (documented (required name field.Environment line)) (λ environment.
     and_then (feed_in line) (put_batch k environment d))
 
+-- ---- one line, beside the book of metrics
+
+-- what a line prints, and desk and book after it
+abbrev pub Turned : Type 0
+Turned = Taken Bench
+
+-- the book of metrics stays as it is
+abbrev pub beside : Book → LineReading Answered → LineReading Turned
+beside book (Ok answered) = Ok (record { text = answered.text; desk = record { desk = answered.desk; book = book } })
+beside book (Err cause) = Err cause
+
+-- the desk stays as it is
+abbrev pub at_desk : Standing → Taken Book → Turned
+at_desk d taken = record { text = taken.text; desk = record { desk = d; book = taken.desk } }
+
+-- an answer is printed, and what it reports is summed
+abbrev pub settled : ℕ → ℕ → Book → Answer → Taken Book
+settled k front book answer = record { text = ask_line k front (final_reply book answer); desk = final_book book answer }
+
+-- a request is answered
+abbrev pub put_ask : ℕ → Bench → Ask → Turned
+put_ask k b ask = at_desk b.desk (settled k b.desk.front b.book (answer_of b.desk.board ask.request ask.draw))
+
 -- the answer to an ask
-abbrev pub ask_of_line : ℕ → Standing → Data → LineReading Answered
-ask_of_line k d line = and_then (documented (ask_of line)) (λ ask. Ok (put_ask k d ask))
+abbrev pub ask_of_line : ℕ → Bench → Data → LineReading Turned
+ask_of_line k b line = and_then (documented (ask_of line)) (λ ask. Ok (put_ask k b ask))
+
+-- the line for a bulk report
+abbrev pub metrics_line : ℕ → List ℕ → List ℕ
+metrics_line k body = decimal k ++ (codes ": metrics " ++ (body ++ codes "\n"))
+
+-- a bulk report is printed, and then acknowledged
+abbrev pub sent_bulk : ℕ → List ℕ → Book → Option (Data × ℕ) → Taken Book
+sent_bulk k environment book None = record { text = metrics_line k (codes "-"); desk = book }
+sent_bulk k environment book (Some (report, count)) =
+    record { text = metrics_line k (compact_text report); desk = acknowledge environment count book }
+
+-- what is summed up for an environment is sent
+abbrev pub put_metrics : ℕ → List ℕ → Book → Taken Book
+put_metrics k environment book = sent_bulk k environment book (bulk environment book)
+
+-- the answer to a line that asks for metrics
+abbrev pub metrics_of_line : ℕ → Bench → Data → LineReading Turned
+metrics_of_line k b line = and_then (documented (required name field.Environment line)) (λ environment. Ok (at_desk b.desk (put_metrics k environment b.book)))
 
 -- an object is answered by its op
-abbrev pub answer_op : ℕ → Standing → Data → List ℕ → LineReading Answered
-answer_op k d line op =
-    if bytes_eq op (codes "tokens") then tokens_of_line k d line
-    else (if bytes_eq op (codes "batch") then batch_of_line k d line
-    else (if bytes_eq op (codes "feed") then feed_of_line k d line
-    else (if bytes_eq op (codes "ask") then ask_of_line k d line
-    else (if bytes_eq op (codes "metrics") then Err NotBuilt else Err (Document (WrongKind field.Op))))))
+abbrev pub answer_op : ℕ → Bench → Data → List ℕ → LineReading Turned
+answer_op k b line op =
+    if bytes_eq op (codes "tokens") then beside b.book (tokens_of_line k b.desk line)
+    else (if bytes_eq op (codes "batch") then beside b.book (batch_of_line k b.desk line)
+    else (if bytes_eq op (codes "feed") then beside b.book (feed_of_line k b.desk line)
+    else (if bytes_eq op (codes "ask") then ask_of_line k b line
+    else (if bytes_eq op (codes "metrics") then metrics_of_line k b line else Err (Document (WrongKind field.Op))))))
 
 -- the answer to a line by its op
-abbrev pub answer_object : ℕ → Standing → Data → LineReading Answered
-answer_object k d line = and_then (documented (required any_text field.Op line)) (answer_op k d line)
+abbrev pub answer_object : ℕ → Bench → Data → LineReading Turned
+answer_object k b line = and_then (documented (required any_text field.Op line)) (answer_op k b line)
 
 -- the answer to the bytes of a line
-unfoldable pub answer_read : ℕ → Standing → List ℕ → LineReading Answered
-answer_read k d bytes = and_then (ok_or (object_in bytes) (Document NotJson)) (answer_object k d)
+unfoldable pub answer_read : ℕ → Bench → List ℕ → LineReading Turned
+answer_read k b bytes = and_then (ok_or (object_in bytes) (Document NotJson)) (answer_object k b)
 
 -- what comes of a line, with the text of the cause where it is refused
-abbrev pub line_answer : ℕ → Standing → List ℕ → LineResult Standing
-line_answer k d bytes = refusing refusal_text (answer_read k d bytes)
+abbrev pub line_answer : ℕ → Bench → List ℕ → LineResult Bench
+line_answer k b bytes = refusing refusal_text (answer_read k b bytes)
 
 -- ---- all lines
 
--- no environment, no tokens, and nothing published
-abbrev pub opening : Standing
-opening = record { board = record { boot = 0; host = []; generation = 0; book = []; slots = [] }; places = []; front = 0 }
+-- no environment, no tokens, nothing published, and nothing summed up
+abbrev pub opening : Bench
+opening = record {
+  desk = record { board = record { boot = 0; host = []; generation = 0; book = []; slots = [] }; places = []; front = 0 };
+  book = [];
+}
 
 -- the replay of a whole input: the text, and the end
-abbrev pub replay_of : List ℕ → Outcome Standing
+abbrev pub replay_of : List ℕ → Outcome Bench
 replay_of bytes = outcome_of line_answer opening bytes

@@ -1,8 +1,10 @@
-//! The replay: lines of tokens, batches, feeds and asks are read from a source, and each is answered by one printed line.
+//! The replay: lines of tokens, batches, feeds, asks and metrics are read from a source, and each is answered by one printed
+//! line.
 #![tactic(auto)]
 
 mod ask;
 mod batch;
+mod bench;
 mod refusal;
 mod replaying;
 mod step;

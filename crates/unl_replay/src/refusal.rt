@@ -20,8 +20,6 @@ pub enum Refusal {
     NoNumber,
     /// The environment is new, and eight stand.
     TooManyEnvironments,
-    /// The line's form isn't built yet.
-    NotBuilt,
     Memory,
 }
 
@@ -100,7 +98,6 @@ impl Refusal {
             Refusal::Batch(fault) => batch_text(alloc, fault),
             Refusal::NoNumber => Ok(String::from_str(alloc, "NoNumber")?),
             Refusal::TooManyEnvironments => Ok(String::from_str(alloc, "TooManyEnvironments")?),
-            Refusal::NotBuilt => Ok(String::from_str(alloc, "NotBuilt")?),
             Refusal::Memory => Ok(String::new(alloc)),
         }
     }

@@ -7,28 +7,29 @@ ghost use Rattle.unl_replay.specs.Refusals.{Causes};
 ghost use Rattle.unl_replay.specs.Replay.{line_answer, opening};
 
 use crate::refusal::Refusal;
-use crate::step::answer_line;
+use crate::bench::{Bench, answer_line};
 use std::alloc::Global;
 use unl_base::{Sink, Source};
 use unl_core::{Board, OneDesk};
 use unl_documents::{List, Text};
 use unl_lines::{LineRefusal, LineTaking, LinesFault, take_lines};
+use unl_metrics::MetricsBook;
 
-/// Answers each line from the desk that the lines before leave.
+/// Answers each line from the desk and the book that the lines before leave.
 struct Answers;
 
 impl LineTaking for Answers {
-    type Desk = OneDesk;
+    type Desk = Bench;
 
     ghost taken = { line_answer };
 
     // Each line before was at most one publication.
-    ghost fits = { λ k desk. desk.front < k };
+    ghost fits = { λ k bench. bench.desk.front < k };
 
     #[tactic(auto, using(crate::proofs::RefusalLemmas::refused_line))]
     fn take(
         alloc: Global,
-        desk: &mut OneDesk,
+        desk: &mut Bench,
         number: u64,
         line: &[u8],
     ) -> Result<Vec<u8>, LineRefusal> {
@@ -70,6 +71,9 @@ pub fn replay<S: Source, K: Sink>(
     ensures sink_later { K.faults sink.old ≤ K.faults sink.new }
 {
     let board = Board::new(alloc, 0, "", &List::new(alloc))?;
-    let mut desk = OneDesk::new(alloc, board)?;
-    take_lines::<Answers, S, K>(alloc, &mut desk, source, sink)
+    let mut bench = Bench {
+        desk: OneDesk::new(alloc, board)?,
+        book: MetricsBook::new(alloc),
+    };
+    take_lines::<Answers, S, K>(alloc, &mut bench, source, sink)
 }

@@ -1,25 +1,22 @@
-//! One line of the replay, over the desk.
+//! Lines of tokens, batches and feeds, over the desk.
 ghost use Rattle.std.specs.Prelude.{◌≡◌, ◌+◌, ◌-◌, ◌^◌, ◌<◌, ◌≤◌, Ok, IfOk, string_bytes, length, decimal};
 ghost use Rattle.serde_json.specs.View.{view};
 ghost use Rattle.unl_core.specs.Standing.{installed_by};
 ghost use Rattle.unl_delta.specs.Batch.{verdict_of};
 ghost use Rattle.unl_delta.specs.Installing.{place_of};
 ghost use Rattle.unl_delta.specs.Valid.{IsValidBatch};
-ghost use Rattle.unl_replay.specs.Replay.{answer_object, answer_op, answer_read, ask_line, ask_of_line, ask_start, batch_of_line, feed_of_line, judged, judged_as, number_at, number_in, number_text, put_ask, put_batch, put_tokens, same_line, tag_or_dash, tokens_line, tokens_of_line, verdict_line};
+ghost use Rattle.unl_replay.specs.Replay.{batch_of_line, feed_of_line, judged, judged_as, number_at, number_in, number_text, put_batch, put_tokens, same_line, tokens_line, tokens_of_line, verdict_line};
 ghost use Rattle.unl_replay.specs.Steps.{Steps};
 
-use crate::ask::{Ask, ask_of};
 use crate::batch::{batch_in, feed_in};
 use crate::refusal::Refusal;
 use serde_json::Value;
 use std::alloc::{AllocError, Global};
-use unl_core::{Desk, OneDesk};
+use unl_core::OneDesk;
 use unl_delta::{Batch, Installer, Verdict, verdict};
-use unl_documents::json::read_object;
 use unl_documents::keys::required;
-use unl_documents::kind::{AnyText, Name};
-use unl_documents::{BadDocument, Field, Text};
-use unl_http_api::Reply;
+use unl_documents::kind::Name;
+use unl_documents::Field;
 use unl_tokens::Book;
 
 /// The number at which an environment stands, where it has a state.
@@ -76,38 +73,6 @@ fn verdict_line(
     ensures { IfOk result (λ s. string_bytes s ≡ verdict_line number word.now version.now front) }
 {
     format!(in alloc; "{number}: {word} number {version} front {front}\n")
-}
-
-fn ask_start(
-    alloc: Global,
-    number: u64,
-    front: u64,
-    status: u16,
-    tag: &str,
-) -> Result<String, AllocError>
-    ensures { IfOk result (λ s. string_bytes s ≡ ask_start number front status tag.now) }
-{
-    format!(in alloc; "{number}: front {front} status {status} tag {tag} body ")
-}
-
-fn tag_or_dash(tag: &Option<Text>) -> &str
-    ensures { result.now ≡ tag_or_dash tag.now }
-{
-    match tag {
-        None => "-",
-        Some(tag) => tag.as_str(),
-    }
-}
-
-/// The line of an ask, with the body as it stands.
-fn ask_line(alloc: Global, number: u64, front: u64, reply: &Reply) -> Result<Vec<u8>, AllocError>
-    ensures { IfOk result (λ v. v.items ≡ ask_line number front reply.now) }
-{
-    let tag = tag_or_dash(&reply.tag);
-    let mut line = ask_start(alloc, number, front, reply.status, tag)?.into_bytes();
-    line.extend_from_slice(reply.body.as_slice())?;
-    line.extend_from_slice(b"\n")?;
-    Ok(line)
 }
 
 #[tactic(auto, using(crate::proofs::Books::kept, crate::proofs::Books::taken))]
@@ -193,7 +158,7 @@ fn put_batch(
 }
 
 #[tactic(auto, using(crate::proofs::RefusalLemmas::refused_book))]
-fn tokens_of_line(
+pub(crate) fn tokens_of_line(
     alloc: Global,
     desk: &mut OneDesk,
     number: u64,
@@ -208,7 +173,7 @@ fn tokens_of_line(
 }
 
 #[tactic(auto, using(crate::proofs::RefusalLemmas::refused))]
-fn batch_of_line(
+pub(crate) fn batch_of_line(
     alloc: Global,
     desk: &mut OneDesk,
     number: u64,
@@ -225,7 +190,7 @@ fn batch_of_line(
 }
 
 #[tactic(auto, using(crate::proofs::RefusalLemmas::refused))]
-fn feed_of_line(
+pub(crate) fn feed_of_line(
     alloc: Global,
     desk: &mut OneDesk,
     number: u64,
@@ -238,80 +203,4 @@ fn feed_of_line(
     let environment = required::<Name>(alloc, Field::Environment, line)?;
     let batch = feed_in(alloc, line)?;
     put_batch(alloc, desk, number, environment.as_str(), &batch)
-}
-
-#[tactic(auto, using(crate::proofs::RefusalLemmas::refused))]
-fn ask_of_line(
-    alloc: Global,
-    desk: &mut OneDesk,
-    number: u64,
-    line: &Value,
-) -> Result<Vec<u8>, Refusal>
-    ensures given { Steps result desk.new (ask_of_line number desk.old (view line.now)) }
-    ensures same { desk.new ≡ desk.old }
-{
-    let ask = ask_of(alloc, line)?;
-    put_ask(alloc, desk, number, &ask)
-}
-
-fn put_ask(alloc: Global, desk: &mut OneDesk, number: u64, ask: &Ask) -> Result<Vec<u8>, Refusal>
-    ensures given { Steps result desk.new (Ok (put_ask number desk.old ask.now)) }
-    ensures same { desk.new ≡ desk.old }
-{
-    let (front, answer) = desk.answer(alloc, &ask.request, &ask.draw)?;
-    Ok(ask_line(alloc, number, front, &answer.reply)?)
-}
-
-fn answer_op(
-    alloc: Global,
-    desk: &mut OneDesk,
-    number: u64,
-    line: &Value,
-    op: &str,
-) -> Result<Vec<u8>, Refusal>
-    requires { desk.old.front < 2 ^ 64 - 1 }
-    ensures given { Steps result desk.new (answer_op number desk.old (view line.now) op.now) }
-    ensures front { desk.new.front ≤ desk.old.front + 1 }
-{
-    match op {
-        "tokens" => tokens_of_line(alloc, desk, number, line),
-        "batch" => batch_of_line(alloc, desk, number, line),
-        "feed" => feed_of_line(alloc, desk, number, line),
-        "ask" => ask_of_line(alloc, desk, number, line),
-        "metrics" => Err(Refusal::NotBuilt),
-        _ => Err(Refusal::Document(BadDocument::WrongKind(Field::Op))),
-    }
-}
-
-#[tactic(auto, using(crate::proofs::RefusalLemmas::refused))]
-fn answer_object(
-    alloc: Global,
-    desk: &mut OneDesk,
-    number: u64,
-    line: &Value,
-) -> Result<Vec<u8>, Refusal>
-    requires { desk.old.front < 2 ^ 64 - 1 }
-    ensures given { Steps result desk.new (answer_object number desk.old (view line.now)) }
-    ensures front { desk.new.front ≤ desk.old.front + 1 }
-{
-    let op = required::<AnyText>(alloc, Field::Op, line)?;
-    answer_op(alloc, desk, number, line, op.as_str())
-}
-
-/// Answers a line, and says what it prints.
-#[tactic(auto, unfolding(crate::specs::Replay::answer_read))]
-pub fn answer_line(
-    alloc: Global,
-    desk: &mut OneDesk,
-    number: u64,
-    bytes: &[u8],
-) -> Result<Vec<u8>, Refusal>
-    requires { desk.old.front < 2 ^ 64 - 1 }
-    ensures given { Steps result desk.new (answer_read number desk.old bytes.now) }
-    ensures front { desk.new.front ≤ desk.old.front + 1 }
-{
-    match read_object(alloc, bytes)? {
-        Some(line) => answer_object(alloc, desk, number, &line),
-        None => Err(Refusal::Document(BadDocument::NotJson)),
-    }
 }

@@ -1,0 +1,196 @@
+//! One line of the replay, over the desk and the book of metrics.
+ghost use Rattle.std.specs.Prelude.{◌≡◌, ◌+◌, ◌-◌, ◌^◌, ◌<◌, ◌≤◌, Ok, IfOk, IfSome, string_bytes};
+ghost use Rattle.serde_json.specs.View.{view};
+ghost use Rattle.unl_metrics.specs.Reports.{IsReport};
+ghost use Rattle.unl_replay.specs.Replay.{answer_object, answer_op, answer_read, ask_line, ask_of_line, ask_start, metrics_line, metrics_of_line, put_ask, put_metrics, settled, tag_or_dash};
+ghost use Rattle.unl_replay.specs.Steps.{Steps};
+
+use crate::ask::{Ask, ask_of};
+use crate::refusal::Refusal;
+use crate::step::{batch_of_line, feed_of_line, tokens_of_line};
+use serde_json::Value;
+use std::alloc::{AllocError, Global};
+use unl_core::{Answer, Desk, OneDesk, settle};
+use unl_documents::json::read_object;
+use unl_documents::keys::required;
+use unl_documents::kind::{AnyText, Name};
+use unl_documents::{BadDocument, Field, Text};
+use unl_http_api::Reply;
+use unl_metrics::MetricsBook;
+
+/// What the lines change.
+#[derive(Drop)]
+pub struct Bench {
+    pub desk: OneDesk,
+    /// What the asks report.
+    pub book: MetricsBook,
+}
+
+fn ask_start(
+    alloc: Global,
+    number: u64,
+    front: u64,
+    status: u16,
+    tag: &str,
+) -> Result<String, AllocError>
+    ensures { IfOk result (λ s. string_bytes s ≡ ask_start number front status tag.now) }
+{
+    format!(in alloc; "{number}: front {front} status {status} tag {tag} body ")
+}
+
+fn tag_or_dash(tag: &Option<Text>) -> &str
+    ensures { result.now ≡ tag_or_dash tag.now }
+{
+    match tag {
+        None => "-",
+        Some(tag) => tag.as_str(),
+    }
+}
+
+/// The line of an ask, with the body as it stands.
+fn ask_line(alloc: Global, number: u64, front: u64, reply: &Reply) -> Result<Vec<u8>, AllocError>
+    ensures { IfOk result (λ v. v.items ≡ ask_line number front reply.now) }
+{
+    let tag = tag_or_dash(&reply.tag);
+    let mut line = ask_start(alloc, number, front, reply.status, tag)?.into_bytes();
+    line.extend_from_slice(reply.body.as_slice())?;
+    line.extend_from_slice(b"\n")?;
+    Ok(line)
+}
+
+#[tactic(auto, using(crate::proofs::RefusalLemmas::refused))]
+fn ask_of_line(
+    alloc: Global,
+    bench: &mut Bench,
+    number: u64,
+    line: &Value,
+) -> Result<Vec<u8>, Refusal>
+    ensures given { Steps result bench.new (ask_of_line number bench.old (view line.now)) }
+    ensures same { bench.new.desk ≡ bench.old.desk }
+{
+    let ask = ask_of(alloc, line)?;
+    put_ask(alloc, bench, number, &ask)
+}
+
+fn put_ask(
+    alloc: Global,
+    bench: &mut Bench,
+    number: u64,
+    ask: &Ask,
+) -> Result<Vec<u8>, Refusal>
+    ensures given { Steps result bench.new (Ok (put_ask number bench.old ask.now)) }
+    ensures same { bench.new.desk ≡ bench.old.desk }
+{
+    let (front, answer) = bench.desk.answer(alloc, &ask.request, &ask.draw)?;
+    settled(alloc, &mut bench.book, number, front, answer)
+}
+
+/// Prints an answer, and sums up what it reports.
+fn settled(
+    alloc: Global,
+    book: &mut MetricsBook,
+    number: u64,
+    front: u64,
+    answer: Answer,
+) -> Result<Vec<u8>, Refusal>
+    requires { IfSome answer.report IsReport }
+    ensures { Steps result book.new (Ok (settled number front book.old answer)) }
+{
+    let reply = settle(alloc, book, answer)?;
+    Ok(ask_line(alloc, number, front, &reply)?)
+}
+
+#[tactic(auto, using(crate::proofs::RefusalLemmas::refused))]
+fn metrics_of_line(
+    alloc: Global,
+    bench: &mut Bench,
+    number: u64,
+    line: &Value,
+) -> Result<Vec<u8>, Refusal>
+    ensures given { Steps result bench.new (metrics_of_line number bench.old (view line.now)) }
+    ensures same { bench.new.desk ≡ bench.old.desk }
+{
+    let environment = required::<Name>(alloc, Field::Environment, line)?;
+    put_metrics(alloc, &mut bench.book, number, environment.as_str())
+}
+
+/// Prints the bulk report of an environment, and acknowledges it.
+fn put_metrics(
+    alloc: Global,
+    book: &mut MetricsBook,
+    number: u64,
+    environment: &str,
+) -> Result<Vec<u8>, Refusal>
+    ensures { Steps result book.new (Ok (put_metrics number environment.now book.old)) }
+{
+    match book.bulk(alloc, environment)? {
+        None => Ok(metrics_line(alloc, number, "-")?.into_bytes()),
+        Some((report, count)) => {
+            let body = report.to_string(alloc)?;
+            let line = metrics_line(alloc, number, body.as_str())?;
+            book.acknowledged(environment, count);
+            Ok(line.into_bytes())
+        }
+    }
+}
+
+fn metrics_line(alloc: Global, number: u64, body: &str) -> Result<String, AllocError>
+    ensures { IfOk result (λ s. string_bytes s ≡ metrics_line number body.now) }
+{
+    format!(in alloc; "{number}: metrics {body}\n")
+}
+
+/// Answers a line by its op.
+fn answer_op(
+    alloc: Global,
+    bench: &mut Bench,
+    number: u64,
+    line: &Value,
+    op: &str,
+) -> Result<Vec<u8>, Refusal>
+    requires { bench.old.desk.front < 2 ^ 64 - 1 }
+    ensures given { Steps result bench.new (answer_op number bench.old (view line.now) op.now) }
+    ensures front { bench.new.desk.front ≤ bench.old.desk.front + 1 }
+{
+    match op {
+        "tokens" => tokens_of_line(alloc, &mut bench.desk, number, line),
+        "batch" => batch_of_line(alloc, &mut bench.desk, number, line),
+        "feed" => feed_of_line(alloc, &mut bench.desk, number, line),
+        "ask" => ask_of_line(alloc, bench, number, line),
+        "metrics" => metrics_of_line(alloc, bench, number, line),
+        _ => Err(Refusal::Document(BadDocument::WrongKind(Field::Op))),
+    }
+}
+
+#[tactic(auto, using(crate::proofs::RefusalLemmas::refused))]
+fn answer_object(
+    alloc: Global,
+    bench: &mut Bench,
+    number: u64,
+    line: &Value,
+) -> Result<Vec<u8>, Refusal>
+    requires { bench.old.desk.front < 2 ^ 64 - 1 }
+    ensures given { Steps result bench.new (answer_object number bench.old (view line.now)) }
+    ensures front { bench.new.desk.front ≤ bench.old.desk.front + 1 }
+{
+    let op = required::<AnyText>(alloc, Field::Op, line)?;
+    answer_op(alloc, bench, number, line, op.as_str())
+}
+
+/// Answers a line, and says what it prints.
+#[tactic(auto, unfolding(crate::specs::Replay::answer_read))]
+pub fn answer_line(
+    alloc: Global,
+    bench: &mut Bench,
+    number: u64,
+    bytes: &[u8],
+) -> Result<Vec<u8>, Refusal>
+    requires { bench.old.desk.front < 2 ^ 64 - 1 }
+    ensures given { Steps result bench.new (answer_read number bench.old bytes.now) }
+    ensures front { bench.new.desk.front ≤ bench.old.desk.front + 1 }
+{
+    match read_object(alloc, bytes)? {
+        Some(line) => answer_object(alloc, bench, number, &line),
+        None => Err(Refusal::Document(BadDocument::NotJson)),
+    }
+}
