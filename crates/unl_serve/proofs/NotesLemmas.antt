@@ -60,12 +60,12 @@ Sums_more : (before middle after : Known) (coming next coming_after : Option (Li
     → Sums before after coming coming_after (over.one ∷ ones)
 Sums_more before middle after coming next coming_after notes notes' book book' request draw reply ones taken over sums = record {
   rise = (
-    omega (arith, over.rises, over.front),
-    Rise_from over.one.front middle.front after.front ones (omega (arith, over.front)) sums.rise,
+    omega (arith, over.rises, over.its_front),
+    Rise_from over.one.front middle.front after.front ones (omega (arith, over.its_front)) sums.rise,
   );
   looks = Sends_more before.fronts middle.fronts after.fronts (over.one.front ∷ []) (fronts_of ones)
-      (subst (λ (front : ℕ). Enters before.fronts (front ∷ []) middle.fronts) (sym over.front) over.entered) sums.looks;
-  drawn = (next, subst (λ (d : Draw). TakesDraw coming d next) (sym over.draw) taken, sums.drawn);
+      (subst (λ (front : ℕ). Enters before.fronts (front ∷ []) middle.fronts) (sym over.its_front) over.entered) sums.looks;
+  drawn = (next, subst (λ (d : Draw). TakesDraw coming d next) (sym over.its_draw) taken, sums.drawn);
   keeps = λ k board known. sums.keeps k board (over.keeps k board known);
 }
 
@@ -105,9 +105,9 @@ noted_over known board_at before after q reply keeps step = record {
   one = step.given.one;
   board = step.given.board;
   added = step.given.added;
-  known = ap board_at step.given.front ∙ keeps (known after.desk).front step.given.board step.given.known;
-  is = step.given.is ∙ ap (λ (d : Draw). final_reply before.book (answer_of step.given.board q d)) (sym step.given.draw);
-  summed = step.given.summed ∙ ap (λ (d : Draw). final_book before.book (answer_of step.given.board q d)) (sym step.given.draw);
+  known = ap board_at step.given.its_front ∙ keeps (known after.desk).front step.given.board step.given.known;
+  is = step.given.is ∙ ap (λ (d : Draw). final_reply before.book (answer_of step.given.board q d)) (sym step.given.its_draw);
+  summed = step.given.summed ∙ ap (λ (d : Draw). final_book before.book (answer_of step.given.board q d)) (sym step.given.its_draw);
 }
 
 -- a chain of answers is a chain of notes
@@ -216,3 +216,32 @@ tells known before after end count none reached =
     let sums = summed known 0 before reached.answered_to reached.requests reached.text reached.answered in
     tells_next known before reached.answered_to after end sums.0
     (sums.1 ∙ ap (λ (o : List ServedOne). o ++ sums.0) none) sums.2 reached.next
+
+-- ---- the notes and the book behind a conversation, in every case
+
+near_next : {D : Type 0} (known : D → Known) (middle after : Answerer D Book (List ServedOne)) (end : End)
+    → (after ≡ middle) ⊎ ((end ≡ Memory) × (request : Request) × Lacking known middle request after)
+    → IsNear (Over known) (Lacking known) middle after
+near_next known middle after end (inl same) = inl same
+near_next known middle after end (inr (is, request, lacks)) = inr (request, inl lacks)
+
+noted_next : {D : Type 0} (known : D → Known) (middle after : Answerer D Book (List ServedOne)) (end : End)
+    → (after ≡ middle) ⊎ ((end ≡ Memory) × (request : Request) × Lacking known middle request after)
+    → (noted_of after ≡ noted_of middle) ⊎ ((end ≡ Memory) × (request : Request) × NotesNothing (noted_of middle) request (noted_of after))
+noted_next {D} known middle after end (inl same) = inl (ap (λ (s : Answerer D Book (List ServedOne)). noted_of s) same)
+noted_next known middle after end (inr (is, request, lacks)) =
+    inr (is, request, λ i. noted (lacks.given_up.same i) (lacks.given_up.same_book i))
+
+-- what is reached is noted and summed
+pub reaches : {D : Type 0} (known : D → Known) (before after : Answerer D Book (List ServedOne)) (end : End) (count : ℕ)
+    → Reaches (Over known) (Lacking known) before end after count
+    → Reaches (Notes (known after.desk).board_at) NotesNothing (noted_of before) end (noted_of after) count
+reaches known before after end count reached = record {
+  requests = reached.requests;
+  text = reached.text;
+  answered_to = noted_of reached.answered_to;
+  answered = (shows known before after).chain reached.answered_to reached.requests reached.text
+      (near_next known reached.answered_to after end reached.next) reached.answered;
+  counted = reached.counted;
+  next = noted_next known reached.answered_to after end reached.next;
+}

@@ -67,6 +67,10 @@ pub record Known : Type 0 where
   pub board_at : ℕ → Option Board
   pub fronts : Option (List ℕ)
 
+-- that of a desk, by these meanings
+abbrev pub known_by : {D : Type 0} → (D → ℕ) → (D → ℕ → Option Board) → (D → Option (List ℕ)) → D → Known
+known_by front board_at fronts desk = record { front = front desk; board_at = board_at desk; fronts = fronts desk }
+
 -- the desk looked once and answered over the board that it saw; its front and the draw were noted, and what was reported is summed
 pub record AnswersOver
     (before : Known) (book : Book) (ones : List ServedOne) (request : Request) (draw : Draw) (reply : Reply) (after : Known)
@@ -77,8 +81,8 @@ pub record AnswersOver
   pub summed : book_after ≡ final_book book (answer_of board request draw)
   pub one : ServedOne
   pub added : ones_after ≡ ones ++ one ∷ []
-  pub front : one.front ≡ after.front
-  pub draw : one.draw ≡ draw
+  pub its_front : one.front ≡ after.front
+  pub its_draw : one.draw ≡ draw
   pub rises : before.front ≤ after.front
   pub keeps : Keeps before.board_at after.board_at
   pub entered : Enters before.fronts (after.front ∷ []) after.fronts

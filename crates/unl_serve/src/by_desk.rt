@@ -17,7 +17,7 @@ pub(crate) struct ByDesk<D> {
 
 impl<D: Desk> Answering for ByDesk<D> {
     ghost use Rattle.std.specs.Prelude.{length};
-    ghost use Rattle.unl_serve.specs.Notes.{AnswersNothing, AnswersOver};
+    ghost use Rattle.unl_serve.specs.Notes.{AnswersNothing, AnswersOver, known_by};
 
     type Desk = D;
 
@@ -28,14 +28,12 @@ impl<D: Desk> Answering for ByDesk<D> {
     ghost noted = { λ ones. length ones };
 
     ghost gives = { λ desk book ones request draw reply desk_after book_after ones_after.
-        AnswersOver
-        (record { front = D.front desk; board_at = D.board_at desk; fronts = D.fronts desk }) book ones request draw reply
-        (record { front = D.front desk_after; board_at = D.board_at desk_after; fronts = D.fronts desk_after }) book_after ones_after };
+        AnswersOver (known_by D.front D.board_at D.fronts desk) book ones request draw reply
+        (known_by D.front D.board_at D.fronts desk_after) book_after ones_after };
 
     ghost gives_up = { λ desk book ones request draw desk_after book_after ones_after.
-        AnswersNothing
-        (record { front = D.front desk; board_at = D.board_at desk; fronts = D.fronts desk }) book ones
-        (record { front = D.front desk_after; board_at = D.board_at desk_after; fronts = D.fronts desk_after }) book_after ones_after };
+        AnswersNothing (known_by D.front D.board_at D.fronts desk) book ones
+        (known_by D.front D.board_at D.fronts desk_after) book_after ones_after };
 
     fn answer(
         alloc: Global,
