@@ -7,7 +7,7 @@ use Rattle.unl_documents.specs.declared.fault.BadDocument.TheVariants as documen
 use Rattle.unl_documents.specs.FaultText.{fault_text}
 use Rattle.unl_documents.specs.Reading.{Reading}
 use Rattle.unl_lines.specs.declared.line.LineRefusal.{LineRefusal}
-use Rattle.unl_lines.specs.declared.line.LineRefusal.TheVariants.{Cause}
+use Rattle.unl_lines.specs.declared.line.LineRefusal.TheVariants as line
 use Rattle.unl_tokens.specs.declared.fault.BadBook.{BadBook}
 use Rattle.unl_tokens.specs.declared.fault.BadBook.TheVariants as book
 use Rattle.unl_replay.specs.declared.refusal.Refusal.{Refusal}
@@ -93,5 +93,5 @@ refusal_text Memory = []
 
 -- the cause of a refused line is that text; where memory ran out there is none
 abbrev pub Causes : LineRefusal → Refusal → Type 0
-Causes (Cause text) refusal = (refusal ≢ Memory) × (text ≡ refusal_text refusal)
-Causes no_memory refusal = ⊤
+Causes (line.Cause text) refusal = (refusal ≢ Memory) × (text ≡ refusal_text refusal)
+Causes line.Memory refusal = ⊤
