@@ -1,9 +1,9 @@
 -- A book of metrics: a finite map from keys to what was counted at each. It is the list of its entries, with keys rising.
-use Rattle.std.specs.Prelude.{◌≡◌, ◌<◌, ◌+◌, ◌-◌, ◌^◌, ℕ, zero, suc, min, List, [], ◌∷◌, map, length, fold, All, Bool, true, ◌&&◌, nat_le, Option, Some, None, unwrap_or, Result, Ok, Err, if◌then◌else◌}
+use Rattle.std.specs.Prelude.{◌≡◌, ◌<◌, ◌+◌, ◌-◌, ◌^◌, ℕ, zero, suc, min, List, [], ◌∷◌, map, length, fold, All, Bool, true, ◌&&◌, nat_le, Option, Some, None, T, Result, Ok, Err, if◌then◌else◌}
 use Rattle.std.specs.Cmp.Lexicographic.{slice_cmp}
 use Rattle.std.specs.FinMap.Entries.{put, find, is_sorted, where_key}
-use Rattle.std.specs.List.{list_all}
-use Rattle.std.specs.Ordering.{nat_cmp, on}
+use Rattle.std.specs.List.{list_all, prefix_len}
+use Rattle.std.specs.Ordering.{nat_cmp, on, is_lt}
 use Rattle.std.specs.Str.{bytes_eq}
 use Rattle.std.specs.declared.cmp.Ordering.{Ordering}
 use Rattle.unl_metrics.specs.declared.refusal.AddRefusal.{AddRefusal}
@@ -50,29 +50,29 @@ Book = List (Key × Tally)
 abbrev pub sum : ℕ → ℕ → ℕ
 sum a b = min (a + b) (2 ^ 64 - 1)
 
--- how often a variant was given
-abbrev pub count_of : List ℕ → Variants → ℕ
-count_of name variants = unwrap_or (find (slice_cmp nat_cmp) name variants) 0
+-- a value added to the one before, where there is one
+abbrev pub added : {X : Type 0} → (X → X → X) → Option X → X → X
+added plus None x = x
+added plus (Some before) x = plus before x
 
--- a variant's count added to those before
+-- a finite map with the value of one more entry added at its key
+abbrev pub with_entry : {K X : Type 0} → (K → K → Ordering) → (X → X → X) → List (K × X) → K × X → List (K × X)
+with_entry order plus entries (k, x) = put order k (added plus (find order k entries) x) entries
+
+-- the counts of variants with one more count
 abbrev pub with_variant : Variants → List ℕ × ℕ → Variants
-with_variant variants (name, count) = put (slice_cmp nat_cmp) name (sum (count_of name variants) count) variants
+with_variant = with_entry (slice_cmp nat_cmp) sum
 
 -- the sum of two tallies
 unfoldable pub tally_sum : Tally → Tally → Tally
 tally_sum s t = record { yes = sum s.yes t.yes; no = sum s.no t.no; variants = fold with_variant s.variants t.variants }
 
--- a tally added to the one before, where there is one
-abbrev pub added : Option Tally → Tally → Tally
-added None t = t
-added (Some s) t = tally_sum s t
-
--- a key's tally added to a book
-unfoldable pub with_tally : Book → Key × Tally → Book
-with_tally book (key, tally) = put key_cmp key (added (find key_cmp key book) tally) book
+-- a book with the tally of one more key
+abbrev pub with_tally : Book → Key × Tally → Book
+with_tally = with_entry key_cmp tally_sum
 
 -- the sum of a book and of what else was counted, entry by entry
-abbrev pub sum_of : Book → Book → Book
+unfoldable pub sum_of : Book → Book → Book
 sum_of book others = fold with_tally book others
 
 -- a variant's name and how often it was given
@@ -112,11 +112,11 @@ if_fits book = if fits book then Ok book else Err Full
 -- an hour of the years 1970 to 9999, and each variant once, in byte order
 pub record IsCounted (entry : Key × Tally) : Type 0 where
   pub hour : entry.0.hour < hours_of_years
-  pub variants : is_sorted (slice_cmp nat_cmp) entry.1.variants ≡ true
+  pub variants : T (is_sorted (slice_cmp nat_cmp) entry.1.variants)
 
 -- each key once and in order
 pub record IsInOrder (book : Book) : Type 0 where
-  pub rising : is_sorted key_cmp book ≡ true
+  pub rising : T (is_sorted key_cmp book)
   pub each : All IsCounted book
 
 -- each key once and in order, within the limits
@@ -125,6 +125,10 @@ pub record IsBook (book : Book) : Type 0 where
   pub fit : fits book ≡ true
 
 -- ---- environments
+
+-- how many keys, from the first on, come before a key
+abbrev pub place : {K X : Type 0} → (K → K → Ordering) → K → List (K × X) → ℕ
+place order k entries = prefix_len (λ e. is_lt (order e.0 k)) entries
 
 -- the key is of the environment
 abbrev pub is_of : List ℕ → Key → Bool

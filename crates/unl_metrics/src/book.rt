@@ -1,5 +1,5 @@
 //! The book of metrics.
-ghost use Rattle.std.specs.Prelude.{◌≡◌, ◌≢◌, ◌≤◌, ◌==◌, [], length, not, Ok, Err, false, IfOk, IfErr, IfSome, OnOk, OnErr, option_map};
+ghost use Rattle.std.specs.Prelude.{◌≡◌, ◌≢◌, ◌≤◌, ◌==◌, [], length, drop, not, position, Ok, Err, false, IfOk, IfErr, IfSome, OnOk, OnErr, option_map};
 ghost use Rattle.std.specs.List.{prefix_len, remove_range};
 ghost use Rattle.serde_json.specs.View.{view};
 ghost use Rattle.serde_json.specs.Written.{has_float};
@@ -118,7 +118,7 @@ impl MetricsBook {
         ensures { self.new ≡ acknowledge environment.now count self.old }
     {
         let start = first_of(self.rows.as_slice(), environment);
-        let run = run_of(&self.rows[start..], environment);
+        let run = run_of(rows_from(self.rows.as_slice(), start), environment);
         let end = start + run.min(count);
         drop_range(&mut self.rows, start, end);
     }
@@ -126,20 +126,45 @@ impl MetricsBook {
 
 /// The place of the first row of an environment, or how many rows there are.
 fn first_of(rows: &[Shared<Row>], environment: &str) -> usize
-    ensures { result ≡ prefix_len (λ row. not (is_of environment.now row.0)) rows.now }
+    ensures place { result ≡ prefix_len (λ row. not (is_of environment.now row.0)) rows.now }
+    ensures inside { result ≤ length rows.now }
 {
-    rows.iter()
-        .position(|row| row.get().is_of(environment))
-        .unwrap_or(rows.len())
+    match place_in(rows, environment) {
+        Some(place) => place,
+        None => rows.len(),
+    }
 }
 
-/// How many rows of an environment stand at the front.
-fn run_of(rows: &[Shared<Row>], environment: &str) -> usize
-    ensures { result ≡ prefix_len (λ row. is_of environment.now row.0) rows.now }
+/// The place of the first row of an environment.
+fn place_in(rows: &[Shared<Row>], environment: &str) -> Option<usize>
+    ensures { result ≡ position (λ row. is_of environment.now row.0) rows.now }
 {
-    rows.iter()
-        .position(|row| !row.get().is_of(environment))
-        .unwrap_or(rows.len())
+    rows.iter().position(|row| row.get().is_of(environment))
+}
+
+/// How many rows, from the first on, are of an environment.
+fn run_of(rows: &[Shared<Row>], environment: &str) -> usize
+    ensures run { result ≡ prefix_len (λ row. is_of environment.now row.0) rows.now }
+    ensures inside { result ≤ length rows.now }
+{
+    match place_outside(rows, environment) {
+        Some(place) => place,
+        None => rows.len(),
+    }
+}
+
+/// The place of the first row that isn't of an environment.
+fn place_outside(rows: &[Shared<Row>], environment: &str) -> Option<usize>
+    ensures { result ≡ position (λ row. not (is_of environment.now row.0)) rows.now }
+{
+    rows.iter().position(|row| !row.get().is_of(environment))
+}
+
+fn rows_from(rows: &[Shared<Row>], start: usize) -> &[Shared<Row>]
+    requires { start ≤ length rows.now }
+    ensures { result.now ≡ drop start rows.now }
+{
+    &rows[start..]
 }
 
 fn drop_range(rows: &mut Vec<Shared<Row>>, start: usize, end: usize)

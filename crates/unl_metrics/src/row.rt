@@ -1,13 +1,13 @@
 //! A key of a book, and what was counted at it.
-ghost use Rattle.std.specs.Prelude.{◌≡◌, ℕ, List, true, fold, IfOk, OnOk, map};
+ghost use Rattle.std.specs.Prelude.{◌≡◌, ◌≤◌, ℕ, List, false, T, fold, IfOk, OnOk, length, map, slice_get};
 ghost use Rattle.std.specs.Cmp.Lexicographic.{slice_cmp};
 ghost use Rattle.std.specs.FinMap.Entries.{is_sorted};
-ghost use Rattle.std.specs.List.Sorted.{IsBinarySearchResult};
-ghost use Rattle.std.specs.Ordering.{nat_cmp};
+ghost use Rattle.std.specs.Option.{option_map_or};
+ghost use Rattle.std.specs.Ordering.{nat_cmp, is_eq};
 ghost use Rattle.serde_json.specs.Data.{no_members};
 ghost use Rattle.serde_json.specs.View.{view, members_view};
 ghost use Rattle.unl_metrics.specs.Bulk.{variants_data, with_counts, counted_data};
-ghost use Rattle.unl_metrics.specs.Book.{counted, key_cmp, is_of, has_few_variants, tally_sum, sum, with_variant, pair, key_of, tally_of, IsCounted};
+ghost use Rattle.unl_metrics.specs.Book.{counted, key_cmp, is_of, has_few_variants, tally_sum, sum, with_variant, pair, key_of, tally_of, place, IsCounted};
 
 use crate::hours::hour_text;
 use crate::report::{MetricEntry, VariantCount};
@@ -96,7 +96,7 @@ fn sum(a: u64, b: u64) -> u64
 /// The first entry with the sums of both.
 #[tactic(auto, unfolding(crate::specs::Book::tally_sum))]
 fn entry_sum(alloc: Global, this: &MetricEntry, that: &MetricEntry) -> Result<MetricEntry, Memory>
-    requires { is_sorted (slice_cmp nat_cmp) (map pair this.now.variants) ≡ true }
+    requires { T (is_sorted (slice_cmp nat_cmp) (map pair this.now.variants)) }
     ensures key { IfOk result (λ e. (environment : List ℕ) → key_of environment e ≡ key_of environment this.now) }
     ensures tally { IfOk result (λ e. tally_of e ≡ tally_sum (tally_of this.now) (tally_of that.now)) }
 {
@@ -106,20 +106,20 @@ fn entry_sum(alloc: Global, this: &MetricEntry, that: &MetricEntry) -> Result<Me
         hour: this.hour,
         yes: sum(this.yes, that.yes),
         no: sum(this.no, that.no),
-        variants: variants_sum(alloc, &this.variants, &that.variants)?,
+        variants: variants_sum(alloc, &this.variants, that.variants.as_slice())?,
     })
 }
 
 fn variants_sum(
     alloc: Global,
     these: &List<VariantCount>,
-    those: &List<VariantCount>,
+    those: &[VariantCount],
 ) -> Result<List<VariantCount>, Memory>
-    requires { is_sorted (slice_cmp nat_cmp) (map pair these.now) ≡ true }
+    requires { T (is_sorted (slice_cmp nat_cmp) (map pair these.now)) }
     ensures { IfOk result (λ counts. map pair counts ≡ fold with_variant (map pair these.now) (map pair those.now)) }
 {
     let mut counts = these.copy(alloc)?.into_vec();
-    for count in those.as_slice() {
+    for count in those {
         add_variant(&mut counts, alloc, count)?;
     }
     Ok(List::from_vec(counts))
@@ -130,23 +130,35 @@ fn add_variant(
     alloc: Global,
     count: &VariantCount,
 ) -> Result<(), Memory>
-    requires { is_sorted (slice_cmp nat_cmp) (map pair counts.old.items) ≡ true }
+    requires { T (is_sorted (slice_cmp nat_cmp) (map pair counts.old.items)) }
     ensures { OnOk result (map pair counts.new.items ≡ with_variant (map pair counts.old.items) (pair count.now)) }
 {
-    match place_of(counts.as_slice(), count.name.as_str()) {
-        Ok(place) => {
-            let old = counts[place].count;
-            counts[place].count = sum(old, count.count);
-        }
-        Err(place) => counts.insert(place, count.copy(alloc)?)?,
+    let place = place_of(counts.as_slice(), count.name.as_str());
+    if is_at(counts.as_slice(), place, count.name.as_str()) {
+        counts[place].count = sum(counts[place].count, count.count);
+        return Ok(());
     }
+    counts.insert(place, count.copy(alloc)?)?;
     Ok(())
 }
 
-fn place_of(counts: &[VariantCount], name: &str) -> Result<usize, usize>
-    ensures { IsBinarySearchResult (λ v. slice_cmp nat_cmp v.name name.now) counts.now result }
+/// Where the name stands, or else belongs, among counts whose names rise.
+fn place_of(counts: &[VariantCount], name: &str) -> usize
+    requires { T (is_sorted (slice_cmp nat_cmp) (map pair counts.now)) }
+    ensures place { result ≡ place (slice_cmp nat_cmp) name.now (map pair counts.now) }
+    ensures inside { result ≤ length counts.now }
 {
-    counts.binary_search_by(|count| compare(count.name.as_str(), name))
+    counts.partition_point(|count| compare(count.name.as_str(), name).is_lt())
+}
+
+/// Whether the name stands at the place.
+fn is_at(counts: &[VariantCount], place: usize, name: &str) -> bool
+    ensures { result ≡ option_map_or (λ v. is_eq (slice_cmp nat_cmp v.name name.now)) (slice_get counts.now place) false }
+{
+    match counts.get(place) {
+        Some(count) => compare(count.name.as_str(), name).is_eq(),
+        None => false,
+    }
 }
 
 impl Row {

@@ -1,8 +1,10 @@
 //! Sums of rows.
-ghost use Rattle.std.specs.Prelude.{◌≡◌, IfOk, OnOk, All, map};
+ghost use Rattle.std.specs.Prelude.{◌≡◌, ◌≤◌, false, T, IfOk, OnOk, All, length, map, slice_get};
 ghost use Rattle.std.specs.List.{list_all};
-ghost use Rattle.std.specs.List.Sorted.{IsBinarySearchResult};
-ghost use Rattle.unl_metrics.specs.Book.{counted, key_cmp, with_tally, sum_of, fits, has_few_variants, IsCounted, IsInOrder};
+ghost use Rattle.std.specs.FinMap.Entries.{is_sorted};
+ghost use Rattle.std.specs.Option.{option_map_or};
+ghost use Rattle.std.specs.Ordering.{is_eq};
+ghost use Rattle.unl_metrics.specs.Book.{counted, key_cmp, with_tally, sum_of, fits, has_few_variants, place, IsCounted, IsInOrder};
 ghost use Rattle.unl_metrics.specs.Reports.{IsEntry};
 
 use crate::report::MetricEntry;
@@ -21,11 +23,23 @@ pub(crate) fn copies(alloc: Global, rows: &[Shared<Row>]) -> Result<Vec<Shared<R
     Ok(copies)
 }
 
-/// The place of a row's key among rows in order: where it stands, or else where it belongs.
-fn place_of(rows: &[Shared<Row>], row: &Row) -> Result<usize, usize>
-    ensures { IsBinarySearchResult (λ other. key_cmp other.0 row.now.0) rows.now result }
+/// Where a row's key stands, or else belongs, among rows in order.
+fn place_of(rows: &[Shared<Row>], row: &Row) -> usize
+    requires { T (is_sorted key_cmp rows.now) }
+    ensures place { result ≡ place key_cmp row.now.0 rows.now }
+    ensures inside { result ≤ length rows.now }
 {
-    rows.binary_search_by(|other| other.get().compare(row))
+    rows.partition_point(|other| other.get().compare(row).is_lt())
+}
+
+/// Whether a row of this key stands at the place.
+fn is_at(rows: &[Shared<Row>], place: usize, row: &Row) -> bool
+    ensures { result ≡ option_map_or (λ other. is_eq (key_cmp other.0 row.now.0)) (slice_get rows.now place) false }
+{
+    match rows.get(place) {
+        Some(other) => other.get().compare(row).is_eq(),
+        None => false,
+    }
 }
 
 /// Adds a row's tally at its key.
@@ -33,13 +47,13 @@ fn add_row(rows: &mut Vec<Shared<Row>>, alloc: Global, row: Shared<Row>) -> Resu
     requires { IsInOrder rows.old.items }
     ensures { OnOk result (rows.new.items ≡ with_tally rows.old.items row) }
 {
-    match place_of(rows.as_slice(), row.get()) {
-        Ok(place) => {
-            let whole = rows[place].get().plus(alloc, row.get())?;
-            rows[place] = Shared::new(alloc, whole)?;
-        }
-        Err(place) => rows.insert(place, row)?,
+    let place = place_of(rows.as_slice(), row.get());
+    if is_at(rows.as_slice(), place, row.get()) {
+        let whole = rows[place].get().plus(alloc, row.get())?;
+        rows[place] = Shared::new(alloc, whole)?;
+        return Ok(());
     }
+    rows.insert(place, row)?;
     Ok(())
 }
 

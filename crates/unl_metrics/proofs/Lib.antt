@@ -1,0 +1,6 @@
+mod Entries
+mod Order
+mod Variants
+mod Folds
+mod Books
+mod Acknowledging

@@ -1,0 +1,8 @@
+-- The order of keys.
+use Rattle.std.proofs.Common.{List, ℕ, nat_cmp}
+use Rattle.std.proofs.lemmas.Cmp.{lists_total, nat_list_cmp_total}
+use Rattle.std.specs.Cmp.{IsTotalOrder, on_total}
+use Rattle.unl_metrics.specs.Book.{key_cmp, parts}
+
+pub keys_total : IsTotalOrder key_cmp
+keys_total = on_total parts (lists_total nat_list_cmp_total)
