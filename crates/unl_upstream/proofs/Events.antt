@@ -1,0 +1,175 @@
+-- The events that commands come to, and the histories that these make.
+use Rattle.std.proofs.Common.{◌≡◌, ℕ, ◌<◌, ◌≤◌, ◌+◌, List, [], ◌∷◌, ◌++◌, length, Bool, true, false, cond, Option, Some, None, Ok, Err, ap, refl, sym, subst, ◌∙◌, arith, length-append, inl}
+use Rattle.std.specs.Prelude.{◌==◌, ◌||◌, nat_lt, ok_or}
+use Rattle.std.specs.List.{AllByRecursion as Every}
+use Rattle.unl_delta.specs.declared.event.Event.{Event}
+use Rattle.unl_delta.specs.declared.event.Event.TheVariants.{Hydration, FeatureUpdated, FeatureRemoved, SegmentUpdated, SegmentRemoved}
+use Rattle.unl_delta.specs.declared.version.EnvVersion.{EnvVersion}
+use Rattle.unl_delta.specs.Batch.{empty_version, go_on}
+use Rattle.unl_delta.specs.History.{IsHistory, IsTrueOf, StandsFor, everything}
+use Rattle.unl_delta.specs.State.{empty_state, fold_events, is_change, later, number_of, project_of, step, up_to}
+use Rattle.unl_delta.specs.Valid.{NeverFall}
+use Rattle.unl_delta.proofs.Every.{every_weaker}
+use Rattle.unl_delta.proofs.Growth.{stands_after_one}
+use Rattle.unl_delta.proofs.Numbers.{later_all, never_fall_lower}
+use Rattle.unl_documents.specs.declared.feature.Feature.{Feature}
+use Rattle.unl_documents.specs.declared.segment.Segment.{Segment}
+use Rattle.unl_documents.specs.declared.state.State.{State}
+use Rattle.unl_documents.specs.Results.{◌>>=◌}
+use Rattle.unl_upstream.specs.declared.command.Command.{Command}
+use Rattle.unl_upstream.specs.declared.command.Command.TheVariants.{PutFeature, RemoveFeature, PutSegment, RemoveSegment}
+use Rattle.unl_upstream.specs.declared.refusal.CommandRefusal.{CommandRefusal}
+use Rattle.unl_upstream.specs.declared.refusal.CommandRefusal.TheVariants.{NoSuchFeature, NoSuchSegment, TooMany}
+use Rattle.unl_upstream.specs.Upstream.{Obeying, event_of, feature_put, feature_removed, has_feature, has_segment, last_number, most_features, most_segments, number_after, segment_put, segment_removed, version_after}
+use Rattle.unl_upstream.specs.History.{IsHistoryOf, event_at, events_from, history_of}
+
+-- ---- one event
+
+-- what an accepted command comes to at a version
+pub record ComesTo (v : EnvVersion) (command : Command) (event : Event) : Type 0 where
+  pub is : event ≡ event_at (v.number + 1) v.state command
+  pub change : is_change event ≡ true
+  pub number : number_of event ≡ v.number + 1
+  pub is_true : IsTrueOf v.state event
+
+-- the number is the next one
+numbered : (n : ℕ) (event : ℕ → Event) (e : Event) → (number_after n >>= λ m. Ok (event m)) ≡ Ok e → e ≡ event (n + 1)
+numbered n event e is = decided (n == last_number) is
+  where
+    decided : (t : Bool) → ((cond t (Err (TooMany n)) (Ok (n + 1))) >>= λ (m : ℕ). Ok (event m)) ≡ Ok e → e ≡ event (n + 1)
+    decided true refused = absurd cc
+    decided false told = cc
+
+-- what comes after a test that passed
+after_test : (t : Bool) (refusal : CommandRefusal) (rest : Obeying Event) (e : Event) → (cond t (Ok tt) (Err refusal) >>= λ (u : Unit {0}). rest) ≡ Ok e → rest ≡ Ok e
+after_test true refusal rest e is = is
+after_test false refusal rest e is = absurd cc
+
+put_feature_comes : (environment : List ℕ) (feature : Feature) (v : EnvVersion) (e : Event) → feature_put feature v ≡ Ok e → ComesTo v (PutFeature environment feature) e
+unfolding feature_put
+put_feature_comes environment feature v e is =
+    let told : e ≡ FeatureUpdated (v.number + 1) feature =
+    numbered v.number (λ n. FeatureUpdated n feature) e (after_test (has_feature feature.name v.state.features || nat_lt (length v.state.features) most_features) (TooMany (length v.state.features)) _ e is) in
+    subst (ComesTo v (PutFeature environment feature)) (sym told) (record { is = refl; change = refl; number = refl; is_true = tt })
+
+put_segment_comes : (environment : List ℕ) (segment : Segment) (v : EnvVersion) (e : Event) → segment_put segment v ≡ Ok e → ComesTo v (PutSegment environment segment) e
+unfolding segment_put
+put_segment_comes environment segment v e is =
+    let told : e ≡ SegmentUpdated (v.number + 1) segment =
+    numbered v.number (λ n. SegmentUpdated n segment) e (after_test (has_segment segment.id v.state.segments || nat_lt (length v.state.segments) most_segments) (TooMany (length v.state.segments)) _ e is) in
+    subst (ComesTo v (PutSegment environment segment)) (sym told) (record { is = refl; change = refl; number = refl; is_true = tt })
+
+remove_segment_comes : (environment : List ℕ) (id : ℕ) (v : EnvVersion) (e : Event) → segment_removed id v ≡ Ok e → ComesTo v (RemoveSegment environment id) e
+unfolding segment_removed
+remove_segment_comes environment id v e is =
+    let told : e ≡ SegmentRemoved (v.number + 1) id =
+    numbered v.number (λ n. SegmentRemoved n id) e (after_test (has_segment id v.state.segments) NoSuchSegment _ e is) in
+    subst (ComesTo v (RemoveSegment environment id)) (sym told) (record { is = refl; change = refl; number = refl; is_true = tt })
+
+remove_feature_comes : (environment name : List ℕ) (v : EnvVersion) (e : Event) → feature_removed name v ≡ Ok e → ComesTo v (RemoveFeature environment name) e
+unfolding feature_removed
+remove_feature_comes environment name v e is = decided (project_of name v.state.features) refl is
+  where
+    decided : (o : Option (List ℕ)) → project_of name v.state.features ≡ o
+        → (ok_or o NoSuchFeature >>= λ (project : List ℕ). number_after v.number >>= λ (n : ℕ). Ok (FeatureRemoved n name project)) ≡ Ok e
+        → ComesTo v (RemoveFeature environment name) e
+    decided None none refused = absurd cc
+    decided (Some project) stands more =
+        let told : e ≡ FeatureRemoved (v.number + 1) name project = numbered v.number (λ n. FeatureRemoved n name project) e more in
+        subst (ComesTo v (RemoveFeature environment name)) (sym told) (record { is = rw stands refl; change = refl; number = refl; is_true = stands })
+
+pub comes_to : (command : Command) (v : EnvVersion) (e : Event) → event_of command v ≡ Ok e → ComesTo v command e
+comes_to (PutFeature environment feature) v e is = put_feature_comes environment feature v e is
+comes_to (RemoveFeature environment name) v e is = remove_feature_comes environment name v e is
+comes_to (PutSegment environment segment) v e is = put_segment_comes environment segment v e is
+comes_to (RemoveSegment environment id) v e is = remove_segment_comes environment id v e is
+
+-- ---- histories
+
+event_changes : (n : ℕ) (s : State) (command : Command) → is_change (event_at n s command) ≡ true
+event_changes n s (PutFeature environment feature) = refl
+event_changes n s (RemoveFeature environment name) = refl
+event_changes n s (PutSegment environment segment) = refl
+event_changes n s (RemoveSegment environment id) = refl
+
+event_number : (n : ℕ) (s : State) (command : Command) → number_of (event_at n s command) ≡ n
+event_number n s (PutFeature environment feature) = refl
+event_number n s (RemoveFeature environment name) = refl
+event_number n s (PutSegment environment segment) = refl
+event_number n s (RemoveSegment environment id) = refl
+
+all_changes : (n : ℕ) (s : State) (commands : List Command) → Every (λ e. is_change e ≡ true) (events_from n s commands)
+all_changes n s [] = tt
+all_changes n s (c ∷ cs) = (event_changes (n + 1) s c, all_changes (n + 1) (step (event_at (n + 1) s c) s) cs)
+
+numbers_rise : (n : ℕ) (s : State) (commands : List Command) → NeverFall number_of (n + 1) (events_from n s commands)
+numbers_rise n s [] = tt
+numbers_rise n s (c ∷ cs) =
+    let e : Event = event_at (n + 1) s c in
+    let number : number_of e ≡ n + 1 = event_number (n + 1) s c in
+    (omega (arith, number), never_fall_lower number_of (n + 1 + 1) (number_of e) (events_from (n + 1) (step e s) cs) (omega (arith, number)) (numbers_rise (n + 1) (step e s) cs))
+
+pub is_history : (commands : List Command) → IsHistory (history_of commands)
+is_history commands = record { changes = all_changes 0 empty_state commands; numbers = numbers_rise 0 empty_state commands }
+
+numbers_within : (n : ℕ) (s : State) (commands : List Command) → Every (λ e. number_of e ≤ n + length commands) (events_from n s commands)
+numbers_within n s [] = tt
+numbers_within n s (c ∷ cs) =
+    let e : Event = event_at (n + 1) s c in
+    let number : number_of e ≡ n + 1 = event_number (n + 1) s c in (
+      omega (arith, number),
+      every_weaker (λ (x : Event). number_of x ≤ n + 1 + length cs) (λ (x : Event). number_of x ≤ n + length (c ∷ cs)) (events_from (n + 1) (step e s) cs) (λ x le. omega arith) (numbers_within (n + 1) (step e s) cs),
+    )
+
+-- the history of one command more
+one_more : (n : ℕ) (s : State) (commands : List Command) (c : Command)
+    → events_from n s (commands ++ c ∷ []) ≡ events_from n s commands ++ event_at (n + length commands + 1) (fold_events (events_from n s commands) s) c ∷ []
+one_more n s [] c = ap (λ (m : ℕ). event_at (m + 1) s c ∷ []) (omega arith)
+one_more n s (d ∷ ds) c =
+    let e : Event = event_at (n + 1) s d in
+    ap (λ (es : List Event). e ∷ es) (one_more (n + 1) (step e s) ds c
+    ∙ ap (λ (m : ℕ). events_from (n + 1) (step e s) ds ++ event_at m (fold_events (events_from (n + 1) (step e s) ds) (step e s)) c ∷ []) (omega arith))
+
+folded : (es : List Event) (e : Event) (s : State) → fold_events (es ++ e ∷ []) s ≡ step e (fold_events es s)
+folded [] e s = refl
+folded (x ∷ xs) e s = folded xs e (step x s)
+
+-- ---- a version that follows accepted commands
+
+pub record Follows (commands : List Command) (v : EnvVersion) : Type 0 where
+  pub history : IsHistoryOf commands v
+  pub state : v.state ≡ fold_events (history_of commands) empty_state
+
+pub nothing_follows : Follows [] empty_version
+unfolding later up_to
+nothing_follows = record {
+  history = record { stands = record { moment = inl refl; state = refl; base = omega arith; entries = refl }; number = refl };
+  state = refl;
+}
+
+goes_on : (v : EnvVersion) (e : Event) → is_change e ≡ true → version_after v e ≡ go_on v (e ∷ [])
+goes_on v (Hydration n state) change = absurd cc
+goes_on v (FeatureUpdated n feature) change = refl
+goes_on v (FeatureRemoved n name project) change = refl
+goes_on v (SegmentUpdated n segment) change = refl
+goes_on v (SegmentRemoved n id) change = refl
+
+pub one_follows : (commands : List Command) (c : Command) (v : EnvVersion) (e : Event) → Follows commands v → event_of c v ≡ Ok e → Follows (commands ++ c ∷ []) (version_after v e)
+one_follows commands c v e follows told =
+    let comes : ComesTo v c e = comes_to c v e told in
+    let count : v.number ≡ length commands = follows.history.number in
+    let grown : history_of (commands ++ c ∷ []) ≡ history_of commands ++ e ∷ [] =
+    one_more 0 empty_state commands c ∙ ap (λ (x : Event). history_of commands ++ x ∷ []) (
+    ap (λ (n : ℕ). event_at n (fold_events (history_of commands) empty_state) c) (omega arith)
+    ∙ ap (λ (s : State). event_at (v.number + 1) s c) (sym follows.state) ∙ sym comes.is) in
+    let news : v.number < number_of e = omega (arith, comes.number) in
+    let whole : IsHistory (history_of commands ++ e ∷ []) = subst IsHistory grown (is_history (commands ++ c ∷ [])) in
+    let old : Every (λ x. number_of x ≤ v.number) (history_of commands) = subst (λ (n : ℕ). Every (λ (x : Event). number_of x ≤ n) (history_of commands)) (omega arith) (numbers_within 0 empty_state commands) in
+    let stands : StandsFor (history_of commands ++ e ∷ []) everything (go_on v (e ∷ [])) = stands_after_one (history_of commands) v e whole follows.history.stands old news comes.is_true in
+    let state : (go_on v (e ∷ [])).state ≡ fold_events (history_of commands ++ e ∷ []) empty_state =
+    ap (λ (es : List Event). fold_events es v.state) (later_all number_of v.number (e ∷ []) (news, tt)) ∙ ap (step e) follows.state ∙ sym (folded (history_of commands) e empty_state) in
+    let number : (go_on v (e ∷ [])).number ≡ length (commands ++ c ∷ []) = comes.number ∙ omega (arith, length-append commands (c ∷ [])) in
+    subst (Follows (commands ++ c ∷ [])) (sym (goes_on v e comes.change)) (record {
+      history = record { stands = subst (λ (h : List Event). StandsFor h everything (go_on v (e ∷ []))) (sym grown) stands; number = number };
+      state = state ∙ ap (λ (h : List Event). fold_events h empty_state) (sym grown);
+    })

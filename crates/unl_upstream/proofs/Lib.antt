@@ -1,0 +1,6 @@
+pub mod Slots
+pub mod Next
+pub mod Events
+pub mod Standing
+pub mod Statuses
+pub mod Served

@@ -1,0 +1,68 @@
+-- The next event after a version, and its batch.
+use Rattle.std.proofs.Common.{◌≡◌, ℕ, ◌<◌, List, [], ◌∷◌, Bool, true, false, cond, Option, Some, All, refl, subst, arith, leb}
+use Rattle.std.specs.Prelude.{find, option_map}
+use Rattle.std.specs.Str.{bytes_eq}
+use Rattle.std.proofs.lemmas.Bool.{le-leb}
+use Rattle.std.proofs.lemmas.List.Elements.{All-head, All-tail}
+use Rattle.unl_core.proofs.Same.{text_same}
+use Rattle.unl_delta.specs.declared.batch.Verdict.TheVariants.{Apply}
+use Rattle.unl_delta.specs.declared.event.Event.{Event}
+use Rattle.unl_delta.specs.declared.event.Event.TheVariants.{Hydration, FeatureUpdated, FeatureRemoved, SegmentUpdated, SegmentRemoved}
+use Rattle.unl_delta.specs.declared.version.EnvVersion.{EnvVersion}
+use Rattle.unl_delta.specs.Batch.{changes_verdict, verdict_of}
+use Rattle.unl_delta.specs.State.{project_of}
+use Rattle.unl_delta.specs.Valid.{IsValidBatch}
+use Rattle.unl_documents.specs.declared.feature.Feature.{Feature}
+use Rattle.unl_documents.specs.Limits.{IsName}
+use Rattle.unl_documents.specs.Valid.{IsValidFeature}
+use Rattle.unl_upstream.specs.Upstream.{IsNext, batch_of, is_named, place_with}
+
+-- ---- its batch
+
+-- changes from the version's number on, up to a higher one, apply
+goes_on : (v : EnvVersion) (n : ℕ) → v.number < n → changes_verdict (Some v) false (Some v.number) n ≡ Apply
+goes_on v n above = let past : leb n v.number ≡ false = grind arith in let reached : leb v.number v.number ≡ true = le-leb v.number v.number (omega arith) in rw (past, reached) refl
+
+-- the batch of the next event applies
+pub next_applies : (v : EnvVersion) (event : Event) → IsNext v event → verdict_of (place_with v) (batch_of v event) ≡ Apply
+next_applies v (Hydration n state) next = absurd (no_change next.change)
+  where
+    no_change : false ≡ true → ⊥
+    no_change is = cc
+next_applies v (FeatureUpdated n feature) next = goes_on v n (omega (arith, next.number))
+next_applies v (FeatureRemoved n name project) next = goes_on v n (omega (arith, next.number))
+next_applies v (SegmentUpdated n segment) next = goes_on v n (omega (arith, next.number))
+next_applies v (SegmentRemoved n id) next = goes_on v n (omega (arith, next.number))
+
+-- and is well formed
+pub next_is_batch : (v : EnvVersion) (event : Event) → IsNext v event → IsValidBatch (batch_of v event)
+next_is_batch v event next = record { order = record { changes = tt; numbers = (omega arith, tt) }; events = (next.valid, tt) }
+
+-- ---- the feature of a name
+
+-- the project of the feature that was found
+abbrev pub project_found : Option Feature → Option (List ℕ)
+project_found found = option_map (λ feature. feature.project) found
+
+-- the project is that of the first feature of the name
+pub found_project : (name : List ℕ) (features : List Feature) → project_found (find (is_named name) features) ≡ project_of name features
+found_project name [] = refl
+found_project name (f ∷ fs) = decided (bytes_eq f.name name) (found_project name fs)
+  where
+    decided : (t : Bool) → project_found (find (is_named name) fs) ≡ project_of name fs
+        → project_found (cond t (Some f) (find (is_named name) fs)) ≡ cond t (Some f.project) (project_of name fs)
+    decided true others = refl
+    decided false others = others
+
+-- a feature that stands has a name and a project within the limits
+pub named_within : (name project : List ℕ) (features : List Feature) → All IsValidFeature features → project_of name features ≡ Some project → IsName name × IsName project
+named_within name project [] valid is = absurd cc
+named_within name project (f ∷ fs) valid is = decided (bytes_eq f.name name) refl is (named_within name project fs (All-tail IsValidFeature f fs valid))
+  where
+    decided : (t : Bool) → bytes_eq f.name name ≡ t → cond t (Some f.project) (project_of name fs) ≡ Some project
+        → (project_of name fs ≡ Some project → IsName name × IsName project) → IsName name × IsName project
+    decided true here found others =
+        let head : IsValidFeature f = All-head IsValidFeature f fs valid in
+        let same : f.project ≡ project = cc in
+        (subst IsName (text_same f.name name here) head.name, subst IsName same head.project)
+    decided false here more others = others more

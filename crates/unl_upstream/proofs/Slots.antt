@@ -1,0 +1,109 @@
+-- The slots of an upstream, and the version of an environment among them.
+use Rattle.std.proofs.Common.{◌≡◌, ℕ, zero, suc, ◌≤◌, ◌+◌, List, [], ◌∷◌, length, Bool, true, false, cond, Option, Some, map, ap, refl, sym, subst, ◌∙◌, arith}
+use Rattle.std.specs.Prelude.{◌||◌, find, is_some, option_and_then}
+use Rattle.std.specs.List.{list_any, position_from}
+use Rattle.std.proofs.lemmas.List.{length-map}
+use Rattle.unl_core.specs.declared.board.Slot.{Slot}
+use Rattle.unl_core.specs.Board.{AreDifferent, AreSlots, is_named, names_of, same_text, snapshot_in, taking}
+use Rattle.unl_core.proofs.Same.{text_same}
+use Rattle.unl_delta.specs.declared.version.EnvVersion.{EnvVersion}
+use Rattle.unl_delta.specs.Batch.{empty_version}
+use Rattle.unl_upstream.specs.Upstream.{opening_slot}
+
+-- the version of the slot that was found
+abbrev version_of : Option Slot → Option EnvVersion
+version_of found = option_and_then (λ slot. slot.snapshot) found
+
+-- a slot with another version
+abbrev with_version : Slot → EnvVersion → Slot
+with_version slot v = record slot { snapshot = Some v }
+
+-- ---- at the beginning
+
+names_of-opening : (names : List (List ℕ)) → names_of (map opening_slot names) ≡ names
+names_of-opening [] = refl
+names_of-opening (x ∷ xs) = ap (λ names. x ∷ names) (names_of-opening xs)
+
+-- slots of different names
+pub slots_opened : (slots : List Slot) (names : List (List ℕ)) → slots ≡ map opening_slot names → length names ≤ 8 → AreDifferent names → AreSlots slots
+slots_opened slots names are few different =
+    subst AreSlots (sym are) (record {
+      few = omega (arith, length-map names opening_slot);
+      different = subst AreDifferent (sym (names_of-opening names)) different;
+    })
+
+-- nothing stands yet in any of them
+pub opened_empty : (environment : List ℕ) (names : List (List ℕ)) (v : EnvVersion) → snapshot_in environment (map opening_slot names) ≡ Some v → v ≡ empty_version
+opened_empty environment [] v is = absurd cc
+opened_empty environment (x ∷ xs) v is = decided (same_text x environment) is (opened_empty environment xs v)
+  where
+    decided : (t : Bool) → version_of (cond t (Some (opening_slot x)) (find (is_named environment) (map opening_slot xs))) ≡ Some v
+        → (snapshot_in environment (map opening_slot xs) ≡ Some v → v ≡ empty_version) → v ≡ empty_version
+    decided true found others = cc
+    decided false more others = others more
+
+-- the environments are those of these names
+pub opened_names : (environment : List ℕ) (names : List (List ℕ)) → is_some (snapshot_in environment (map opening_slot names)) ≡ list_any (λ name. same_text name environment) names
+opened_names environment [] = refl
+opened_names environment (x ∷ xs) = decided (same_text x environment) (opened_names environment xs)
+  where
+    decided : (t : Bool) → is_some (snapshot_in environment (map opening_slot xs)) ≡ list_any (λ name. same_text name environment) xs
+        → is_some (version_of (cond t (Some (opening_slot x)) (find (is_named environment) (map opening_slot xs)))) ≡ (t || list_any (λ name. same_text name environment) xs)
+    decided true others = refl
+    decided false others = others
+
+-- ---- after a version was published
+
+-- no place before the first one is found
+not_before : (test : Slot → Bool) (n j : ℕ) (slots : List Slot) → position_from test n slots ≡ Some j → n ≤ j
+not_before test n j [] is = absurd cc
+not_before test n j (x ∷ xs) is = decided (test x) is (not_before test (n + 1) j xs)
+  where
+    decided : (t : Bool) → cond t (Some n) (position_from test (n + 1) xs) ≡ Some j → (position_from test (n + 1) xs ≡ Some j → n + 1 ≤ j) → n ≤ j
+    decided true found others = let same : n ≡ j = cc in omega arith
+    decided false more others = let above : n + 1 ≤ j = others more in omega arith
+
+-- the environment's slot has it
+pub taken_here : (environment : List ℕ) (n k : ℕ) (slots : List Slot) (v : EnvVersion) → position_from (is_named environment) n slots ≡ Some (k + n)
+    → snapshot_in environment (taking k v slots) ≡ Some v
+taken_here environment n k [] v is = absurd cc
+taken_here environment n zero (x ∷ xs) v is = decided (is_named environment x) is
+  where
+    decided : (t : Bool) → cond t (Some n) (position_from (is_named environment) (n + 1) xs) ≡ Some (zero + n)
+        → version_of (cond t (Some (with_version x v)) (find (is_named environment) xs)) ≡ Some v
+    decided true found = refl
+    decided false more = let above : n + 1 ≤ zero + n = not_before (is_named environment) (n + 1) (zero + n) xs more in absurd (omega arith)
+taken_here environment n (suc k) (x ∷ xs) v is = decided (is_named environment x) is (taken_here environment (n + 1) k xs v)
+  where
+    decided : (t : Bool) → cond t (Some n) (position_from (is_named environment) (n + 1) xs) ≡ Some (suc k + n)
+        → (position_from (is_named environment) (n + 1) xs ≡ Some (k + (n + 1)) → snapshot_in environment (taking k v xs) ≡ Some v)
+        → version_of (cond t (Some x) (find (is_named environment) (taking k v xs))) ≡ Some v
+    decided true found others = let same : n ≡ suc k + n = cc in absurd (omega arith)
+    decided false more others = others (more ∙ ap Some (omega arith))
+
+-- a name is not two others
+not_both : (name environment other : List ℕ) → same_text name environment ≡ true → same_text environment other ≡ false → same_text name other ≡ false
+not_both name environment other here apart = ap (λ (text : List ℕ). same_text text other) (text_same name environment here) ∙ apart
+
+-- each other environment has what it had
+pub taken_elsewhere : (environment other : List ℕ) (n k : ℕ) (slots : List Slot) (v : EnvVersion) → position_from (is_named environment) n slots ≡ Some (k + n)
+    → same_text environment other ≡ false → snapshot_in other (taking k v slots) ≡ snapshot_in other slots
+taken_elsewhere environment other n k [] v is apart = absurd cc
+taken_elsewhere environment other n zero (x ∷ xs) v is apart = decided (is_named environment x) refl is
+  where
+    decided : (t : Bool) → is_named environment x ≡ t → cond t (Some n) (position_from (is_named environment) (n + 1) xs) ≡ Some (zero + n)
+        → snapshot_in other (taking zero v (x ∷ xs)) ≡ snapshot_in other (x ∷ xs)
+    decided true here found = rw (not_both x.environment environment other here apart) refl
+    decided false here more = let above : n + 1 ≤ zero + n = not_before (is_named environment) (n + 1) (zero + n) xs more in absurd (omega arith)
+taken_elsewhere environment other n (suc k) (x ∷ xs) v is apart = decided (is_named environment x) is (λ more. taken_elsewhere environment other (n + 1) k xs v more apart)
+  where
+    more_kept : (t : Bool) → snapshot_in other (taking k v xs) ≡ snapshot_in other xs
+        → version_of (cond t (Some x) (find (is_named other) (taking k v xs))) ≡ version_of (cond t (Some x) (find (is_named other) xs))
+    more_kept true same = refl
+    more_kept false same = same
+
+    decided : (t : Bool) → cond t (Some n) (position_from (is_named environment) (n + 1) xs) ≡ Some (suc k + n)
+        → (position_from (is_named environment) (n + 1) xs ≡ Some (k + (n + 1)) → snapshot_in other (taking k v xs) ≡ snapshot_in other xs)
+        → snapshot_in other (taking (suc k) v (x ∷ xs)) ≡ snapshot_in other (x ∷ xs)
+    decided true found others = let same : n ≡ suc k + n = cc in absurd (omega arith)
+    decided false more others = more_kept (is_named other x) (others (more ∙ ap Some (omega arith)))

@@ -1,0 +1,188 @@
+-- Where an upstream stands after commands.
+use Rattle.std.proofs.Common.{◌≡◌, ℕ, List, [], ◌∷◌, ◌++◌, Bool, true, false, cond, Option, Some, None, Ok, Err, ap, refl, sym, subst, ◌∙◌, arith, append_assoc}
+use Rattle.std.specs.Prelude.{is_some, ok_or}
+use Rattle.std.specs.List.{list_any}
+use Rattle.std.proofs.lemmas.List.{append-nil}
+use Rattle.unl_core.specs.Board.{same_text, slot_of, snapshot_in}
+use Rattle.unl_core.proofs.Same.{text_same}
+use Rattle.unl_delta.specs.declared.event.Event.{Event}
+use Rattle.unl_delta.specs.declared.version.EnvVersion.{EnvVersion}
+use Rattle.unl_delta.specs.State.{number_of}
+use Rattle.unl_documents.specs.Results.{◌>>=◌}
+use Rattle.unl_tokens.specs.declared.token.Token.{Token}
+use Rattle.unl_upstream.specs.declared.command.Command.{Command}
+use Rattle.unl_upstream.specs.declared.ready.Ready.{Ready}
+use Rattle.unl_upstream.specs.declared.refusal.CommandRefusal.{CommandRefusal}
+use Rattle.unl_upstream.specs.declared.refusal.CommandRefusal.TheVariants.{NoSuchEnvironment}
+use Rattle.unl_upstream.specs.Command.{environment_of}
+use Rattle.unl_upstream.specs.Upstream.{Obeyed, Obeying, UpstreamState, commanded, committed, event_of, opening, prepared, version_after}
+use Rattle.unl_upstream.specs.History.{IsHistoryOf, accepted, after_command, after_commands, for_environment, if_accepted, up_after}
+use Rattle.unl_upstream.proofs.Events.{Follows, nothing_follows, one_follows}
+use Rattle.unl_upstream.proofs.Slots.{opened_empty, opened_names, taken_elsewhere, taken_here}
+
+-- ---- one accepted command
+
+abbrev ready_with : ℕ → EnvVersion → Event → Ready
+ready_with slot version event = record { slot = slot; number = number_of event; snapshot = version_after version event }
+
+abbrev obeyed_with : Ready → UpstreamState → Obeyed
+obeyed_with ready up = record { up = committed ready up; number = ready.number }
+
+-- a command was accepted, and came to an event at its environment's version
+record IsObeyed (command : Command) (up : UpstreamState) (obeyed : Obeyed) : Type 0 where
+  pub slot : ℕ
+  pub version : EnvVersion
+  pub event : Event
+  pub at : slot_of (environment_of command) up.board.slots ≡ Some slot
+  pub stood : snapshot_in (environment_of command) up.board.slots ≡ Some version
+  pub told : event_of command version ≡ Ok event
+  pub is : obeyed.up ≡ committed (ready_with slot version event) up
+
+obeyed_by : (command : Command) (up : UpstreamState) (obeyed : Obeyed) → commanded command up ≡ Ok obeyed → IsObeyed command up obeyed
+unfolding commanded prepared
+obeyed_by command up obeyed is = at_slot (slot_of (environment_of command) up.board.slots) (snapshot_in (environment_of command) up.board.slots) refl refl is
+  where
+    at_event : (slot : ℕ) (version : EnvVersion) (r : Obeying Event) → slot_of (environment_of command) up.board.slots ≡ Some slot
+        → snapshot_in (environment_of command) up.board.slots ≡ Some version → event_of command version ≡ r
+        → ((r >>= λ (event : Event). Ok (ready_with slot version event)) >>= λ (ready : Ready). Ok (obeyed_with ready up)) ≡ Ok obeyed
+        → IsObeyed command up obeyed
+    at_event slot version (Err refusal) at stood told none = absurd cc
+    at_event slot version (Ok event) at stood told all =
+        let same : obeyed_with (ready_with slot version event) up ≡ obeyed = cc in
+        record { slot = slot; version = version; event = event; at = at; stood = stood; told = told; is = sym (ap (λ (o : Obeyed). o.up) same) }
+
+    at_slot : (o : Option ℕ) (w : Option EnvVersion) → slot_of (environment_of command) up.board.slots ≡ o → snapshot_in (environment_of command) up.board.slots ≡ w
+        → ((ok_or o NoSuchEnvironment >>= λ (slot : ℕ). ok_or w NoSuchEnvironment >>= λ (version : EnvVersion).
+        event_of command version >>= λ (event : Event). Ok (ready_with slot version event)) >>= λ (ready : Ready). Ok (obeyed_with ready up)) ≡ Ok obeyed
+        → IsObeyed command up obeyed
+    at_slot None w at stood none = absurd cc
+    at_slot (Some slot) None at stood none = absurd cc
+    at_slot (Some slot) (Some version) at stood all = at_event slot version (event_of command version) at stood refl all
+
+-- the version of the command's environment is the new one
+new_here : (command : Command) (up : UpstreamState) (obeyed : Obeyed) (o : IsObeyed command up obeyed) (environment : List ℕ) → environment_of command ≡ environment
+    → snapshot_in environment obeyed.up.board.slots ≡ Some (version_after o.version o.event)
+new_here command up obeyed o environment here =
+    subst (λ (name : List ℕ). snapshot_in name obeyed.up.board.slots ≡ Some (version_after o.version o.event)) here (
+    ap (λ (u : UpstreamState). snapshot_in (environment_of command) u.board.slots) o.is
+    ∙ taken_here (environment_of command) 0 o.slot up.board.slots (version_after o.version o.event) (o.at ∙ ap Some (omega arith)))
+
+-- each other environment has what it had
+same_elsewhere : (command : Command) (up : UpstreamState) (obeyed : Obeyed) → IsObeyed command up obeyed → (environment : List ℕ) → same_text (environment_of command) environment ≡ false
+    → snapshot_in environment obeyed.up.board.slots ≡ snapshot_in environment up.board.slots
+same_elsewhere command up obeyed o environment apart =
+    ap (λ (u : UpstreamState). snapshot_in environment u.board.slots) o.is
+    ∙ taken_elsewhere (environment_of command) environment 0 o.slot up.board.slots (version_after o.version o.event) (o.at ∙ ap Some (omega arith)) apart
+
+-- ---- versions
+
+-- the version of an environment follows these commands
+Holds : List ℕ → List Command → UpstreamState → Type 0
+Holds environment commands up = (v : EnvVersion) → snapshot_in environment up.board.slots ≡ Some v → Follows commands v
+
+holds_at_first : (boot : ℕ) (secret : List ℕ) (environments : List (List ℕ)) (book : List Token) (environment : List ℕ) → Holds environment [] (opening boot secret environments book)
+unfolding Holds
+holds_at_first boot secret environments book environment v is = subst (Follows []) (sym (opened_empty environment environments v is)) nothing_follows
+
+-- a command for the environment is one more
+holds_here : (environment : List ℕ) (before : List Command) (command : Command) (up : UpstreamState) (obeyed : Obeyed) → IsObeyed command up obeyed
+    → environment_of command ≡ environment → Holds environment before up → Holds environment (before ++ command ∷ []) obeyed.up
+unfolding Holds
+holds_here environment before command up obeyed o here holds v is =
+    let stood : snapshot_in environment up.board.slots ≡ Some o.version = subst (λ (name : List ℕ). snapshot_in name up.board.slots ≡ Some o.version) here o.stood in
+    let same : Some (version_after o.version o.event) ≡ Some v = sym (new_here command up obeyed o environment here) ∙ is in
+    let this : version_after o.version o.event ≡ v = cc in
+    subst (Follows (before ++ command ∷ [])) this (one_follows before command o.version o.event (holds o.version stood) o.told)
+
+-- one for another changes nothing here
+holds_elsewhere : (environment : List ℕ) (before : List Command) (command : Command) (up : UpstreamState) (obeyed : Obeyed) → IsObeyed command up obeyed
+    → same_text (environment_of command) environment ≡ false → Holds environment before up → Holds environment before obeyed.up
+unfolding Holds
+holds_elsewhere environment before command up obeyed o apart holds v is = holds v (sym (same_elsewhere command up obeyed o environment apart) ∙ is)
+
+all_hold : (environment : List ℕ) (before commands : List Command) (up : UpstreamState) → Holds environment before up
+    → Holds environment (before ++ for_environment environment (accepted commands up)) (after_commands commands up)
+all_hold environment before [] up holds = subst (λ (cs : List Command). Holds environment cs up) (sym (append-nil before)) holds
+all_hold environment before (command ∷ commands) up holds = decided (commanded command up) refl (λ cs now here. all_hold environment cs commands now here)
+  where
+    Others : Type 0
+    Others = (cs : List Command) (now : UpstreamState) → Holds environment cs now
+        → Holds environment (cs ++ for_environment environment (accepted commands now)) (after_commands commands now)
+
+    counted : (obeyed : Obeyed) (t : Bool) → IsObeyed command up obeyed → same_text (environment_of command) environment ≡ t → Others
+        → Holds environment (before ++ cond t (command ∷ for_environment environment (accepted commands obeyed.up)) (for_environment environment (accepted commands obeyed.up))) (after_commands commands obeyed.up)
+    counted obeyed true o here others =
+        let name : environment_of command ≡ environment = text_same (environment_of command) environment here in
+        subst (λ (cs : List Command). Holds environment cs (after_commands commands obeyed.up)) (append_assoc before (command ∷ []) (for_environment environment (accepted commands obeyed.up)))
+        (others (before ++ command ∷ []) obeyed.up (holds_here environment before command up obeyed o name holds))
+    counted obeyed false o apart others = others before obeyed.up (holds_elsewhere environment before command up obeyed o apart holds)
+
+    decided : (r : Obeying Obeyed) → commanded command up ≡ r → Others
+        → Holds environment (before ++ for_environment environment (if_accepted command r (accepted commands (up_after up r)))) (after_commands commands (up_after up r))
+    decided (Err refusal) is others = others before up holds
+    decided (Ok obeyed) is others = counted obeyed (same_text (environment_of command) environment) (obeyed_by command up obeyed is) refl others
+
+pub versions_follow : (boot : ℕ) (secret : List ℕ) (environments : List (List ℕ)) (book : List Token) (commands : List Command) (environment : List ℕ) (v : EnvVersion)
+    → snapshot_in environment (after_commands commands (opening boot secret environments book)).board.slots ≡ Some v
+    → IsHistoryOf (for_environment environment (accepted commands (opening boot secret environments book))) v
+unfolding Holds
+versions_follow boot secret environments book commands environment v is =
+    let begun : UpstreamState = opening boot secret environments book in
+    let follows : Follows (for_environment environment (accepted commands begun)) v = all_hold environment [] commands begun (holds_at_first boot secret environments book environment) v is in
+    follows.history
+
+-- ---- environments
+
+some_after_one : (command : Command) (up : UpstreamState) (environment : List ℕ) (r : Obeying Obeyed) → commanded command up ≡ r
+    → is_some (snapshot_in environment (up_after up r).board.slots) ≡ is_some (snapshot_in environment up.board.slots)
+some_after_one command up environment (Err refusal) is = refl
+some_after_one command up environment (Ok obeyed) is = decided (same_text (environment_of command) environment) refl (obeyed_by command up obeyed is)
+  where
+    decided : (t : Bool) → same_text (environment_of command) environment ≡ t → IsObeyed command up obeyed
+        → is_some (snapshot_in environment obeyed.up.board.slots) ≡ is_some (snapshot_in environment up.board.slots)
+    decided true here o =
+        let name : environment_of command ≡ environment = text_same (environment_of command) environment here in
+        let stood : snapshot_in environment up.board.slots ≡ Some o.version = subst (λ (text : List ℕ). snapshot_in text up.board.slots ≡ Some o.version) name o.stood in
+        ap is_some (new_here command up obeyed o environment name) ∙ sym (ap is_some stood)
+    decided false apart o = ap is_some (same_elsewhere command up obeyed o environment apart)
+
+some_after_all : (commands : List Command) (up : UpstreamState) (environment : List ℕ)
+    → is_some (snapshot_in environment (after_commands commands up).board.slots) ≡ is_some (snapshot_in environment up.board.slots)
+some_after_all [] up environment = refl
+some_after_all (command ∷ commands) up environment =
+    some_after_all commands (after_command command up) environment ∙ some_after_one command up environment (commanded command up) refl
+
+pub environments_are : (boot : ℕ) (secret : List ℕ) (environments : List (List ℕ)) (book : List Token) (commands : List Command) (environment : List ℕ)
+    → is_some (snapshot_in environment (after_commands commands (opening boot secret environments book)).board.slots) ≡ list_any (λ name. same_text name environment) environments
+environments_are boot secret environments book commands environment =
+    some_after_all commands (opening boot secret environments book) environment ∙ opened_names environment environments
+
+-- ---- the accepted commands alone
+
+pub refused_is_nothing : (command : Command) (up : UpstreamState) (refusal : CommandRefusal) → commanded command up ≡ Err refusal → after_command command up ≡ up
+refused_is_nothing command up refusal is = ap (up_after up) is
+
+-- what was done with a command that was obeyed
+after_is : (command : Command) (up : UpstreamState) (obeyed : Obeyed) → commanded command up ≡ Ok obeyed → after_command command up ≡ obeyed.up
+after_is command up obeyed is = ap (up_after up) is
+
+pub others_lead_there : (commands : List Command) (up : UpstreamState) → after_commands (accepted commands up) up ≡ after_commands commands up
+others_lead_there [] up = refl
+others_lead_there (command ∷ commands) up = decided (commanded command up) refl (others_lead_there commands)
+  where
+    decided : (r : Obeying Obeyed) → commanded command up ≡ r → ((now : UpstreamState) → after_commands (accepted commands now) now ≡ after_commands commands now)
+        → after_commands (if_accepted command r (accepted commands (up_after up r))) up ≡ after_commands commands (up_after up r)
+    decided (Err refusal) is others = others up
+    decided (Ok obeyed) is others =
+        ap (λ (now : UpstreamState). after_commands (accepted commands obeyed.up) now) (after_is command up obeyed is) ∙ others obeyed.up
+
+pub others_are_accepted : (commands : List Command) (up : UpstreamState) → accepted (accepted commands up) up ≡ accepted commands up
+others_are_accepted [] up = refl
+others_are_accepted (command ∷ commands) up = decided (commanded command up) refl (others_are_accepted commands)
+  where
+    decided : (r : Obeying Obeyed) → commanded command up ≡ r → ((now : UpstreamState) → accepted (accepted commands now) now ≡ accepted commands now)
+        → accepted (if_accepted command r (accepted commands (up_after up r))) up ≡ if_accepted command r (accepted commands (up_after up r))
+    decided (Err refusal) is others = others up
+    decided (Ok obeyed) is others =
+        ap (λ (x : Obeying Obeyed). if_accepted command x (accepted (accepted commands obeyed.up) (up_after up x))) is
+        ∙ ap (λ (cs : List Command). command ∷ cs) (others obeyed.up)

@@ -1,0 +1,9 @@
+use Rattle.unl_upstream.proofs.Events.{is_history}
+use Rattle.unl_upstream.proofs.Standing.{versions_follow}
+use Rattle.unl_upstream.proofs.laws.versions_stand.Goals as goal
+
+pub returns-clause-history : goal.returns-clause-history
+returns-clause-history c commands = is_history commands
+
+pub returns-clause-stands : goal.returns-clause-stands
+returns-clause-stands c boot secret environments book commands environment v is = versions_follow boot secret environments book commands environment v is

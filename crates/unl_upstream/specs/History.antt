@@ -1,0 +1,65 @@
+-- The history of an environment of an upstream: the commands that were accepted.
+use Rattle.std.specs.Prelude.{◌≡◌, ℕ, ◌+◌, List, [], ◌∷◌, length, filter, unwrap_or, Ok, Err}
+use Rattle.unl_core.specs.Board.{same_text}
+use Rattle.unl_delta.specs.declared.event.Event.{Event}
+use Rattle.unl_delta.specs.declared.event.Event.TheVariants.{FeatureUpdated, FeatureRemoved, SegmentUpdated, SegmentRemoved}
+use Rattle.unl_delta.specs.declared.version.EnvVersion.{EnvVersion}
+use Rattle.unl_delta.specs.History.{StandsFor, everything}
+use Rattle.unl_delta.specs.State.{empty_state, project_of, step}
+use Rattle.unl_documents.specs.declared.state.State.{State}
+use Rattle.unl_upstream.specs.declared.command.Command.{Command}
+use Rattle.unl_upstream.specs.declared.command.Command.TheVariants.{PutFeature, RemoveFeature, PutSegment, RemoveSegment}
+use Rattle.unl_upstream.specs.Command.{environment_of}
+use Rattle.unl_upstream.specs.Upstream.{UpstreamState, Obeying, Obeyed, commanded}
+
+-- ---- the accepted commands
+
+-- the upstream after a command; where the command is refused it is as before
+abbrev pub up_after : UpstreamState → Obeying Obeyed → UpstreamState
+up_after up (Ok obeyed) = obeyed.up
+up_after up (Err refusal) = up
+
+abbrev pub after_command : Command → UpstreamState → UpstreamState
+after_command command up = up_after up (commanded command up)
+
+-- the upstream after one command after the other
+abbrev pub after_commands : List Command → UpstreamState → UpstreamState
+after_commands [] up = up
+after_commands (command ∷ commands) up = after_commands commands (after_command command up)
+
+-- the command before the others, unless it is refused
+abbrev pub if_accepted : Command → Obeying Obeyed → List Command → List Command
+if_accepted command (Ok obeyed) commands = command ∷ commands
+if_accepted command (Err refusal) commands = commands
+
+-- those that are accepted of commands one after the other
+abbrev pub accepted : List Command → UpstreamState → List Command
+accepted [] up = []
+accepted (command ∷ commands) up = if_accepted command (commanded command up) (accepted commands (after_command command up))
+
+-- the commands for one environment
+abbrev pub for_environment : List ℕ → List Command → List Command
+for_environment environment commands = filter (λ command. same_text (environment_of command) environment) commands
+
+-- ---- their history
+
+-- the event of a command at a number; a removal has the project that the feature had
+abbrev pub event_at : ℕ → State → Command → Event
+event_at n s (PutFeature environment feature) = FeatureUpdated n feature
+event_at n s (RemoveFeature environment name) = FeatureRemoved n name (unwrap_or (project_of name s.features) [])
+event_at n s (PutSegment environment segment) = SegmentUpdated n segment
+event_at n s (RemoveSegment environment id) = SegmentRemoved n id
+
+-- the events of commands one after the other, numbered from n + 1 on
+abbrev pub events_from : ℕ → State → List Command → List Event
+events_from n s [] = []
+events_from n s (command ∷ commands) = event_at (n + 1) s command ∷ events_from (n + 1) (step (event_at (n + 1) s command) s) commands
+
+-- the history of accepted commands for one environment, numbered 1, 2, 3 and on
+abbrev pub history_of : List Command → List Event
+history_of commands = events_from 0 empty_state commands
+
+-- a version stands for the history of these commands, and its number is their count
+pub record IsHistoryOf (commands : List Command) (v : EnvVersion) : Type 0 where
+  pub stands : StandsFor (history_of commands) everything v
+  pub number : v.number ≡ length commands

@@ -1,0 +1,6 @@
+pub mod Command
+pub mod Upstream
+pub mod History
+pub mod Answer
+pub mod Lines
+pub mod Serving

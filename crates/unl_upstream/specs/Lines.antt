@@ -1,0 +1,32 @@
+-- Commands in the lines of an input.
+use Rattle.std.specs.Prelude.{ℕ, List, [], codes, Result, Ok, Err}
+use Rattle.unl_documents.specs.FaultText.{fault_text}
+use Rattle.unl_documents.specs.Reading.{Reading}
+use Rattle.unl_lines.specs.Taken.{LineResult}
+use Rattle.unl_upstream.specs.declared.command.Command.{Command}
+use Rattle.unl_upstream.specs.declared.refusal.CommandRefusal.{CommandRefusal}
+use Rattle.unl_upstream.specs.declared.refusal.CommandRefusal.TheVariants.{NoSuchEnvironment, NoSuchFeature, NoSuchSegment, TooMany, Memory}
+use Rattle.unl_upstream.specs.Command.{command_in}
+use Rattle.unl_upstream.specs.Upstream.{UpstreamState, Obeying, Obeyed, commanded}
+
+-- the name of a refusal; want of memory is none, and has none
+abbrev pub refusal_name : CommandRefusal → List ℕ
+refusal_name NoSuchEnvironment = codes "NoSuchEnvironment"
+refusal_name NoSuchFeature = codes "NoSuchFeature"
+refusal_name NoSuchSegment = codes "NoSuchSegment"
+refusal_name (TooMany n) = codes "TooMany"
+refusal_name Memory = []
+
+-- an accepted command prints nothing
+abbrev pub obeyed_as : Obeying Obeyed → LineResult UpstreamState
+obeyed_as (Ok obeyed) = Ok (record { text = []; desk = obeyed.up })
+obeyed_as (Err refusal) = Err (refusal_name refusal)
+
+-- the command that a line spells is obeyed, if it spells one
+abbrev pub obeyed_by : UpstreamState → Reading Command → LineResult UpstreamState
+obeyed_by up (Ok command) = obeyed_as (commanded command up)
+obeyed_by up (Err fault) = Err (fault_text fault)
+
+-- what a line does to an upstream
+unfoldable pub obeyed_line : UpstreamState → List ℕ → LineResult UpstreamState
+obeyed_line up line = obeyed_by up (command_in line)

@@ -1,0 +1,164 @@
+-- An upstream: how it begins, and what each command does to it. The limits and the refusals are chosen by this project.
+use Rattle.std.specs.Prelude.{◌≡◌, true, false, ℕ, ◌+◌, ◌-◌, ◌^◌, ◌==◌, ◌||◌, nat_lt, List, [], ◌∷◌, length, map, Bool, if◌then◌else◌, Some, is_some, ok_or, Result, Ok, Err}
+use Rattle.std.specs.List.{list_any}
+use Rattle.std.specs.Str.{bytes_eq}
+use Rattle.unl_core.specs.declared.board.Board.{Board}
+use Rattle.unl_core.specs.declared.board.Slot.{Slot}
+use Rattle.unl_core.specs.Board.{slot_of, snapshot_in, with_snapshot, with_tokens}
+use Rattle.unl_delta.specs.declared.batch.Batch.{Batch}
+use Rattle.unl_delta.specs.declared.event.Event.{Event}
+use Rattle.unl_delta.specs.declared.event.Event.TheVariants.{FeatureUpdated, FeatureRemoved, SegmentUpdated, SegmentRemoved}
+use Rattle.unl_delta.specs.declared.version.EnvVersion.{EnvVersion}
+use Rattle.unl_delta.specs.declared.version.Place.{Place}
+use Rattle.unl_delta.specs.Batch.{empty_version, next_version}
+use Rattle.unl_delta.specs.State.{is_change, number_of, project_of}
+use Rattle.unl_delta.specs.Valid.{IsValidEvent}
+use Rattle.unl_documents.specs.declared.feature.Feature.{Feature}
+use Rattle.unl_documents.specs.declared.segment.Segment.{Segment}
+use Rattle.unl_documents.specs.Results.{◌>>=◌}
+use Rattle.unl_tokens.specs.declared.token.Token.{Token}
+use Rattle.unl_upstream.specs.declared.command.Command.{Command}
+use Rattle.unl_upstream.specs.declared.command.Command.TheVariants.{PutFeature, RemoveFeature, PutSegment, RemoveSegment}
+use Rattle.unl_upstream.specs.declared.ready.Ready.{Ready}
+use Rattle.unl_upstream.specs.declared.refusal.CommandRefusal.{CommandRefusal}
+use Rattle.unl_upstream.specs.declared.refusal.CommandRefusal.TheVariants.{NoSuchEnvironment, NoSuchFeature, NoSuchSegment, TooMany}
+use Rattle.unl_upstream.specs.Command.{environment_of}
+
+-- the board that is answered over, and what shows that a command may be given
+pub record UpstreamState : Type 0 where
+  pub board : Board
+  pub secret : List ℕ
+
+-- ---- how it begins
+
+-- an environment with nothing in it
+abbrev pub opening_slot : List ℕ → Slot
+opening_slot environment = record { environment = environment; snapshot = Some empty_version }
+
+-- a board of these environments with an empty host, on which the book was published once
+abbrev pub opening_board : ℕ → List (List ℕ) → List Token → Board
+opening_board boot environments book = with_tokens book (record { boot = boot; host = []; generation = 0; book = []; slots = map opening_slot environments })
+
+-- an upstream that was given no command
+abbrev pub opening : ℕ → List ℕ → List (List ℕ) → List Token → UpstreamState
+opening boot secret environments book = record { board = opening_board boot environments book; secret = secret }
+
+-- ---- what a command comes to at a version
+
+-- a reading of a command at a version: what comes of it, or why it is refused
+abbrev pub Obeying : Type 0 → Type 0
+Obeying T = Result T CommandRefusal
+
+-- an environment has so many features at most
+abbrev pub most_features : ℕ
+most_features = 10000
+
+-- an environment has so many segments at most
+abbrev pub most_segments : ℕ
+most_segments = 1000
+
+-- the last number that a version may have
+abbrev pub last_number : ℕ
+last_number = 2 ^ 64 - 1
+
+-- the feature has this name
+abbrev pub is_named : List ℕ → Feature → Bool
+is_named name feature = bytes_eq feature.name name
+
+-- a feature has this name
+abbrev pub has_feature : List ℕ → List Feature → Bool
+has_feature name features = is_some (project_of name features)
+
+-- a segment has this id
+abbrev pub has_segment : ℕ → List Segment → Bool
+has_segment id segments = list_any (λ segment. segment.id == id) segments
+
+-- there is room for what stands already, and for a new one below the limit
+abbrev pub room_for : Bool → ℕ → ℕ → Obeying (Unit {0})
+room_for stands most count = if stands || nat_lt count most then Ok tt else Err (TooMany count)
+
+-- what is asked for stands
+abbrev pub found : Bool → CommandRefusal → Obeying (Unit {0})
+found stands refusal = if stands then Ok tt else Err refusal
+
+-- the number above
+abbrev pub number_after : ℕ → Obeying ℕ
+number_after n = if n == last_number then Err (TooMany n) else Ok (n + 1)
+
+-- a feature is put in place of the one of its name, or beside the others
+unfoldable pub feature_put : Feature → EnvVersion → Obeying Event
+feature_put feature v = do
+  room ← room_for (has_feature feature.name v.state.features) most_features (length v.state.features)
+  number ← number_after v.number
+  Ok (FeatureUpdated number feature)
+
+-- a feature is removed, from the project that it has
+unfoldable pub feature_removed : List ℕ → EnvVersion → Obeying Event
+feature_removed name v = do
+  project ← ok_or (project_of name v.state.features) NoSuchFeature
+  number ← number_after v.number
+  Ok (FeatureRemoved number name project)
+
+-- a segment is put in place of the one of its id, or beside the others
+unfoldable pub segment_put : Segment → EnvVersion → Obeying Event
+segment_put segment v = do
+  room ← room_for (has_segment segment.id v.state.segments) most_segments (length v.state.segments)
+  number ← number_after v.number
+  Ok (SegmentUpdated number segment)
+
+-- a segment is removed
+unfoldable pub segment_removed : ℕ → EnvVersion → Obeying Event
+segment_removed id v = do
+  stands ← found (has_segment id v.state.segments) NoSuchSegment
+  number ← number_after v.number
+  Ok (SegmentRemoved number id)
+
+-- the event that a command comes to, one number above the version's
+abbrev pub event_of : Command → EnvVersion → Obeying Event
+event_of (PutFeature environment feature) v = feature_put feature v
+event_of (RemoveFeature environment name) v = feature_removed name v
+event_of (PutSegment environment segment) v = segment_put segment v
+event_of (RemoveSegment environment id) v = segment_removed id v
+
+-- an event is a change within the limits, one number above the version's
+pub record IsNext (v : EnvVersion) (event : Event) : Type 0 where
+  pub change : is_change event ≡ true
+  pub number : number_of event ≡ v.number + 1
+  pub valid : IsValidEvent event
+
+-- ---- what a command does to an upstream
+
+-- a place with this version, which is not held
+abbrev pub place_with : EnvVersion → Place
+place_with v = record { version = Some v; held = false }
+
+-- the batch of one event, for one who has the version
+abbrev pub batch_of : EnvVersion → Event → Batch
+batch_of v event = record { after = Some v.number; events = event ∷ [] }
+
+-- the version after one event
+abbrev pub version_after : EnvVersion → Event → EnvVersion
+version_after v event = next_version (place_with v) (batch_of v event)
+
+-- the slot, the number and the version that a command comes to
+unfoldable pub prepared : Command → UpstreamState → Obeying Ready
+prepared command up = do
+  slot ← ok_or (slot_of (environment_of command) up.board.slots) NoSuchEnvironment
+  version ← ok_or (snapshot_in (environment_of command) up.board.slots) NoSuchEnvironment
+  event ← event_of command version
+  Ok (record { slot = slot; number = number_of event; snapshot = version_after version event })
+
+-- the version is published at its slot; all else stays
+abbrev pub committed : Ready → UpstreamState → UpstreamState
+committed ready up = record up { board = with_snapshot ready.slot ready.snapshot up.board }
+
+-- the upstream after a command, and the new number of the command's environment
+pub record Obeyed : Type 0 where
+  pub up : UpstreamState
+  pub number : ℕ
+
+-- what a command does: the first refusal that fits, or else the event is published
+unfoldable pub commanded : Command → UpstreamState → Obeying Obeyed
+commanded command up = do
+  ready ← prepared command up
+  Ok (record { up = committed ready up; number = ready.number })

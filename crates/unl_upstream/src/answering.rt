@@ -1,0 +1,133 @@
+//! What an upstream answers a request.
+ghost use Rattle.std.specs.Prelude.{◌≡◌, IfOk, OnErr};
+ghost use Rattle.serde_json.specs.Data.{object, no_members};
+ghost use Rattle.serde_json.specs.View.{view};
+ghost use Rattle.unl_core.specs.Answer.{refusal};
+ghost use Rattle.unl_documents.specs.declared.field.Field.TheVariants as field;
+ghost use Rattle.unl_documents.specs.Writing.{count, with};
+ghost use Rattle.unl_http_api.specs.Route.{route_of};
+ghost use Rattle.unl_upstream.specs.Answer.{by_body, by_command, names_commands, numbered, refused, told, upstream_answer};
+ghost use Rattle.unl_upstream.specs.Command.{IsValidCommand, command_in};
+ghost use Rattle.unl_upstream.specs.Upstream.{commanded};
+
+use crate::command::Command;
+use crate::reading::read_command_bytes;
+use crate::refusal::CommandRefusal;
+use crate::upstream::Upstream;
+use http::StatusCode;
+use serde_json::{Map, Value};
+use std::alloc::Global;
+use unl_base::Draw;
+use unl_core::answer;
+use unl_core::reply::{made, refuse, refuse_method};
+use unl_documents::written::put;
+use unl_documents::{BadDocument, Field, List, Memory};
+use unl_http_api::{Reply, Request, Route, is_post};
+
+impl Upstream {
+    /// Answers a request: a command is obeyed where it comes with the secret, and any other request is answered as Edge
+    /// does, over the upstream's board.
+    ///
+    /// # Errors
+    /// Want of memory. The upstream is then as before.
+    #[tactic(auto, unfolding(crate::specs::Answer::upstream_answer))]
+    pub fn answer(&mut self, alloc: Global, request: &Request, draw: &Draw) -> Result<Reply, Memory>
+        ensures answer { IfOk result (λ reply. upstream_answer self.old request.now draw.entry.now ≡ record { reply = reply; up = self.new }) }
+        ensures same { OnErr result (self.new ≡ self.old) }
+    {
+        if names_commands(alloc, request.target.as_slice())? {
+            return self.by_command(alloc, request);
+        }
+        let answer = answer(alloc, self.board(), request, draw)?;
+        Ok(answer.reply)
+    }
+
+    /// Answers a request at the route of commands.
+    fn by_command(&mut self, alloc: Global, request: &Request) -> Result<Reply, Memory>
+        ensures answer { IfOk result (λ reply. by_command self.old request.now ≡ record { reply = reply; up = self.new }) }
+        ensures same { OnErr result (self.new ≡ self.old) }
+    {
+        if !is_post(request.method) {
+            return refuse_method(alloc, &Route::Commands);
+        }
+        let Some(token) = &request.token else {
+            return refuse(alloc, StatusCode::UNAUTHORIZED, "NoToken");
+        };
+        if !self.is_secret(token.as_slice()) {
+            return refuse(alloc, StatusCode::FORBIDDEN, "UnknownToken");
+        }
+        self.by_body(alloc, request.body.as_slice())
+    }
+
+    /// Obeys the command that a body spells.
+    #[tactic(auto)]
+    fn by_body(&mut self, alloc: Global, body: &[u8]) -> Result<Reply, Memory>
+        ensures answer { IfOk result (λ reply. by_body self.old (command_in body.now) ≡ record { reply = reply; up = self.new }) }
+        ensures same { OnErr result (self.new ≡ self.old) }
+    {
+        match read_command_bytes(alloc, body) {
+            Ok(command) => self.obey(alloc, &command),
+            Err(BadDocument::Memory) => Err(Memory),
+            Err(_) => refuse(alloc, StatusCode::BAD_REQUEST, "BadBody"),
+        }
+    }
+
+    /// Obeys a command once its reply is made.
+    #[tactic(auto, unfolding(crate::specs::Upstream::commanded))]
+    fn obey(&mut self, alloc: Global, command: &Command) -> Result<Reply, Memory>
+        requires { IsValidCommand command.now }
+        ensures answer { IfOk result (λ reply. told self.old (commanded command.now self.old) ≡ record { reply = reply; up = self.new }) }
+        ensures same { OnErr result (self.new ≡ self.old) }
+    {
+        match self.prepare(alloc, command) {
+            Ok(ready) => {
+                let reply = numbered(alloc, ready.number)?;
+                self.commit(ready);
+                Ok(reply)
+            }
+            Err(CommandRefusal::Memory) => Err(Memory),
+            Err(refusal) => refused(alloc, refusal),
+        }
+    }
+}
+
+/// Whether a target is the route of commands.
+fn names_commands(alloc: Global, target: &[u8]) -> Result<bool, Memory>
+    ensures { IfOk result (λ is. is ≡ names_commands (route_of target.now)) }
+{
+    match Route::of(alloc, target)? {
+        Some(route) => Ok(route.is_commands()),
+        None => Ok(false),
+    }
+}
+
+/// The reply with the new number of an environment.
+fn numbered(alloc: Global, number: u64) -> Result<Reply, Memory>
+    ensures { IfOk result (λ reply. reply ≡ numbered number) }
+{
+    let body = number_object(alloc, number)?;
+    made(alloc, StatusCode::OK, &body)
+}
+
+fn number_object(alloc: Global, number: u64) -> Result<Value, Memory>
+    ensures { IfOk result (λ v. view v ≡ object (with field.Number (count number) no_members)) }
+{
+    let mut members = Map::new(alloc);
+    put(&mut members, alloc, Field::Number, &number)?;
+    Ok(Value::Object(members))
+}
+
+/// The reply to a command that is refused.
+fn refused(alloc: Global, refusal: CommandRefusal) -> Result<Reply, Memory>
+    ensures { IfOk result (λ reply. reply ≡ refused refusal) }
+{
+    match refusal {
+        CommandRefusal::NoSuchEnvironment => {
+            refuse(alloc, StatusCode::NOT_FOUND, "NoSuchEnvironment")
+        }
+        CommandRefusal::NoSuchFeature => refuse(alloc, StatusCode::NOT_FOUND, "NoSuchFeature"),
+        CommandRefusal::NoSuchSegment => refuse(alloc, StatusCode::NOT_FOUND, "NoSuchSegment"),
+        CommandRefusal::TooMany(_) => refuse(alloc, StatusCode::CONFLICT, "TooMany"),
+        CommandRefusal::Memory => Err(Memory),
+    }
+}

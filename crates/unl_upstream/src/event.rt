@@ -1,0 +1,146 @@
+//! The event that a command comes to at a version.
+ghost use Rattle.std.specs.Prelude.{◌≡◌, IfOk, find, option_copied, option_map};
+ghost use Rattle.unl_delta.specs.State.{project_of};
+ghost use Rattle.unl_delta.specs.Valid.{IsValidVersion};
+ghost use Rattle.unl_documents.specs.Results.{Gives};
+ghost use Rattle.unl_documents.specs.Valid.{IsValidFeature, IsValidSegment};
+ghost use Rattle.unl_upstream.specs.declared.refusal.CommandRefusal.TheVariants.{Memory as memory};
+ghost use Rattle.unl_upstream.specs.Command.{IsValidCommand};
+ghost use Rattle.unl_upstream.specs.Upstream.{IsNext, event_of, feature_put, feature_removed, has_feature, has_segment, is_named, number_after, segment_put, segment_removed};
+
+use crate::command::Command;
+use crate::refusal::CommandRefusal;
+use std::alloc::Global;
+use unl_delta::{EnvVersion, Event};
+use unl_documents::{Copied, Feature, Segment, Shared, Text};
+
+/// An environment has so many features at most.
+const MOST_FEATURES: usize = 10_000;
+
+/// An environment has so many segments at most.
+const MOST_SEGMENTS: usize = 1_000;
+
+/// The event that a command comes to, one number above the version's.
+pub(crate) fn event_of(
+    alloc: Global,
+    command: &Command,
+    version: &EnvVersion,
+) -> Result<Event, CommandRefusal>
+    requires command { IsValidCommand command.now }
+    requires version { IsValidVersion version.now }
+    ensures gives { Gives memory result (event_of command.now version.now) }
+    ensures next { IfOk result (IsNext version.now) }
+{
+    match command {
+        Command::PutFeature { feature, .. } => put_feature(alloc, feature, version),
+        Command::RemoveFeature { name, .. } => remove_feature(alloc, name.as_str(), version),
+        Command::PutSegment { segment, .. } => put_segment(alloc, segment, version),
+        Command::RemoveSegment { id, .. } => remove_segment(*id, version),
+    }
+}
+
+#[tactic(auto, unfolding(crate::specs::Upstream::feature_put))]
+fn put_feature(
+    alloc: Global,
+    feature: &Feature,
+    version: &EnvVersion,
+) -> Result<Event, CommandRefusal>
+    requires { IsValidFeature feature.now }
+    ensures gives { Gives memory result (feature_put feature.now version.now) }
+    ensures next { IfOk result (IsNext version.now) }
+{
+    let features = version.state.features.as_slice();
+    if !has_feature(feature.name.as_str(), features) && features.len() >= MOST_FEATURES {
+        return Err(CommandRefusal::TooMany(features.len() as u64));
+    }
+    let number = number_after(version.number)?;
+    let feature = Shared::new(alloc, feature.copy(alloc)?)?;
+    Ok(Event::FeatureUpdated { number, feature })
+}
+
+#[tactic(auto, using(crate::proofs::Next::named_within), unfolding(crate::specs::Upstream::feature_removed))]
+fn remove_feature(alloc: Global, name: &str, version: &EnvVersion) -> Result<Event, CommandRefusal>
+    requires { IsValidVersion version.now }
+    ensures gives { Gives memory result (feature_removed name.now version.now) }
+    ensures next { IfOk result (IsNext version.now) }
+{
+    let Some(project) = project_of(name, version.state.features.as_slice()) else {
+        return Err(CommandRefusal::NoSuchFeature);
+    };
+    let number = number_after(version.number)?;
+    Ok(Event::FeatureRemoved {
+        number,
+        name: Text::new(alloc, name)?,
+        project: project.copy(alloc)?,
+    })
+}
+
+#[tactic(auto, unfolding(crate::specs::Upstream::segment_put))]
+fn put_segment(
+    alloc: Global,
+    segment: &Segment,
+    version: &EnvVersion,
+) -> Result<Event, CommandRefusal>
+    requires { IsValidSegment segment.now }
+    ensures gives { Gives memory result (segment_put segment.now version.now) }
+    ensures next { IfOk result (IsNext version.now) }
+{
+    let segments = version.state.segments.as_slice();
+    if !has_segment(segment.id, segments) && segments.len() >= MOST_SEGMENTS {
+        return Err(CommandRefusal::TooMany(segments.len() as u64));
+    }
+    let number = number_after(version.number)?;
+    let segment = Shared::new(alloc, segment.copy(alloc)?)?;
+    Ok(Event::SegmentUpdated { number, segment })
+}
+
+#[tactic(auto, unfolding(crate::specs::Upstream::segment_removed))]
+fn remove_segment(id: u64, version: &EnvVersion) -> Result<Event, CommandRefusal>
+    ensures gives { result ≡ segment_removed id version.now }
+    ensures next { IfOk result (IsNext version.now) }
+{
+    if !has_segment(id, version.state.segments.as_slice()) {
+        return Err(CommandRefusal::NoSuchSegment);
+    }
+    let number = number_after(version.number)?;
+    Ok(Event::SegmentRemoved { number, id })
+}
+
+/// The number above.
+fn number_after(number: u64) -> Result<u64, CommandRefusal>
+    ensures { result ≡ number_after number }
+{
+    number.checked_add(1).ok_or(CommandRefusal::TooMany(number))
+}
+
+/// The project of the feature of a name.
+fn project_of<'a>(name: &str, features: &'a [Shared<Feature>]) -> Option<&'a Text>
+    ensures { option_map (λ t. t.now) result ≡ project_of name.now features.now }
+{
+    match feature_named(name, features) {
+        None => None,
+        Some(feature) => Some(&feature.get().project),
+    }
+}
+
+fn feature_named<'a>(name: &str, features: &'a [Shared<Feature>]) -> Option<&'a Shared<Feature>>
+    ensures { option_copied result ≡ find (is_named name.now) features.now }
+{
+    features
+        .iter()
+        .find(|feature| feature.get().name.as_str() == name)
+}
+
+/// Whether a feature has this name.
+fn has_feature(name: &str, features: &[Shared<Feature>]) -> bool
+    ensures { result ≡ has_feature name.now features.now }
+{
+    project_of(name, features).is_some()
+}
+
+/// Whether a segment has this id.
+fn has_segment(id: u64, segments: &[Shared<Segment>]) -> bool
+    ensures { result ≡ has_segment id segments.now }
+{
+    segments.iter().any(|segment| segment.get().id == id)
+}

@@ -1,0 +1,22 @@
+//! The upstream: it is told what to change in its environments, and answers requests over what stands there.
+#![tactic(auto)]
+
+mod answering;
+mod command;
+mod event;
+pub mod laws;
+mod lines;
+mod reading;
+mod ready;
+mod refusal;
+mod serving;
+mod upstream;
+
+pub use command::Command;
+pub use lines::CommandLines;
+pub use reading::read_command;
+pub use refusal::CommandRefusal;
+pub use upstream::Upstream;
+
+#[cfg(test)]
+mod tests;

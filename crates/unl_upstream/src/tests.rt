@@ -1,0 +1,360 @@
+use crate::{Command, CommandRefusal, Upstream, read_command};
+use std::alloc::Global;
+use std::test::Fail;
+use unl_base::Draw;
+use unl_documents::json::read_json;
+use unl_documents::{BadDocument, Field, List, Segment, Text};
+use unl_http_api::{Bytes, Method, Request};
+use unl_tokens::Book;
+
+const TOKENS: &str =
+    "{\"tokens\":[{\"token\":\"*:dev.client\",\"type\":\"client\"},{\"token\":\"*:dev.all\",\"type\":\"frontend\"}]}";
+
+const SECRET: &str = "upstream-secret";
+
+/// An upstream with the environment `dev`.
+fn upstream(alloc: Global) -> Option<Upstream> {
+    let mut environments = List::new(alloc);
+    environments.push(Text::new(alloc, "dev").ok()?).ok()?;
+    let book = Book::read(alloc, TOKENS.as_bytes()).ok()?;
+    Upstream::new(alloc, 0, SECRET, &environments, book).ok()
+}
+
+/// The command that a text spells, or its fault.
+fn command(alloc: Global, text: &str) -> Option<Result<Command, BadDocument>> {
+    let value = read_json(alloc, text.as_bytes()).ok()??;
+    Some(read_command(alloc, &value))
+}
+
+/// What giving a command comes to.
+fn give(alloc: Global, up: &mut Upstream, text: &str) -> Option<Result<u64, CommandRefusal>> {
+    match read_json(alloc, text.as_bytes()) {
+        Ok(Some(value)) => match read_command(alloc, &value) {
+            Ok(command) => Some(up.apply(alloc, &command)),
+            Err(_) => None,
+        },
+        Ok(None) => None,
+        Err(_) => None,
+    }
+}
+
+/// A command, and what it comes to.
+type Given = (&'static str, Result<u64, CommandRefusal>);
+
+/// Commands one after the other.
+const GIVEN: [Given; 11] = [
+    (
+        "{\"command\":\"put-feature\",\"environment\":\"dev\",\"feature\":{\"name\":\"a\",\"project\":\"A\",\"enabled\":true}}",
+        Ok(1),
+    ),
+    (
+        "{\"command\":\"remove-feature\",\"environment\":\"dev\",\"name\":\"a\"}",
+        Ok(2),
+    ),
+    (
+        "{\"command\":\"remove-feature\",\"environment\":\"dev\",\"name\":\"a\"}",
+        Err(CommandRefusal::NoSuchFeature),
+    ),
+    (
+        "{\"command\":\"put-feature\",\"environment\":\"qa\",\"feature\":{\"name\":\"a\",\"enabled\":true}}",
+        Err(CommandRefusal::NoSuchEnvironment),
+    ),
+    (
+        "{\"command\":\"remove-feature\",\"environment\":\"qa\",\"name\":\"a\"}",
+        Err(CommandRefusal::NoSuchEnvironment),
+    ),
+    (
+        "{\"command\":\"remove-segment\",\"environment\":\"dev\",\"id\":4}",
+        Err(CommandRefusal::NoSuchSegment),
+    ),
+    (
+        "{\"command\":\"remove-segment\",\"environment\":\"qa\",\"id\":4}",
+        Err(CommandRefusal::NoSuchEnvironment),
+    ),
+    (
+        "{\"command\":\"put-segment\",\"environment\":\"dev\",\"segment\":{\"id\":4}}",
+        Ok(3),
+    ),
+    (
+        "{\"command\":\"put-segment\",\"environment\":\"dev\",\"segment\":{\"id\":4}}",
+        Ok(4),
+    ),
+    (
+        "{\"command\":\"remove-segment\",\"environment\":\"dev\",\"id\":4}",
+        Ok(5),
+    ),
+    (
+        "{\"command\":\"remove-segment\",\"environment\":\"dev\",\"id\":4}",
+        Err(CommandRefusal::NoSuchSegment),
+    ),
+];
+
+#[test]
+fn each_command_in_turn(rt: HostRuntime) -> Result<(), Fail> {
+    let alloc = rt.alloc();
+    let mut up = upstream(alloc).expect(&rt, "an upstream");
+    for (text, comes_to) in GIVEN {
+        assert_eq!(rt; give(alloc, &mut up, text), Some(comes_to), "{text}");
+    }
+    Ok(())
+}
+
+/// A command document, and its first fault.
+type Faulty = (&'static str, BadDocument);
+
+#[test]
+fn each_fault_in_its_order(rt: HostRuntime) -> Result<(), Fail> {
+    let alloc = rt.alloc();
+    let faulty: [Faulty; 13] = [
+        ("[]", BadDocument::NotJson),
+        ("{}", BadDocument::Missing(Field::Command)),
+        ("{\"command\":7}", BadDocument::WrongKind(Field::Command)),
+        (
+            "{\"command\":\"put\",\"environment\":7}",
+            BadDocument::WrongKind(Field::Command),
+        ),
+        (
+            "{\"command\":\"put-feature\",\"feature\":7}",
+            BadDocument::Missing(Field::Environment),
+        ),
+        (
+            "{\"command\":\"put-feature\",\"environment\":\"\"}",
+            BadDocument::Missing(Field::Environment),
+        ),
+        (
+            "{\"command\":\"put-feature\",\"environment\":\"dev\"}",
+            BadDocument::Missing(Field::Feature),
+        ),
+        (
+            "{\"command\":\"put-feature\",\"environment\":\"dev\",\"feature\":[]}",
+            BadDocument::WrongKind(Field::Feature),
+        ),
+        (
+            "{\"command\":\"put-feature\",\"environment\":\"dev\",\"feature\":{\"name\":\"a\"}}",
+            BadDocument::Missing(Field::Enabled),
+        ),
+        (
+            "{\"command\":\"remove-feature\",\"environment\":\"dev\",\"name\":7}",
+            BadDocument::WrongKind(Field::Name),
+        ),
+        (
+            "{\"command\":\"put-segment\",\"environment\":\"dev\",\"segment\":{\"id\":1.5}}",
+            BadDocument::NotWhole(Field::Id),
+        ),
+        (
+            "{\"command\":\"remove-segment\",\"environment\":\"dev\"}",
+            BadDocument::Missing(Field::Id),
+        ),
+        (
+            "{\"command\":\"remove-segment\",\"environment\":\"dev\",\"id\":-1}",
+            BadDocument::WrongKind(Field::Id),
+        ),
+    ];
+    for (text, fault) in &faulty {
+        let read = command(alloc, text).expect(&rt, "a value");
+        assert!(rt; read.err().as_ref() == Some(fault), "{text}");
+    }
+    Ok(())
+}
+
+/// A method, a target, the token that is shown, the body, the status and the body of the reply.
+type Case = (
+    Method,
+    &'static str,
+    Option<&'static str>,
+    &'static str,
+    u16,
+    &'static str,
+);
+
+/// Requests one after the other.
+const CASES: [Case; 15] = [
+    (
+        Method::Get,
+        "/commands",
+        None,
+        "",
+        405,
+        "{\"error\":\"BadMethod\"}",
+    ),
+    (
+        Method::Post,
+        "/commands?x",
+        None,
+        "{}",
+        401,
+        "{\"error\":\"NoToken\"}",
+    ),
+    (
+        Method::Post,
+        "/commands",
+        Some("*:dev.client"),
+        "{}",
+        403,
+        "{\"error\":\"UnknownToken\"}",
+    ),
+    (
+        Method::Post,
+        "/commands",
+        Some(SECRET),
+        "{\"command\":\"put\"}",
+        400,
+        "{\"error\":\"BadBody\"}",
+    ),
+    (
+        Method::Post,
+        "/commands",
+        Some(SECRET),
+        "{",
+        400,
+        "{\"error\":\"BadBody\"}",
+    ),
+    (
+        Method::Get,
+        "/api/client/features",
+        Some("*:dev.client"),
+        "",
+        200,
+        "{\"features\":[],\"meta\":{\"etag\":\"\\\"0000000000000000-1-0-0\\\"\",\"revisionId\":0},\"query\":{\"environment\":\"dev\",\"projects\":[\"*\"]},\"segments\":[],\"version\":2}",
+    ),
+    (
+        Method::Post,
+        "/commands",
+        Some(SECRET),
+        "{\"command\":\"put-feature\",\"environment\":\"dev\",\"feature\":{\"name\":\"a\",\"project\":\"A\",\"enabled\":true}}",
+        200,
+        "{\"number\":1}",
+    ),
+    (
+        Method::Get,
+        "/api/frontend",
+        Some("*:dev.all"),
+        "",
+        200,
+        "{\"toggles\":[{\"enabled\":true,\"impressionData\":false,\"name\":\"a\",\"variant\":{\"enabled\":false,\"feature_enabled\":true,\"name\":\"disabled\"}}]}",
+    ),
+    (
+        Method::Post,
+        "/commands",
+        Some(SECRET),
+        "{\"command\":\"remove-feature\",\"environment\":\"dev\",\"name\":\"a\"}",
+        200,
+        "{\"number\":2}",
+    ),
+    (
+        Method::Post,
+        "/commands",
+        Some(SECRET),
+        "{\"command\":\"remove-feature\",\"environment\":\"dev\",\"name\":\"a\"}",
+        404,
+        "{\"error\":\"NoSuchFeature\"}",
+    ),
+    (
+        Method::Post,
+        "/commands",
+        Some(SECRET),
+        "{\"command\":\"remove-feature\",\"environment\":\"qa\",\"name\":\"a\"}",
+        404,
+        "{\"error\":\"NoSuchEnvironment\"}",
+    ),
+    (
+        Method::Post,
+        "/commands",
+        Some(SECRET),
+        "{\"command\":\"remove-segment\",\"environment\":\"dev\",\"id\":4}",
+        404,
+        "{\"error\":\"NoSuchSegment\"}",
+    ),
+    (
+        Method::Post,
+        "/commands",
+        Some(SECRET),
+        "{\"command\":\"put-segment\",\"environment\":\"dev\",\"segment\":{\"id\":4}}",
+        200,
+        "{\"number\":3}",
+    ),
+    (
+        Method::Get,
+        "/api/client/features",
+        Some("*:dev.client"),
+        "",
+        200,
+        "{\"features\":[],\"meta\":{\"etag\":\"\\\"0000000000000000-1-0-3\\\"\",\"revisionId\":3},\"query\":{\"environment\":\"dev\",\"projects\":[\"*\"]},\"segments\":[{\"constraints\":[],\"id\":4}],\"version\":2}",
+    ),
+    (
+        Method::Get,
+        "/api/client/delta",
+        Some("*:dev.client"),
+        "",
+        200,
+        "{\"events\":[{\"eventId\":3,\"features\":[],\"segments\":[{\"constraints\":[],\"id\":4}],\"type\":\"hydration\"}]}",
+    ),
+];
+
+fn bytes_of(alloc: Global, text: &str) -> Option<Bytes> {
+    Some(List::from_vec(text.as_bytes().to_vec(alloc).ok()?))
+}
+
+fn some_bytes(alloc: Global, text: Option<&str>) -> Option<Option<Bytes>> {
+    match text {
+        Some(text) => Some(Some(bytes_of(alloc, text)?)),
+        None => Some(None),
+    }
+}
+
+fn request_of(alloc: Global, case: &Case) -> Option<Request> {
+    Some(Request {
+        method: case.0,
+        target: bytes_of(alloc, case.1)?,
+        token: some_bytes(alloc, case.2)?,
+        tag: None,
+        spec: None,
+        close: false,
+        body: bytes_of(alloc, case.3)?,
+    })
+}
+
+#[test]
+fn each_request_in_turn(rt: HostRuntime) -> Result<(), Fail> {
+    let alloc = rt.alloc();
+    let mut up = upstream(alloc).expect(&rt, "an upstream");
+    let draw = Draw { now: 0, word: 0 };
+    for case in &CASES {
+        let request = request_of(alloc, case).expect(&rt, "a request");
+        let reply = up.answer(alloc, &request, &draw).expect(&rt, "a reply");
+        assert_eq!(rt; reply.status, case.4);
+        assert!(rt; reply.body.as_slice() == case.5.as_bytes());
+        assert_eq!(rt;
+            reply.allow.is_some_and(|allow| allow.as_str() == "POST"),
+            case.4 == 405
+        );
+    }
+    Ok(())
+}
+
+/// Puts a segment of an id into `dev`.
+fn put_segment(alloc: Global, up: &mut Upstream, id: u64) -> Option<Result<u64, CommandRefusal>> {
+    let environment = Text::new(alloc, "dev").ok()?;
+    let segment = Segment {
+        id,
+        constraints: List::new(alloc),
+    };
+    let command = Command::PutSegment {
+        environment,
+        segment,
+    };
+    Some(up.apply(alloc, &command))
+}
+
+#[test]
+fn a_thousand_segments_and_one(rt: HostRuntime) -> Result<(), Fail> {
+    let alloc = rt.alloc();
+    let mut up = upstream(alloc).expect(&rt, "an upstream");
+    for id in 0..1000_u64 {
+        assert_eq!(rt; put_segment(alloc, &mut up, id), Some(Ok(id + 1)));
+    }
+    let full = Err(CommandRefusal::TooMany(1000));
+    assert_eq!(rt; put_segment(alloc, &mut up, 1000), Some(full));
+    assert_eq!(rt; put_segment(alloc, &mut up, 999), Some(Ok(1001)));
+    Ok(())
+}

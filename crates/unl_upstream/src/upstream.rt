@@ -1,0 +1,146 @@
+ghost use Rattle.std.specs.Prelude.{◌≡◌, ◌≢◌, ◌≤◌, IfErr, IfOk, OnErr, Ok, Err, length, map};
+ghost use Rattle.std.specs.Str.{bytes_eq};
+ghost use Rattle.unl_core.specs.Board.{AreDifferent, AreSlots};
+ghost use Rattle.unl_documents.specs.Results.{Gives};
+ghost use Rattle.unl_upstream.specs.declared.refusal.CommandRefusal.TheVariants.{Memory as memory};
+ghost use Rattle.unl_upstream.specs.Command.{IsValidCommand};
+ghost use Rattle.unl_upstream.specs.Upstream.{commanded, committed, opening, opening_slot, prepared};
+
+use crate::command::Command;
+use crate::event::event_of;
+use crate::ready::{Ready, snapshot_after};
+use crate::refusal::CommandRefusal;
+use std::alloc::Global;
+use std::marker::Model;
+use unl_compiled::Snapshot;
+use unl_core::{Board, Install, Slot, install, place_in};
+use unl_delta::EnvVersion;
+use unl_documents::{List, Memory, Shared, Text};
+use unl_tokens::Book;
+
+/// A board whose environments are changed by commands, and the secret that they are given with.
+#[derive(Drop)]
+pub struct Upstream {
+    board: Board,
+    secret: Text,
+}
+
+impl Model for Upstream {
+    ghost use Rattle.unl_core.specs.Board.{AreSlots};
+    ghost use Rattle.unl_upstream.specs.Upstream.{UpstreamState};
+
+    ghost Value = { UpstreamState };
+
+    ghost view = { λ up. record { board = up.board; secret = up.secret } };
+
+    ghost invariant = { λ up. AreSlots up.board.slots };
+}
+
+impl Upstream {
+    /// An upstream of up to eight environments of different names, each empty and at the number 0, on whose board the book
+    /// was published once.
+    #[tactic(auto, using(crate::proofs::Slots::slots_opened))]
+    pub fn new(
+        alloc: Global,
+        boot: u64,
+        secret: &str,
+        environments: &List<Text>,
+        book: Book,
+    ) -> Result<Upstream, Memory>
+        requires few { length environments.now ≤ 8 }
+        requires different { AreDifferent environments.now }
+        ensures { IfOk result (λ up. up ≡ opening boot secret.now environments.now book) }
+    {
+        let mut board = Board::new(alloc, boot, "", environments)?;
+        board.slots = List::from_vec(opening_slots(alloc, environments.as_slice())?);
+        install(&mut board, Install::Tokens(Shared::new(alloc, book)?));
+        Ok(Upstream {
+            board,
+            secret: Text::new(alloc, secret)?,
+        })
+    }
+
+    /// The board that stands. Takes no memory.
+    pub fn board(&self) -> &Board
+        ensures value { result.now ≡ self.now.board }
+        ensures slots { AreSlots result.now.slots }
+    {
+        &self.board
+    }
+
+    /// Whether these bytes are the secret.
+    pub(crate) fn is_secret(&self, token: &[u8]) -> bool
+        ensures { result ≡ bytes_eq token.now self.now.secret }
+    {
+        token == self.secret.as_str().as_bytes()
+    }
+
+    /// Obeys a command, and answers the new number of its environment, one above the old.
+    ///
+    /// # Errors
+    /// The first refusal that fits, or want of memory. The upstream is then as before.
+    #[tactic(auto, unfolding(crate::specs::Upstream::commanded))]
+    pub fn apply(&mut self, alloc: Global, command: &Command) -> Result<u64, CommandRefusal>
+        requires { IsValidCommand command.now }
+        ensures applied { IfOk result (λ number. commanded command.now self.old ≡ Ok (record { up = self.new; number = number })) }
+        ensures refused { IfErr result (λ refusal. refusal ≢ memory → commanded command.now self.old ≡ Err refusal) }
+        ensures same { OnErr result (self.new ≡ self.old) }
+    {
+        let ready = self.prepare(alloc, command)?;
+        Ok(self.commit(ready))
+    }
+
+    /// What a command comes to.
+    #[tactic(auto, unfolding(crate::specs::Upstream::prepared))]
+    pub(crate) fn prepare(&self, alloc: Global, command: &Command) -> Result<Ready, CommandRefusal>
+        requires { IsValidCommand command.now }
+        ensures { Gives memory result (prepared command.now self.now) }
+    {
+        let environment = command.environment();
+        let Some(slot) = place_in(&self.board.slots, environment) else {
+            return Err(CommandRefusal::NoSuchEnvironment);
+        };
+        let Some(snapshot) = self.board.snapshot(environment) else {
+            return Err(CommandRefusal::NoSuchEnvironment);
+        };
+        let event = event_of(alloc, command, snapshot.version())?;
+        let number = event.number();
+        let snapshot = snapshot_after(alloc, snapshot, event)?;
+        Ok(Ready {
+            slot,
+            number,
+            snapshot,
+        })
+    }
+
+    /// Publishes what a command comes to, and answers its number. Takes no memory.
+    pub(crate) fn commit(&mut self, ready: Ready) -> u64
+        ensures number { result ≡ ready.number }
+        ensures committed { self.new ≡ committed ready self.old }
+    {
+        let number = ready.number;
+        install(&mut self.board, Install::Env(ready.slot, ready.snapshot));
+        number
+    }
+}
+
+/// A slot for each environment, with nothing in it.
+fn opening_slots(alloc: Global, environments: &[Text]) -> Result<Vec<Slot>, Memory>
+    ensures { IfOk result (λ slots. slots.items ≡ map opening_slot environments.now) }
+{
+    let mut slots = Vec::new(alloc);
+    for environment in environments {
+        slots.push(opening_slot(alloc, environment.as_str())?)?;
+    }
+    Ok(slots)
+}
+
+fn opening_slot(alloc: Global, environment: &str) -> Result<Slot, Memory>
+    ensures { IfOk result (λ slot. slot ≡ opening_slot environment.now) }
+{
+    let snapshot = Snapshot::build(alloc, EnvVersion::empty(alloc))?;
+    Ok(Slot {
+        environment: Text::new(alloc, environment)?,
+        snapshot: Some(Shared::new(alloc, snapshot)?),
+    })
+}
