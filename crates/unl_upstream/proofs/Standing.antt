@@ -74,6 +74,14 @@ same_elsewhere command up obeyed o environment apart =
     ap (λ (u : UpstreamState). snapshot_in environment u.board.slots) o.is
     ∙ taken_elsewhere (environment_of command) environment 0 o.slot up.board.slots (version_after o.version o.event) (o.at ∙ ap Some (omega arith)) apart
 
+-- no command changes the secret
+pub secret_stays : (command : Command) (up : UpstreamState) → (after_command command up).secret ≡ up.secret
+secret_stays command up = decided (commanded command up) refl
+  where
+    decided : (r : Obeying Obeyed) → commanded command up ≡ r → (up_after up r).secret ≡ up.secret
+    decided (Err refusal) is = refl
+    decided (Ok obeyed) is = ap (λ (u : UpstreamState). u.secret) (obeyed_by command up obeyed is).is
+
 -- ---- versions
 
 -- the version of an environment follows these commands

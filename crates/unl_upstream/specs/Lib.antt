@@ -4,3 +4,4 @@ pub mod History
 pub mod Answer
 pub mod Lines
 pub mod Serving
+pub mod Requests

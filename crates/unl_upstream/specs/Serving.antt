@@ -1,16 +1,13 @@
 -- What an upstream does on a connection: each request is answered, and the commands among them are obeyed in their order.
-use Rattle.std.specs.Prelude.{◌≡◌, ℕ, List, [], ◌∷◌, ◌++◌, ◌&&◌, Bool, true, false, length, if◌then◌else◌, Option, Some, None, option_to_list, Result, Ok, Err}
-use Rattle.std.specs.Str.{bytes_eq}
+use Rattle.std.specs.Prelude.{◌≡◌, ℕ, List, [], ◌∷◌, ◌++◌, length, Option, option_to_list}
 use Rattle.unl_base.specs.declared.draws.Draw.{Draw}
-use Rattle.unl_documents.specs.Reading.{Reading}
 use Rattle.unl_exchange.specs.Answering.{Answerer, Answers, LacksMemory, answerer}
 use Rattle.unl_http_api.specs.declared.reply.Reply.{Reply}
 use Rattle.unl_http_api.specs.declared.request.Request.{Request}
-use Rattle.unl_http_api.specs.Route.{is_post, route_of}
 use Rattle.unl_upstream.specs.declared.command.Command.{Command}
-use Rattle.unl_upstream.specs.Answer.{names_commands, upstream_answer}
-use Rattle.unl_upstream.specs.Command.{command_in}
+use Rattle.unl_upstream.specs.Answer.{upstream_answer}
 use Rattle.unl_upstream.specs.History.{after_commands}
+use Rattle.unl_upstream.specs.Requests.{command_given}
 use Rattle.unl_upstream.specs.Upstream.{UpstreamState}
 
 -- ---- one request
@@ -45,31 +42,13 @@ Lacks = LacksMemory counted GivesUp
 
 -- ---- the commands among requests
 
--- the command of a body, if it spells one
-abbrev pub if_command : Reading Command → List Command
-if_command (Ok command) = command ∷ []
-if_command (Err fault) = []
-
--- the token is the secret
-abbrev pub shows : List ℕ → Option (List ℕ) → Bool
-shows secret None = false
-shows secret (Some token) = bytes_eq token secret
-
--- a request that gives a command comes by POST to their route and shows the secret
-abbrev pub may_command : List ℕ → Request → Bool
-may_command secret q = names_commands (route_of q.target) && (is_post q.method && shows secret q.token)
-
--- the command that a request gives, if it gives one
-abbrev pub given_by : List ℕ → Request → List Command
-given_by secret q = if may_command secret q then if_command (command_in q.body) else []
-
 -- the commands that requests give
-abbrev pub given_in : List ℕ → List Request → List Command
-given_in secret [] = []
-given_in secret (q ∷ qs) = given_by secret q ++ given_in secret qs
+abbrev pub commands_given : List ℕ → List Request → List Command
+commands_given secret [] = []
+commands_given secret (q ∷ qs) = option_to_list (command_given secret q) ++ commands_given secret qs
 
 -- so many requests were answered, and what then stands is what their commands leave
 pub record Obeys (up : UpstreamState) (count : ℕ) (up_after : UpstreamState) : Type 0 where
   pub requests : List Request
   pub counted : length requests ≡ count
-  pub obeyed : up_after ≡ after_commands (given_in up.secret requests) up
+  pub obeyed : up_after ≡ after_commands (commands_given up.secret requests) up

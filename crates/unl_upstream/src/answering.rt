@@ -60,7 +60,6 @@ impl Upstream {
     }
 
     /// Obeys the command that a body spells.
-    #[tactic(auto)]
     fn by_body(&mut self, alloc: Global, body: &[u8]) -> Result<Reply, Memory>
         ensures answer { IfOk result (λ reply. by_body self.old (command_in body.now) ≡ record { reply = reply; up = self.new }) }
         ensures same { OnErr result (self.new ≡ self.old) }

@@ -1,13 +1,17 @@
 //! What holds of an upstream after any commands.
-ghost use Rattle.std.specs.Prelude.{◌≡◌, ℕ, List, Some, Err, is_some};
+ghost use Rattle.std.specs.Prelude.{◌≡◌, ℕ, List, Some, Err, is_some, option_to_list};
 ghost use Rattle.std.specs.List.{list_any};
 ghost use Rattle.unl_core.specs.Board.{same_text, snapshot_in};
 ghost use Rattle.unl_delta.specs.declared.version.EnvVersion.{EnvVersion};
 ghost use Rattle.unl_delta.specs.History.{IsHistory};
+ghost use Rattle.unl_base.specs.declared.draws.Draw.{Draw};
+ghost use Rattle.unl_http_api.specs.declared.request.Request.{Request};
 ghost use Rattle.unl_tokens.specs.declared.token.Token.{Token};
 ghost use Rattle.unl_upstream.specs.declared.command.Command.{Command};
 ghost use Rattle.unl_upstream.specs.declared.refusal.CommandRefusal.{CommandRefusal};
 ghost use Rattle.unl_upstream.specs.Upstream.{UpstreamState, commanded, opening};
+ghost use Rattle.unl_upstream.specs.Answer.{upstream_answer};
+ghost use Rattle.unl_upstream.specs.Requests.{command_given};
 ghost use Rattle.unl_upstream.specs.History.{IsHistoryOf, accepted, after_command, after_commands, for_environment, history_of};
 
 /// After any commands each environment's version stands for the history of those that were accepted for it, and its number
@@ -27,4 +31,10 @@ pub fn refused_changes_nothing()
     ensures one { (command : Command) (up : UpstreamState) (refusal : CommandRefusal) → commanded command up ≡ Err refusal → after_command command up ≡ up }
     ensures others { (commands : List Command) (up : UpstreamState) → after_commands (accepted commands up) up ≡ after_commands commands up }
     ensures again { (commands : List Command) (up : UpstreamState) → accepted (accepted commands up) up ≡ accepted commands up }
+{}
+
+/// An answer leads where the command that the request gives does, if it gives one, and no command changes the secret.
+pub fn requests_give_commands()
+    ensures one { (up : UpstreamState) (q : Request) (draw : Draw) → (upstream_answer up q draw).up ≡ after_commands (option_to_list (command_given up.secret q)) up }
+    ensures secret { (command : Command) (up : UpstreamState) → (after_command command up).secret ≡ up.secret }
 {}
