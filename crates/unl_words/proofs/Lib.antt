@@ -1,4 +1,6 @@
+mod Differences
 mod Faults
+mod LastSplit
 mod Named
 mod Numbers
 mod Simple

@@ -15,14 +15,13 @@ apart a b not = go (bytes_eq a b) refl
 
 -- another first word names none
 pub unnamed : {X : Type 0} (text : X → Text) (words : List X) (first : X) (name : Text) → Some first ≡ slice_get words 0 → name ≡ text first
-    → (name ≡ codes "replay" → ⊥) → (name ≡ codes "check" → ⊥) → command_of (map text words) ≡ None
+    → (name ≡ codes "replay" → ⊥) → (name ≡ codes "check" → ⊥) → (name ≡ codes "edge" → ⊥) → (name ≡ codes "upstream" → ⊥)
+    → command_of (map text words) ≡ None
 unfolding command_of
-unnamed text [] first name is named replay check = refl
-unnamed text (word ∷ words) first name is named replay check =
+unnamed text [] first name is named replay check edge upstream = refl
+unnamed text (word ∷ words) first name is named replay check edge upstream =
     let same : name ≡ text word = cc in
-    let not_replay = apart name (codes "replay") replay in
-    let not_check = apart name (codes "check") check in
-    rw (← same, not_replay, not_check) refl
+    rw (← same, apart name (codes "replay") replay, apart name (codes "check") check, apart name (codes "edge") edge, apart name (codes "upstream") upstream) refl
 
 -- what is none is no command
 pub none_named : (found : Option Command) (command : Command) → found ≡ None → found ≡ Some command → ⊥

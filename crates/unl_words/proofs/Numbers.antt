@@ -1,5 +1,5 @@
 -- Texts of digits, as `parse` reads them.
-use Rattle.std.proofs.Common.{◌≡◌, ◌<◌, ℕ, true, false, nat_le, ◌^◌, List, [], ◌∷◌, Err, refl, sym, true≢false, arith}
+use Rattle.std.proofs.Common.{◌≡◌, ◌<◌, ◌&&◌, ℕ, Bool, true, false, nat_le, ◌^◌, List, [], ◌∷◌, Err, refl, sym, true≢false, arith}
 use Rattle.clap.proofs.WalkLemmas.{both}
 use Rattle.std.proofs.lemmas.Bool.Decides.{nat_tests}
 use Rattle.std.specs.List.{list_all}
@@ -7,7 +7,7 @@ use Rattle.std.specs.Char.{is_ascii_digit}
 use Rattle.std.specs.Str.Parse.{AllDigits, IsNumeral, digits_value, without_leading_plus}
 use Rattle.std.proofs.lemmas.Str.{digit_value_digit}
 use Rattle.std.proofs.lemmas.Str.Parse.{tells_all_ascii_digits, without_leading_plus_none}
-use Rattle.unl_words.specs.Words.{is_number, number_up_to, up_to}
+use Rattle.unl_words.specs.Values.{is_number, number_within, within}
 use Rattle.unl_words.specs.declared.refusal.WordsRefusal.TheVariants.{Bad}
 
 all_digits : (text : List ℕ) → list_all is_ascii_digit text ≡ true → AllDigits 10 text
@@ -15,6 +15,10 @@ all_digits [] all = tt
 all_digits (c ∷ cs) all =
     let here = tells_all_ascii_digits.parts c cs all in
     (omega (arith, digit_value_digit c here.0), all_digits cs here.1)
+
+and_false : (a : Bool) → (a && false) ≡ false
+and_false true = refl
+and_false false = refl
 
 -- a number has no sign, and `parse` takes each of its bytes
 digits : (text : List ℕ) → is_number text ≡ true → (without_leading_plus text ≡ text) × IsNumeral 10 text
@@ -25,20 +29,20 @@ digits (c ∷ cs) is =
     (without_leading_plus_none (c ∷ cs) (λ plus. omega (arith, here.0)), (omega arith, all_digits (c ∷ cs) all))
 
 -- what `parse` gives is the number
-pub number_read : (most : ℕ) (text : List ℕ) (number : ℕ) → is_number text ≡ true → number ≡ digits_value 10 (without_leading_plus text)
-    → up_to most number ≡ number_up_to most text
-unfolding number_up_to
-number_read most text number is reads =
+pub number_read : (least most : ℕ) (text : List ℕ) (number : ℕ) → is_number text ≡ true → number ≡ digits_value 10 (without_leading_plus text)
+    → within least most number ≡ number_within least most text
+unfolding number_within
+number_read least most text number is reads =
     let value : number ≡ digits_value 10 text = rw (digits text is).0 at reads in
     rw (is, value) refl
 
 -- a number that `parse` refuses is greater than each that it could give
-pub number_too_great : (most : ℕ) (text : List ℕ) → is_number text ≡ true → most < 2 ^ 64
+pub number_too_great : (least most : ℕ) (text : List ℕ) → is_number text ≡ true → most < 2 ^ 64
     → ¬ (IsNumeral 10 (without_leading_plus text) × (digits_value 10 (without_leading_plus text) < 2 ^ 64))
-    → Err Bad ≡ number_up_to most text
-unfolding number_up_to
-number_too_great most text is fits none =
+    → Err Bad ≡ number_within least most text
+unfolding number_within
+number_too_great least most text is fits none =
     let d = digits text is in
     let great : ¬ (digits_value 10 text < 2 ^ 64) = λ less. none (rw d.0 (d.1, less)) in
     let over : nat_le (digits_value 10 text) most ≡ false = grind (arith, nat_tests) in
-    rw (is, over) refl
+    rw (is, over, and_false (nat_le least (digits_value 10 text))) refl

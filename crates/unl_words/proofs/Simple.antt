@@ -1,7 +1,7 @@
 -- The commands are simple, and no option of theirs has a rule on another.
 use Rattle.std.proofs.Common.{◌≡◌, true, refl}
 use Rattle.clap.specs.Words.{is_simple_and_free}
-use Rattle.unl_words.specs.Words.{check_app, replay_app}
+use Rattle.unl_words.specs.Words.{check_app, edge_app, replay_app, upstream_app}
 
 pub replay_simple : is_simple_and_free replay_app ≡ true
 unfolding replay_app
@@ -10,3 +10,11 @@ replay_simple = refl
 pub check_simple : is_simple_and_free check_app ≡ true
 unfolding check_app
 check_simple = refl
+
+pub edge_simple : is_simple_and_free edge_app ≡ true
+unfolding edge_app
+edge_simple = refl
+
+pub upstream_simple : is_simple_and_free upstream_app ≡ true
+unfolding upstream_app
+upstream_simple = refl

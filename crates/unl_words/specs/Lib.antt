@@ -1,2 +1,5 @@
-pub mod Words
+pub mod Lists
+pub mod Ranges
 pub mod Refusals
+pub mod Values
+pub mod Words

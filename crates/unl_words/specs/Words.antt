@@ -1,39 +1,20 @@
 -- What the words of a command line ask of the program, by clap's definition of a simple command.
-use Rattle.std.specs.Prelude.{◌≡◌, true, ◌&&◌, ◌-◌, ◌^◌, ℕ, Bool, List, [], ◌∷◌, length, nat_le, nat_lt, codes, if◌then◌else◌, Option, Some, None, Result, Ok, Err, ok_or}
-use Rattle.std.specs.List.{list_all}
-use Rattle.std.specs.Option.{option_map_or}
-use Rattle.std.specs.Char.{is_ascii_digit}
+use Rattle.std.specs.Prelude.{◌≡◌, true, ◌-◌, ◌^◌, ℕ, List, [], ◌∷◌, codes, if◌then◌else◌, Option, Some, None, Result, Ok, Err, ok_or}
+use Rattle.std.specs.List.{fold}
 use Rattle.std.specs.Str.{bytes_eq}
-use Rattle.std.specs.Str.Parse.{digits_value}
 use Rattle.clap.specs.Words.{App, Kinds, Row, Rule, Text, fault_of, first_of, matches_of, new_app, new_rule, takes, with_rule}
 use Rattle.clap.specs.declared.builder.action.ArgAction.TheVariants.{Set}
 use Rattle.unl_documents.specs.Results.{◌>>=◌, Gives}
+use Rattle.unl_words.specs.Lists.{are_environments, are_own_tokens, are_tokens, are_upstream_tokens, fit_one_book, items_of}
+use Rattle.unl_words.specs.Values.{address_of, line_of, mode_or_delta, number_or, or_empty, passed, required, secret_of}
 use Rattle.unl_words.specs.declared.refusal.WordsRefusal.{WordsRefusal}
 use Rattle.unl_words.specs.declared.refusal.WordsRefusal.TheVariants.{Bad, Memory}
 use Rattle.unl_words.specs.declared.words.Words.{Words}
-use Rattle.unl_words.specs.declared.words.Words.TheVariants.{Replay, Check}
+use Rattle.unl_words.specs.declared.words.Words.TheVariants.{Replay, Check, Edge, Upstream}
 
 -- what the words ask for, or why they can't be taken
 abbrev pub WordsReading : Type 0
 WordsReading = Result Words WordsRefusal
-
--- ---- values
-
--- the text is a number: one or more ASCII digits
-abbrev pub is_number : Text → Bool
-is_number text = nat_lt 0 (length text) && list_all is_ascii_digit text
-
--- a number that is at most `most`
-abbrev pub up_to : ℕ → ℕ → Result ℕ WordsRefusal
-up_to most number = if nat_le number most then Ok number else Err Bad
-
--- the number that a text writes, at most `most`
-unfoldable pub number_up_to : ℕ → Text → Result ℕ WordsRefusal
-number_up_to most text = if is_number text then up_to most (digits_value 10 text) else Err Bad
-
--- the number of an option, 0 where it isn't given
-abbrev pub number_or_zero : ℕ → Option Text → Result ℕ WordsRefusal
-number_or_zero most given = option_map_or (number_up_to most) given (Ok 0)
 
 -- ---- commands
 
@@ -46,42 +27,118 @@ pub record Command : Type 0 where
 abbrev pub option_named : Text → Rule
 option_named name = record (new_rule name) { long = Some name; action = Some Set }
 
+-- such an option, which must be given
+abbrev pub required_named : Text → Rule
+required_named name = record (option_named name) { required = true }
+
 -- the command with one more option
 abbrev pub with_option : App → Text → App
 with_option app name = with_rule app (option_named name)
+
+-- the command with one more option, which must be given
+abbrev pub with_required : App → Text → App
+with_required app name = with_rule app (required_named name)
+
+-- a command with these options
+abbrev pub with_options : Text → List Rule → App
+with_options name rules = fold with_rule (new_app name) rules
+
+-- ---- replay
 
 -- `replay` has no options
 unfoldable pub replay_app : App
 replay_app = new_app (codes "replay")
 
+-- reads lines and prints one line for each
+abbrev pub replay : Command
+replay = record { app = replay_app; asks = λ rows. Ok Replay }
+
+-- ---- check
+
 -- `check` has a moment in milliseconds and a random word
 unfoldable pub check_app : App
-check_app = with_option (with_option (new_app (codes "check")) (codes "now")) (codes "word")
+check_app = with_options (codes "check") (option_named (codes "now") ∷ option_named (codes "word") ∷ [])
 
 -- the latest moment, in milliseconds since the epoch
 abbrev pub last_moment : ℕ
 last_moment = 100000000000000
 
+-- the greatest unsigned number of 64 bits
+abbrev pub last_number : ℕ
+last_number = 2 ^ 64 - 1
+
 -- what `check` is to do
 unfoldable pub asks_check : List Row → WordsReading
 asks_check rows = do
-  now ← number_or_zero last_moment (first_of (codes "now") rows)
-  word ← number_or_zero (2 ^ 64 - 1) (first_of (codes "word") rows)
+  now ← number_or 0 0 last_moment (first_of (codes "now") rows)
+  word ← number_or 0 0 last_number (first_of (codes "word") rows)
   Ok (Check now word)
-
--- reads lines and prints one line for each
-abbrev pub replay : Command
-replay = record { app = replay_app; asks = λ rows. Ok Replay }
 
 -- runs a test file
 abbrev pub check : Command
 check = record { app = check_app; asks = asks_check }
 
+-- ---- edge
+
+-- `edge` must be told its upstream and the tokens
+unfoldable pub edge_app : App
+edge_app = with_options (codes "edge") (option_named (codes "port")
+    ∷ required_named (codes "upstream") ∷ required_named (codes "upstream-tokens") ∷ required_named (codes "tokens")
+    ∷ option_named (codes "host") ∷ option_named (codes "workers") ∷ option_named (codes "interval")
+    ∷ option_named (codes "connections") ∷ option_named (codes "mode") ∷ [])
+
+-- what `edge` is to do
+unfoldable pub asks_edge : List Row → WordsReading
+asks_edge rows = do
+  port ← number_or 3063 1 65535 (first_of (codes "port") rows)
+  upstream ← required address_of (first_of (codes "upstream") rows)
+  upstream_tokens ← required (items_of are_upstream_tokens) (first_of (codes "upstream-tokens") rows)
+  tokens ← required (items_of are_tokens) (first_of (codes "tokens") rows)
+  host ← or_empty line_of (first_of (codes "host") rows)
+  workers ← number_or 4 1 16 (first_of (codes "workers") rows)
+  interval ← number_or 15 1 3600 (first_of (codes "interval") rows)
+  connections ← number_or 0 0 last_number (first_of (codes "connections") rows)
+  delta ← mode_or_delta (first_of (codes "mode") rows)
+  Ok (Edge port upstream upstream_tokens tokens host workers interval connections delta)
+
+-- serves, and asks its upstream again and again
+abbrev pub edge : Command
+edge = record { app = edge_app; asks = asks_edge }
+
+-- ---- upstream
+
+-- `upstream` must be told its secret and its environments
+unfoldable pub upstream_app : App
+upstream_app = with_options (codes "upstream") (option_named (codes "port")
+    ∷ required_named (codes "secret") ∷ required_named (codes "environments")
+    ∷ option_named (codes "client-tokens") ∷ option_named (codes "frontend-tokens")
+    ∷ option_named (codes "connections") ∷ [])
+
+-- what `upstream` is to do
+unfoldable pub asks_upstream : List Row → WordsReading
+asks_upstream rows = do
+  port ← number_or 4242 1 65535 (first_of (codes "port") rows)
+  secret ← required secret_of (first_of (codes "secret") rows)
+  environments ← required (items_of are_environments) (first_of (codes "environments") rows)
+  client_tokens ← or_empty (items_of are_own_tokens) (first_of (codes "client-tokens") rows)
+  frontend_tokens ← or_empty (items_of are_own_tokens) (first_of (codes "frontend-tokens") rows)
+  connections ← number_or 0 0 last_number (first_of (codes "connections") rows)
+  passed (fit_one_book client_tokens frontend_tokens) (Upstream port secret environments client_tokens frontend_tokens connections)
+
+-- takes commands and serves what they make
+abbrev pub upstream : Command
+upstream = record { app = upstream_app; asks = asks_upstream }
+
+-- ---- the first word
+
 -- the command that the first word names
 unfoldable pub command_of : List Text → Option Command
 command_of [] = None
 command_of (name ∷ words) =
-    if bytes_eq name (codes "replay") then Some replay else (if bytes_eq name (codes "check") then Some check else None)
+    if bytes_eq name (codes "replay") then Some replay
+    else (if bytes_eq name (codes "check") then Some check
+    else (if bytes_eq name (codes "edge") then Some edge
+    else (if bytes_eq name (codes "upstream") then Some upstream else None)))
 
 -- ---- readings
 

@@ -1,7 +1,7 @@
 //! The commands, as clap takes them: one table of options a command.
 ghost use Rattle.std.specs.Prelude.{◌≡◌, ◌≢◌, true, false, map, IfOk, IfErr, Ok, Err, string_bytes};
 ghost use Rattle.clap.specs.Words.{app_of, found_of, is_simple_and_free, matches_of, rows_of, rule_of, takes};
-ghost use Rattle.unl_words.specs.Words.{check_app, matched, option_named, replay_app, with_option};
+ghost use Rattle.unl_words.specs.Words.{check_app, edge_app, matched, option_named, replay_app, upstream_app, with_option, with_required};
 ghost use Rattle.unl_words.specs.declared.refusal.WordsRefusal.TheVariants.{Memory};
 
 use crate::WordsRefusal;
@@ -25,6 +25,35 @@ pub(crate) fn check<'a>(alloc: Global) -> Result<Command<'a>, AllocError>
     with_option(alloc, command, "word")
 }
 
+/// `edge` must be told its upstream and the tokens.
+#[tactic(auto, unfolding(crate::specs::Words::edge_app))]
+pub(crate) fn edge<'a>(alloc: Global) -> Result<Command<'a>, AllocError>
+    ensures { IfOk result (λ command. app_of command ≡ edge_app) }
+{
+    let command = with_option(alloc, Command::new(alloc, "edge"), "port")?;
+    let command = with_required(alloc, command, "upstream")?;
+    let command = with_required(alloc, command, "upstream-tokens")?;
+    let command = with_required(alloc, command, "tokens")?;
+    let command = with_option(alloc, command, "host")?;
+    let command = with_option(alloc, command, "workers")?;
+    let command = with_option(alloc, command, "interval")?;
+    let command = with_option(alloc, command, "connections")?;
+    with_option(alloc, command, "mode")
+}
+
+/// `upstream` must be told its secret and its environments.
+#[tactic(auto, unfolding(crate::specs::Words::upstream_app))]
+pub(crate) fn upstream<'a>(alloc: Global) -> Result<Command<'a>, AllocError>
+    ensures { IfOk result (λ command. app_of command ≡ upstream_app) }
+{
+    let command = with_option(alloc, Command::new(alloc, "upstream"), "port")?;
+    let command = with_required(alloc, command, "secret")?;
+    let command = with_required(alloc, command, "environments")?;
+    let command = with_option(alloc, command, "client-tokens")?;
+    let command = with_option(alloc, command, "frontend-tokens")?;
+    with_option(alloc, command, "connections")
+}
+
 /// The command with one more option, which takes one value behind its long name.
 fn with_option<'a>(
     alloc: Global,
@@ -34,6 +63,17 @@ fn with_option<'a>(
     ensures { IfOk result (λ more. app_of more ≡ with_option (app_of command.entry) name.entry.now) }
 {
     command.arg(option_named(alloc, name))
+}
+
+/// The command with one more option, which must be given.
+fn with_required<'a>(
+    alloc: Global,
+    command: Command<'a>,
+    name: &'a str,
+) -> Result<Command<'a>, AllocError>
+    ensures { IfOk result (λ more. app_of more ≡ with_required (app_of command.entry) name.entry.now) }
+{
+    command.arg(option_named(alloc, name).required(true))
 }
 
 /// An option that takes one value behind its long name.

@@ -1,53 +1,57 @@
 //! Numbers among the values of options.
-ghost use Rattle.std.specs.Prelude.{◌≡◌, option_map};
+ghost use Rattle.std.specs.Prelude.{◌≡◌, ◌≤◌, IfOk, option_copied};
 ghost use Rattle.std.specs.List.{list_all};
 ghost use Rattle.std.specs.Char.{is_ascii_digit};
-ghost use Rattle.clap.specs.Words.{first_of, found_of, rows_of};
-ghost use Rattle.unl_words.specs.Words.{is_number, number_or_zero, number_up_to, up_to};
+ghost use Rattle.unl_words.specs.Ranges.{IsWithin};
+ghost use Rattle.unl_words.specs.Values.{is_number, is_port, number_or, number_within, within};
 
 use crate::WordsRefusal;
-use clap::ArgMatches;
 
-/// The number of an option, at most `most`; 0 where the option isn't given.
-pub(crate) fn number_or_zero(
-    matches: &ArgMatches<'_>,
-    name: &str,
+/// The number of an option between two bounds, or its default where it isn't given.
+pub(crate) fn number_or(
+    given: Option<&str>,
+    default: u64,
+    least: u64,
     most: u64,
 ) -> Result<u64, WordsRefusal>
-    ensures { result ≡ number_or_zero most (first_of name.now (rows_of (found_of matches.now))) }
+    requires { IsWithin least most default }
+    ensures gives { result ≡ number_or default least most (option_copied given.entry) }
+    ensures range { IfOk result (IsWithin least most) }
 {
-    match given(matches, name) {
-        Some(text) => number_up_to(text, most),
-        None => Ok(0),
+    match given {
+        Some(text) => number_within(text, least, most),
+        None => Ok(default),
     }
 }
 
-/// The value of an option, where it is given.
-fn given<'a>(matches: &ArgMatches<'a>, name: &str) -> Option<&'a str>
-    ensures { option_map (λ text. text.now) result ≡ first_of name.now (rows_of (found_of matches.now)) }
+/// Whether a text is a port: 1 to 65535.
+pub(crate) fn is_port(text: &str) -> bool
+    ensures { result ≡ is_port text.now }
 {
-    matches.get_str(name)
+    number_within(text, 1, 65_535).is_ok()
 }
 
-/// The number that a text writes: one or more ASCII digits, leading zeros among them, and at most `most`.
-#[tactic(auto, unfolding(crate::specs::Words::number_up_to))]
-fn number_up_to(text: &str, most: u64) -> Result<u64, WordsRefusal>
-    ensures { result ≡ number_up_to most text.now }
+/// The number that a text writes: one or more ASCII digits, leading zeros among them, within these bounds.
+#[tactic(auto, unfolding(crate::specs::Values::number_within))]
+fn number_within(text: &str, least: u64, most: u64) -> Result<u64, WordsRefusal>
+    ensures gives { result ≡ number_within least most text.now }
+    ensures range { IfOk result (IsWithin least most) }
 {
     if !is_number(text) {
         return Err(WordsRefusal::Bad);
     }
     match text.parse::<u64>() {
-        Ok(number) => up_to(number, most),
+        Ok(number) => within(number, least, most),
         Err(_) => Err(WordsRefusal::Bad),
     }
 }
 
-/// A number, where it is at most `most`.
-fn up_to(number: u64, most: u64) -> Result<u64, WordsRefusal>
-    ensures { result ≡ up_to most number }
+/// A number, where it lies within these bounds.
+fn within(number: u64, least: u64, most: u64) -> Result<u64, WordsRefusal>
+    ensures gives { result ≡ within least most number }
+    ensures range { IfOk result (IsWithin least most) }
 {
-    if number <= most {
+    if least <= number && number <= most {
         Ok(number)
     } else {
         Err(WordsRefusal::Bad)

@@ -1,13 +1,15 @@
 //! The reading of the words.
-ghost use Rattle.std.specs.Prelude.{◌≡◌, Some, map, string_bytes};
+ghost use Rattle.std.specs.Prelude.{◌≡◌, Some, IfOk, map, string_bytes};
 ghost use Rattle.clap.specs.Words.{found_of, rows_of};
 ghost use Rattle.unl_documents.specs.Results.{Gives};
-ghost use Rattle.unl_words.specs.Words.{AnswersTaken, Command, asked_of, asks_check, command_of, words_of};
-ghost use Rattle.unl_words.specs.Words.{check as check_command, replay as replay_command};
+ghost use Rattle.unl_words.specs.Ranges.{IsInRange};
+ghost use Rattle.unl_words.specs.Words.{AnswersTaken, Command, asked_of, asks_check, asks_edge, asks_upstream, command_of, words_of};
+ghost use Rattle.unl_words.specs.Words.{check as check_command, edge as edge_command, replay as replay_command, upstream as upstream_command};
 ghost use Rattle.unl_words.specs.declared.refusal.WordsRefusal.TheVariants.{Memory};
 
-use crate::number::number_or_zero;
-use crate::{Words, WordsRefusal, command};
+use crate::number::number_or;
+use crate::value::given;
+use crate::{Words, WordsRefusal, command, items, value};
 use clap::ArgMatches;
 use std::alloc::Global;
 
@@ -15,10 +17,22 @@ use std::alloc::Global;
 const LAST_MOMENT: u64 = 100_000_000_000_000;
 
 /// Reads the words of a command line, without the program's own name. The first word names the command; those behind
-/// it are read by clap as one simple command of its own, each option with one value behind its long name.
+/// it are read by clap as one simple command of its own, each option with one value behind its long name. A number is
+/// one or more ASCII digits; a list has commas between its items, which are trimmed, and empty items are dropped.
 ///
-/// `replay` takes no options. `check` takes `--now`, a moment of at most 100,000,000,000,000 milliseconds, and
-/// `--word`, an unsigned number of 64 bits; each is 0 where it isn't given. A number is one or more ASCII digits.
+/// - `replay` takes no options.
+/// - `check` takes `--now`, a moment of at most 100,000,000,000,000 milliseconds, and `--word`, an unsigned number of 64
+///   bits; each is 0 where it isn't given.
+/// - `edge` takes `--port` (3063), `--upstream` `HOST:PORT`, which is split at its last colon, `--upstream-tokens`, 1 to
+///   8 of different environments, `--tokens`, 1 to 1,024, `--host` (empty), `--workers`, 1 to 16 (4), `--interval`, 1 to
+///   3,600 (15), `--connections`, an unsigned number of 64 bits (0), and `--mode`, `feed` or `delta` (`delta`). The
+///   upstream and both lists must be given.
+/// - `upstream` takes `--port` (4242), `--secret`, which isn't empty, `--environments`, 1 to 8 different names,
+///   `--client-tokens` and `--frontend-tokens` (empty), in all at most 1,024 of different texts, each with one project or
+///   all, and `--connections` (0). The secret and the environments must be given.
+///
+/// A port is 1 to 65535. A token's text has at most 512 bytes, is read by `Scope::read`, and its environment and project
+/// are names. No carriage return, line feed or NUL stands in a host, a secret or a token.
 ///
 /// # Errors
 ///
@@ -32,6 +46,8 @@ pub fn read_words(alloc: Global, words: &[String]) -> Result<Words, WordsRefusal
     // Where clap's definition takes the words, the ranges alone decide.
     ensures taken { (command : Command) → command_of (map string_bytes words.now) ≡ Some command
         → AnswersTaken command (map string_bytes words.now) result }
+    // The values are in their ranges.
+    ensures valid { IfOk result IsInRange }
 {
     let Some(name) = words.first() else {
         return Err(WordsRefusal::Bad);
@@ -39,6 +55,8 @@ pub fn read_words(alloc: Global, words: &[String]) -> Result<Words, WordsRefusal
     match name.as_str() {
         "replay" => read_replay(alloc, words),
         "check" => read_check(alloc, words),
+        "edge" => read_edge(alloc, words),
+        "upstream" => read_upstream(alloc, words),
         _ => Err(WordsRefusal::Bad),
     }
 }
@@ -47,6 +65,7 @@ pub fn read_words(alloc: Global, words: &[String]) -> Result<Words, WordsRefusal
 fn read_replay(alloc: Global, words: &[String]) -> Result<Words, WordsRefusal>
     ensures exact { Gives Memory result (asked_of replay_command (map string_bytes words.now)) }
     ensures taken { AnswersTaken replay_command (map string_bytes words.now) result }
+    ensures valid { IfOk result IsInRange }
 {
     command::matched(command::replay(alloc), words)?;
     Ok(Words::Replay)
@@ -56,17 +75,92 @@ fn read_replay(alloc: Global, words: &[String]) -> Result<Words, WordsRefusal>
 fn read_check(alloc: Global, words: &[String]) -> Result<Words, WordsRefusal>
     ensures exact { Gives Memory result (asked_of check_command (map string_bytes words.now)) }
     ensures taken { AnswersTaken check_command (map string_bytes words.now) result }
+    ensures valid { IfOk result IsInRange }
 {
     let matches = command::matched(command::check(alloc)?, words)?;
     asked_check(&matches)
 }
 
+/// Reads the words of `edge`.
+fn read_edge(alloc: Global, words: &[String]) -> Result<Words, WordsRefusal>
+    ensures exact { Gives Memory result (asked_of edge_command (map string_bytes words.now)) }
+    ensures taken { AnswersTaken edge_command (map string_bytes words.now) result }
+    ensures valid { IfOk result IsInRange }
+{
+    let matches = command::matched(command::edge(alloc)?, words)?;
+    asked_edge(alloc, &matches)
+}
+
+/// Reads the words of `upstream`.
+fn read_upstream(alloc: Global, words: &[String]) -> Result<Words, WordsRefusal>
+    ensures exact { Gives Memory result (asked_of upstream_command (map string_bytes words.now)) }
+    ensures taken { AnswersTaken upstream_command (map string_bytes words.now) result }
+    ensures valid { IfOk result IsInRange }
+{
+    let matches = command::matched(command::upstream(alloc)?, words)?;
+    asked_upstream(alloc, &matches)
+}
+
 /// What `check` is to do, by the values that were found.
 #[tactic(auto, unfolding(crate::specs::Words::asks_check))]
 fn asked_check(matches: &ArgMatches<'_>) -> Result<Words, WordsRefusal>
-    ensures { result ≡ asks_check (rows_of (found_of matches.now)) }
+    ensures gives { result ≡ asks_check (rows_of (found_of matches.now)) }
+    ensures valid { IfOk result IsInRange }
 {
-    let now = number_or_zero(matches, "now", LAST_MOMENT)?;
-    let word = number_or_zero(matches, "word", u64::MAX)?;
+    let now = number_or(given(matches, "now"), 0, 0, LAST_MOMENT)?;
+    let word = number_or(given(matches, "word"), 0, 0, u64::MAX)?;
     Ok(Words::Check { now, word })
+}
+
+/// What `edge` is to do, by the values that were found.
+#[tactic(auto, unfolding(crate::specs::Words::asks_edge))]
+fn asked_edge(alloc: Global, matches: &ArgMatches<'_>) -> Result<Words, WordsRefusal>
+    ensures gives { Gives Memory result (asks_edge (rows_of (found_of matches.now))) }
+    ensures valid { IfOk result IsInRange }
+{
+    let port = number_or(given(matches, "port"), 3063, 1, 65_535)?;
+    let upstream = value::address(alloc, given(matches, "upstream"))?;
+    let upstream_tokens = items::upstream_tokens(alloc, given(matches, "upstream-tokens"))?;
+    let tokens = items::tokens(alloc, given(matches, "tokens"))?;
+    let host = value::line_or_empty(alloc, given(matches, "host"))?;
+    let workers = number_or(given(matches, "workers"), 4, 1, 16)?;
+    let interval = number_or(given(matches, "interval"), 15, 1, 3600)?;
+    let connections = number_or(given(matches, "connections"), 0, 0, u64::MAX)?;
+    let delta = value::mode_or_delta(given(matches, "mode"))?;
+    Ok(Words::Edge {
+        port: port as u16,
+        upstream,
+        upstream_tokens,
+        tokens,
+        host,
+        workers: workers as u32,
+        interval: interval as u32,
+        connections,
+        delta,
+    })
+}
+
+/// What `upstream` is to do, by the values that were found.
+#[tactic(auto, unfolding(crate::specs::Words::asks_upstream))]
+fn asked_upstream(alloc: Global, matches: &ArgMatches<'_>) -> Result<Words, WordsRefusal>
+    ensures gives { Gives Memory result (asks_upstream (rows_of (found_of matches.now))) }
+    ensures valid { IfOk result IsInRange }
+{
+    let port = number_or(given(matches, "port"), 4242, 1, 65_535)?;
+    let secret = value::secret(alloc, given(matches, "secret"))?;
+    let environments = items::environments(alloc, given(matches, "environments"))?;
+    let client_tokens = items::own_tokens(alloc, given(matches, "client-tokens"))?;
+    let frontend_tokens = items::own_tokens(alloc, given(matches, "frontend-tokens"))?;
+    let connections = number_or(given(matches, "connections"), 0, 0, u64::MAX)?;
+    if !items::fit_one_book(&client_tokens, &frontend_tokens) {
+        return Err(WordsRefusal::Bad);
+    }
+    Ok(Words::Upstream {
+        port: port as u16,
+        secret,
+        environments,
+        client_tokens,
+        frontend_tokens,
+        connections,
+    })
 }

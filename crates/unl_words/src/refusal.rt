@@ -7,6 +7,7 @@ ghost use Rattle.unl_words.specs.declared.refusal.WordsRefusal.TheVariants.{Memo
 use clap::Error;
 use clap::error::ErrorKind;
 use std::alloc::AllocError;
+use unl_documents as documents;
 
 /// Why words name no command with values that it takes.
 #[derive(Clone, Copy, Debug, PartialEq, Eq)]
@@ -21,6 +22,14 @@ impl From<AllocError> for WordsRefusal {
     ghost from_gives = { λ _ refusal. refusal ≡ Memory };
 
     fn from(_: AllocError) -> WordsRefusal {
+        WordsRefusal::Memory
+    }
+}
+
+impl From<documents::Memory> for WordsRefusal {
+    ghost from_gives = { λ _ refusal. refusal ≡ Memory };
+
+    fn from(_: documents::Memory) -> WordsRefusal {
         WordsRefusal::Memory
     }
 }

@@ -1,5 +1,7 @@
-use crate::{Words, WordsRefusal, read_words};
+use crate::{Words, WordsRefusal, read_words, token_environments};
 use std::alloc::Global;
+use std::test::Fail;
+use unl_documents::{List, Memory, Text};
 
 /// What comes of these words, which stand with single spaces between them.
 fn read(alloc: Global, line: &str) -> Option<Result<Words, WordsRefusal>> {
@@ -52,4 +54,184 @@ fn words_good_and_bad(rt: HostRuntime) {
     for (line, expected) in table {
         assert!(rt; read(rt.alloc(), line) == Some(expected));
     }
+}
+
+/// A list of texts.
+fn texts(alloc: Global, items: &[&str]) -> Result<List<Text>, Memory> {
+    let mut list = List::new(alloc);
+    for item in items {
+        list.push(Text::new(alloc, item)?)?;
+    }
+    Ok(list)
+}
+
+#[test]
+fn edge_words(rt: HostRuntime) -> Result<(), Fail> {
+    let alloc = rt.alloc();
+    let defaults = Words::Edge {
+        port: 3063,
+        upstream: Text::new(alloc, "up:4242")?,
+        upstream_tokens: texts(alloc, &["*:dev.s"])?,
+        tokens: texts(alloc, &["[]:dev.t"])?,
+        host: Text::new(alloc, "")?,
+        workers: 4,
+        interval: 15,
+        connections: 0,
+        delta: true,
+    };
+    let line = "edge --upstream up:4242 --upstream-tokens *:dev.s --tokens []:dev.t";
+    assert!(rt; read(alloc, line) == Some(Ok(defaults)));
+    let all = Words::Edge {
+        port: 1,
+        upstream: Text::new(alloc, "::1:065535")?,
+        upstream_tokens: texts(alloc, &["*:dev.s", "a:qa.s.s"])?,
+        tokens: texts(alloc, &["a:b:c.d", "a:b:c.d"])?,
+        host: Text::new(alloc, "h")?,
+        workers: 16,
+        interval: 3600,
+        connections: u64::MAX,
+        delta: false,
+    };
+    let line = "edge --mode feed --connections 18446744073709551615 --interval 3600 --workers=16 \
+        --host h --tokens ,a:b:c.d,,a:b:c.d\t --upstream-tokens \t*:dev.s\t,a:qa.s.s \
+        --upstream=::1:065535 --port 1";
+    assert!(rt; read(alloc, line) == Some(Ok(all)));
+    Ok(())
+}
+
+#[test]
+fn edge_words_out_of_range(rt: HostRuntime) {
+    let good = ["up:1", "*:dev.s", "a:dev.s"];
+    let [up, own, known] = good;
+    let table = [
+        ("", own, known, ""),
+        ("up", own, known, ""),
+        (":1", own, known, ""),
+        ("up:", own, known, ""),
+        ("up:0", own, known, ""),
+        ("up:65536", own, known, ""),
+        ("u\rp:1", own, known, ""),
+        (up, ",", known, ""),
+        (up, "*:dev", known, ""),
+        (up, "*:dev.s,a:dev.t", known, ""),
+        (
+            up,
+            "*:a.s,*:b.s,*:c.s,*:d.s,*:e.s,*:f.s,*:g.s,*:h.s,*:i.s",
+            known,
+            "",
+        ),
+        (up, own, ",", ""),
+        (up, own, "a:dev.s,a.dev:s", ""),
+        (up, own, "a:dev.s\ns", ""),
+        (up, own, known, "--port=0"),
+        (up, own, known, "--port=65536"),
+        (up, own, known, "--workers=0"),
+        (up, own, known, "--workers=17"),
+        (up, own, known, "--interval=0"),
+        (up, own, known, "--interval=3601"),
+        (up, own, known, "--connections=18446744073709551616"),
+        (up, own, known, "--mode=Delta"),
+        (up, own, known, "--host=a\nb"),
+        (up, own, known, "--tokens=a:dev.s"),
+    ];
+    let alloc = rt.alloc();
+    for (upstream, shown, tokens, more) in table {
+        let line = format!(in alloc;
+            "edge --upstream={upstream} --upstream-tokens={shown} --tokens={tokens} {more}"
+        );
+        let words = line.ok().and_then(|line| read(alloc, line.as_str()));
+        assert!(rt; words == Some(Err(WordsRefusal::Bad)));
+    }
+}
+
+#[test]
+fn upstream_words(rt: HostRuntime) -> Result<(), Fail> {
+    let alloc = rt.alloc();
+    let defaults = Words::Upstream {
+        port: 4242,
+        secret: Text::new(alloc, "s")?,
+        environments: texts(alloc, &["dev"])?,
+        client_tokens: texts(alloc, &[])?,
+        frontend_tokens: texts(alloc, &[])?,
+        connections: 0,
+    };
+    let line = "upstream --environments dev --secret s";
+    assert!(rt; read(alloc, line) == Some(Ok(defaults)));
+    let all = Words::Upstream {
+        port: 65535,
+        secret: Text::new(alloc, "-s")?,
+        environments: texts(alloc, &["dev", "qa"])?,
+        client_tokens: texts(alloc, &["*:dev.s", "a:dev.s"])?,
+        frontend_tokens: texts(alloc, &["a:qa.s"])?,
+        connections: 7,
+    };
+    let line = "upstream --secret=-s --environments dev,qa --client-tokens *:dev.s,a:dev.s \
+        --frontend-tokens a:qa.s, --port 65535 --connections 7";
+    assert!(rt; read(alloc, line) == Some(Ok(all)));
+    Ok(())
+}
+
+#[test]
+fn upstream_words_out_of_range(rt: HostRuntime) {
+    let table = [
+        ("", "dev", "", ""),
+        ("a\nb", "dev", "", ""),
+        ("s", ",", "", ""),
+        ("s", "dev,qa,dev", "", ""),
+        ("s", "a,b,c,d,e,f,g,h,i", "", ""),
+        ("s", "dev", "a", ""),
+        ("s", "dev", "", "a"),
+        ("s", "dev", "[]:dev.s", ""),
+        ("s", "dev", "a:dev.s,b:dev.s,a:dev.s", ""),
+        ("s", "dev", "a:dev.s", "b:dev.s,a:dev.s"),
+    ];
+    let alloc = rt.alloc();
+    for (secret, environments, client, frontend) in table {
+        let line = format!(in alloc;
+            "upstream --secret={secret} --environments={environments} --client-tokens={client} --frontend-tokens={frontend}"
+        );
+        let words = line.ok().and_then(|line| read(alloc, line.as_str()));
+        assert!(rt; words == Some(Err(WordsRefusal::Bad)));
+    }
+    for line in [
+        "upstream --secret=s",
+        "upstream --environments=dev",
+        "edge --upstream=u:1 --upstream-tokens=a:d.s",
+        "edge --upstream=u:1 --tokens=a:d.s",
+        "edge --upstream-tokens=a:d.s --tokens=a:d.s",
+    ] {
+        assert!(rt; read(alloc, line) == Some(Err(WordsRefusal::Bad)));
+    }
+}
+
+/// The words of `upstream` with an environment of so many bytes, and whether they are taken.
+fn takes_name(alloc: Global, count: usize) -> Option<bool> {
+    let mut line = String::from_str(alloc, "upstream --secret s --environments ").ok()?;
+    for _ in 0..count {
+        line.push('x').ok()?;
+    }
+    Some(read(alloc, line.as_str())?.is_ok())
+}
+
+/// The words of `edge` with a token of so many bytes, and whether they are taken.
+fn takes_token(alloc: Global, count: usize) -> Option<bool> {
+    let front = "edge --upstream u:1 --upstream-tokens a:d.s --tokens ";
+    let mut line = String::from_str(alloc, front).ok()?;
+    line.push_str("a:d.").ok()?;
+    for _ in 4..count {
+        line.push('x').ok()?;
+    }
+    Some(read(alloc, line.as_str())?.is_ok())
+}
+
+#[test]
+fn limits(rt: HostRuntime) -> Result<(), Fail> {
+    let alloc = rt.alloc();
+    assert_eq!(rt; takes_name(alloc, 255), Some(true));
+    assert_eq!(rt; takes_name(alloc, 256), Some(false));
+    assert_eq!(rt; takes_token(alloc, 512), Some(true));
+    assert_eq!(rt; takes_token(alloc, 513), Some(false));
+    let tokens = texts(alloc, &["*:dev.s", "a:qa.s", "x"])?;
+    assert!(rt; token_environments(alloc, &tokens)? == texts(alloc, &["dev", "qa", ""])?);
+    Ok(())
 }

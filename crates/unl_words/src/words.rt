@@ -1,7 +1,8 @@
 //! What the words ask for.
+use unl_documents::{List, Text};
 
 /// A command of the program, with the values of its options.
-#[derive(Debug, Drop, PartialEq, Eq)]
+#[derive(Debug, Drop, PartialEq)]
 pub enum Words {
     /// Reads lines and prints one line for each.
     Replay,
@@ -11,5 +12,41 @@ pub enum Words {
         now: u64,
         /// The random word of the evaluations.
         word: u64,
+    },
+    /// Serves, and asks its upstream again and again.
+    Edge {
+        /// The port to listen at, which isn't 0.
+        port: u16,
+        /// The upstream's `HOST:PORT`.
+        upstream: Text,
+        /// 1 to 8 tokens of different environments, for the upstream: one for each slot, in this order.
+        upstream_tokens: List<Text>,
+        /// 1 to 1,024 texts of tokens that may be known.
+        tokens: List<Text>,
+        /// The name of the host.
+        host: Text,
+        /// How many threads serve: 1 to 16.
+        workers: u32,
+        /// How many seconds stand between two turns: 1 to 3,600.
+        interval: u32,
+        /// After how many links the door closes: never, where it is 0.
+        connections: u64,
+        /// Whether the upstream is asked for changes, or for whole feeds.
+        delta: bool,
+    },
+    /// Takes commands and serves what they make.
+    Upstream {
+        /// The port to listen at, which isn't 0.
+        port: u16,
+        /// What a command must show, which isn't empty.
+        secret: Text,
+        /// 1 to 8 different names.
+        environments: List<Text>,
+        /// The tokens of clients: with those of frontends at most 1,024, of different texts.
+        client_tokens: List<Text>,
+        /// The tokens of frontends.
+        frontend_tokens: List<Text>,
+        /// After how many links the door closes: never, where it is 0.
+        connections: u64,
     },
 }

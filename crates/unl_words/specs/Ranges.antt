@@ -1,0 +1,37 @@
+-- What is known of the values of words that were read.
+use Rattle.std.specs.Prelude.{◌≡◌, ◌≤◌, ℕ, true, List, ⊤}
+use Rattle.clap.specs.Words.{Text}
+use Rattle.unl_words.specs.declared.words.Words.{Words}
+use Rattle.unl_words.specs.declared.words.Words.TheVariants.{Replay, Check, Edge, Upstream}
+use Rattle.unl_words.specs.Lists.{are_environments, are_own_tokens, are_tokens, are_upstream_tokens, fit_one_book}
+use Rattle.unl_words.specs.Values.{is_address, is_line, is_secret}
+
+-- the number lies between these
+abbrev pub IsWithin : ℕ → ℕ → ℕ → Type 0
+IsWithin least most number = (least ≤ number) × (number ≤ most)
+
+-- the values of `edge` are in their ranges
+pub record IsEdge (port : ℕ) (upstream : Text) (upstream_tokens tokens : List Text) (host : Text) (workers interval : ℕ) : Type 0 where
+  pub listens : IsWithin 1 65535 port
+  pub asks : is_address upstream ≡ true
+  pub shows : are_upstream_tokens upstream_tokens ≡ true
+  pub knows : are_tokens tokens ≡ true
+  pub named : is_line host ≡ true
+  pub threads : IsWithin 1 16 workers
+  pub seconds : IsWithin 1 3600 interval
+
+-- the values of `upstream` are in their ranges
+pub record IsUpstream (port : ℕ) (secret : Text) (environments client_tokens frontend_tokens : List Text) : Type 0 where
+  pub listens : IsWithin 1 65535 port
+  pub hides : is_secret secret ≡ true
+  pub named : are_environments environments ≡ true
+  pub clients : are_own_tokens client_tokens ≡ true
+  pub frontends : are_own_tokens frontend_tokens ≡ true
+  pub one_book : fit_one_book client_tokens frontend_tokens ≡ true
+
+-- the values are in their ranges
+abbrev pub IsInRange : Words → Type 0
+IsInRange Replay = ⊤
+IsInRange (Check now word) = now ≤ 100000000000000
+IsInRange (Edge port upstream upstream_tokens tokens host workers interval connections delta) = IsEdge port upstream upstream_tokens tokens host workers interval
+IsInRange (Upstream port secret environments client_tokens frontend_tokens connections) = IsUpstream port secret environments client_tokens frontend_tokens

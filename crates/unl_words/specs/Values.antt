@@ -1,0 +1,88 @@
+-- What the values of options are read as: numbers and texts.
+use Rattle.std.specs.Prelude.{◌&&◌, ◌==◌, not, is_ok, ℕ, Bool, true, false, length, nat_le, nat_lt, codes, if◌then◌else◌, Option, Result, Ok, Err, unwrap_or}
+use Rattle.std.specs.List.{list_all}
+use Rattle.std.specs.Option.{option_map_or}
+use Rattle.std.specs.Char.{is_ascii_digit}
+use Rattle.std.specs.Path.{rsplit_once}
+use Rattle.std.specs.Str.{bytes_eq}
+use Rattle.std.specs.Str.Parse.{digits_value}
+use Rattle.clap.specs.Words.{Text}
+use Rattle.unl_documents.specs.Texts.{has_bytes}
+use Rattle.unl_words.specs.declared.refusal.WordsRefusal.{WordsRefusal}
+use Rattle.unl_words.specs.declared.refusal.WordsRefusal.TheVariants.{Bad}
+
+-- a value, or that what is given is outside its range
+abbrev pub Value : Type 0 → Type 0
+Value T = Result T WordsRefusal
+
+-- the value, where it passes
+abbrev pub passed : {T : Type 0} → Bool → T → Value T
+passed passes value = if passes then Ok value else Err Bad
+
+-- an option that must be given
+abbrev pub required : {T : Type 0} → (Text → Value T) → Option Text → Value T
+required reads given = option_map_or reads given (Err Bad)
+
+-- an option that is empty where it isn't given
+abbrev pub or_empty : {T : Type 0} → (Text → Value T) → Option Text → Value T
+or_empty reads given = reads (unwrap_or given (codes ""))
+
+-- ---- numbers
+
+-- the text is a number: one or more ASCII digits
+abbrev pub is_number : Text → Bool
+is_number text = nat_lt 0 (length text) && list_all is_ascii_digit text
+
+-- a number of at least `least` and at most `most`
+abbrev pub within : ℕ → ℕ → ℕ → Value ℕ
+within least most number = passed (nat_le least number && nat_le number most) number
+
+-- the number that a text writes, within these bounds
+unfoldable pub number_within : ℕ → ℕ → Text → Value ℕ
+number_within least most text = if is_number text then within least most (digits_value 10 text) else Err Bad
+
+-- the number of an option, or its default where it isn't given
+abbrev pub number_or : ℕ → ℕ → ℕ → Option Text → Value ℕ
+number_or default least most given = option_map_or (number_within least most) given (Ok default)
+
+-- a port is 1 to 65535
+abbrev pub is_port : Text → Bool
+is_port text = is_ok (number_within 1 65535 text)
+
+-- ---- texts
+
+-- a byte that doesn't end a line or a text: no carriage return, line feed or NUL
+abbrev pub goes_on : ℕ → Bool
+goes_on byte = not (byte == 13) && (not (byte == 10) && not (byte == 0))
+
+-- the text may stand in a line
+abbrev pub is_line : Text → Bool
+is_line text = list_all goes_on text
+
+-- a text that may stand in a line
+abbrev pub line_of : Text → Value Text
+line_of text = passed (is_line text) text
+
+-- a secret has bytes
+abbrev pub is_secret : Text → Bool
+is_secret text = has_bytes text && is_line text
+
+-- a text that is a secret
+abbrev pub secret_of : Text → Value Text
+secret_of text = passed (is_secret text) text
+
+-- the text is HOST:PORT, split at its last colon
+unfoldable pub is_address : Text → Bool
+is_address text = option_map_or (λ sides. is_secret sides.0 && is_port sides.1) (rsplit_once 58 text) false
+
+-- a text that is HOST:PORT
+abbrev pub address_of : Text → Value Text
+address_of text = passed (is_address text) text
+
+-- whether changes alone are asked for, or whole feeds
+abbrev pub mode_of : Text → Value Bool
+mode_of text = if bytes_eq text (codes "delta") then Ok true else passed (bytes_eq text (codes "feed")) false
+
+-- changes are asked for where nothing else is given
+abbrev pub mode_or_delta : Option Text → Value Bool
+mode_or_delta given = option_map_or mode_of given (Ok true)

@@ -1,0 +1,89 @@
+//! Tokens among the values of options.
+ghost use Rattle.std.specs.Prelude.{◌≡◌, Ok, IfOk, map};
+ghost use Rattle.std.specs.List.{list_all};
+ghost use Rattle.unl_documents.specs.Texts.{is_name};
+ghost use Rattle.unl_tokens.specs.Names.{are_names};
+ghost use Rattle.unl_words.specs.Lists.{environment_of, is_named, is_token};
+
+use crate::value::is_line;
+use std::alloc::Global;
+use unl_documents::texts::is_name;
+use unl_documents::{List, Memory, Text};
+use unl_tokens::{BadToken, Projects, Scope};
+
+/// The environments of tokens, in their order: no bytes for a text that is no token's.
+pub fn token_environments(alloc: Global, tokens: &List<Text>) -> Result<List<Text>, Memory>
+    ensures { IfOk result (λ environments. environments ≡ map environment_of tokens.now) }
+{
+    environments(alloc, tokens.as_slice())
+}
+
+fn environments(alloc: Global, tokens: &[Text]) -> Result<List<Text>, Memory>
+    ensures { IfOk result (λ environments. environments ≡ map environment_of tokens.now) }
+{
+    let mut environments = List::new(alloc);
+    for token in tokens {
+        environments.push(environment(alloc, token.as_str())?)?;
+    }
+    Ok(environments)
+}
+
+fn environment(alloc: Global, token: &str) -> Result<Text, Memory>
+    ensures { IfOk result (λ environment. environment ≡ environment_of token.now) }
+{
+    match Scope::read(alloc, token) {
+        Ok(scope) => Ok(scope.environment),
+        Err(BadToken::Memory) => Err(Memory),
+        Err(_) => Text::new(alloc, ""),
+    }
+}
+
+/// Whether each text is a token's. Where they may be open, they may leave their projects to the server.
+pub(crate) fn all_tokens(alloc: Global, texts: &[Text], may_be_open: bool) -> Result<bool, Memory>
+    ensures { IfOk result (λ all. all ≡ list_all (is_token may_be_open) texts.now) }
+{
+    for text in texts {
+        if !is_token(alloc, text.as_str(), may_be_open)? {
+            return Ok(false);
+        }
+    }
+    Ok(true)
+}
+
+/// Whether a text of at most 512 bytes may stand in a line and has a project and an environment with names.
+fn is_token(alloc: Global, text: &str, may_be_open: bool) -> Result<bool, Memory>
+    ensures { IfOk result (λ is. is ≡ is_token may_be_open text.now) }
+{
+    if text.len() > 512 || !is_line(text) {
+        return Ok(false);
+    }
+    match Scope::read(alloc, text) {
+        Ok(scope) => Ok(is_named(&scope, may_be_open)),
+        Err(BadToken::Memory) => Err(Memory),
+        Err(_) => Ok(false),
+    }
+}
+
+fn is_named(scope: &Scope, may_be_open: bool) -> bool
+    ensures { result ≡ is_named may_be_open (Ok scope.now) }
+{
+    is_name(scope.environment.as_str())
+        && are_names(&scope.projects)
+        && (may_be_open || !scope.listed)
+}
+
+fn are_names(projects: &Projects) -> bool
+    ensures { result ≡ are_names projects.now }
+{
+    match projects {
+        Projects::All => true,
+        Projects::Only(names) => all_names(names.as_slice()),
+    }
+}
+
+/// Whether each text is a name.
+pub(crate) fn all_names(texts: &[Text]) -> bool
+    ensures { result ≡ list_all is_name texts.now }
+{
+    texts.iter().all(|text| is_name(text.as_str()))
+}

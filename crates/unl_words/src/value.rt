@@ -1,0 +1,118 @@
+//! Texts among the values of options.
+ghost use Rattle.std.specs.Prelude.{◌≡◌, ◌<◌, true, IfOk, option_copied, option_map};
+ghost use Rattle.std.specs.List.{list_all};
+ghost use Rattle.std.specs.Path.{rsplit_once};
+ghost use Rattle.clap.specs.Words.{first_of, found_of, rows_of};
+ghost use Rattle.unl_documents.specs.Results.{Gives};
+ghost use Rattle.unl_words.specs.Values.{address_of, goes_on, is_address, is_line, is_secret, line_of, mode_or_delta, mode_of, or_empty, passed, required, secret_of};
+ghost use Rattle.unl_words.specs.declared.refusal.WordsRefusal.TheVariants.{Memory};
+
+use crate::WordsRefusal;
+use crate::number::is_port;
+use clap::ArgMatches;
+use std::alloc::Global;
+use unl_documents::Text;
+
+/// The value of an option, where it is given.
+pub(crate) fn given<'a>(matches: &ArgMatches<'a>, name: &str) -> Option<&'a str>
+    ensures { option_copied result ≡ first_of name.now (rows_of (found_of matches.now)) }
+{
+    matches.get_str(name)
+}
+
+/// A text that may stand in a line; empty where it isn't given.
+pub(crate) fn line_or_empty(alloc: Global, given: Option<&str>) -> Result<Text, WordsRefusal>
+    ensures gives { Gives Memory result (or_empty line_of (option_copied given.entry)) }
+    ensures valid { IfOk result (λ text. is_line text ≡ true) }
+{
+    let text = given.unwrap_or("");
+    accepted(alloc, text, is_line(text))
+}
+
+/// A secret: a text that may stand in a line and isn't empty.
+pub(crate) fn secret(alloc: Global, given: Option<&str>) -> Result<Text, WordsRefusal>
+    ensures gives { Gives Memory result (required secret_of (option_copied given.entry)) }
+    ensures valid { IfOk result (λ text. is_secret text ≡ true) }
+{
+    match given {
+        Some(text) => accepted(alloc, text, is_secret(text)),
+        None => Err(WordsRefusal::Bad),
+    }
+}
+
+/// An address `HOST:PORT`, split at its last colon: a host that may stand in a line and isn't empty, and a port.
+pub(crate) fn address(alloc: Global, given: Option<&str>) -> Result<Text, WordsRefusal>
+    ensures gives { Gives Memory result (required address_of (option_copied given.entry)) }
+    ensures valid { IfOk result (λ text. is_address text ≡ true) }
+{
+    match given {
+        Some(text) => accepted(alloc, text, is_address(text)),
+        None => Err(WordsRefusal::Bad),
+    }
+}
+
+/// Whether changes are asked for, as they are where nothing is given, or whole feeds.
+pub(crate) fn mode_or_delta(given: Option<&str>) -> Result<bool, WordsRefusal>
+    ensures { result ≡ mode_or_delta (option_copied given.entry) }
+{
+    match given {
+        Some("delta") | None => Ok(true),
+        Some("feed") => Ok(false),
+        Some(_) => Err(WordsRefusal::Bad),
+    }
+}
+
+/// A copy of a text, where it passes.
+fn accepted(alloc: Global, text: &str, passes: bool) -> Result<Text, WordsRefusal>
+    ensures gives { Gives Memory result (passed passes text.now) }
+    ensures passes { IfOk result (λ copy. (copy ≡ text.now) × (passes ≡ true)) }
+{
+    if passes {
+        Ok(Text::new(alloc, text)?)
+    } else {
+        Err(WordsRefusal::Bad)
+    }
+}
+
+#[tactic(auto, unfolding(crate::specs::Values::is_address))]
+fn is_address(text: &str) -> bool
+    ensures { result ≡ is_address text.now }
+{
+    match cut_last(text, ':') {
+        Some((host, port)) => is_secret(host) && is_port(port),
+        None => false,
+    }
+}
+
+/// The texts before and after the last such character, which is of ASCII.
+fn cut_last(text: &str, mark: char) -> Option<(&str, &str)>
+    requires { mark < 128 }
+    ensures { option_map (λ sides. (sides.0.now, sides.1.now)) result ≡ rsplit_once mark text.now }
+{
+    text.rsplit_once(mark)
+}
+
+fn is_secret(text: &str) -> bool
+    ensures { result ≡ is_secret text.now }
+{
+    !text.is_empty() && is_line(text)
+}
+
+/// Whether no carriage return, line feed or NUL stands in a text.
+pub(crate) fn is_line(text: &str) -> bool
+    ensures { result ≡ is_line text.now }
+{
+    all_go_on(text.as_bytes())
+}
+
+fn all_go_on(bytes: &[u8]) -> bool
+    ensures { result ≡ list_all goes_on bytes.now }
+{
+    bytes.iter().all(|byte| goes_on(*byte))
+}
+
+fn goes_on(byte: u8) -> bool
+    ensures { result ≡ goes_on byte }
+{
+    byte != b'\r' && byte != b'\n' && byte != 0
+}
