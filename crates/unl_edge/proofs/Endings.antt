@@ -16,12 +16,14 @@ use Rattle.unl_spec_runner.specs.declared.fault.CheckFault.{CheckFault}
 use Rattle.unl_spec_runner.specs.declared.fault.Summary.{Summary}
 use Rattle.unl_words.specs.Words.{WordsReading}
 use Rattle.unl_words.specs.declared.refusal.WordsRefusal.TheVariants.{Bad, Memory}
-use Rattle.unl_words.specs.declared.words.Words.TheVariants.{Replay, Check}
+use Rattle.unl_words.specs.declared.words.Words.TheVariants.{Replay, Check, Edge, Upstream}
 
 -- want of memory is an ending of all words
 at_memory : (words : WordsReading) (left left_after old new : Option (List ℕ)) → Ends words OutOfMemory left left_after old new
 at_memory (Ok Replay) left left_after old new = tt
 at_memory (Ok (Check now word)) left left_after old new = tt
+at_memory (Ok (Edge port upstream upstream_tokens tokens host workers interval connections delta)) left left_after old new = tt
+at_memory (Ok (Upstream port secret environments client_tokens frontend_tokens connections)) left left_after old new = tt
 at_memory (Err Bad) left left_after old new = tt
 at_memory (Err Memory) left left_after old new = refl
 
@@ -139,12 +141,21 @@ bad_decided line ReadFault old new ends write memory = ap code_of ends.0
 bad_decided line WriteFault old new ends write memory = absurd (write refl)
 bad_decided line OutOfMemory old new ends write memory = absurd (memory refl)
 
+-- what stands by itself stands of each input
+of_each : {A B : Type 0} (given : Option A) → B → IfSome given (λ x. B)
+of_each None stands = tt
+of_each (Some x) stands = stands
+
 -- the words and the input decide how the program ends
 by_words : (words : WordsReading) (status : Status) (left left_after old new : Option (List ℕ)) → Ends words status left left_after old new
     → status ≢ ReadFault → status ≢ WriteFault → status ≢ OutOfMemory → IsDecided words (code_of status) left
 by_words (Ok Replay) status left left_after old new ends read write memory = replay_decided status left left_after old new ends read write memory
 by_words (Ok (Check now word)) status left left_after old new ends read write memory =
     check_decided (record { now = now; word = word }) status left old new ends read write memory
+by_words (Ok (Edge port upstream upstream_tokens tokens host workers interval connections delta)) status left left_after old new ends read write memory =
+    of_each left (bad_decided _ status old new ends write memory)
+by_words (Ok (Upstream port secret environments client_tokens frontend_tokens connections)) status left left_after old new ends read write memory =
+    of_each left (bad_decided _ status old new ends write memory)
 by_words (Err Bad) status left left_after old new ends read write memory = bad_decided _ status old new ends write memory
 by_words (Err Memory) status left left_after old new ends read write memory = absurd (memory ends)
 

@@ -15,7 +15,7 @@ use Rattle.unl_spec_runner.specs.declared.fault.CheckFault.{CheckFault}
 use Rattle.unl_spec_runner.specs.declared.fault.CheckFault.TheVariants as fault
 use Rattle.unl_words.specs.Words.{WordsReading}
 use Rattle.unl_words.specs.declared.refusal.WordsRefusal.TheVariants.{Bad, Memory}
-use Rattle.unl_words.specs.declared.words.Words.TheVariants.{Replay, Check}
+use Rattle.unl_words.specs.declared.words.Words.TheVariants.{Replay, Check, Edge, Upstream}
 
 -- A line was sent, and this is the ending. Or a front of it was sent before the output failed, or memory ran out.
 abbrev pub SendsLine : List ℕ → Status → Status → Option (List ℕ) → Option (List ℕ) → Type 0
@@ -72,10 +72,14 @@ CheckEnds draw status left old new = IfSome left (λ bytes. SaysAll (said_of (re
 abbrev pub bad_words : List ℕ
 bad_words = codes "unl_edge: bad words\n"
 
--- how the program ends, by what its words ask for
+-- how the program ends, by what its words ask for; it does not serve yet
 abbrev pub Ends : WordsReading → Status → Option (List ℕ) → Option (List ℕ) → Option (List ℕ) → Option (List ℕ) → Type 0
 Ends (Ok Replay) status left left_after old new = ReplayEnds status left left_after old new
 Ends (Ok (Check now word)) status left left_after old new = CheckEnds (record { now = now; word = word }) status left old new
+Ends (Ok (Edge port upstream upstream_tokens tokens host workers interval connections delta)) status left left_after old new =
+    SendsLine bad_words BadWords status old new
+Ends (Ok (Upstream port secret environments client_tokens frontend_tokens connections)) status left left_after old new =
+    SendsLine bad_words BadWords status old new
 Ends (Err Bad) status left left_after old new = SendsLine bad_words BadWords status old new
 Ends (Err Memory) status left left_after old new = status ≡ OutOfMemory
 
@@ -94,6 +98,8 @@ ending_status (refused k cause) = Refused
 abbrev pub told_by : WordsReading → List ℕ → Status
 told_by (Ok Replay) bytes = ending_status (replay_of bytes).ending
 told_by (Ok (Check now word)) bytes = (said_of (report_of (record { now = now; word = word }) bytes)).status
+told_by (Ok (Edge port upstream upstream_tokens tokens host workers interval connections delta)) bytes = BadWords
+told_by (Ok (Upstream port secret environments client_tokens frontend_tokens connections)) bytes = BadWords
 told_by (Err Bad) bytes = BadWords
 told_by (Err Memory) bytes = OutOfMemory
 
