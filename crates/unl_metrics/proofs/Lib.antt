@@ -4,3 +4,7 @@ mod Variants
 mod Folds
 mod Books
 mod Acknowledging
+mod Calendar
+mod Lengths
+mod NoFloats
+mod Sending

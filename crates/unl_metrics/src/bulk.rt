@@ -70,7 +70,8 @@ fn comma(before: usize) -> usize
     if before == 0 { 0 } else { 1 }
 }
 
-/// The bulk report of these rows.
+/// The bulk report of rows as they are written.
+#[tactic(auto, unfolding(crate::specs::Bulk::bulk_of_items))]
 fn bulk_value(alloc: Global, values: Vec<Value>) -> Result<Value, Memory>
     ensures { IfOk result (λ v. view v ≡ bulk_of_items (items_of (map view values.items))) }
 {
