@@ -8,3 +8,4 @@ mod Calendar
 mod Lengths
 mod NoFloats
 mod Sending
+mod Members

@@ -24,7 +24,7 @@ impl Kind for Hour {
 
     ghost is_valid = { λ h. h < hours_of_years };
 
-    #[tactic(auto, unfolding(crate::specs::Reports::hour))]
+    #[tactic(auto, unfolding(crate::specs::Reports::hour, unl_documents::specs::Kinds::any_text))]
     fn read(alloc: Global, field: Field, value: &Value) -> Result<u32, BadDocument> {
         let Some(text) = value.as_str() else {
             return Err(BadDocument::WrongKind(field));

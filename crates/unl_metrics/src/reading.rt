@@ -104,7 +104,7 @@ fn entry_of(
     })
 }
 
-#[tactic(auto, unfolding(crate::specs::Reports::toggle_of))]
+#[tactic(auto, unfolding(crate::specs::Reports::toggle_of, unl_documents::specs::Kinds::object_of))]
 fn toggle_of(
     alloc: Global,
     app: &Text,
@@ -165,7 +165,7 @@ fn toggles_of(
     each_toggle(alloc, app, hour, field, members)
 }
 
-#[tactic(auto, unfolding(crate::specs::Reports::bucket_of))]
+#[tactic(auto, unfolding(crate::specs::Reports::bucket_of, unl_documents::specs::Kinds::defaulted))]
 fn bucket_of(alloc: Global, app: &Text, value: &Value) -> Result<List<MetricEntry>, BadDocument>
     ensures gives { Gives result (bucket_of app.now (view value.now)) }
     ensures valid { IfOk result (All IsEntry) }
@@ -191,6 +191,7 @@ pub(crate) fn read_single(alloc: Global, value: &Value) -> Result<Report, BadDoc
     Ok(Report { entries })
 }
 
+#[tactic(auto, unfolding(unl_documents::specs::Kinds::required, unl_documents::specs::Kinds::object_of))]
 fn entries_of(
     alloc: Global,
     app: &Text,

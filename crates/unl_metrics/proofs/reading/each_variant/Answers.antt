@@ -1,32 +1,53 @@
-use Rattle.std.proofs.Common.{rules, ◌≡◌, ◌<◌, IfOk, All, map, length, ℕ, ◌+◌, ◌-◌, ◌*◌, ◌≤◌, ◌/◌, ◌%◌, Bool, true, false, nat_eq, nat_lt, List, [], ◌∷◌, ◌++◌, slice_index_or, slice_set, bit_and, bit_or, Fits, w8, w32, w64, Bor, MutBor}
-use Rattle.serde_json.specs.Events.{members_len}
-use Rattle.serde_json.specs.View.{view, members_view}
-use Rattle.unl_documents.specs.Kinds.{object_of}
-use Rattle.unl_documents.specs.Kinds.{required as required_at}
+use Rattle.std.proofs.Common.{◌≡◌, List, ◌∷◌, ◌++◌, subst, ◌∙◌, string_bytes}
+use Rattle.std.proofs.lemmas.Result.{err_from_is_err_and}
+use Rattle.serde_json.specs.View.{members_view}
+use Rattle.serde_json.proofs.Views.{Entry}
 use Rattle.unl_documents.specs.Parameters.{AreRising}
-use Rattle.unl_documents.specs.Reading.{Gives}
-use Rattle.unl_metrics.specs.Hours.{hours_of_years}
-use Rattle.unl_metrics.specs.Reports.{variant_count, each_member}
-use Rattle.unl_metrics.specs.Reports.{members as members_at}
-use Rattle.unl_metrics.specs.Reports.{entry_of, toggle_of, bucket_of, single_of, bulk_of, IsEntry, IsReport}
+use Rattle.unl_metrics.specs.Reports.{each_member, variant_count}
+use Rattle.unl_metrics.proofs.Members.{with_front, variant_names, names_of, begins, goes_on, ends, is_done, rising_names, rising_goes_on, rising_at_end}
 use Rattle.unl_metrics.proofs.reading.each_variant.Goals as goal
 
--- src/reading.rt:59:5
 pub loop-name-init : goal.loop-name-init
-loop-name-init c = ?
+loop-name-init c =
+    let entries = c.args.members.now.entries in
+    let all : c.into_iter-name-iterator.result ≡ entries = c.into_iter-name-iterator.ensures.into_iter_gives ∙ c.iter-name-items.ensures.rest in
+    rw (c.new-variants.ensures, all) record {
+      so_far = begins (each_member (variant_count c.args.field) (members_view entries));
+      rising = rising_names entries c.iter-name-items.ensures.ordered;
+    }
 
--- src/reading.rt:60:23
 pub returns-in_err-variant_of-clause-gives : goal.returns-in_err-variant_of-clause-gives
-returns-in_err-variant_of-clause-gives c = ?
+returns-in_err-variant_of-clause-gives c =
+    let l = c.loop-name in
+    let kind = variant_count c.args.field in
+    let e : Entry = (c.in-Some.name.now, c.in-Some.value.now) in
+    let total = each_member kind (members_view c.args.members.now.entries) in
+    let p = err_from_is_err_and c.from_residual.result c.from_residual.ensures.1 in
+    let so_far : with_front l.variants (each_member kind (members_view (e ∷ c.next.new.self))) ≡ total = subst (λ (es : List Entry). with_front l.variants (each_member kind (members_view es)) ≡ total) c.in-Some.ensures.steps l.invariant.so_far in
+    rw (p.1, p.2) (ends c.in_err-variant_of.field-0.0 kind l.variants e c.next.new.self total (rw (← c.as_str.ensures.value) c.in_err-variant_of.ensures.gives) so_far)
 
--- src/reading.rt:59:5
 pub loop-name-preserved : goal.loop-name-preserved
-loop-name-preserved c = ?
+loop-name-preserved c =
+    let l = c.loop-name in
+    let kind = variant_count c.args.field in
+    let e : Entry = (c.in-Some.name.now, c.in-Some.value.now) in
+    let left = c.next.new.self in
+    let found = c.in_ok-variant_of.field-0 in
+    let total = each_member kind (members_view c.args.members.now.entries) in
+    let so_far : with_front l.variants (each_member kind (members_view (e ∷ left))) ≡ total = subst (λ (es : List Entry). with_front l.variants (each_member kind (members_view es)) ≡ total) c.in-Some.ensures.steps l.invariant.so_far in
+    let rising : AreRising (variant_names l.variants ++ string_bytes e.0 ∷ names_of left) = subst (λ (es : List Entry). AreRising (variant_names l.variants ++ names_of es)) c.in-Some.ensures.steps l.invariant.rising in
+    rw c.in_ok-push.ensures.ok record {
+      so_far = goes_on kind l.variants e left found total (rw (← c.as_str.ensures.value) c.in_ok-variant_of.ensures.gives) so_far;
+      rising = rising_goes_on l.variants found (string_bytes e.0) (names_of left) (rw (← c.as_str.ensures.value) c.in_ok-variant_of.ensures.same) rising;
+    }
 
--- src/reading.rt:50:1
 pub returns-clause-gives : goal.returns-clause-gives
-returns-clause-gives c = ?
+returns-clause-gives c =
+    let l = c.loop-name in
+    let kind = variant_count c.args.field in
+    let total = each_member kind (members_view c.args.members.now.entries) in
+    is_done kind l.variants total (subst (λ (es : List Entry). with_front l.variants (each_member kind (members_view es)) ≡ total) c.in-None.ensures.steps.0 l.invariant.so_far)
 
--- src/reading.rt:50:1
 pub returns-clause-valid : goal.returns-clause-valid
-returns-clause-valid c = ?
+returns-clause-valid c =
+    rising_at_end c.loop-name.variants (subst (λ (es : List Entry). AreRising (variant_names c.loop-name.variants ++ names_of es)) c.in-None.ensures.steps.0 c.loop-name.invariant.rising)

@@ -1,15 +1,12 @@
-use Rattle.std.proofs.Common.{◌≡◌, ◌<◌, IfOk, All, map, length, ℕ, ◌+◌, ◌-◌, ◌*◌, ◌≤◌}
-use Rattle.serde_json.specs.Events.{members_len}
-use Rattle.serde_json.specs.View.{view, members_view}
-use Rattle.unl_documents.specs.Kinds.{object_of}
-use Rattle.unl_documents.specs.Kinds.{required as required_at}
+use Rattle.std.proofs.Common.{◌≡◌, ◌++◌}
+use Rattle.serde_json.specs.View.{members_view}
 use Rattle.unl_documents.specs.Parameters.{AreRising}
-use Rattle.unl_documents.specs.Reading.{Gives}
-use Rattle.unl_metrics.specs.Hours.{hours_of_years}
-use Rattle.unl_metrics.specs.Reports.{variant_count, each_member}
-use Rattle.unl_metrics.specs.Reports.{members as members_at}
-use Rattle.unl_metrics.specs.Reports.{entry_of, toggle_of, bucket_of, single_of, bulk_of, IsEntry, IsReport}
+use Rattle.unl_metrics.specs.Reports.{each_member, variant_count}
+use Rattle.unl_metrics.proofs.Members.{with_front, variant_names, names_of}
 use Rattle.unl_metrics.proofs.reading.each_variant.Given as goal
 
 abbrev pub invariant-loop-name : goal.invariant-loop-name
-invariant-loop-name l = ?
+invariant-loop-name l = record {
+  so_far : with_front l.variants (each_member (variant_count l.field) (members_view l.name-iterator)) ≡ each_member (variant_count l.field) (members_view l.members.entries);
+  rising : AreRising (variant_names l.variants ++ names_of l.name-iterator);
+}
