@@ -1,5 +1,5 @@
 -- What a conversation leaves where memory was wanting, and how many requests were answered in it.
-use Rattle.std.proofs.Common.{◌≡◌, ℕ, ◌+◌, ◌<◌, ◌≤◌, Bool, ◌||◌, List, [], ◌∷◌, ◌++◌, length, refl, sym, ap, ◌∙◌, subst, arith, append_assoc, length-append, Option, Some, None, ◌⊎◌, inl, inr}
+use Rattle.std.proofs.Common.{◌≡◌, ℕ, ◌+◌, ◌<◌, ◌≤◌, Bool, ◌||◌, List, [], ◌∷◌, ◌++◌, length, refl, sym, ap, ◌∙◌, subst, arith, append_assoc, length-append, Option, Some, ◌⊎◌, inl, inr}
 use Rattle.std.specs.Prelude.{◌==◌}
 use Rattle.unl_base.specs.declared.draws.Draw.{Draw}
 use Rattle.unl_base.specs.Faults.{Rose}
@@ -107,7 +107,7 @@ reaches_more : {S : Type 0} (Step : S → Request → Reply → S → Type 0) (L
 reaches_more Step Lacks count counts start now after requests end request reply talk counted step = record {
   requests = requests ++ request ∷ [];
   text = talk.text ++ reply_text reply (request.close || length requests == 999);
-  answered_to = after;
+  reached = after;
   answered = Answered_more Step 0 start.state now.state after requests talk.text request reply (length requests == 999)
       talk.answered step (ap (λ (n : ℕ). n == 999) (omega arith));
   counted = omega (arith, counted, counts.step now.state after request reply step, length-append requests (request ∷ []));
@@ -122,7 +122,7 @@ pub reaches_same : {S : Type 0} (Step : S → Request → Reply → S → Type 0
 reaches_same Step Lacks count start now after requests end talk counted same = record {
   requests = requests;
   text = talk.text;
-  answered_to = now.state;
+  reached = now.state;
   answered = talk.answered;
   counted = counted ∙ ap count (sym same);
   next = inl same;
@@ -136,7 +136,7 @@ reaches_lacking : {S : Type 0} (Step : S → Request → Reply → S → Type 0)
 reaches_lacking Step Lacks count counts start now after requests request talk counted (inl lacks) = record {
   requests = requests;
   text = talk.text;
-  answered_to = now.state;
+  reached = now.state;
   answered = talk.answered;
   counted = counted ∙ sym (counts.lack now.state after request lacks);
   next = inr (refl, request, lacks);

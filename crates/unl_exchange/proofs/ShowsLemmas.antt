@@ -21,12 +21,12 @@ pub record Shows
       → Answered Step 0 before qs text state → Answered Seen 0 (view before) qs text (view state)
   pub last : (state : S) (q : Request) → Unreplied Step Lacks state q after → Unreplied Seen Misses (view state) q (view after)
 
-Serves_seen : {S T : Type 0} (Step : S → Request → Reply → S → Type 0) (Lacks : S → Request → S → Type 0)
-    (Seen : T → Request → Reply → T → Type 0) (Misses : T → Request → T → Type 0) (view : S → T) (before after : S)
+Serves_seen : {S T : Type 0} {Step : S → Request → Reply → S → Type 0} {Lacks : S → Request → S → Type 0}
+    {Seen : T → Request → Reply → T → Type 0} {Misses : T → Request → T → Type 0} {view : S → T} {before after : S}
     (bytes : List ℕ) (sent : Option (List ℕ)) (end : End) (sent_after : Option (List ℕ))
     → Shows Step Lacks Seen Misses view before after → Serves Step bytes sent before end after sent_after
     → Serves Seen bytes sent (view before) end (view after) sent_after
-Serves_seen Step Lacks Seen Misses view before after bytes sent end sent_after shows serves = record {
+Serves_seen {after} bytes sent end sent_after shows serves = record {
   requests = serves.requests;
   text = serves.text;
   session = serves.session;
@@ -34,12 +34,12 @@ Serves_seen Step Lacks Seen Misses view before after bytes sent end sent_after s
   sends = serves.sends;
 }
 
-pub AnswersAll_seen : {S T : Type 0} (Step : S → Request → Reply → S → Type 0) (Lacks : S → Request → S → Type 0)
-    (Seen : T → Request → Reply → T → Type 0) (Misses : T → Request → T → Type 0) (view : S → T) (before after : S)
+pub AnswersAll_seen : {S T : Type 0} {Step : S → Request → Reply → S → Type 0} {Lacks : S → Request → S → Type 0}
+    {Seen : T → Request → Reply → T → Type 0} {Misses : T → Request → T → Type 0} {view : S → T} {before after : S}
     (asked : List Request) (sent : Option (List ℕ)) (end : End) (sent_after : Option (List ℕ))
     → Shows Step Lacks Seen Misses view before after → AnswersAll Step asked sent before end after sent_after
     → AnswersAll Seen asked sent (view before) end (view after) sent_after
-AnswersAll_seen Step Lacks Seen Misses view before after asked sent end sent_after shows all = record {
+AnswersAll_seen {after} asked sent end sent_after shows all = record {
   text = all.text;
   answered = shows.chain after asked all.text (inl refl) all.answered;
   sends = all.sends;
@@ -49,32 +49,32 @@ either_seen : {P Q A B : Type 0} → (P → A) → (Q → B) → P ⊎ Q → A �
 either_seen f g (inl p) = inl (f p)
 either_seen f g (inr q) = inr (g q)
 
-pub Concludes_seen : {S T : Type 0} (Step : S → Request → Reply → S → Type 0) (Lacks : S → Request → S → Type 0)
-    (Seen : T → Request → Reply → T → Type 0) (Misses : T → Request → T → Type 0) (view : S → T) (before after : S)
+pub Concludes_seen : {S T : Type 0} {Step : S → Request → Reply → S → Type 0} {Lacks : S → Request → S → Type 0}
+    {Seen : T → Request → Reply → T → Type 0} {Misses : T → Request → T → Type 0} {view : S → T} {before after : S}
     (bytes : List ℕ) (sent : Option (List ℕ)) (end : End) (left_after sent_after : Option (List ℕ))
     → Shows Step Lacks Seen Misses view before after → Concludes Step bytes sent before end after left_after sent_after
     → Concludes Seen bytes sent (view before) end (view after) left_after sent_after
-Concludes_seen Step Lacks Seen Misses view before after bytes sent Closed left_after sent_after shows serves =
-    Serves_seen Step Lacks Seen Misses view before after bytes sent Closed sent_after shows serves
-Concludes_seen Step Lacks Seen Misses view before after bytes sent Asked left_after sent_after shows serves =
-    Serves_seen Step Lacks Seen Misses view before after bytes sent Asked sent_after shows serves
-Concludes_seen Step Lacks Seen Misses view before after bytes sent Limit left_after sent_after shows serves =
-    Serves_seen Step Lacks Seen Misses view before after bytes sent Limit sent_after shows serves
-Concludes_seen Step Lacks Seen Misses view before after bytes sent (Refused status) left_after sent_after shows serves =
-    Serves_seen Step Lacks Seen Misses view before after bytes sent (Refused status) sent_after shows serves
-Concludes_seen Step Lacks Seen Misses view before after bytes sent CutOff left_after sent_after shows serves =
-    Serves_seen Step Lacks Seen Misses view before after bytes sent CutOff sent_after shows serves
-Concludes_seen Step Lacks Seen Misses view before after bytes sent ReadFault left_after sent_after shows front = record {
+Concludes_seen bytes sent Closed left_after sent_after shows serves =
+    Serves_seen bytes sent Closed sent_after shows serves
+Concludes_seen bytes sent Asked left_after sent_after shows serves =
+    Serves_seen bytes sent Asked sent_after shows serves
+Concludes_seen bytes sent Limit left_after sent_after shows serves =
+    Serves_seen bytes sent Limit sent_after shows serves
+Concludes_seen bytes sent (Refused status) left_after sent_after shows serves =
+    Serves_seen bytes sent (Refused status) sent_after shows serves
+Concludes_seen bytes sent CutOff left_after sent_after shows serves =
+    Serves_seen bytes sent CutOff sent_after shows serves
+Concludes_seen bytes sent ReadFault left_after sent_after shows front = record {
   read = front.read;
   rest = front.rest;
   split = front.split;
   left = front.left;
   serves = either_seen
-      (λ serves. Serves_seen Step Lacks Seen Misses view before after front.read sent Closed sent_after shows serves)
-      (λ serves. Serves_seen Step Lacks Seen Misses view before after front.read sent CutOff sent_after shows serves)
+      (λ serves. Serves_seen front.read sent Closed sent_after shows serves)
+      (λ serves. Serves_seen front.read sent CutOff sent_after shows serves)
       front.serves;
 }
-Concludes_seen Step Lacks Seen Misses view before after bytes sent WriteFault left_after sent_after shows (inl cut) = inl (record {
+Concludes_seen {after} bytes sent WriteFault left_after sent_after shows (inl cut) = inl (record {
   earlier = cut.earlier;
   request = cut.request;
   rest = cut.rest;
@@ -84,7 +84,7 @@ Concludes_seen Step Lacks Seen Misses view before after bytes sent WriteFault le
   answered = shows.chain after _ cut.text (inl refl) cut.answered;
   sends = cut.sends;
 })
-Concludes_seen Step Lacks Seen Misses view before after bytes sent WriteFault left_after sent_after shows (inr cut) = inr (record {
+Concludes_seen {after} bytes sent WriteFault left_after sent_after shows (inr cut) = inr (record {
   requests = cut.requests;
   status = cut.status;
   text = cut.text;
@@ -92,33 +92,33 @@ Concludes_seen Step Lacks Seen Misses view before after bytes sent WriteFault le
   answered = shows.chain after cut.requests cut.text (inl refl) cut.answered;
   sends = cut.sends;
 })
-Concludes_seen Step Lacks Seen Misses view before after bytes sent Memory left_after sent_after shows nothing = tt
+Concludes_seen bytes sent Memory left_after sent_after shows nothing = tt
 
-near : {S : Type 0} (Step : S → Request → Reply → S → Type 0) (Lacks : S → Request → S → Type 0) (rest : List ℕ)
+near : {S : Type 0} {Step : S → Request → Reply → S → Type 0} {Lacks : S → Request → S → Type 0} (rest : List ℕ)
     (state after : S) → (after ≡ state) ⊎ IsUnreplied Step Lacks rest state after → IsNear Step Lacks state after
-near Step Lacks rest state after (inl same) = inl same
-near Step Lacks rest state after (inr one) = inr (one.request, one.unreplied)
+near rest state after (inl same) = inl same
+near rest state after (inr one) = inr (one.request, one.unreplied)
 
-next_seen : {S T : Type 0} (Step : S → Request → Reply → S → Type 0) (Lacks : S → Request → S → Type 0)
-    (Seen : T → Request → Reply → T → Type 0) (Misses : T → Request → T → Type 0) (view : S → T) (before after : S)
+next_seen : {S T : Type 0} {Step : S → Request → Reply → S → Type 0} {Lacks : S → Request → S → Type 0}
+    {Seen : T → Request → Reply → T → Type 0} {Misses : T → Request → T → Type 0} {view : S → T} {before after : S}
     (rest : List ℕ) (state : S) → Shows Step Lacks Seen Misses view before after
     → (after ≡ state) ⊎ IsUnreplied Step Lacks rest state after
     → (view after ≡ view state) ⊎ IsUnreplied Seen Misses rest (view state) (view after)
-next_seen Step Lacks Seen Misses view before after rest state shows (inl same) = inl (ap view same)
-next_seen Step Lacks Seen Misses view before after rest state shows (inr one) = inr (record {
+next_seen {view} rest state shows (inl same) = inl (ap view same)
+next_seen rest state shows (inr one) = inr (record {
   request = one.request;
   rest = one.rest;
   begins = one.begins;
   unreplied = shows.last state one.request one.unreplied;
 })
 
-pub GivesUp_seen : {S T : Type 0} (Step : S → Request → Reply → S → Type 0) (Lacks : S → Request → S → Type 0)
-    (Seen : T → Request → Reply → T → Type 0) (Misses : T → Request → T → Type 0) (view : S → T) (before after : S)
+pub GivesUp_seen : {S T : Type 0} {Step : S → Request → Reply → S → Type 0} {Lacks : S → Request → S → Type 0}
+    {Seen : T → Request → Reply → T → Type 0} {Misses : T → Request → T → Type 0} {view : S → T} {before after : S}
     (bytes : List ℕ) (sent : Option (List ℕ)) (faults : ℕ) (sent_after : Option (List ℕ)) (faults_after : ℕ)
     → Shows Step Lacks Seen Misses view before after
     → GivesUp Step Lacks bytes sent faults before after sent_after faults_after
     → GivesUp Seen Misses bytes sent faults (view before) (view after) sent_after faults_after
-GivesUp_seen Step Lacks Seen Misses view before after bytes sent faults sent_after faults_after shows gives_up = record {
+GivesUp_seen {view} {after} bytes sent faults sent_after faults_after shows gives_up = record {
   requests = gives_up.requests;
   rest = gives_up.rest;
   reads = gives_up.reads;
@@ -126,8 +126,8 @@ GivesUp_seen Step Lacks Seen Misses view before after bytes sent faults sent_aft
   text = gives_up.text;
   replied = view gives_up.replied;
   answered = shows.chain gives_up.replied gives_up.requests gives_up.text
-      (near Step Lacks gives_up.rest gives_up.replied after gives_up.next) gives_up.answered;
-  next = next_seen Step Lacks Seen Misses view before after gives_up.rest gives_up.replied shows gives_up.next;
+      (near gives_up.rest gives_up.replied after gives_up.next) gives_up.answered;
+  next = next_seen gives_up.rest gives_up.replied shows gives_up.next;
   sent_before = gives_up.sent_before;
   sends = gives_up.sends;
   told = gives_up.told;

@@ -129,13 +129,13 @@ pub record AnswersAll
   pub sends : Sends sent (text ++ farewell end) sent_after
 
 -- So many requests were answered one after another, whether or not the bytes are told. At want of memory one more may
--- have been asked that was not answered.
+-- have been asked, and it was not answered.
 pub record Reaches
     {S : Type 0} (Step : S → Request → Reply → S → Type 0) (Lacks : S → Request → S → Type 0) (before : S) (end : End)
     (after : S) (count : ℕ) : Type 0 where
   pub requests : List Request
   pub text : List ℕ
-  pub answered_to : S
-  pub answered : Answered Step 0 before requests text answered_to
+  pub reached : S
+  pub answered : Answered Step 0 before requests text reached
   pub counted : length requests ≡ count
-  pub next : (after ≡ answered_to) ⊎ ((end ≡ Memory) × (request : Request) × Lacks answered_to request after)
+  pub next : (after ≡ reached) ⊎ ((end ≡ Memory) × (request : Request) × Lacks reached request after)

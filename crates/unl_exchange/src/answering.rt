@@ -28,14 +28,10 @@ pub trait Answering {
     ghost noted: { Self.Notes → ℕ };
 
     /// The request, with its draw, is given this reply, and desk, book and notes are then these.
-    ghost gives: {
-        Self.Desk → Self.Book → Self.Notes → Request → Draw → Reply → Self.Desk → Self.Book → Self.Notes → Type 0
-    };
+    ghost gives: { Self.Desk → Self.Book → Self.Notes → Request → Draw → Reply → Self.Desk → Self.Book → Self.Notes → Type 0 };
 
     /// Memory was wanting at the request, with its draw, and desk, book and notes are then these.
-    ghost gives_up: {
-        Self.Desk → Self.Book → Self.Notes → Request → Draw → Self.Desk → Self.Book → Self.Notes → Type 0
-    };
+    ghost gives_up: { Self.Desk → Self.Book → Self.Notes → Request → Draw → Self.Desk → Self.Book → Self.Notes → Type 0 };
 
     /// Answers a request, and notes it.
     ///
@@ -50,9 +46,11 @@ pub trait Answering {
         draw: &Draw,
     ) -> Result<Reply, Memory>
         requires { noted notes.old < 1000 }
-        ensures gives { IfOk result (λ reply. gives desk.old book.old notes.old request.now draw.entry.now reply desk.new book.new notes.new) }
+        ensures gives { IfOk result (λ reply.
+            gives desk.old book.old notes.old request.now draw.entry.now reply desk.new book.new notes.new) }
         ensures status { IfOk result (λ reply. IsStatusCode reply.status) }
         ensures notes { IfOk result (λ reply. noted notes.new ≡ noted notes.old + 1) }
-        ensures gives_up { OnErr result (gives_up desk.old book.old notes.old request.now draw.entry.now desk.new book.new notes.new) }
+        ensures gives_up { OnErr result
+            (gives_up desk.old book.old notes.old request.now draw.entry.now desk.new book.new notes.new) }
         ensures unnoted { OnErr result (noted notes.new ≡ noted notes.old) };
 }

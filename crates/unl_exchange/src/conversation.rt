@@ -63,7 +63,16 @@ pub fn converse<A: Answering, L: Link, R: Draws>(
     let mut reader = Reader::new(alloc);
     for turn in 0..MOST_REQUESTS {
         let last = turn + 1 == MOST_REQUESTS;
-        if let Some(end) = exchange::<A, L, R>(alloc, &mut reader, desk, book, notes, link, draws, last) {
+        if let Some(end) = exchange::<A, L, R>(
+            alloc,
+            &mut reader,
+            desk,
+            book,
+            notes,
+            link,
+            draws,
+            last,
+        ) {
             return end;
         }
     }

@@ -26,8 +26,19 @@ pub(crate) fn exchange<A: Answering, L: Link, R: Draws>(
 ) -> Option<End>
     requires { A.noted notes.old < MOST_REQUESTS }
     ensures goes { Goes (Answers A.noted A.gives) (LacksMemory A.noted A.gives_up) last
-        (record { held = reader.old; left = L.left link.old; state = answerer desk.old book.old notes.old (R.coming draws.old); sent = L.sent link.old }) result
-        (record { held = reader.new; left = L.left link.new; state = answerer desk.new book.new notes.new (R.coming draws.new); sent = L.sent link.new }) }
+        (record {
+          held = reader.old;
+          left = L.left link.old;
+          state = answerer desk.old book.old notes.old (R.coming draws.old);
+          sent = L.sent link.old;
+        })
+        result
+        (record {
+          held = reader.new;
+          left = L.left link.new;
+          state = answerer desk.new book.new notes.new (R.coming draws.new);
+          sent = L.sent link.new;
+        }) }
     ensures later { L.Source.faults link.old ≤ L.Source.faults link.new }
     ensures read_cause { result ≡ Some End.ReadFault → Rose (L.Source.faults link.old) (L.Source.faults link.new) }
     ensures write_cause { result ≡ Some End.WriteFault → Rose (L.Source.faults link.old) (L.Source.faults link.new) }
@@ -70,7 +81,8 @@ fn reply_to<A: Answering, L: Link, R: Draws>(
 ) -> Option<End>
     requires { A.noted notes.old < MOST_REQUESTS }
     ensures replied { Replied (Answers A.noted A.gives) (LacksMemory A.noted A.gives_up) request.now close
-        (answerer desk.old book.old notes.old (R.coming draws.old)) (answerer desk.new book.new notes.new (R.coming draws.new))
+        (answerer desk.old book.old notes.old (R.coming draws.old))
+        (answerer desk.new book.new notes.new (R.coming draws.new))
         (L.sent link.old) result (L.sent link.new) }
     ensures left { L.left link.new ≡ L.left link.old }
     ensures later { L.Source.faults link.old ≤ L.Source.faults link.new }

@@ -154,7 +154,11 @@ fn limits_and_faults(rt: HostRuntime) -> Result<(), Fail> {
     assert_eq!(rt; outcome.noted, 1000);
     assert_eq!(rt; outcome.left, 1);
     assert_eq!(rt; outcome.end, End::Limit);
-    assert!(rt; outcome.sent.ends_with(b"HTTP/1.1 202 Accepted\r\nContent-Length: 0\r\nConnection: close\r\n\r\n"));
+    assert!(rt;
+        outcome.sent.ends_with(
+            b"HTTP/1.1 202 Accepted\r\nContent-Length: 0\r\nConnection: close\r\n\r\n"
+        )
+    );
     for (failing, noted, end) in [
         (0, 0, End::ReadFault),
         (1, 1, End::WriteFault),

@@ -1,7 +1,7 @@
 -- What a conversation says of the desk, of the notes and of the draws.
 use Rattle.std.proofs.Common.{◌≡◌, ℕ, ◌+◌, ◌≤◌, List, [], ◌∷◌, ◌++◌, length, refl, sym, ap, ◌∙◌, subst, arith, append_assoc, append-nil, Option, ◌⊎◌, inl, inr}
 use Rattle.unl_base.specs.declared.draws.Draw.{Draw}
-use Rattle.unl_base.specs.Draws.{TakesDraw, TakesAtMostOne}
+use Rattle.unl_base.specs.Draws.{TakesDraw}
 use Rattle.unl_base.proofs.Sending.{Sends_nothing, Sends_more}
 use Rattle.unl_http_api.specs.declared.end.End.{End}
 use Rattle.unl_http_api.specs.declared.end.End.TheVariants.{Memory}
@@ -213,8 +213,8 @@ pub tells : {D : Type 0} (known : D → Known) (before after : Answerer D Book (
     → before.notes ≡ [] → Reaches (Over known) (Lacking known) before end after count
     → Tells (known before.desk) before.coming end (known after.desk) after.coming after.notes
 tells known before after end count none reached =
-    let sums = summed known 0 before reached.answered_to reached.requests reached.text reached.answered in
-    tells_next known before reached.answered_to after end sums.0
+    let sums = summed known 0 before reached.reached reached.requests reached.text reached.answered in
+    tells_next known before reached.reached after end sums.0
     (sums.1 ∙ ap (λ (o : List ServedOne). o ++ sums.0) none) sums.2 reached.next
 
 -- ---- the notes and the book behind a conversation, in every case
@@ -239,9 +239,9 @@ pub reaches : {D : Type 0} (known : D → Known) (before after : Answerer D Book
 reaches known before after end count reached = record {
   requests = reached.requests;
   text = reached.text;
-  answered_to = noted_of reached.answered_to;
-  answered = (shows known before after).chain reached.answered_to reached.requests reached.text
-      (near_next known reached.answered_to after end reached.next) reached.answered;
+  reached = noted_of reached.reached;
+  answered = (shows known before after).chain reached.reached reached.requests reached.text
+      (near_next known reached.reached after end reached.next) reached.answered;
   counted = reached.counted;
-  next = noted_next known reached.answered_to after end reached.next;
+  next = noted_next known reached.reached after end reached.next;
 }

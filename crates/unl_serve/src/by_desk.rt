@@ -11,9 +11,7 @@ use unl_http_api::{Reply, Request};
 use unl_metrics::MetricsBook;
 
 /// Answers each request by a desk, sums up what it reports, and notes the desk's front and the draw.
-pub(crate) struct ByDesk<D> {
-    desk: PhantomData<D>,
-}
+pub(crate) struct ByDesk<D>(PhantomData<D>);
 
 impl<D: Desk> Answering for ByDesk<D> {
     ghost use Rattle.std.specs.Prelude.{length};

@@ -48,10 +48,10 @@ obeys before after end count reaches = record {
   obeyed = by_next reaches.next;
 }
   where
-    answered_up : reaches.answered_to.desk ≡ after_commands (commands_given before.desk.secret reaches.requests) before.desk
-    answered_up = requests_up 0 reaches.requests reaches.text before reaches.answered_to reaches.answered
+    answered_up : reaches.reached.desk ≡ after_commands (commands_given before.desk.secret reaches.requests) before.desk
+    answered_up = requests_up 0 reaches.requests reaches.text before reaches.reached reaches.answered
 
-    by_next : (after ≡ reaches.answered_to) ⊎ ((end ≡ ends.Memory) × (request : Request) × Lacks reaches.answered_to request after)
+    by_next : (after ≡ reaches.reached) ⊎ ((end ≡ ends.Memory) × (request : Request) × Lacks reaches.reached request after)
         → after.desk ≡ after_commands (commands_given before.desk.secret reaches.requests) before.desk
     by_next (inl same) = ap (λ (s : Serving). s.desk) same ∙ answered_up
     by_next (inr lacks) = lacks.2.given_up ∙ answered_up

@@ -1,4 +1,4 @@
-use Rattle.std.proofs.Common.{◌≡◌, ◌<◌, ◌+◌, [], ◌∷◌, ◌++◌, length, refl, ap, arith, length-append, Some, None}
+use Rattle.std.proofs.Common.{◌≡◌, ◌<◌, [], ◌∷◌, ◌++◌, length, refl, ap, arith, length-append, Some, None}
 use Rattle.unl_http_api.proofs.SessionLemmas.{StayOpen_more}
 use Rattle.unl_exchange.proofs.CompleteLemmas.{Rose_earlier, completes, completes_whole}
 use Rattle.unl_exchange.proofs.ConversationLemmas.{Talk_begin, Talk_more, concludes, concludes_limit, last_turn}
