@@ -99,10 +99,18 @@ fn edge_words(rt: HostRuntime) -> Result<(), Fail> {
     Ok(())
 }
 
+/// Whether `edge` refuses these values and what follows them.
+fn refuses_edge(alloc: Global, upstream: &str, shown: &str, tokens: &str, more: &str) -> bool {
+    let line = format!(in alloc;
+        "edge --upstream={upstream} --upstream-tokens={shown} --tokens={tokens} {more}"
+    );
+    let words = line.ok().and_then(|line| read(alloc, line.as_str()));
+    words == Some(Err(WordsRefusal::Bad))
+}
+
 #[test]
 fn edge_words_out_of_range(rt: HostRuntime) {
-    let good = ["up:1", "*:dev.s", "a:dev.s"];
-    let [up, own, known] = good;
+    let (up, own, known) = ("up:1", "*:dev.s", "a:dev.s");
     let table = [
         ("", own, known, ""),
         ("up", own, known, ""),
@@ -134,13 +142,8 @@ fn edge_words_out_of_range(rt: HostRuntime) {
         (up, own, known, "--host=a\nb"),
         (up, own, known, "--tokens=a:dev.s"),
     ];
-    let alloc = rt.alloc();
     for (upstream, shown, tokens, more) in table {
-        let line = format!(in alloc;
-            "edge --upstream={upstream} --upstream-tokens={shown} --tokens={tokens} {more}"
-        );
-        let words = line.ok().and_then(|line| read(alloc, line.as_str()));
-        assert!(rt; words == Some(Err(WordsRefusal::Bad)));
+        assert!(rt; refuses_edge(rt.alloc(), upstream, shown, tokens, more));
     }
 }
 
@@ -171,6 +174,21 @@ fn upstream_words(rt: HostRuntime) -> Result<(), Fail> {
     Ok(())
 }
 
+/// Whether `upstream` refuses these values.
+fn refuses_upstream(
+    alloc: Global,
+    secret: &str,
+    environments: &str,
+    client: &str,
+    frontend: &str,
+) -> bool {
+    let line = format!(in alloc;
+        "upstream --secret={secret} --environments={environments} --client-tokens={client} --frontend-tokens={frontend}"
+    );
+    let words = line.ok().and_then(|line| read(alloc, line.as_str()));
+    words == Some(Err(WordsRefusal::Bad))
+}
+
 #[test]
 fn upstream_words_out_of_range(rt: HostRuntime) {
     let table = [
@@ -185,13 +203,8 @@ fn upstream_words_out_of_range(rt: HostRuntime) {
         ("s", "dev", "a:dev.s,b:dev.s,a:dev.s", ""),
         ("s", "dev", "a:dev.s", "b:dev.s,a:dev.s"),
     ];
-    let alloc = rt.alloc();
     for (secret, environments, client, frontend) in table {
-        let line = format!(in alloc;
-            "upstream --secret={secret} --environments={environments} --client-tokens={client} --frontend-tokens={frontend}"
-        );
-        let words = line.ok().and_then(|line| read(alloc, line.as_str()));
-        assert!(rt; words == Some(Err(WordsRefusal::Bad)));
+        assert!(rt; refuses_upstream(rt.alloc(), secret, environments, client, frontend));
     }
     for line in [
         "upstream --secret=s",
@@ -200,7 +213,7 @@ fn upstream_words_out_of_range(rt: HostRuntime) {
         "edge --upstream=u:1 --tokens=a:d.s",
         "edge --upstream-tokens=a:d.s --tokens=a:d.s",
     ] {
-        assert!(rt; read(alloc, line) == Some(Err(WordsRefusal::Bad)));
+        assert!(rt; read(rt.alloc(), line) == Some(Err(WordsRefusal::Bad)));
     }
 }
 
