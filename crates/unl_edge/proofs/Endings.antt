@@ -3,12 +3,11 @@ use Rattle.std.proofs.Common.{◌≡◌, ◌≢◌, ℕ, ◌==◌, List, Bool, t
 use Rattle.unl_base.specs.Streams.{Sends, SendsFront}
 use Rattle.unl_base.specs.declared.draws.Draw.{Draw}
 use Rattle.unl_documents.specs.Results.{Gives}
-use Rattle.unl_edge.specs.Ends.{CheckEnds, Ends, IsDecided, ReplayEnds, Said, SaysAll, SendsLine, ending_status, said_of, told_by}
+use Rattle.unl_edge.specs.Ends.{CheckEnds, Ends, IsDecided, ReplayEnds, Said, SaysAll, SendsLine, ending_status, said_of}
 use Rattle.unl_edge.specs.Status.{code_of, status_of}
 use Rattle.unl_edge.specs.declared.status.Status.{Status}
 use Rattle.unl_edge.specs.declared.status.Status.TheVariants.{Done, TestFailed, BadWords, Refused, ReadFault, WriteFault, OutOfMemory}
 use Rattle.unl_lines.specs.Taken.{Ending, IsRefused, done, refused}
-use Rattle.unl_lines.specs.Whole.{IsAnswered, IsRefusing}
 use Rattle.unl_replay.specs.Replay.{replay_of}
 use Rattle.unl_spec_runner.specs.Check.{report_of, IsReported, IsBrokenOff}
 use Rattle.unl_spec_runner.specs.Report.{Report}
