@@ -76,7 +76,7 @@ between_is_of environment i j k at_i at_k low high =
     let last : slice_cmp nat_cmp k.environment environment ≡ Equal = equal (slice_cmp nat_cmp k.environment environment) (is_eq-slice_cmp k.environment environment ∙ at_k) in
     let from : is_le (slice_cmp nat_cmp environment j.environment) ≡ true = ap is_le (sym (o.congr i.environment environment j.environment first)) ∙ environment_le i j low in
     let to : is_le (slice_cmp nat_cmp environment j.environment) ≡ true → is_le (slice_cmp nat_cmp j.environment environment) ≡ true = λ _.
-      ap is_le (o.antisymm j.environment environment ∙ ap ordering_reverse (sym (o.congr k.environment environment j.environment last)) ∙ sym (o.antisymm j.environment k.environment)) ∙ environment_le j k high in
+    ap is_le (o.antisymm j.environment environment ∙ ap ordering_reverse (sym (o.congr k.environment environment j.environment last)) ∙ sym (o.antisymm j.environment k.environment)) ∙ environment_le j k high in
     sym (is_eq-slice_cmp j.environment environment) ∙ both_le (slice_cmp nat_cmp j.environment environment) (to from) (ap is_le (sym (o.antisymm environment j.environment)) ∙ from)
   where
     equal : (r : Ordering) → is_eq r ≡ true → r ≡ Equal

@@ -89,9 +89,9 @@ pub room_is : (book : Book) (i : ℕ) → i ≤ length book → bulk_length (tak
 unfolding room_for
 room_is book i le fits full = greatest_is (λ n. nat_le (bulk_length (take n book)) 1048576) (length book) i le (grind (arith, nat_tests, fits))
     (λ m low high. let front = take_front book (i + 1) m (omega arith) in
-      let longer : bulk_length (take (i + 1) book) ≤ bulk_length (take m book) = rw front.1 (grows (take (i + 1) book) front.0) in
-      let past = full (omega arith) in
-      grind (arith, nat_tests, longer, past))
+    let longer : bulk_length (take (i + 1) book) ≤ bulk_length (take m book) = rw front.1 (grows (take (i + 1) book) front.0) in
+    let past = full (omega arith) in
+    grind (arith, nat_tests, longer, past))
 
 pub longer_is : (rows : Book) (i n before comma values : ℕ) (e : Key × Tally) → i < length rows → e ≡ get_or rows i e → before ≡ bulk_length (take i rows) → n ≡ length (compact_text (counted_data e)) → values ≡ i → comma ≡ (if values == 0 then 0 else 1) → before + n + comma ≡ bulk_length (take (i + 1) rows)
 longer_is rows i n before comma values e lt is so_far text all mark =

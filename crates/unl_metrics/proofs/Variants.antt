@@ -13,7 +13,6 @@ use Rattle.unl_metrics.specs.declared.report.VariantCount.{VariantCount}
 use Rattle.unl_metrics.specs.Book.{Variants, pair, place, sum, with_variant}
 use Rattle.unl_metrics.proofs.Entries.{stands, stands_within, entry_new, entry_old}
 
-
 map_or-map : {A B C : Type 0} (f : A → B) (g : B → C) (o : Option A) (c : C) → option_map_or g (option_map f o) c ≡ option_map_or (λ a. g (f a)) o c
 map_or-map f g None c = refl
 map_or-map f g (Some a) c = refl
