@@ -1,19 +1,21 @@
 -- Days and hours since 1970, and their texts.
-use Rattle.std.proofs.Common.{◌≡◌, ℕ, zero, suc, ◌+◌, ◌-◌, ◌*◌, ◌/◌, ◌%◌, ◌<◌, ◌≤◌, ◌⊎◌, inl, inr, Bool, true, false, cond, List, [], ◌∷◌, ◌++◌, refl, sym, subst, ap, ◌∙◌, append_assoc, nat_lt, arith, ℤ, pos, negsuc, neg_ℤ, ◌+ℤ◌, ◌-ℤ◌, ◌<ℤ◌, ◌≤ℤ◌, w64}
+use Rattle.std.proofs.Common.{◌≡◌, ℕ, zero, suc, ◌+◌, ◌-◌, ◌*◌, ◌/◌, ◌%◌, ◌<◌, ◌≤◌, ◌⊎◌, inl, inr, Bool, true, false, cond, List, [], ◌∷◌, ◌++◌, refl, sym, subst, ap, ◌∙◌, append_assoc, nat_lt, arith, ℤ, pos, negsuc, neg_ℤ, ◌+ℤ◌, ◌-ℤ◌, ◌<ℤ◌, ◌≤ℤ◌, rules}
 use Rattle.std.proofs.lemmas.Bool.{cases_order, cases_lt}
 use Rattle.std.proofs.lemmas.Bool.Decides.{nat_tests}
-use Rattle.std.proofs.lemmas.Int.{to_z_pos, by_lt_z}
+use Rattle.std.proofs.lemmas.Int.{by_lt_z}
 use Rattle.std.specs.Int.{IsInRange}
-use Rattle.std.specs.Prelude.{codes, None}
+use Rattle.std.specs.Prelude.{codes, None, Ok}
 use Rattle.jiff.proofs.SpanFacts.{signed_arith}
 use Rattle.jiff.specs.Words as jiff
-use Rattle.jiff.specs.Words.{IsYear, IsYmd, IsHms, epoch_day, days_in_year, days_in_month, iso_datetime_text}
+use Rattle.jiff.proofs.Family.{parse_timestamp-text}
+use Rattle.jiff.specs.Words.{civil_nanos, parse_timestamp, IsYear, IsYmd, IsHms, epoch_day, days_in_year, days_in_month, iso_datetime_text}
 use Rattle.jiff_core.proofs.CalendarLemmas.{days_from_civil-day_count, day_count-epoch, day_count-next_year, day_count-later_year, day_count-day_of_year, day_of_year_bound, days_of_months-zero, days_of_months_more, days_of_months_mono, days_in_month_bounds}
 use Rattle.jiff_core.proofs.DateLemmas.{civil, days_from_civil-day, days_from_civil-next_month, days_from_civil-next_year, days_from_civil-max}
 use Rattle.jiff_core.specs.Calendar.{day_count, day_of_year, days_of_months, days_from_civil}
 use Rattle.jiff_core.specs.declared.civil.date.Date.{Date}
 use Rattle.jiff_core.specs.declared.civil.datetime.DateTime.{DateTime}
 use Rattle.jiff_core.specs.declared.civil.time.Time.{Time}
+use Rattle.jiff_core.specs.declared.timestamp.Timestamp.{Timestamp}
 use Rattle.unl_metrics.specs.Hours.{year_and_days, month_and_days, two_digits, four_digits, month_text, year_text, date_text, hour_text}
 
 pub epoch_is_zero : (d : Date) → IsYmd (pos 1970) (pos 1) (pos 1) d → epoch_day d ≡ pos 0
@@ -120,3 +122,50 @@ hour_is dt hour most day clock =
     ap (λ ds. (ds ++ 84 ∷ jiff.time_text None dt.time) ++ codes "Z") (shown ∙ sym date)
     ∙ ap (λ ts. (date_text (hour / 24) ++ 84 ∷ ts) ++ codes "Z") time
     ∙ append_assoc (date_text (hour / 24)) (84 ∷ two_digits (hour % 24) ++ codes ":00:00") (codes "Z")
+
+-- ---- each day has a date
+
+next_day : (d : Date) → epoch_day d <ℤ pos 2932896 → (e : Date) × (epoch_day e ≡ epoch_day d +ℤ pos 1)
+next_day d before =
+    elim (cases_lt d.day (days_in_month d.year d.month)) [
+      | inl inside ↦ (record { year = d.year; month = d.month; day = d.day + 1; year_in = d.year_in; month_in = d.month_in; day_in = (omega arith, omega arith) },
+          omega (arith, signed_arith, days_from_civil-day d.year d.month d.day (d.day + 1) d.day_in.0 (omega arith)))
+      | inr last ↦
+          let end : d.day ≡ days_in_month d.year d.month = omega (arith, d.day_in.1) in
+          elim (cases_lt d.month 12) [
+            | inl within ↦ (record { year = d.year; month = d.month + 1; day = 1; year_in = d.year_in; month_in = (omega arith, omega arith); day_in = (omega arith, omega (arith, days_in_month_bounds d.year (d.month + 1))) },
+                days_from_civil-next_month d.year d.month d.day d.month_in.0 end)
+            | inr december ↦
+                let month : d.month ≡ 12 = omega (arith, d.month_in.1) in
+                let day : d.day ≡ 31 = end ∙ ap (days_in_month d.year) month in
+                let here : epoch_day d ≡ days_from_civil d.year 12 31 = (λ i. days_from_civil d.year (month i) (day i)) in
+                by_lt_z d.year (pos 9999)
+                (λ early. (record { year = d.year +ℤ pos 1; month = 1; day = 1; year_in = (omega (arith, signed_arith, d.year_in.0), omega (arith, signed_arith, early)); month_in = (omega arith, omega arith); day_in = (omega arith, omega arith) },
+                  days_from_civil-next_year d.year (d.year +ℤ pos 1) (omega (arith, signed_arith, d.year_in.0)) refl ∙ ap (λ z. z +ℤ pos 1) (sym here)))
+                (λ late. let y : d.year ≡ pos 9999 = omega (arith, signed_arith, late, d.year_in.1) in
+                  absurd (omega (arith, signed_arith, before, here ∙ ap (λ z. days_from_civil z 12 31) y ∙ days_from_civil-max)))
+          ]
+    ]
+
+first_day : Date
+first_day = record { year = pos 1970; month = 1; day = 1; year_in = search rules; month_in = search rules; day_in = search rules }
+
+pub date_at : (days : ℕ) → days < 2932897 → (d : Date) × (epoch_day d ≡ pos days)
+unfolding first_day
+date_at zero most = (first_day, epoch_is_zero first_day (refl, refl, refl))
+date_at (suc days) most =
+    let before = date_at days (omega arith) in
+    let next = next_day before.0 (rw before.1 (omega (arith, signed_arith))) in
+    (next.0, next.1 ∙ ap (λ z. z +ℤ pos 1) before.1 ∙ omega (arith, signed_arith))
+
+-- ---- the text of an hour is read as its first instant
+
+pub hour_back : (hour : ℕ) → hour ≤ 70389502 → parse_timestamp (hour_text hour) ≡ Ok (pos (hour * 3600000000000))
+hour_back hour most =
+    let day = date_at (hour / 24) (omega arith) in
+    let time : Time = record { hour = hour % 24; minute = 0; second = 0; subsec_nanosecond = 0; hour_in = omega arith; minute_in = omega arith; second_in = omega arith; subsec_in = omega arith } in
+    let dt : DateTime = record { date = day.0; time = time } in
+    let t : Timestamp = record { nanosecond = pos (hour * 3600000000000); in_range = (omega (arith, signed_arith), omega (arith, signed_arith)) } in
+    let text : iso_datetime_text dt ++ codes "Z" ≡ hour_text hour = hour_is dt hour (omega arith) day.1 (refl, refl, refl, refl) in
+    let instant : civil_nanos dt ≡ pos (hour * 3600000000000) = unfold civil_nanos in rw day.1 (omega (arith, signed_arith)) in
+    rw (← text) (parse_timestamp-text dt t instant)

@@ -105,3 +105,38 @@ pub within : {A B C : Type 0} (f : A → C) (g : B → C) (xs : List A) (ys : Li
 within f g xs ys i n same all =
     let len : length xs ≡ length (take i ys) = sym (length-map xs f) ∙ ap length same ∙ length-map (take i ys) g in
     omega (arith, len, length-take i ys)
+
+-- ---- what the room is
+
+greatest_passes : (passes : ℕ → Bool) (n : ℕ) → passes 0 ≡ true → passes (greatest passes n) ≡ true
+unfolding greatest
+greatest_passes passes zero none = none
+greatest_passes passes (suc n) none = elim (passes (suc n)) as (λ b. passes (suc n) ≡ b → passes (cond b (suc n) (greatest passes n)) ≡ true) [
+  | true ↦ λ it. it
+  | false ↦ λ it. greatest_passes passes n none
+] refl
+
+none_greater : (passes : ℕ → Bool) (n m : ℕ) → greatest passes n < m → m ≤ n → passes m ≡ false
+unfolding greatest
+none_greater passes zero m above le = absurd (omega arith)
+none_greater passes (suc n) m above le = elim (passes (suc n)) as (λ b. passes (suc n) ≡ b → cond b (suc n) (greatest passes n) < m → passes m ≡ false) [
+  | true ↦ λ it past. absurd (omega arith)
+  | false ↦ λ it past. elim (cases_lt m (suc n)) [
+    | inl lt ↦ none_greater passes n m past (omega arith)
+    | inr ge ↦ let same : m ≡ suc n = omega arith in rw same it
+  ]
+] refl above
+
+fits_in : (n most : ℕ) → nat_le n most ≡ true → n ≤ most
+fits_in n most e = grind (arith, nat_tests, e)
+
+past_it : (n most : ℕ) → nat_le n most ≡ false → most < n
+past_it n most e = grind (arith, nat_tests, e)
+
+pub room_fits : (book : Book) → bulk_length (take (room_for book) book) ≤ 1048576
+unfolding room_for
+room_fits book = fits_in (bulk_length (take (room_for book) book)) 1048576 (greatest_passes (λ n. nat_le (bulk_length (take n book)) 1048576) (length book) (rw empty_length refl))
+
+pub no_more_room : (book : Book) (n : ℕ) → room_for book < n → n ≤ length book → 1048576 < bulk_length (take n book)
+unfolding room_for
+no_more_room book n above le = past_it (bulk_length (take n book)) 1048576 (none_greater (λ m. nat_le (bulk_length (take m book)) 1048576) (length book) n above le)

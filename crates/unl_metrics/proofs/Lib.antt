@@ -9,3 +9,7 @@ mod Lengths
 mod NoFloats
 mod Sending
 mod Members
+mod RoundTrip
+mod Lookups
+mod Gone
+mod Depths

@@ -3,7 +3,7 @@ use Rattle.std.specs.Prelude.{◌≡◌, ◌<◌, ◌+◌, ◌-◌, ◌^◌, ℕ
 use Rattle.std.specs.Cmp.Lexicographic.{slice_cmp}
 use Rattle.std.specs.FinMap.Entries.{put, find, is_sorted, where_key}
 use Rattle.std.specs.List.{list_all, prefix_len}
-use Rattle.std.specs.Ordering.{nat_cmp, on, is_lt}
+use Rattle.std.specs.Ordering.{nat_cmp, on, is_lt, eq_by_cmp}
 use Rattle.std.specs.Str.{bytes_eq}
 use Rattle.std.specs.declared.cmp.Ordering.{Ordering}
 use Rattle.unl_metrics.specs.declared.refusal.AddRefusal.{AddRefusal}
@@ -94,6 +94,29 @@ counted environment e = (key_of environment e, tally_of e)
 -- the sum of a book and a report for an environment
 unfoldable pub book_sum : Book → List ℕ → Report → Book
 book_sum book environment report = sum_of book (map (counted environment) report.entries)
+
+-- ---- what stands at a key
+
+-- a key's tally in a book, where it has one
+abbrev pub tally_at : Key → Book → Option Tally
+tally_at = find key_cmp
+
+-- a variant's count, where it has one
+abbrev pub count_at : List ℕ → Variants → Option ℕ
+count_at = find (slice_cmp nat_cmp)
+
+-- a key's tallies among what was counted
+abbrev pub tallies_at : Key → Book → List Tally
+tallies_at key others = map (λ e. e.1) (where_key key_cmp (eq_by_cmp key_cmp key) others)
+
+-- one value more
+abbrev pub and_more : {X : Type 0} → (X → X → X) → Option X → X → Option X
+and_more plus before x = Some (added plus before x)
+
+-- the sum of two values, where there are such
+abbrev pub both : {X : Type 0} → (X → X → X) → Option X → Option X → Option X
+both plus before None = before
+both plus before (Some x) = and_more plus before x
 
 -- ---- limits
 

@@ -2,3 +2,4 @@ pub mod Hours
 pub mod Reports
 pub mod Book
 pub mod Bulk
+pub mod Readable

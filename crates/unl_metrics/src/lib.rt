@@ -5,6 +5,7 @@ mod book;
 mod bulk;
 mod fault;
 mod hours;
+pub mod laws;
 mod reading;
 mod refusal;
 mod report;
