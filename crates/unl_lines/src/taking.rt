@@ -146,6 +146,10 @@ fn turn<A: LineTaking, S: Source, K: Sink>(
 /// Takes the lines of an input, one after another, to its end.
 ///
 /// A line has at most 16,777,216 bytes before its end, and there are at most 1,000,000 lines; the next one is refused.
+///
+/// # Errors
+/// `Bad` where a line is refused, which prints why; `ReadFault` and `WriteFault` where the source or the sink failed, and
+/// `Memory` where memory is wanting.
 pub fn take_lines<A: LineTaking, S: Source, K: Sink>(
     alloc: Global,
     desk: &mut A::Desk,

@@ -54,6 +54,10 @@ fn cause_of(alloc: Global, refusal: &Refusal) -> LineRefusal
 }
 
 /// Answers the lines of an input, one after another, to its end.
+///
+/// # Errors
+/// `Bad` where a line is refused, which prints why; `ReadFault` and `WriteFault` where the source or the sink failed, and
+/// `Memory` where memory is wanting.
 pub fn replay<S: Source, K: Sink>(
     alloc: Global,
     source: &mut S,
