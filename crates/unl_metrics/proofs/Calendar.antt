@@ -128,22 +128,28 @@ hour_is dt hour most day clock =
 next_day : (d : Date) → epoch_day d <ℤ pos 2932896 → (e : Date) × (epoch_day e ≡ epoch_day d +ℤ pos 1)
 next_day d before =
     elim (cases_lt d.day (days_in_month d.year d.month)) [
-      | inl inside ↦ (record { year = d.year; month = d.month; day = d.day + 1; year_in = d.year_in; month_in = d.month_in; day_in = (omega arith, omega arith) },
-          omega (arith, signed_arith, days_from_civil-day d.year d.month d.day (d.day + 1) d.day_in.0 (omega arith)))
+      | inl inside ↦ (
+        record { year = d.year; month = d.month; day = d.day + 1; year_in = d.year_in; month_in = d.month_in; day_in = (omega arith, omega arith) },
+        omega (arith, signed_arith, days_from_civil-day d.year d.month d.day (d.day + 1) d.day_in.0 (omega arith)),
+      )
       | inr last ↦
           let end : d.day ≡ days_in_month d.year d.month = omega (arith, d.day_in.1) in
           elim (cases_lt d.month 12) [
-            | inl within ↦ (record { year = d.year; month = d.month + 1; day = 1; year_in = d.year_in; month_in = (omega arith, omega arith); day_in = (omega arith, omega (arith, days_in_month_bounds d.year (d.month + 1))) },
-                days_from_civil-next_month d.year d.month d.day d.month_in.0 end)
+            | inl within ↦ (
+              record { year = d.year; month = d.month + 1; day = 1; year_in = d.year_in; month_in = (omega arith, omega arith); day_in = (omega arith, omega (arith, days_in_month_bounds d.year (d.month + 1))) },
+              days_from_civil-next_month d.year d.month d.day d.month_in.0 end,
+            )
             | inr december ↦
                 let month : d.month ≡ 12 = omega (arith, d.month_in.1) in
                 let day : d.day ≡ 31 = end ∙ ap (days_in_month d.year) month in
                 let here : epoch_day d ≡ days_from_civil d.year 12 31 = (λ i. days_from_civil d.year (month i) (day i)) in
                 by_lt_z d.year (pos 9999)
-                (λ early. (record { year = d.year +ℤ pos 1; month = 1; day = 1; year_in = (omega (arith, signed_arith, d.year_in.0), omega (arith, signed_arith, early)); month_in = (omega arith, omega arith); day_in = (omega arith, omega arith) },
-                  days_from_civil-next_year d.year (d.year +ℤ pos 1) (omega (arith, signed_arith, d.year_in.0)) refl ∙ ap (λ z. z +ℤ pos 1) (sym here)))
+                (λ early. (
+                  record { year = d.year +ℤ pos 1; month = 1; day = 1; year_in = (omega (arith, signed_arith, d.year_in.0), omega (arith, signed_arith, early)); month_in = (omega arith, omega arith); day_in = (omega arith, omega arith) },
+                  days_from_civil-next_year d.year (d.year +ℤ pos 1) (omega (arith, signed_arith, d.year_in.0)) refl ∙ ap (λ z. z +ℤ pos 1) (sym here),
+                ))
                 (λ late. let y : d.year ≡ pos 9999 = omega (arith, signed_arith, late, d.year_in.1) in
-                  absurd (omega (arith, signed_arith, before, here ∙ ap (λ z. days_from_civil z 12 31) y ∙ days_from_civil-max)))
+                absurd (omega (arith, signed_arith, before, here ∙ ap (λ z. days_from_civil z 12 31) y ∙ days_from_civil-max)))
           ]
     ]
 

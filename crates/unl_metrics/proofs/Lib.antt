@@ -13,3 +13,4 @@ mod RoundTrip
 mod Lookups
 mod Gone
 mod Depths
+mod Instants

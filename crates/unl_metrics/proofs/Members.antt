@@ -1,6 +1,7 @@
 -- Going over the members of a JSON object.
-use Rattle.std.proofs.Common.{◌≡◌, ℕ, List, [], ◌∷◌, ◌++◌, length, map, Ok, Err, String, Global, string_bytes, refl, sym, ap, subst, ◌∙◌, append_assoc, nat_cmp, Less}
+use Rattle.std.proofs.Common.{◌≡◌, ℕ, List, [], ◌∷◌, ◌++◌, length, map, Ok, Err, String, Global, string_bytes, refl, sym, ap, subst, ◌∙◌, append_assoc, nat_cmp, Less, arith}
 use Rattle.std.proofs.lemmas.List.{append-nil, map_push}
+use Rattle.std.proofs.lemmas.List.Elements.{All-nil}
 use Rattle.std.specs.Cmp.Lexicographic.{slice_cmp}
 use Rattle.std.specs.List.{AllByRecursion}
 use Rattle.std.specs.List.Sorted.{IsStrictlySortedBy}
@@ -15,7 +16,9 @@ use Rattle.unl_documents.specs.declared.fault.BadDocument.TheVariants.{Memory}
 use Rattle.unl_documents.specs.Parameters.{AreRising}
 use Rattle.unl_documents.specs.Reading.{Reading, ◌>>=◌}
 use Rattle.unl_metrics.specs.declared.report.VariantCount.{VariantCount}
-use Rattle.unl_metrics.specs.Reports.{each_member}
+use Rattle.unl_metrics.specs.declared.report.Report.{Report}
+use Rattle.unl_metrics.specs.Readable.{IsNamed, AreVariants, IsReadable, AreReadable}
+use Rattle.unl_metrics.specs.Reports.{each_member, IsReport}
 
 -- what was read before, and what is still read
 abbrev pub with_front : {T : Type 0} → List T → Reading (List T) → Reading (List T)
@@ -74,6 +77,15 @@ rising_goes_on variants v name after same h =
 pub rising_at_end : (variants : List VariantCount) → AreRising (variant_names variants ++ []) → AreRising (variant_names variants)
 rising_at_end variants h = subst AreRising (append-nil (variant_names variants)) h
 
-pub no_variants : AreRising (variant_names [])
+none_rise : AreRising (variant_names [])
 unfolding IsStrictlySortedBy
-no_variants = tt
+none_rise = tt
+
+pub no_variants : AreVariants []
+no_variants = record { rising = none_rise; names = (omega arith, All-nil IsNamed) }
+
+pub no_entries : AreReadable []
+no_entries = (omega arith, All-nil IsReadable)
+
+pub are_entries : (report : Report) → AreReadable report.entries → IsReport report
+are_entries report valid = λ k d lt. let e = valid.1 k d lt in record { hour = omega (arith, e.hour); variants = e.variants.rising }

@@ -98,7 +98,7 @@ entry_back environment e valid =
     let value = counted_data (counted environment e) in
     let a = defaulted_back 0 any_whole field.Yes value (count e.yes) e.yes refl (any_whole_back field.Yes e.yes) in
     let b = defaulted_back 0 any_whole field.No value (count e.no) e.no refl (any_whole_back field.No e.no) in
-    let c = defaulted_back [] (members 100 variant_count) field.Variants value (variants_data (map pair e.variants)) e.variants refl (variants_back field.Variants e.variants valid.entry.variants valid.variants) in
+    let c = defaulted_back [] (members 100 variant_count) field.Variants value (variants_data (map pair e.variants)) e.variants refl (variants_back field.Variants e.variants valid.variants.rising valid.variants.names) in
     rw (a, b, c) refl
 
 item_back : (environment : List ℕ) (e : MetricEntry) → IsReadable e → bulk_entry_of (counted_data (counted environment e)) ≡ Ok e

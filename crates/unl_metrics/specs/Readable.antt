@@ -1,23 +1,30 @@
 -- Which reports, sent as a bulk report, are read as they were.
 use Rattle.std.specs.Prelude.{ℕ, ◌≤◌, List, length, map, All}
 use Rattle.unl_documents.specs.Limits.{IsName, IsListOf}
+use Rattle.unl_documents.specs.Parameters.{AreRising}
 use Rattle.unl_metrics.specs.declared.report.MetricEntry.{MetricEntry}
-use Rattle.unl_metrics.specs.declared.report.Report.{Report}
 use Rattle.unl_metrics.specs.declared.report.VariantCount.{VariantCount}
 use Rattle.unl_metrics.specs.Book.{Book, Key, Tally}
-use Rattle.unl_metrics.specs.Reports.{IsEntry}
 
 -- the last hour that has an instant
 abbrev pub last_hour : ℕ
 last_hour = 70389502
 
+-- the variant has a name within its limits
+abbrev pub IsNamed : VariantCount → Type 0
+IsNamed v = IsName v.name
+
+-- at most 100 variants with such names, in byte order
+pub record AreVariants (variants : List VariantCount) : Type 0 where
+  pub rising : AreRising (map (λ v. v.name) variants)
+  pub names : IsListOf 100 IsNamed variants
+
 -- an entry of a report as it is read: names within their limits, and an hour that has an instant
 pub record IsReadable (e : MetricEntry) : Type 0 where
-  pub entry : IsEntry e
   pub app : IsName e.app
   pub feature : IsName e.feature
   pub hour : e.hour ≤ last_hour
-  pub variants : IsListOf 100 (λ v. IsName v.name) e.variants
+  pub variants : AreVariants e.variants
 
 -- at most 10,000 such entries
 abbrev pub AreReadable : List MetricEntry → Type 0

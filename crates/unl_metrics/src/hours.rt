@@ -1,8 +1,9 @@
 //! Hours since 1970.
-ghost use Rattle.std.specs.Prelude.{◌≡◌, ◌<◌, pos, IfOk, IfSome, option_and_then};
+ghost use Rattle.std.specs.Prelude.{◌≡◌, ◌<◌, ◌≤◌, pos, IfOk, IfSome, option_and_then};
 ghost use Rattle.unl_constraints.specs.Instant.{instant_of};
 ghost use Rattle.jiff.specs.Words.{epoch_day};
 ghost use Rattle.unl_metrics.specs.Hours.{hour_of, hour_text, hours_of_years};
+ghost use Rattle.unl_metrics.specs.Readable.{last_hour};
 
 use jiff::ToSpan;
 use jiff::civil::{Date, date};
@@ -22,7 +23,7 @@ impl Kind for Hour {
 
     ghost reads = { hour };
 
-    ghost is_valid = { λ h. h < hours_of_years };
+    ghost is_valid = { λ h. h ≤ last_hour };
 
     #[tactic(auto, unfolding(crate::specs::Reports::hour, unl_documents::specs::Kinds::any_text))]
     fn read(alloc: Global, field: Field, value: &Value) -> Result<u32, BadDocument> {
@@ -39,7 +40,13 @@ impl Kind for Hour {
 /// The hour of the instant that a text names, if it is of the years 1970 to 9999.
 fn hour_in(alloc: Global, text: &str) -> Result<Option<u32>, Memory>
     ensures hour { IfOk result (λ hour. hour ≡ option_and_then hour_of (instant_of text.now)) }
-    ensures below { IfOk result (λ hour. IfSome hour (λ h. h < hours_of_years)) }
+    ensures below { IfOk result (λ hour. IfSome hour (λ h. h ≤ last_hour)) }
+{
+    hour_of_text(alloc, text)
+}
+
+fn hour_of_text(alloc: Global, text: &str) -> Result<Option<u32>, Memory>
+    ensures { IfOk result (λ hour. hour ≡ option_and_then hour_of (instant_of text.now)) }
 {
     match read_instant(alloc, text)? {
         Some(instant) => Ok(hour_of(instant)),
@@ -50,8 +57,7 @@ fn hour_in(alloc: Global, text: &str) -> Result<Option<u32>, Memory>
 /// The whole hours from 1970 to an instant in nanoseconds, if it is of the years 1970 to 9999.
 #[tactic(auto, unfolding(crate::specs::Hours::hour_of))]
 fn hour_of(instant: i128) -> Option<u32>
-    ensures hour { result ≡ hour_of instant }
-    ensures below { IfSome result (λ h. h < hours_of_years) }
+    ensures { result ≡ hour_of instant }
 {
     if instant < 0 {
         return None;

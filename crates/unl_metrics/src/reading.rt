@@ -1,12 +1,13 @@
 //! Reading the values of reports.
-ghost use Rattle.std.specs.Prelude.{◌≡◌, ◌<◌, IfOk, All, map, length};
+ghost use Rattle.std.specs.Prelude.{◌≡◌, ◌≤◌, IfOk, All, map, length};
 ghost use Rattle.serde_json.specs.Events.{members_len};
 ghost use Rattle.serde_json.specs.View.{view, members_view};
 ghost use Rattle.unl_documents.specs.Kinds.{object_of, required as required_at};
+ghost use Rattle.unl_documents.specs.Limits.{IsName};
 ghost use Rattle.unl_documents.specs.Parameters.{AreRising};
 ghost use Rattle.unl_documents.specs.Reading.{Gives};
-ghost use Rattle.unl_metrics.specs.Hours.{hours_of_years};
-ghost use Rattle.unl_metrics.specs.Reports.{variant_count, each_member, members as members_at, entry_of, toggle_of, bucket_of, single_of, bulk_of, IsEntry, IsReport};
+ghost use Rattle.unl_metrics.specs.Readable.{last_hour, IsNamed, AreVariants, IsReadable, AreReadable};
+ghost use Rattle.unl_metrics.specs.Reports.{variant_count, each_member, members as members_at, entry_of, toggle_of, bucket_of, single_of, bulk_of};
 
 use crate::hours::Hour;
 use crate::report::{MetricEntry, Report, VariantCount};
@@ -26,7 +27,7 @@ impl Kind for Variants {
 
     ghost reads = { members_at 100 variant_count };
 
-    ghost is_valid = { λ variants. AreRising (map (λ v. v.name) variants) };
+    ghost is_valid = { AreVariants };
 
     #[tactic(auto, unfolding(crate::specs::Reports::members))]
     fn read(alloc: Global, field: Field, value: &Value) -> Result<List<VariantCount>, BadDocument> {
@@ -42,7 +43,8 @@ impl Kind for Variants {
 }
 
 fn count_of(members: &Map<String, Value>) -> usize
-    ensures { result ≡ members_len (members_view members.now.entries) }
+    ensures members { result ≡ members_len (members_view members.now.entries) }
+    ensures len { result ≡ length members.now.entries }
 {
     members.len()
 }
@@ -53,7 +55,9 @@ fn each_variant(
     members: &Map<String, Value>,
 ) -> Result<List<VariantCount>, BadDocument>
     ensures gives { Gives result (each_member (variant_count field) (members_view members.now.entries)) }
-    ensures valid { IfOk result (λ variants. AreRising (map (λ v. v.name) variants)) }
+    ensures rising { IfOk result (λ variants. AreRising (map (λ v. v.name) variants)) }
+    ensures names { IfOk result (All IsNamed) }
+    ensures len { IfOk result (λ variants. length variants ≤ length members.now.entries) }
 {
     let mut variants = List::new(alloc);
     for (name, value) in members.iter() {
@@ -71,6 +75,7 @@ fn variant_of(
 ) -> Result<VariantCount, BadDocument>
     ensures gives { Gives result (variant_count field name.now (view value.now)) }
     ensures same { IfOk result (λ v. v.name ≡ name.now) }
+    ensures named { IfOk result IsNamed }
 {
     let name = name_of(alloc, field, name)?;
     let count = AnyWhole::read(alloc, field, value)?;
@@ -86,9 +91,11 @@ fn entry_of(
     hour: u32,
     value: &Value,
 ) -> Result<MetricEntry, BadDocument>
-    requires { hour < hours_of_years }
+    requires app { IsName app }
+    requires feature { IsName feature }
+    requires hour { hour ≤ last_hour }
     ensures gives { Gives result (entry_of app feature hour (view value.now)) }
-    ensures valid { IfOk result IsEntry }
+    ensures valid { IfOk result IsReadable }
 {
     let none = List::new(alloc);
     let yes = defaulted::<AnyWhole>(alloc, 0, Field::Yes, value)?;
@@ -113,9 +120,10 @@ fn toggle_of(
     feature: &str,
     value: &Value,
 ) -> Result<MetricEntry, BadDocument>
-    requires { hour < hours_of_years }
+    requires app { IsName app.now }
+    requires hour { hour ≤ last_hour }
     ensures gives { Gives result (toggle_of app.now hour field feature.now (view value.now)) }
-    ensures valid { IfOk result IsEntry }
+    ensures valid { IfOk result IsReadable }
 {
     let feature = name_of(alloc, field, feature)?;
     if !value.is_object() {
@@ -131,9 +139,11 @@ fn each_toggle(
     field: Field,
     members: &Map<String, Value>,
 ) -> Result<List<MetricEntry>, BadDocument>
-    requires { hour < hours_of_years }
+    requires app { IsName app.now }
+    requires hour { hour ≤ last_hour }
     ensures gives { Gives result (each_member (toggle_of app.now hour field) (members_view members.now.entries)) }
-    ensures valid { IfOk result (All IsEntry) }
+    ensures valid { IfOk result (All IsReadable) }
+    ensures len { IfOk result (λ entries. length entries ≤ length members.now.entries) }
 {
     let mut entries = List::new(alloc);
     for (feature, value) in members.iter() {
@@ -151,9 +161,10 @@ fn toggles_of(
     field: Field,
     value: &Value,
 ) -> Result<List<MetricEntry>, BadDocument>
-    requires { hour < hours_of_years }
+    requires app { IsName app.now }
+    requires hour { hour ≤ last_hour }
     ensures gives { Gives result (members_at 10000 (toggle_of app.now hour) field (view value.now)) }
-    ensures valid { IfOk result (All IsEntry) }
+    ensures valid { IfOk result AreReadable }
 {
     let Some(members) = value.as_object() else {
         return Err(BadDocument::WrongKind(field));
@@ -167,8 +178,9 @@ fn toggles_of(
 
 #[tactic(auto, unfolding(crate::specs::Reports::bucket_of, unl_documents::specs::Kinds::defaulted))]
 fn bucket_of(alloc: Global, app: &Text, value: &Value) -> Result<List<MetricEntry>, BadDocument>
+    requires { IsName app.now }
     ensures gives { Gives result (bucket_of app.now (view value.now)) }
-    ensures valid { IfOk result (All IsEntry) }
+    ensures valid { IfOk result AreReadable }
 {
     let hour = required::<Hour>(alloc, Field::Start, value)?;
     match value_at(Field::Toggles, value) {
@@ -184,7 +196,7 @@ fn bucket_of(alloc: Global, app: &Text, value: &Value) -> Result<List<MetricEntr
 #[tactic(auto, unfolding(crate::specs::Reports::single_of))]
 pub(crate) fn read_single(alloc: Global, value: &Value) -> Result<Report, BadDocument>
     ensures gives { Gives result (single_of (view value.now)) }
-    ensures valid { IfOk result IsReport }
+    ensures valid { IfOk result (λ report. AreReadable report.entries) }
 {
     let app = required::<Name>(alloc, Field::AppName, value)?;
     let entries = entries_of(alloc, &app, Field::Bucket, value)?;
@@ -198,8 +210,9 @@ fn entries_of(
     field: Field,
     value: &Value,
 ) -> Result<List<MetricEntry>, BadDocument>
+    requires { IsName app.now }
     ensures gives { Gives result (required_at (object_of (bucket_of app.now)) field (view value.now)) }
-    ensures valid { IfOk result (All IsEntry) }
+    ensures valid { IfOk result AreReadable }
 {
     match value_at(field, value) {
         None => Err(BadDocument::Missing(field)),
@@ -213,7 +226,7 @@ impl Document for MetricEntry {
 
     ghost reads_object = { bulk_entry_of };
 
-    ghost is_valid = { IsEntry };
+    ghost is_valid = { IsReadable };
 
     #[tactic(auto, unfolding(crate::specs::Reports::bulk_entry_of))]
     fn read_object(alloc: Global, value: &Value) -> Result<MetricEntry, BadDocument> {
@@ -231,7 +244,7 @@ impl Document for MetricEntry {
 #[tactic(auto, unfolding(crate::specs::Reports::bulk_of))]
 pub(crate) fn read_bulk(alloc: Global, value: &Value) -> Result<Report, BadDocument>
     ensures gives { Gives result (bulk_of (view value.now)) }
-    ensures valid { IfOk result IsReport }
+    ensures valid { IfOk result (λ report. AreReadable report.entries) }
 {
     let entries = required::<ListOf<Object<MetricEntry>, 10_000>>(alloc, Field::Metrics, value)?;
     Ok(Report { entries })

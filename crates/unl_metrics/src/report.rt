@@ -1,6 +1,7 @@
 //! Reports of how often features were on and off.
 ghost use Rattle.std.specs.Prelude.{IfOk};
 ghost use Rattle.unl_documents.specs.Results.{Gives};
+ghost use Rattle.unl_metrics.specs.Readable.{AreReadable};
 ghost use Rattle.unl_metrics.specs.Reports.{single_report_of, bulk_report_of, IsReport};
 ghost use Rattle.unl_metrics.specs.declared.fault.BadReport.TheVariants.{Memory as memory};
 
@@ -56,6 +57,7 @@ impl Report {
     pub fn read_single(alloc: Global, bytes: &[u8]) -> Result<Report, BadReport>
         ensures gives { Gives memory result (single_report_of bytes.now) }
         ensures valid { IfOk result IsReport }
+        ensures readable { IfOk result (λ report. AreReadable report.entries) }
     {
         single_report(alloc, bytes)
     }
@@ -71,6 +73,7 @@ impl Report {
     pub fn read_bulk(alloc: Global, bytes: &[u8]) -> Result<Report, BadReport>
         ensures gives { Gives memory result (bulk_report_of bytes.now) }
         ensures valid { IfOk result IsReport }
+        ensures readable { IfOk result (λ report. AreReadable report.entries) }
     {
         bulk_report(alloc, bytes)
     }
@@ -79,7 +82,7 @@ impl Report {
 #[tactic(auto, unfolding(crate::specs::Reports::single_report_of))]
 fn single_report(alloc: Global, bytes: &[u8]) -> Result<Report, BadReport>
     ensures gives { Gives memory result (single_report_of bytes.now) }
-    ensures valid { IfOk result IsReport }
+    ensures readable { IfOk result (λ report. AreReadable report.entries) }
 {
     let Some(value) = read_object(alloc, bytes)? else {
         return Err(BadReport::NotJson);
@@ -90,7 +93,7 @@ fn single_report(alloc: Global, bytes: &[u8]) -> Result<Report, BadReport>
 #[tactic(auto, unfolding(crate::specs::Reports::bulk_report_of))]
 fn bulk_report(alloc: Global, bytes: &[u8]) -> Result<Report, BadReport>
     ensures gives { Gives memory result (bulk_report_of bytes.now) }
-    ensures valid { IfOk result IsReport }
+    ensures readable { IfOk result (λ report. AreReadable report.entries) }
 {
     let Some(value) = read_object(alloc, bytes)? else {
         return Err(BadReport::NotJson);

@@ -2,5 +2,5 @@ use Rattle.std.proofs.Common.{rules}
 use Rattle.serde_json.proofs.Views.{members_len-members_view}
 use Rattle.unl_metrics.proofs.reading.count_of.Goals as goal
 
-pub returns : goal.returns
-returns c = rw (members_len-members_view c.args.members.now.entries) (search rules)
+pub returns-clause-members : goal.returns-clause-members
+returns-clause-members c = rw (members_len-members_view c.args.members.now.entries) (search rules)

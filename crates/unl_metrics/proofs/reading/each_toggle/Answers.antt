@@ -1,9 +1,11 @@
-use Rattle.std.proofs.Common.{◌≡◌, List, ◌∷◌, ◌++◌, subst, ◌∙◌, string_bytes}
+use Rattle.std.proofs.Common.{◌≡◌, suc, List, ◌∷◌, ◌++◌, ◌+◌, ◌≤◌, length, subst, ◌∙◌, string_bytes, arith}
+use Rattle.std.proofs.lemmas.List.{length_push}
 use Rattle.std.proofs.lemmas.List.Elements.{All-nil, All-push}
 use Rattle.std.proofs.lemmas.Result.{err_from_is_err_and}
 use Rattle.serde_json.specs.View.{members_view}
 use Rattle.serde_json.proofs.Views.{Entry}
-use Rattle.unl_metrics.specs.Reports.{each_member, toggle_of, IsEntry}
+use Rattle.unl_metrics.specs.Readable.{IsReadable}
+use Rattle.unl_metrics.specs.Reports.{each_member, toggle_of}
 use Rattle.unl_metrics.proofs.Members.{with_front, begins, goes_on, ends, is_done}
 use Rattle.unl_metrics.proofs.reading.each_toggle.Goals as goal
 
@@ -13,7 +15,8 @@ loop-feature-init c =
     let all : c.into_iter-feature-iterator.result ≡ entries = c.into_iter-feature-iterator.ensures.into_iter_gives ∙ c.iter-feature-items.ensures.rest in
     rw (c.new-entries.ensures, all) record {
       so_far = begins (each_member (toggle_of c.args.app.now c.args.hour c.args.field) (members_view entries));
-      valid = All-nil IsEntry;
+      valid = All-nil IsReadable;
+      len = omega arith;
     }
 
 pub returns-in_err-toggle_of-clause-gives : goal.returns-in_err-toggle_of-clause-gives
@@ -35,9 +38,11 @@ loop-feature-preserved c =
     let found = c.in_ok-toggle_of.field-0 in
     let total = each_member kind (members_view c.args.members.now.entries) in
     let so_far : with_front l.entries (each_member kind (members_view (e ∷ left))) ≡ total = subst (λ (es : List Entry). with_front l.entries (each_member kind (members_view es)) ≡ total) c.in-Some.ensures.steps l.invariant.so_far in
+    let len : length l.entries + suc (length left) ≤ length c.args.members.now.entries = subst (λ (es : List Entry). length l.entries + length es ≤ length c.args.members.now.entries) c.in-Some.ensures.steps l.invariant.len in
     rw c.in_ok-push.ensures.ok record {
       so_far = goes_on kind l.entries e left found total (rw (← c.as_str.ensures.value) c.in_ok-toggle_of.ensures.gives) so_far;
-      valid = All-push IsEntry l.entries found l.invariant.valid c.in_ok-toggle_of.ensures.valid;
+      valid = All-push IsReadable l.entries found l.invariant.valid c.in_ok-toggle_of.ensures.valid;
+      len = omega (arith, length_push l.entries found, len);
     }
 
 pub returns-clause-gives : goal.returns-clause-gives

@@ -1,8 +1,11 @@
-use Rattle.std.proofs.Common.{◌≡◌, List, ◌∷◌, ◌++◌, subst, ◌∙◌, string_bytes}
+use Rattle.std.proofs.Common.{◌≡◌, suc, List, ◌∷◌, ◌++◌, ◌+◌, ◌≤◌, length, subst, ◌∙◌, string_bytes, arith}
+use Rattle.std.proofs.lemmas.List.{length_push}
+use Rattle.std.proofs.lemmas.List.Elements.{All-nil, All-push}
 use Rattle.std.proofs.lemmas.Result.{err_from_is_err_and}
 use Rattle.serde_json.specs.View.{members_view}
 use Rattle.serde_json.proofs.Views.{Entry}
 use Rattle.unl_documents.specs.Parameters.{AreRising}
+use Rattle.unl_metrics.specs.Readable.{IsNamed}
 use Rattle.unl_metrics.specs.Reports.{each_member, variant_count}
 use Rattle.unl_metrics.proofs.Members.{with_front, variant_names, names_of, begins, goes_on, ends, is_done, rising_names, rising_goes_on, rising_at_end}
 use Rattle.unl_metrics.proofs.reading.each_variant.Goals as goal
@@ -14,6 +17,8 @@ loop-name-init c =
     rw (c.new-variants.ensures, all) record {
       so_far = begins (each_member (variant_count c.args.field) (members_view entries));
       rising = rising_names entries c.iter-name-items.ensures.ordered;
+      names = All-nil IsNamed;
+      len = omega arith;
     }
 
 pub returns-in_err-variant_of-clause-gives : goal.returns-in_err-variant_of-clause-gives
@@ -36,9 +41,12 @@ loop-name-preserved c =
     let total = each_member kind (members_view c.args.members.now.entries) in
     let so_far : with_front l.variants (each_member kind (members_view (e ∷ left))) ≡ total = subst (λ (es : List Entry). with_front l.variants (each_member kind (members_view es)) ≡ total) c.in-Some.ensures.steps l.invariant.so_far in
     let rising : AreRising (variant_names l.variants ++ string_bytes e.0 ∷ names_of left) = subst (λ (es : List Entry). AreRising (variant_names l.variants ++ names_of es)) c.in-Some.ensures.steps l.invariant.rising in
+    let len : length l.variants + suc (length left) ≤ length c.args.members.now.entries = subst (λ (es : List Entry). length l.variants + length es ≤ length c.args.members.now.entries) c.in-Some.ensures.steps l.invariant.len in
     rw c.in_ok-push.ensures.ok record {
       so_far = goes_on kind l.variants e left found total (rw (← c.as_str.ensures.value) c.in_ok-variant_of.ensures.gives) so_far;
       rising = rising_goes_on l.variants found (string_bytes e.0) (names_of left) (rw (← c.as_str.ensures.value) c.in_ok-variant_of.ensures.same) rising;
+      names = All-push IsNamed l.variants found l.invariant.names c.in_ok-variant_of.ensures.named;
+      len = omega (arith, length_push l.variants found, len);
     }
 
 pub returns-clause-gives : goal.returns-clause-gives
@@ -48,6 +56,6 @@ returns-clause-gives c =
     let total = each_member kind (members_view c.args.members.now.entries) in
     is_done kind l.variants total (subst (λ (es : List Entry). with_front l.variants (each_member kind (members_view es)) ≡ total) c.in-None.ensures.steps.0 l.invariant.so_far)
 
-pub returns-clause-valid : goal.returns-clause-valid
-returns-clause-valid c =
+pub returns-clause-rising : goal.returns-clause-rising
+returns-clause-rising c =
     rising_at_end c.loop-name.variants (subst (λ (es : List Entry). AreRising (variant_names c.loop-name.variants ++ names_of es)) c.in-None.ensures.steps.0 c.loop-name.invariant.rising)
