@@ -14,3 +14,4 @@ mod Lookups
 mod Gone
 mod Depths
 mod Instants
+mod Sendable

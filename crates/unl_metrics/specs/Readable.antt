@@ -30,10 +30,21 @@ pub record IsReadable (e : MetricEntry) : Type 0 where
 abbrev pub AreReadable : List MetricEntry → Type 0
 AreReadable entries = IsListOf 10000 IsReadable entries
 
+-- a variant and how often it was given, as a report has it
+abbrev pub named : List ℕ × ℕ → VariantCount
+named v = record { name = v.0; count = v.1 }
+
 -- the entry that stands for a key and its tally
 abbrev pub entry_at : Key × Tally → MetricEntry
-entry_at (key, tally) = record { app = key.app; feature = key.feature; hour = key.hour; yes = tally.yes; no = tally.no; variants = map (λ v. record { name = v.0; count = v.1 }) tally.variants }
+entry_at (key, tally) = record { app = key.app; feature = key.feature; hour = key.hour; yes = tally.yes; no = tally.no; variants = map named tally.variants }
 
 -- the entries that stand for the keys and their tallies
 abbrev pub entries_at : Book → List MetricEntry
 entries_at book = map entry_at book
+
+-- a key and its tally with names within their limits, in an hour that has an instant
+pub record IsSendable (e : Key × Tally) : Type 0 where
+  pub app : IsName e.0.app
+  pub feature : IsName e.0.feature
+  pub hour : e.0.hour ≤ last_hour
+  pub variants : All (λ v. IsName v.0) e.1.variants

@@ -6,9 +6,9 @@ ghost use Rattle.std.specs.Ordering.{nat_cmp};
 ghost use Rattle.serde_json.specs.Data.{depth};
 ghost use Rattle.unl_documents.specs.Results.{json_of};
 ghost use Rattle.unl_metrics.specs.declared.report.MetricEntry.{MetricEntry};
-ghost use Rattle.unl_metrics.specs.Book.{Book, Key, Tally, sum, sum_of, tally_sum, tally_at, tallies_at, count_at, and_more, both, counted, counted_in, acknowledge, IsCounted, IsInOrder};
+ghost use Rattle.unl_metrics.specs.Book.{Book, Key, Tally, sum, sum_of, tally_sum, tally_at, tallies_at, count_at, and_more, both, counted, counted_in, acknowledge, IsCounted, IsInOrder, IsBook};
 ghost use Rattle.unl_metrics.specs.Bulk.{bulk, bulk_data, bulk_length, longest_bulk, room_for};
-ghost use Rattle.unl_metrics.specs.Readable.{AreReadable, entries_at};
+ghost use Rattle.unl_metrics.specs.Readable.{AreReadable, IsSendable, entries_at};
 ghost use Rattle.unl_metrics.specs.Reports.{bulk_report_of};
 
 /// A book is a finite map: books with the same tally at each key are the same.
@@ -41,5 +41,13 @@ pub fn the_longest_front_is_sent()
 pub fn what_is_sent_is_read()
     ensures entries { (environment : List ℕ) (book : Book) → map (counted environment) (entries_at (counted_in environment book)) ≡ counted_in environment book }
     ensures report { (environment : List ℕ) (entries : List MetricEntry) (bytes : List ℕ) → AreReadable entries → json_of bytes ≡ Some (bulk_data (map (counted environment) entries)) → bulk_report_of bytes ≡ Ok (record { entries = entries }) }
+    ensures book { (environment : List ℕ) (book : Book) (n : ℕ) (bytes : List ℕ) → IsBook book → All IsSendable book → json_of bytes ≡ Some (bulk_data (take n (counted_in environment book))) → bulk_report_of bytes ≡ Ok (record { entries = entries_at (take n (counted_in environment book)) }) }
     ensures depth { (book : Book) → depth (bulk_data book) ≤ 4 }
+{}
+
+/// What is read may be sent, and so may sums of it and what is left of it.
+pub fn what_is_read_may_be_sent()
+    ensures entries { (environment : List ℕ) (entries : List MetricEntry) → AreReadable entries → All IsSendable (map (counted environment) entries) }
+    ensures sums { (book others : Book) → All IsSendable book → All IsSendable others → All IsSendable (sum_of book others) }
+    ensures rest { (environment : List ℕ) (count : ℕ) (book : Book) → All IsSendable book → All IsSendable (acknowledge environment count book) }
 {}

@@ -40,6 +40,7 @@ pub struct MetricEntry {
 /// What was counted, entry by entry.
 #[derive(Debug, Drop, PartialEq)]
 pub struct Report {
+    /// The entries, of which several may have one app, feature and hour.
     pub entries: List<MetricEntry>,
 }
 
