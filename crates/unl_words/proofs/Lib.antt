@@ -1,5 +1,6 @@
 mod Differences
 mod Faults
+pub mod Known
 mod LastSplit
 mod Named
 mod Numbers

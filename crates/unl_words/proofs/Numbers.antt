@@ -1,5 +1,5 @@
 -- Texts of digits, as `parse` reads them.
-use Rattle.std.proofs.Common.{◌≡◌, ◌<◌, ◌&&◌, ℕ, Bool, true, false, nat_le, ◌^◌, List, [], ◌∷◌, Err, refl, sym, true≢false, arith}
+use Rattle.std.proofs.Common.{◌≡◌, ◌<◌, ◌&&◌, ℕ, Bool, true, false, nat_le, nat_lt, length, ◌^◌, List, [], ◌∷◌, Err, refl, sym, true≢false, arith}
 use Rattle.clap.proofs.WalkLemmas.{both}
 use Rattle.std.proofs.lemmas.Bool.Decides.{nat_tests}
 use Rattle.std.specs.List.{list_all}
@@ -24,7 +24,7 @@ and_false false = refl
 digits : (text : List ℕ) → is_number text ≡ true → (without_leading_plus text ≡ text) × IsNumeral 10 text
 digits [] is = absurd (true≢false (sym is))
 digits (c ∷ cs) is =
-    let all = (both _ _ is).1 in
+    let all = (both (nat_lt 0 (length (c ∷ cs))) (list_all is_ascii_digit (c ∷ cs)) is).1 in
     let here = tells_all_ascii_digits.parts c cs all in
     (without_leading_plus_none (c ∷ cs) (λ plus. omega (arith, here.0)), (omega arith, all_digits (c ∷ cs) all))
 
