@@ -131,6 +131,12 @@ const CASES: [(&str, &str); 31] = [
     ),
 ];
 
+/// Reports of what was counted, and the bulk reports that they sum to.
+const REPORTS: (&str, &str) = (
+    "{\"op\":\"tokens\",\"tokens\":[{\"token\":\"*:dev.c\",\"type\":\"client\"},{\"token\":\"*:dev.f\",\"type\":\"frontend\"}]}\n{\"op\":\"ask\",\"method\":\"POST\",\"token\":\"*:dev.c\",\"target\":\"/api/client/metrics\",\"body\":\"{\\\"appName\\\":\\\"shop\\\",\\\"bucket\\\":{\\\"start\\\":\\\"2024-01-01T10:05:00Z\\\",\\\"stop\\\":\\\"2024-01-01T10:06:00Z\\\",\\\"toggles\\\":{\\\"a\\\":{\\\"yes\\\":2,\\\"no\\\":1,\\\"variants\\\":{\\\"red\\\":2}}}}}\"}\n{\"op\":\"metrics\",\"environment\":\"dev\"}\n{\"op\":\"metrics\",\"environment\":\"dev\"}\n{\"op\":\"ask\",\"method\":\"POST\",\"token\":\"*:dev.c\",\"target\":\"/api/client/metrics\",\"body\":\"{\\\"appName\\\":\\\"shop\\\",\\\"bucket\\\":{\\\"start\\\":\\\"2024-01-01T10:05:00Z\\\",\\\"stop\\\":\\\"2024-01-01T10:06:00Z\\\",\\\"toggles\\\":{\\\"a\\\":{\\\"yes\\\":2,\\\"no\\\":1,\\\"variants\\\":{\\\"red\\\":2}}}}}\"}\n{\"op\":\"ask\",\"method\":\"POST\",\"token\":\"*:dev.f\",\"target\":\"/api/frontend/client/metrics\",\"body\":\"{\\\"appName\\\":\\\"shop\\\",\\\"bucket\\\":{\\\"start\\\":\\\"2024-01-01T10:05:00Z\\\",\\\"stop\\\":\\\"2024-01-01T10:06:00Z\\\",\\\"toggles\\\":{\\\"a\\\":{\\\"yes\\\":2,\\\"no\\\":1,\\\"variants\\\":{\\\"red\\\":2}}}}}\"}\n{\"op\":\"ask\",\"method\":\"POST\",\"token\":\"*:dev.c\",\"target\":\"/api/client/metrics\",\"body\":\"[]\"}\n{\"op\":\"ask\",\"method\":\"POST\",\"token\":\"*:dev.f\",\"target\":\"/api/client/metrics\",\"body\":\"{\\\"appName\\\":\\\"shop\\\",\\\"bucket\\\":{\\\"start\\\":\\\"2024-01-01T10:05:00Z\\\",\\\"stop\\\":\\\"2024-01-01T10:06:00Z\\\",\\\"toggles\\\":{\\\"a\\\":{\\\"yes\\\":2,\\\"no\\\":1,\\\"variants\\\":{\\\"red\\\":2}}}}}\"}\n{\"op\":\"ask\",\"target\":\"/api/client/metrics\"}\n{\"op\":\"metrics\",\"environment\":\"qa\"}\n{\"op\":\"metrics\",\"environment\":\"dev\"}\n{\"op\":\"ask\",\"method\":\"POST\",\"token\":\"*:dev.c\",\"target\":\"/api/client/metrics/bulk\",\"body\":\"{\\\"applications\\\":[],\\\"metrics\\\":[{\\\"appName\\\":\\\"shop\\\",\\\"environment\\\":\\\"dev\\\",\\\"featureName\\\":\\\"a\\\",\\\"no\\\":2,\\\"timestamp\\\":\\\"2024-01-01T10:00:00Z\\\",\\\"variants\\\":{\\\"red\\\":4},\\\"yes\\\":4}]}\"}\n{\"op\":\"metrics\",\"environment\":\"dev\"}\n",
+    "1: tokens generation 1 front 1\n2: front 1 status 202 tag - body \n3: metrics {\"applications\":[],\"metrics\":[{\"appName\":\"shop\",\"environment\":\"dev\",\"featureName\":\"a\",\"no\":1,\"timestamp\":\"2024-01-01T10:00:00Z\",\"variants\":{\"red\":2},\"yes\":2}]}\n4: metrics -\n5: front 1 status 202 tag - body \n6: front 1 status 202 tag - body \n7: front 1 status 400 tag - body {\"error\":\"BadReport\"}\n8: front 1 status 403 tag - body {\"error\":\"WrongKind\"}\n9: front 1 status 405 tag - body {\"error\":\"BadMethod\"}\n10: metrics -\n11: metrics {\"applications\":[],\"metrics\":[{\"appName\":\"shop\",\"environment\":\"dev\",\"featureName\":\"a\",\"no\":2,\"timestamp\":\"2024-01-01T10:00:00Z\",\"variants\":{\"red\":4},\"yes\":4}]}\n12: front 1 status 202 tag - body \n13: metrics {\"applications\":[],\"metrics\":[{\"appName\":\"shop\",\"environment\":\"dev\",\"featureName\":\"a\",\"no\":2,\"timestamp\":\"2024-01-01T10:00:00Z\",\"variants\":{\"red\":4},\"yes\":4}]}\n",
+);
+
 /// What the replay of an input prints.
 fn printed(alloc: Global, input: &str) -> Option<Vec<u8>> {
     let mut words = Vec::new(alloc);
@@ -150,5 +156,14 @@ fn each_replay_prints(rt: HostRuntime) -> Result<(), Fail> {
         let text = printed(alloc, input).expect(&rt, "there is memory");
         assert_eq!(rt; str::from_utf8(&text).ok(), Some(*output));
     }
+    Ok(())
+}
+
+#[test]
+fn reports_are_summed(rt: HostRuntime) -> Result<(), Fail> {
+    let alloc = rt.alloc();
+    let (input, output) = REPORTS;
+    let text = printed(alloc, input).expect(&rt, "there is memory");
+    assert_eq!(rt; str::from_utf8(&text).ok(), Some(output));
     Ok(())
 }
