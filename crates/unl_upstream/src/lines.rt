@@ -38,7 +38,7 @@ impl LineTaking for CommandLines {
         match read_command_bytes(alloc, line) {
             Ok(command) => obey(alloc, desk, &command),
             Err(BadDocument::Memory) => Err(LineRefusal::Memory),
-            Err(fault) => Err(LineRefusal::Cause(fault_text(alloc, &fault)?)),
+            Err(fault) => Err(LineRefusal::Cause(Text::from(fault_text(alloc, &fault)?))),
         }
     }
 }
