@@ -15,7 +15,7 @@ use unl_exchange::{Answering, converse};
 use unl_http_api::{End, Reply, Request};
 
 /// Answers requests by an upstream, and counts them.
-struct ByUpstream;
+pub(crate) struct ByUpstream;
 
 impl Answering for ByUpstream {
     ghost use Rattle.unl_upstream.specs.Serving.{Gives, GivesUp, counted};
