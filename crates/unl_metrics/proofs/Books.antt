@@ -1,6 +1,5 @@
 -- Books stay in order.
-use Rattle.std.proofs.Common.{◌≡◌, ℕ, ◌<◌, Bool, true, false, cond, T, List, [], ◌∷◌, map, length, get_or, fold, refl, sym, subst, ap, ◌∙◌, nat_cmp, arith}
-use Rattle.std.proofs.lemmas.Cmp.{nat_list_cmp_total}
+use Rattle.std.proofs.Common.{◌≡◌, ℕ, true, false, cond, T, List, [], ◌∷◌, map, fold, refl, sym, subst, nat_cmp}
 use Rattle.std.proofs.lemmas.List.Elements.{All-cons, All-head, All-tail, All-nil}
 use Rattle.std.specs.Cmp.Lexicographic.{slice_cmp}
 use Rattle.std.specs.FinMap.Entries.{put, find, is_sorted, below_all, by_order, is_sorted-put}
@@ -8,12 +7,11 @@ use Rattle.std.specs.List.{AllByRecursion}
 use Rattle.std.specs.List.Sorted.{IsStrictlySortedBy}
 use Rattle.std.specs.Ordering.{eq_by_cmp, is_lt}
 use Rattle.std.specs.Prelude.{All, Option, Some, None, IfSome}
-use Rattle.std.specs.declared.cmp.Ordering.{Ordering}
 use Rattle.std.specs.declared.cmp.Ordering.TheVariants.{Less, Equal, Greater}
 use Rattle.unl_documents.specs.Parameters.{AreRising}
 use Rattle.unl_metrics.specs.declared.report.MetricEntry.{MetricEntry}
 use Rattle.unl_metrics.specs.declared.report.VariantCount.{VariantCount}
-use Rattle.unl_metrics.specs.Book.{Book, Key, Tally, Variants, key_cmp, key_of, tally_of, pair, counted, tally_sum, added, with_variant, with_tally, sum_of, fits, IsCounted, IsInOrder, IsBook}
+use Rattle.unl_metrics.specs.Book.{Book, Key, Tally, Variants, key_cmp, key_of, tally_of, pair, counted, tally_sum, added, with_variant, with_tally, fits, IsCounted, IsInOrder, IsBook}
 use Rattle.unl_metrics.specs.Reports.{IsEntry}
 use Rattle.unl_metrics.proofs.Entries.{both_of}
 use Rattle.unl_metrics.proofs.Order.{keys_total}

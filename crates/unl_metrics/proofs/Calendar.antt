@@ -1,6 +1,6 @@
 -- Days and hours since 1970, and their texts.
-use Rattle.std.proofs.Common.{◌≡◌, ℕ, zero, suc, ◌+◌, ◌-◌, ◌*◌, ◌/◌, ◌%◌, ◌<◌, ◌≤◌, ◌⊎◌, inl, inr, Bool, true, false, cond, List, [], ◌∷◌, ◌++◌, refl, sym, subst, ap, ◌∙◌, append_assoc, nat_lt, arith, ℤ, pos, negsuc, neg_ℤ, ◌+ℤ◌, ◌-ℤ◌, ◌<ℤ◌, ◌≤ℤ◌, rules}
-use Rattle.std.proofs.lemmas.Bool.{cases_order, cases_lt}
+use Rattle.std.proofs.Common.{◌≡◌, ℕ, zero, suc, ◌+◌, ◌-◌, ◌*◌, ◌/◌, ◌%◌, ◌<◌, ◌≤◌, inl, inr, true, false, ◌∷◌, ◌++◌, refl, sym, subst, ap, ◌∙◌, append_assoc, nat_lt, arith, ℤ, pos, negsuc, ◌+ℤ◌, ◌<ℤ◌, rules}
+use Rattle.std.proofs.lemmas.Bool.{cases_lt}
 use Rattle.std.proofs.lemmas.Bool.Decides.{nat_tests}
 use Rattle.std.proofs.lemmas.Int.{by_lt_z}
 use Rattle.std.specs.Int.{IsInRange}
@@ -16,7 +16,7 @@ use Rattle.jiff_core.specs.declared.civil.date.Date.{Date}
 use Rattle.jiff_core.specs.declared.civil.datetime.DateTime.{DateTime}
 use Rattle.jiff_core.specs.declared.civil.time.Time.{Time}
 use Rattle.jiff_core.specs.declared.timestamp.Timestamp.{Timestamp}
-use Rattle.unl_metrics.specs.Hours.{year_and_days, month_and_days, two_digits, four_digits, month_text, year_text, date_text, hour_text}
+use Rattle.unl_metrics.specs.Hours.{year_and_days, month_and_days, two_digits, four_digits, date_text, hour_text}
 
 pub epoch_is_zero : (d : Date) → IsYmd (pos 1970) (pos 1) (pos 1) d → epoch_day d ≡ pos 0
 unfolding days_from_civil

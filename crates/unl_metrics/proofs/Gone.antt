@@ -1,9 +1,8 @@
 -- What is left of a book whose keys were acknowledged.
-use Rattle.std.proofs.Common.{◌≡◌, ℕ, zero, suc, Bool, true, false, cond, T, List, [], ◌∷◌, drop, refl, sym, subst, ap, ◌∙◌}
+use Rattle.std.proofs.Common.{◌≡◌, ℕ, zero, suc, Bool, true, false, cond, List, [], ◌∷◌, drop, refl, sym, ap, ◌∙◌}
 use Rattle.std.specs.Cmp.Lexicographic.{bytes_decides}
 use Rattle.std.specs.Prelude.{◌≢◌}
-use Rattle.std.specs.Str.{bytes_eq}
-use Rattle.unl_metrics.specs.Book.{Book, Key, Tally, key_cmp, is_of, counted_in, acknowledge}
+use Rattle.unl_metrics.specs.Book.{Book, Key, is_of, counted_in, acknowledge}
 
 pub these_go : (environment : List ℕ) (count : ℕ) (book : Book) → counted_in environment (acknowledge environment count book) ≡ drop count (counted_in environment book)
 unfolding acknowledge

@@ -1,6 +1,5 @@
 -- What is read as an instant has an hour that is read again.
-use Rattle.std.proofs.Common.{◌≡◌, ℕ, ◌≤◌, ◌<◌, ◌/◌, ◌||◌, Bool, true, false, cond, List, Option, Some, None, Result, Ok, Err, refl, sym, subst, ap, ◌∙◌, T, nat_lt, arith, ℤ, pos, negsuc, neg_ℤ, ◌-ℤ◌, ◌≤ℤ◌}
-use Rattle.std.proofs.lemmas.Bool.Decides.{nat_tests}
+use Rattle.std.proofs.Common.{◌≡◌, ℕ, ◌≤◌, ◌/◌, ◌||◌, Bool, true, false, cond, List, Option, Some, None, Result, Ok, Err, refl, sym, subst, ap, T, nat_lt, arith, ℤ, pos, negsuc, neg_ℤ, ◌-ℤ◌, ◌≤ℤ◌}
 use Rattle.std.proofs.lemmas.Int.{ints}
 use Rattle.std.specs.Prelude.{IfSome, option_and_then, int_lt, is_ok, is_some, unwrap_or}
 use Rattle.std.specs.Result.{result_ok}
@@ -11,9 +10,9 @@ use Rattle.jiff_core.specs.declared.error.Part.TheVariants as Part
 use Rattle.jiff_core.specs.Timestamp.{nanos_of_seconds}
 use Rattle.jiff_fmt.specs.Offset as Offset
 use Rattle.jiff_fmt.specs.Reader.{◌>>=◌, or_err}
-use Rattle.jiff_fmt.specs.Temporal.{DateTimeParts, TimeParts, temporal_datetime, full, parse_timestamp, to_timestamp, instant, parts_nanos}
+use Rattle.jiff_fmt.specs.Temporal.{temporal_datetime, full, parse_timestamp, to_timestamp, instant, parts_nanos}
 use Rattle.unl_constraints.specs.Instant.{instant_of}
-use Rattle.unl_metrics.specs.Hours.{hour_of, if_of_years}
+use Rattle.unl_metrics.specs.Hours.{hour_of}
 
 bind_is : {A B : Type 0} (r : Result A Error) (f : A → Result B Error) (b : B) → (r >>= f) ≡ Ok b → (a : A) × (f a ≡ Ok b)
 bind_is (Ok a) f b e = (a, e)

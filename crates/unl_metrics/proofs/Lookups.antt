@@ -1,15 +1,15 @@
 -- What stands at a key of a sum.
-use Rattle.std.proofs.Common.{◌≡◌, ℕ, Bool, true, false, cond, T, List, [], ◌∷◌, map, fold, refl, sym, subst, ap, ◌∙◌, nat_cmp}
+use Rattle.std.proofs.Common.{◌≡◌, ℕ, true, false, cond, T, List, [], ◌∷◌, map, fold, refl, sym, subst, ap, ◌∙◌, nat_cmp}
 use Rattle.std.proofs.lemmas.Cmp.{nat_list_cmp_total}
 use Rattle.std.specs.Cmp.{IsTotalOrder}
 use Rattle.std.specs.Cmp.Lexicographic.{slice_cmp}
-use Rattle.std.specs.FinMap.{IsAntisymmetric, slice_cmp-IsAntisymmetric, nat_cmp-IsAntisymmetric}
-use Rattle.std.specs.FinMap.Entries.{put, find, is_sorted, below_all, where_key, find-put, find_tied, same_entries}
+use Rattle.std.specs.FinMap.{slice_cmp-IsAntisymmetric, nat_cmp-IsAntisymmetric}
+use Rattle.std.specs.FinMap.Entries.{find, is_sorted, below_all, where_key, find-put, find_tied, same_entries}
 use Rattle.std.specs.Ordering.{is_eq, is_lt, eq_by_cmp}
-use Rattle.std.specs.Prelude.{Option, Some, None, All, option_to_list, unwrap_or, get_or}
+use Rattle.std.specs.Prelude.{Option, Some, None, All, option_to_list, get_or}
 use Rattle.std.specs.declared.cmp.Ordering.{Ordering}
 use Rattle.std.specs.declared.cmp.Ordering.TheVariants.{Less, Equal, Greater}
-use Rattle.unl_metrics.specs.Book.{Book, Key, Tally, key_cmp, parts, sum, sum_of, tally_sum, added, with_entry, with_tally, with_variant, tally_at, tallies_at, count_at, and_more, both, IsCounted, IsInOrder}
+use Rattle.unl_metrics.specs.Book.{Book, Key, Tally, key_cmp, parts, sum, sum_of, tally_sum, added, with_entry, with_tally, tally_at, tallies_at, count_at, and_more, both, IsCounted, IsInOrder}
 use Rattle.unl_metrics.proofs.Books.{stays_in_order}
 use Rattle.unl_metrics.proofs.Entries.{first_of, second_of, less}
 use Rattle.unl_metrics.proofs.Order.{keys_total}

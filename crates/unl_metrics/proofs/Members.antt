@@ -1,5 +1,5 @@
 -- Going over the members of a JSON object.
-use Rattle.std.proofs.Common.{◌≡◌, ℕ, List, [], ◌∷◌, ◌++◌, length, map, Ok, Err, String, Global, string_bytes, refl, sym, ap, subst, ◌∙◌, append_assoc, nat_cmp, Less, arith}
+use Rattle.std.proofs.Common.{◌≡◌, ℕ, List, [], ◌∷◌, ◌++◌, map, Ok, Err, String, Global, string_bytes, refl, sym, ap, subst, ◌∙◌, append_assoc, nat_cmp, Less, arith}
 use Rattle.std.proofs.lemmas.List.{append-nil, map_push}
 use Rattle.std.proofs.lemmas.List.Elements.{All-nil}
 use Rattle.std.specs.Cmp.Lexicographic.{slice_cmp}

@@ -1,5 +1,4 @@
 -- The order of keys.
-use Rattle.std.proofs.Common.{List, ℕ, nat_cmp}
 use Rattle.std.proofs.lemmas.Cmp.{lists_total, nat_list_cmp_total}
 use Rattle.std.specs.Cmp.{IsTotalOrder, on_total}
 use Rattle.unl_metrics.specs.Book.{key_cmp, parts}

@@ -1,5 +1,5 @@
 -- What is sent of a book is read again.
-use Rattle.std.proofs.Common.{◌≡◌, ℕ, suc, ◌*◌, ◌/◌, ◌≤◌, ◌<◌, Bool, true, false, eqb, ltb, List, [], ◌∷◌, ◌++◌, length, map, append_assoc, nat_cmp, nat_lt, Less, Greater, Some, Ok, refl, sym, ap, subst, ◌∙◌, arith, pos}
+use Rattle.std.proofs.Common.{◌≡◌, ℕ, suc, ◌*◌, ◌/◌, ◌≤◌, true, false, eqb, ltb, List, [], ◌∷◌, ◌++◌, length, map, append_assoc, nat_cmp, nat_lt, Less, Greater, Some, Ok, refl, sym, ap, subst, ◌∙◌, arith}
 use Rattle.std.proofs.lemmas.Bool.{le-ltb}
 use Rattle.std.proofs.lemmas.Bool.Decides.{nat_tests}
 use Rattle.std.proofs.lemmas.Cmp.{nat_list_cmp_total}
@@ -10,22 +10,21 @@ use Rattle.std.specs.List.{AllByRecursion}
 use Rattle.std.specs.List.Sorted.{IsStrictlySortedBy}
 use Rattle.std.specs.Ordering.{ordering_reverse}
 use Rattle.std.specs.Prelude.{All}
-use Rattle.serde_json.specs.Data.{Data, string, array, Members, no_members, member, put}
+use Rattle.serde_json.specs.Data.{string, array, Members, no_members, member, put}
 use Rattle.serde_json.specs.Events.{members_len}
 use Rattle.serde_json.specs.View.{items_of}
 use Rattle.unl_constraints.specs.Instant.{instant_of}
 use Rattle.unl_documents.specs.declared.field.Field.{Field}
 use Rattle.unl_documents.specs.declared.field.Field.TheVariants as field
-use Rattle.unl_documents.specs.Kinds.{at, name, name_of, any_text, any_whole, required, defaulted, object_of, objects, list, is_object, always}
+use Rattle.unl_documents.specs.Kinds.{at, name, any_whole, object_of, objects, is_object, always}
 use Rattle.unl_documents.specs.Limits.{IsName, IsListOf}
 use Rattle.unl_documents.specs.Parameters.{AreRising}
-use Rattle.unl_documents.specs.Reading.{Reading}
 use Rattle.unl_documents.specs.Results.{json_of, object_in}
 use Rattle.unl_documents.specs.Writing.{count}
 use Rattle.unl_documents.proofs.RoundTrip.{name_back, any_text_back, any_whole_back, required_back, defaulted_back, list_back}
 use Rattle.unl_metrics.specs.declared.report.MetricEntry.{MetricEntry}
 use Rattle.unl_metrics.specs.declared.report.VariantCount.{VariantCount}
-use Rattle.unl_metrics.specs.Book.{Book, counted, pair}
+use Rattle.unl_metrics.specs.Book.{counted, pair}
 use Rattle.unl_metrics.specs.Bulk.{with_counts, variants_data, counted_data, bulk_of_items, bulk_data}
 use Rattle.unl_metrics.specs.Hours.{hour_of, hour_text}
 use Rattle.unl_metrics.specs.Readable.{IsReadable, AreReadable}

@@ -1,5 +1,5 @@
 -- What is read may be sent again, whatever sums are made of it.
-use Rattle.std.proofs.Common.{◌≡◌, ℕ, zero, suc, ◌≤◌, Bool, true, false, cond, T, List, [], ◌∷◌, map, fold, take, length, nat_cmp, Ok, refl, sym, subst, ap, ◌∙◌, arith}
+use Rattle.std.proofs.Common.{◌≡◌, ℕ, zero, suc, ◌≤◌, true, false, cond, T, List, [], ◌∷◌, map, fold, take, length, nat_cmp, Ok, sym, ap, ◌∙◌, arith}
 use Rattle.std.proofs.lemmas.Bool.Decides.{nat_tests}
 use Rattle.std.proofs.lemmas.List.{length-map, length-take, take-map}
 use Rattle.std.proofs.lemmas.List.Elements.{All-cons, All-head, All-tail, All-nil, All-map}
@@ -8,17 +8,16 @@ use Rattle.std.specs.FinMap.Entries.{put, find, is_sorted, below_all, by_order}
 use Rattle.std.specs.List.{AllByRecursion, list_all}
 use Rattle.std.specs.List.Sorted.{IsStrictlySortedBy}
 use Rattle.std.specs.Ordering.{eq_by_cmp, is_lt}
-use Rattle.std.specs.Prelude.{All, Option, Some, None, IfSome, nat_le, ◌&&◌}
+use Rattle.std.specs.Prelude.{All, Option, Some, None, IfSome, nat_le}
 use Rattle.std.specs.declared.cmp.Ordering.{Ordering}
 use Rattle.std.specs.declared.cmp.Ordering.TheVariants.{Less, Equal, Greater}
 use Rattle.unl_documents.specs.Limits.{IsName}
 use Rattle.unl_documents.specs.Parameters.{AreRising}
 use Rattle.unl_documents.specs.Results.{json_of}
 use Rattle.unl_metrics.specs.declared.report.MetricEntry.{MetricEntry}
-use Rattle.unl_metrics.specs.declared.report.VariantCount.{VariantCount}
 use Rattle.unl_metrics.specs.Book.{Book, Key, Tally, Variants, key_cmp, is_of, pair, counted, counted_in, sum, sum_of, tally_sum, added, with_variant, with_tally, acknowledge, has_few_variants, fits, IsCounted, IsBook}
 use Rattle.unl_metrics.specs.Bulk.{bulk_data}
-use Rattle.unl_metrics.specs.Readable.{IsNamed, AreVariants, IsReadable, AreReadable, IsSendable, named, entry_at, entries_at}
+use Rattle.unl_metrics.specs.Readable.{IsNamed, IsReadable, AreReadable, IsSendable, named, entry_at, entries_at}
 use Rattle.unl_metrics.specs.Reports.{bulk_report_of}
 use Rattle.unl_metrics.proofs.Entries.{each_true, first_of, second_of, less}
 use Rattle.unl_metrics.proofs.RoundTrip.{text_back}

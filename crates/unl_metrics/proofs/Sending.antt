@@ -1,10 +1,10 @@
 -- What is sent of a book.
-use Rattle.std.proofs.Common.{◌≡◌, ◌↔◌, ℕ, ◌<◌, Bool, true, false, cond, T, List, [], ◌∷◌, map, take, length, refl, sym, subst, ap, ◌∙◌, arith}
+use Rattle.std.proofs.Common.{◌≡◌, ◌↔◌, ℕ, ◌<◌, true, false, cond, T, List, [], ◌∷◌, map, take, length, refl, sym, subst, ap, ◌∙◌, arith}
 use Rattle.std.specs.Cmp.Lexicographic.{bytes_decides}
 use Rattle.std.proofs.lemmas.List.Elements.{All-cons, All-head, All-tail, All-nil}
-use Rattle.std.specs.Prelude.{All, Option, Some, None, is_some}
+use Rattle.std.specs.Prelude.{All, Some, None, is_some}
 use Rattle.serde_json.specs.Data.{Data}
-use Rattle.unl_metrics.specs.Book.{Book, Key, Tally, Variants, key_cmp, is_of, pair, counted, counted_in, IsCounted}
+use Rattle.unl_metrics.specs.Book.{Book, Variants, is_of, pair, counted, counted_in, IsCounted}
 use Rattle.unl_metrics.specs.Bulk.{bulk, bulk_data, bulk_report, room_for}
 use Rattle.unl_metrics.specs.Readable.{entries_at}
 

@@ -1,5 +1,5 @@
 -- Which reports, sent as a bulk report, are read as they were.
-use Rattle.std.specs.Prelude.{ℕ, ◌≤◌, List, length, map, All}
+use Rattle.std.specs.Prelude.{ℕ, ◌≤◌, List, map, All}
 use Rattle.unl_documents.specs.Limits.{IsName, IsListOf}
 use Rattle.unl_documents.specs.Parameters.{AreRising}
 use Rattle.unl_metrics.specs.declared.report.MetricEntry.{MetricEntry}

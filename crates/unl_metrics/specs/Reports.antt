@@ -1,5 +1,5 @@
 -- What reports are read as: their keys in order, each with its kind.
-use Rattle.std.specs.Prelude.{ℕ, ◌<◌, List, [], ◌∷◌, map, All, Option, option_and_then, Result, Ok, Err, ok_or, nat_lt, if◌then◌else◌}
+use Rattle.std.specs.Prelude.{ℕ, ◌<◌, List, [], ◌∷◌, map, All, option_and_then, Result, Ok, Err, ok_or, nat_lt, if◌then◌else◌}
 use Rattle.serde_json.specs.Data.{Data, Members, no_members, member}
 use Rattle.serde_json.specs.Find.{as_object}
 use Rattle.serde_json.specs.Events.{members_len}

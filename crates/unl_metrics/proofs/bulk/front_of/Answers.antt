@@ -1,8 +1,8 @@
-use Rattle.std.proofs.Common.{◌≡◌, ◌≤◌, ◌<◌, ◌+◌, [], ◌∷◌, ◌++◌, length, take, map, get_or, ap, ◌∙◌, sym, arith, rules, refl}
+use Rattle.std.proofs.Common.{◌≡◌, ◌+◌, [], ◌∷◌, length, take, get_or, ap, ◌∙◌, arith, rules, refl}
 use Rattle.std.proofs.lemmas.List.{take_more, map_push, length_push, map-append}
 use Rattle.serde_json.specs.View.{view}
 use Rattle.serde_json.specs.Written.{compact_text}
-use Rattle.unl_metrics.specs.Bulk.{counted_data, bulk_length, room_for}
+use Rattle.unl_metrics.specs.Bulk.{counted_data}
 use Rattle.unl_metrics.proofs.Lengths.{empty_length, longer_is, room_is, within}
 use Rattle.unl_metrics.proofs.NoFloats.{no_float}
 use Rattle.unl_metrics.proofs.bulk.front_of.Goals as goal

@@ -1,7 +1,6 @@
-use Rattle.std.proofs.Common.{◌≡◌, ◌∙◌, pos, ◌+ℤ◌, ap, rules, arith, w64, to_z}
+use Rattle.std.proofs.Common.{◌≡◌, ◌∙◌, pos, arith, w64, to_z}
 use Rattle.std.proofs.lemmas.Int.{to_z_pos}
 use Rattle.jiff.proofs.SpanFacts.{signed_arith, date_add-days, can_add-days}
-use Rattle.jiff.specs.Words.{epoch_day}
 use Rattle.unl_metrics.proofs.Calendar.{epoch_is_zero}
 use Rattle.unl_metrics.proofs.hours.day_after.Goals as goal
 

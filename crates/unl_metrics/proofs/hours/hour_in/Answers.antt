@@ -1,4 +1,3 @@
-use Rattle.std.proofs.Common.{◌≡◌, ◌≤◌, ℕ, Option, Some, None, sym}
 use Rattle.std.proofs.lemmas.Result.{IfOk-weaker}
 use Rattle.unl_metrics.proofs.Instants.{has_instant_if_any}
 use Rattle.unl_metrics.proofs.hours.hour_in.Goals as goal

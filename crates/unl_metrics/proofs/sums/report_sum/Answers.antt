@@ -1,5 +1,5 @@
 use Rattle.std.proofs.Common.{◌≡◌, sym, subst, refl, map, rules}
-use Rattle.unl_metrics.specs.Book.{counted, with_tally, sum_of, IsCounted}
+use Rattle.unl_metrics.specs.Book.{counted, with_tally, sum_of}
 use Rattle.unl_metrics.specs.Reports.{IsEntry}
 use Rattle.unl_metrics.proofs.Books.{stays_in_order, entry_counted}
 use Rattle.unl_metrics.proofs.Folds.{map_more, map_done}

@@ -1,5 +1,5 @@
-use Rattle.std.proofs.Common.{◌≡◌, sym, subst, ap, refl, ◌∙◌, fold, get_or, rules}
-use Rattle.unl_metrics.specs.Book.{Key, Tally, Book, with_tally, sum_of, IsCounted, IsInOrder}
+use Rattle.std.proofs.Common.{◌≡◌, sym, subst, refl, rules}
+use Rattle.unl_metrics.specs.Book.{with_tally, sum_of, IsCounted}
 use Rattle.unl_metrics.proofs.Books.{stays_in_order}
 use Rattle.unl_metrics.proofs.Folds.{fold_more, fold_done}
 use Rattle.unl_metrics.proofs.sums.sum_of.Goals as goal
