@@ -1,5 +1,5 @@
 -- What is sent of a book is read again.
-use Rattle.std.proofs.Common.{◌≡◌, ℕ, suc, ◌*◌, ◌/◌, ◌≤◌, true, false, eqb, ltb, List, [], ◌∷◌, ◌++◌, length, map, append_assoc, nat_cmp, nat_lt, Less, Greater, Some, Ok, refl, sym, ap, subst, ◌∙◌, arith}
+use Rattle.std.proofs.Common.{◌≡◌, ℕ, suc, ◌*◌, ◌/◌, ◌≤◌, true, false, eqb, ltb, List, [], ◌∷◌, ◌++◌, length, map, append_assoc, nat_cmp, nat_lt, Less, Greater, Ok, refl, sym, ap, subst, ◌∙◌, arith}
 use Rattle.std.proofs.lemmas.Bool.{le-ltb}
 use Rattle.std.proofs.lemmas.Bool.Decides.{nat_tests}
 use Rattle.std.proofs.lemmas.Cmp.{nat_list_cmp_total}
@@ -19,7 +19,7 @@ use Rattle.unl_documents.specs.declared.field.Field.TheVariants as field
 use Rattle.unl_documents.specs.Kinds.{at, name, any_whole, object_of, objects, is_object, always}
 use Rattle.unl_documents.specs.Limits.{IsName, IsListOf}
 use Rattle.unl_documents.specs.Parameters.{AreRising}
-use Rattle.unl_documents.specs.Results.{json_of, object_in}
+use Rattle.unl_documents.specs.Results.{object_in}
 use Rattle.unl_documents.specs.Writing.{count}
 use Rattle.unl_documents.proofs.RoundTrip.{name_back, any_text_back, any_whole_back, required_back, defaulted_back, list_back}
 use Rattle.unl_metrics.specs.declared.report.MetricEntry.{MetricEntry}
@@ -27,7 +27,7 @@ use Rattle.unl_metrics.specs.declared.report.VariantCount.{VariantCount}
 use Rattle.unl_metrics.specs.Book.{counted, pair}
 use Rattle.unl_metrics.specs.Bulk.{with_counts, variants_data, counted_data, bulk_of_items, bulk_data}
 use Rattle.unl_metrics.specs.Hours.{hour_of, hour_text}
-use Rattle.unl_metrics.specs.Readable.{IsReadable, AreReadable}
+use Rattle.unl_metrics.specs.Readable.{IsReadable, AreReadable, IsReadAs}
 use Rattle.unl_metrics.specs.Reports.{hour, each_member, members, variant_count, entry_of, bulk_entry_of, bulk_of, bulk_report_of}
 use Rattle.unl_metrics.proofs.Calendar.{hour_back}
 use Rattle.unl_metrics.proofs.Members.{variant_names}
@@ -130,7 +130,7 @@ report_back environment entries valid =
     let a = required_back (objects 10000 bulk_entry_of) field.Metrics value (array (items_of (map counted_data (map (counted environment) entries)))) entries refl (rw same back) in
     rw a refl
 
-pub text_back : (environment : List ℕ) (entries : List MetricEntry) (bytes : List ℕ) → AreReadable entries → json_of bytes ≡ Some (bulk_data (map (counted environment) entries)) → bulk_report_of bytes ≡ Ok (record { entries = entries })
+pub text_back : (environment : List ℕ) (entries : List MetricEntry) → AreReadable entries → IsReadAs (bulk_data (map (counted environment) entries)) entries
 unfolding bulk_report_of object_in bulk_of_items
-text_back environment entries bytes valid spelled =
+text_back environment entries valid bytes spelled =
     rw (spelled, report_back environment entries valid) refl

@@ -1,5 +1,5 @@
 -- What is read may be sent again, whatever sums are made of it.
-use Rattle.std.proofs.Common.{◌≡◌, ℕ, zero, suc, ◌≤◌, true, false, cond, T, List, [], ◌∷◌, map, fold, take, length, nat_cmp, Ok, sym, ap, ◌∙◌, arith}
+use Rattle.std.proofs.Common.{◌≡◌, ℕ, zero, suc, ◌≤◌, true, false, cond, T, List, [], ◌∷◌, map, fold, take, length, nat_cmp, refl, sym, subst, ap, ◌∙◌, arith}
 use Rattle.std.proofs.lemmas.Bool.Decides.{nat_tests}
 use Rattle.std.proofs.lemmas.List.{length-map, length-take, take-map}
 use Rattle.std.proofs.lemmas.List.Elements.{All-cons, All-head, All-tail, All-nil, All-map}
@@ -8,17 +8,19 @@ use Rattle.std.specs.FinMap.Entries.{put, find, is_sorted, below_all, by_order}
 use Rattle.std.specs.List.{AllByRecursion, list_all}
 use Rattle.std.specs.List.Sorted.{IsStrictlySortedBy}
 use Rattle.std.specs.Ordering.{eq_by_cmp, is_lt}
-use Rattle.std.specs.Prelude.{All, Option, Some, None, IfSome, nat_le}
+use Rattle.std.specs.Prelude.{All, Option, Some, None, IfSome, is_some, unwrap_or, option_map, nat_le}
 use Rattle.std.specs.declared.cmp.Ordering.{Ordering}
 use Rattle.std.specs.declared.cmp.Ordering.TheVariants.{Less, Equal, Greater}
+use Rattle.serde_json.specs.Data.{Data}
+use Rattle.serde_json.specs.View.{view}
+use Rattle.serde_json.specs.declared.value.Value.{Value}
 use Rattle.unl_documents.specs.Limits.{IsName}
 use Rattle.unl_documents.specs.Parameters.{AreRising}
 use Rattle.unl_documents.specs.Results.{json_of}
 use Rattle.unl_metrics.specs.declared.report.MetricEntry.{MetricEntry}
 use Rattle.unl_metrics.specs.Book.{Book, Key, Tally, Variants, key_cmp, is_of, pair, counted, counted_in, sum, sum_of, tally_sum, added, with_variant, with_tally, acknowledge, has_few_variants, fits, IsCounted, IsBook}
-use Rattle.unl_metrics.specs.Bulk.{bulk_data}
-use Rattle.unl_metrics.specs.Readable.{IsNamed, IsReadable, AreReadable, IsSendable, named, entry_at, entries_at}
-use Rattle.unl_metrics.specs.Reports.{bulk_report_of}
+use Rattle.unl_metrics.specs.Bulk.{bulk, bulk_data, bulk_report, room_for}
+use Rattle.unl_metrics.specs.Readable.{IsNamed, IsReadable, AreReadable, IsSendable, IsReadAs, named, entry_at, entries_at}
 use Rattle.unl_metrics.proofs.Entries.{each_true, first_of, second_of, less}
 use Rattle.unl_metrics.proofs.RoundTrip.{text_back}
 use Rattle.unl_metrics.proofs.Sending.{entries_again}
@@ -129,10 +131,24 @@ small_book book e = let two = each_true (nat_le (length book) 10000) (list_all h
 front_again : (environment : List ℕ) (n : ℕ) (book : Book) → map (counted environment) (entries_at (take n (counted_in environment book))) ≡ take n (counted_in environment book)
 front_again environment n book = ap (map (counted environment)) (sym (take-map entry_at n (counted_in environment book))) ∙ sym (take-map (counted environment) n (entries_at (counted_in environment book))) ∙ ap (take n) (entries_again environment book)
 
-pub book_back : (environment : List ℕ) (book : Book) (n : ℕ) (bytes : List ℕ) → IsBook book → All IsSendable book → json_of bytes ≡ Some (bulk_data (take n (counted_in environment book))) → bulk_report_of bytes ≡ Ok (record { entries = entries_at (take n (counted_in environment book)) })
-book_back environment book n bytes is sendable spelled =
+pub book_back : (environment : List ℕ) (book : Book) (n : ℕ) → IsBook book → All IsSendable book → IsReadAs (bulk_data (take n (counted_in environment book))) (entries_at (take n (counted_in environment book)))
+book_back environment book n is sendable bytes spelled =
     let front = take n (counted_in environment book) in
     let small = small_book book is.fit in
     let count : length (entries_at front) ≤ 10000 = omega (arith, length-map front entry_at, length-take n (counted_in environment book), no_more environment book, small.0) in
     let again : json_of bytes ≡ Some (bulk_data (map (counted environment) (entries_at front))) = spelled ∙ ap (λ (b : Book). Some (bulk_data b)) (sym (front_again environment n book)) in
-    text_back environment (entries_at front) bytes (count, each_readable environment n book sendable is.order.each small.1) again
+    text_back environment (entries_at front) (count, each_readable environment n book sendable is.order.each small.1) bytes again
+
+report_back : (environment : List ℕ) (book found : Book) (sent : Data × ℕ) → IsBook book → All IsSendable book → found ≡ counted_in environment book → Some sent ≡ bulk_report found → IsReadAs sent.0 (entries_at (take sent.1 (counted_in environment book)))
+report_back environment book [] sent is sendable same report = absurd (subst T (ap is_some report) tt)
+report_back environment book (e ∷ found) sent is sendable same report =
+    let room = room_for (e ∷ found) in
+    let parts : sent ≡ (bulk_data (take room (e ∷ found)), room) = ap (λ o. unwrap_or o sent) report in
+    let front : take room (counted_in environment book) ≡ take room (e ∷ found) = ap (take room) (sym same) in
+    subst (λ (s : Data × ℕ). IsReadAs s.0 (entries_at (take s.1 (counted_in environment book)))) (sym parts)
+    (subst (λ (b : Book). IsReadAs (bulk_data b) (entries_at (take room (counted_in environment book)))) front (book_back environment book room is sendable))
+
+pub sent_back : (environment : List ℕ) (book : Book) (found : Option (Value × ℕ)) → IsBook book → All IsSendable book → option_map (λ sent. (view sent.0, sent.1)) found ≡ bulk environment book → IfSome found (λ sent. IsReadAs (view sent.0) (entries_at (take sent.1 (counted_in environment book))))
+unfolding bulk
+sent_back environment book None is sendable report = tt
+sent_back environment book (Some sent) is sendable report = report_back environment book (counted_in environment book) (view sent.0, sent.1) is sendable refl report

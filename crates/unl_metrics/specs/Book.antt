@@ -118,6 +118,10 @@ abbrev pub both : {X : Type 0} → (X → X → X) → Option X → Option X →
 both plus before None = before
 both plus before (Some x) = and_more plus before x
 
+-- how many keys, from the first on, come before a key
+abbrev pub place : {K X : Type 0} → (K → K → Ordering) → K → List (K × X) → ℕ
+place order k entries = prefix_len (λ e. is_lt (order e.0 k)) entries
+
 -- ---- limits
 
 -- the tally has at most 100 variants
@@ -148,10 +152,6 @@ pub record IsBook (book : Book) : Type 0 where
   pub fit : fits book ≡ true
 
 -- ---- environments
-
--- how many keys, from the first on, come before a key
-abbrev pub place : {K X : Type 0} → (K → K → Ordering) → K → List (K × X) → ℕ
-place order k entries = prefix_len (λ e. is_lt (order e.0 k)) entries
 
 -- the key is of the environment
 abbrev pub is_of : List ℕ → Key → Bool

@@ -1,10 +1,13 @@
 -- Which reports, sent as a bulk report, are read as they were.
-use Rattle.std.specs.Prelude.{ℕ, ◌≤◌, List, map, All}
+use Rattle.std.specs.Prelude.{◌≡◌, ℕ, ◌≤◌, List, map, All, Some, Ok}
+use Rattle.serde_json.specs.Data.{Data}
 use Rattle.unl_documents.specs.Limits.{IsName, IsListOf}
 use Rattle.unl_documents.specs.Parameters.{AreRising}
+use Rattle.unl_documents.specs.Results.{json_of}
 use Rattle.unl_metrics.specs.declared.report.MetricEntry.{MetricEntry}
 use Rattle.unl_metrics.specs.declared.report.VariantCount.{VariantCount}
 use Rattle.unl_metrics.specs.Book.{Book, Key, Tally}
+use Rattle.unl_metrics.specs.Reports.{bulk_report_of}
 
 -- the last hour that has an instant
 abbrev pub last_hour : ℕ
@@ -48,3 +51,7 @@ pub record IsSendable (e : Key × Tally) : Type 0 where
   pub feature : IsName e.0.feature
   pub hour : e.0.hour ≤ last_hour
   pub variants : All (λ v. IsName v.0) e.1.variants
+
+-- bytes that spell the value in JSON are read as the bulk report of these entries
+abbrev pub IsReadAs : Data → List MetricEntry → Type 0
+IsReadAs value entries = (bytes : List ℕ) → json_of bytes ≡ Some value → bulk_report_of bytes ≡ Ok (record { entries = entries })

@@ -1,10 +1,11 @@
 //! The book of metrics.
-ghost use Rattle.std.specs.Prelude.{◌≡◌, ◌≢◌, ◌≤◌, ◌==◌, [], length, drop, not, position, Ok, Err, false, IfOk, IfErr, IfSome, OnOk, OnErr, option_map};
+ghost use Rattle.std.specs.Prelude.{◌≡◌, ◌≢◌, ◌≤◌, ◌==◌, [], length, take, drop, not, All, position, Ok, Err, false, IfOk, IfErr, IfSome, OnOk, OnErr, option_map};
 ghost use Rattle.std.specs.List.{prefix_len, remove_range};
 ghost use Rattle.serde_json.specs.View.{view};
 ghost use Rattle.serde_json.specs.Written.{has_float};
-ghost use Rattle.unl_metrics.specs.Book.{book_sum, sum_of, if_fits, acknowledge, is_of};
+ghost use Rattle.unl_metrics.specs.Book.{book_sum, sum_of, if_fits, acknowledge, is_of, counted_in};
 ghost use Rattle.unl_metrics.specs.Bulk.{bulk as bulk_of};
+ghost use Rattle.unl_metrics.specs.Readable.{IsSendable, IsReadAs, entries_at};
 ghost use Rattle.unl_metrics.specs.Reports.{IsReport};
 ghost use Rattle.unl_metrics.specs.declared.refusal.AddRefusal.TheVariants.{Memory as memory};
 
@@ -105,9 +106,11 @@ impl MetricsBook {
     }
 
     /// The bulk report of the environment's keys, in their order: as many of them, from the first on, as its text of at most
-    /// 1,048,576 bytes has room for, and their count. None exactly where the environment has no key.
+    /// 1,048,576 bytes has room for, and their count. None exactly where the environment has no key. The text is read by
+    /// [`Report::read_bulk`] as what was counted at these keys.
     pub fn bulk(&self, alloc: Global, environment: &str) -> Result<Option<(Value, usize)>, Memory>
         ensures report { IfOk result (λ found. option_map (λ sent. (view sent.0, sent.1)) found ≡ bulk_of environment.now self.now) }
+        ensures reads_back { All IsSendable self.now → IfOk result (λ found. IfSome found (λ sent. IsReadAs (view sent.0) (entries_at (take sent.1 (counted_in environment.now self.now))))) }
         ensures no_float { IfOk result (λ found. IfSome found (λ sent. has_float (view sent.0) ≡ false)) }
     {
         bulk(alloc, self.rows.as_slice(), environment)

@@ -1,15 +1,13 @@
 //! What holds of books of metrics, and of what is sent of them.
-ghost use Rattle.std.specs.Prelude.{◌≡◌, ◌≢◌, ◌↔◌, ◌<◌, ◌≤◌, ℕ, List, [], Some, None, Ok, T, All, length, map, take, drop, fold};
+ghost use Rattle.std.specs.Prelude.{◌≡◌, ◌≢◌, ◌↔◌, ◌<◌, ◌≤◌, ℕ, List, [], None, T, All, length, map, take, drop, fold};
 ghost use Rattle.std.specs.Cmp.Lexicographic.{slice_cmp};
 ghost use Rattle.std.specs.FinMap.Entries.{is_sorted};
 ghost use Rattle.std.specs.Ordering.{nat_cmp};
 ghost use Rattle.serde_json.specs.Data.{depth};
-ghost use Rattle.unl_documents.specs.Results.{json_of};
 ghost use Rattle.unl_metrics.specs.declared.report.MetricEntry.{MetricEntry};
 ghost use Rattle.unl_metrics.specs.Book.{Book, Key, Tally, sum, sum_of, tally_sum, tally_at, tallies_at, count_at, and_more, both, counted, counted_in, acknowledge, IsCounted, IsInOrder, IsBook};
 ghost use Rattle.unl_metrics.specs.Bulk.{bulk, bulk_data, bulk_length, longest_bulk, room_for};
-ghost use Rattle.unl_metrics.specs.Readable.{AreReadable, IsSendable, entries_at};
-ghost use Rattle.unl_metrics.specs.Reports.{bulk_report_of};
+ghost use Rattle.unl_metrics.specs.Readable.{AreReadable, IsReadAs, IsSendable, entries_at};
 
 /// A book is a finite map: books with the same tally at each key are the same.
 pub fn books_are_maps()
@@ -40,8 +38,8 @@ pub fn the_longest_front_is_sent()
 /// What a book counts in an environment is the entries of a report, and the bulk report that is sent of these is read as that report.
 pub fn what_is_sent_is_read()
     ensures entries { (environment : List ℕ) (book : Book) → map (counted environment) (entries_at (counted_in environment book)) ≡ counted_in environment book }
-    ensures report { (environment : List ℕ) (entries : List MetricEntry) (bytes : List ℕ) → AreReadable entries → json_of bytes ≡ Some (bulk_data (map (counted environment) entries)) → bulk_report_of bytes ≡ Ok (record { entries = entries }) }
-    ensures book { (environment : List ℕ) (book : Book) (n : ℕ) (bytes : List ℕ) → IsBook book → All IsSendable book → json_of bytes ≡ Some (bulk_data (take n (counted_in environment book))) → bulk_report_of bytes ≡ Ok (record { entries = entries_at (take n (counted_in environment book)) }) }
+    ensures report { (environment : List ℕ) (entries : List MetricEntry) → AreReadable entries → IsReadAs (bulk_data (map (counted environment) entries)) entries }
+    ensures book { (environment : List ℕ) (book : Book) (n : ℕ) → IsBook book → All IsSendable book → IsReadAs (bulk_data (take n (counted_in environment book))) (entries_at (take n (counted_in environment book))) }
     ensures depth { (book : Book) → depth (bulk_data book) ≤ 4 }
 {}
 
