@@ -11,9 +11,7 @@ ghost use Rattle.unl_tokens.specs.Requests.{asked_in};
 
 use crate::board::Board;
 use crate::desk::Answer;
-use crate::reply::{
-    bare, made, one_text, refuse, refuse_method, refuse_unseen, tagged, unchanged,
-};
+use crate::reply::{bare, made, one_text, refuse, refuse_method, refuse_unseen, tagged, unchanged};
 use crate::shown::{Ready, ready_by, shown_by};
 use crate::tag::{since_of, tag_of};
 use http::StatusCode;
@@ -286,12 +284,7 @@ fn feed(alloc: Global, board: &Board, request: &Request) -> Result<Reply, Memory
 }
 
 #[tactic(auto, using(crate::proofs::Bodies::feed_written))]
-fn feed_for(
-    alloc: Global,
-    board: &Board,
-    request: &Request,
-    ready: &Ready,
-) -> Result<Reply, Memory>
+fn feed_for(alloc: Global, board: &Board, request: &Request, ready: &Ready) -> Result<Reply, Memory>
     ensures { IfOk result (λ r. r ≡ fed board.now request.now (Ok ready.now)) }
 {
     let version = ready.snapshot.version();

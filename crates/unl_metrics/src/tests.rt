@@ -108,6 +108,11 @@ fn faults_of_a_bucket_are_named(rt: HostRuntime) {
     for (start, fault) in starts {
         assert!(rt; fault_in_bucket(alloc, start, "") == fault, "{start}");
     }
+}
+
+#[test]
+fn faults_of_toggles_are_named(rt: HostRuntime) {
+    let alloc = rt.alloc();
     let toggles = [
         ("[]", BadReport::WrongKind(Field::Toggles)),
         ("{\"a\":null}", BadReport::WrongKind(Field::Toggles)),

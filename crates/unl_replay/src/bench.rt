@@ -72,12 +72,7 @@ fn ask_of_line(
     put_ask(alloc, bench, number, &ask)
 }
 
-fn put_ask(
-    alloc: Global,
-    bench: &mut Bench,
-    number: u64,
-    ask: &Ask,
-) -> Result<Vec<u8>, Refusal>
+fn put_ask(alloc: Global, bench: &mut Bench, number: u64, ask: &Ask) -> Result<Vec<u8>, Refusal>
     ensures given { Steps result bench.new (Ok (put_ask number bench.old ask.now)) }
     ensures same { bench.new.desk ≡ bench.old.desk }
 {

@@ -6,8 +6,8 @@ ghost use Rattle.unl_lines.specs.Whole.{TakesLines};
 ghost use Rattle.unl_replay.specs.Refusals.{Causes};
 ghost use Rattle.unl_replay.specs.Replay.{line_answer, opening};
 
-use crate::refusal::Refusal;
 use crate::bench::{Bench, answer_line};
+use crate::refusal::Refusal;
 use std::alloc::Global;
 use unl_base::{Sink, Source};
 use unl_core::{Board, OneDesk};

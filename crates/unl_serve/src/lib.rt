@@ -2,10 +2,10 @@
 #![tactic(auto)]
 
 mod by_desk;
-mod serve;
-mod served;
 #[cfg(test)]
 mod poll_tests;
+mod serve;
+mod served;
 #[cfg(test)]
 mod tests;
 

@@ -19,6 +19,7 @@ abbrev pub up_after : UpstreamState → Obeying Obeyed → UpstreamState
 up_after up (Ok obeyed) = obeyed.up
 up_after up (Err refusal) = up
 
+-- the upstream after one command
 abbrev pub after_command : Command → UpstreamState → UpstreamState
 after_command command up = up_after up (commanded command up)
 

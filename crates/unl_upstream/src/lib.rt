@@ -19,4 +19,6 @@ pub use refusal::CommandRefusal;
 pub use upstream::Upstream;
 
 #[cfg(test)]
+mod serve_tests;
+#[cfg(test)]
 mod tests;
