@@ -16,12 +16,12 @@ summed book (Some report) None = Ok book
 -- a reply that stands where the book has room
 abbrev pub reply_where : Reply → Result Book AddRefusal → Reply
 reply_where reply (Ok book) = reply
-reply_where reply (Err full) = refusal 503 (codes "MetricsFull")
+reply_where reply (Err cause) = refusal 503 (codes "MetricsFull")
 
 -- the new book, or the old one where there is no room
 abbrev pub book_where : Book → Result Book AddRefusal → Book
 book_where old (Ok book) = book
-book_where old (Err full) = old
+book_where old (Err cause) = old
 
 -- the reply after all: the answer's own, or that the book is full
 abbrev pub final_reply : Book → Answer → Reply
