@@ -3,7 +3,7 @@ use crate::serve::serve_connection;
 use crate::served::Served;
 use std::alloc::Global;
 use std::test::Fail;
-use unl_base::{Draw, ListDraws, MemoryLink};
+use unl_base::{ListDraws, MemoryLink};
 use unl_core::{Board, OneDesk};
 use unl_delta::{Installer, Verdict, read_batch_bytes, verdict};
 use unl_documents::List;
@@ -21,18 +21,29 @@ const POLL: &[u8] =
 
 const UNCHANGED: &[u8] = b"HTTP/1.1 304 Not Modified\r\nETag: \"0000000000000000-1-0-4\"\r\n\r\n";
 
+/// Installs the state at a slot, where it applies.
+fn take(alloc: Global, desk: &mut OneDesk, slot: usize) -> Option<u64> {
+    let batch = read_batch_bytes(alloc, STATE, None).ok()?;
+    if slot >= desk.slots() || desk.front() == u64::MAX {
+        return None;
+    }
+    match verdict(desk.place(slot), &batch) {
+        Verdict::Apply => desk.install(alloc, slot, &batch).ok(),
+        Verdict::Repeat | Verdict::Old | Verdict::Gap | Verdict::Held => None,
+    }
+}
+
 /// A desk at number 4 of one environment, with one client token.
 fn desk_at_4(alloc: Global) -> Option<OneDesk> {
     let board = Board::new(alloc, 0, "", &List::new(alloc)).ok()?;
     let mut desk = OneDesk::new(alloc, board).ok()?;
-    desk.install_book(alloc, Book::read(alloc, TOKENS).ok()?)
-        .ok()?;
-    let slot = desk.name_slot(alloc, "dev").ok()??;
-    let batch = read_batch_bytes(alloc, STATE, None).ok()?;
-    if desk.front() == u64::MAX || verdict(desk.place(slot), &batch) != Verdict::Apply {
+    if desk.front() != 0 {
         return None;
     }
-    desk.install(alloc, slot, &batch).ok()?;
+    let book = Book::read(alloc, TOKENS).ok()?;
+    desk.install_book(alloc, book).ok()?;
+    let slot = desk.name_slot(alloc, "dev").ok()??;
+    take(alloc, &mut desk, slot)?;
     Some(desk)
 }
 
@@ -44,7 +55,7 @@ fn polled(alloc: Global, most: usize) -> Option<(bool, End)> {
     let mut desk = desk_at_4(alloc)?;
     let bytes = POLL.to_vec(alloc).ok()?;
     let mut link = MemoryLink::new(alloc, bytes, most, 1_000, Vec::new(alloc)).ok()?;
-    let mut draws = ListDraws::new(vec![in alloc; Draw { now: 0, word: 0 }].ok()?);
+    let mut draws = ListDraws::new(Vec::new(alloc));
     let mut served = Served::new(alloc).ok()?;
     let mut book = MetricsBook::new(alloc);
     let end = serve_connection(

@@ -2,7 +2,7 @@
 use crate::{CommandLines, Upstream};
 use std::alloc::Global;
 use std::test::Fail;
-use unl_base::{Draw, ListDraws, MemoryLink, MemorySink, MemorySource};
+use unl_base::{ListDraws, MemoryLink, MemorySink, MemorySource};
 use unl_documents::{List, Text};
 use unl_http_api::End;
 use unl_lines::{LinesFault, take_lines};
@@ -30,7 +30,7 @@ fn served(alloc: Global, most: usize) -> Option<(bool, usize, End)> {
     let mut up = upstream(alloc)?;
     let bytes = ASKED.to_vec(alloc).ok()?;
     let mut link = MemoryLink::new(alloc, bytes, most, 1_000, Vec::new(alloc)).ok()?;
-    let mut draws = ListDraws::new(vec![in alloc; Draw { now: 0, word: 0 }].ok()?);
+    let mut draws = ListDraws::new(Vec::new(alloc));
     let (count, end) = up.serve(alloc, &mut link, &mut draws);
     Some((link.sent() == TOLD, count, end))
 }
