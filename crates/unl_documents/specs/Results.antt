@@ -7,6 +7,7 @@ use Rattle.serde_json.specs.Read.{read}
 
 -- one result after the other, up to the first error
 infixl 10 ◌>>=◌
+-- of two readings, the error of the first hides the second
 abbrev pub ◌>>=◌ : {A B E : Type 0} → Result A E → (A → Result B E) → Result B E
 (Ok x) >>= f = f x
 (Err e) >>= f = Err e

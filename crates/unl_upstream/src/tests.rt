@@ -102,55 +102,57 @@ fn each_command_in_turn(rt: HostRuntime) -> Result<(), Fail> {
 /// A command document, and its first fault.
 type Faulty = (&'static str, BadDocument);
 
+/// Faults in the order of the keys that are read.
+const FAULTY: [Faulty; 13] = [
+    ("[]", BadDocument::NotJson),
+    ("{}", BadDocument::Missing(Field::Command)),
+    ("{\"command\":7}", BadDocument::WrongKind(Field::Command)),
+    (
+        "{\"command\":\"put\",\"environment\":7}",
+        BadDocument::WrongKind(Field::Command),
+    ),
+    (
+        "{\"command\":\"put-feature\",\"feature\":7}",
+        BadDocument::Missing(Field::Environment),
+    ),
+    (
+        "{\"command\":\"put-feature\",\"environment\":\"\"}",
+        BadDocument::Missing(Field::Environment),
+    ),
+    (
+        "{\"command\":\"put-feature\",\"environment\":\"dev\"}",
+        BadDocument::Missing(Field::Feature),
+    ),
+    (
+        "{\"command\":\"put-feature\",\"environment\":\"dev\",\"feature\":[]}",
+        BadDocument::WrongKind(Field::Feature),
+    ),
+    (
+        "{\"command\":\"put-feature\",\"environment\":\"dev\",\"feature\":{\"name\":\"a\"}}",
+        BadDocument::Missing(Field::Enabled),
+    ),
+    (
+        "{\"command\":\"remove-feature\",\"environment\":\"dev\",\"name\":7}",
+        BadDocument::WrongKind(Field::Name),
+    ),
+    (
+        "{\"command\":\"put-segment\",\"environment\":\"dev\",\"segment\":{\"id\":1.5}}",
+        BadDocument::NotWhole(Field::Id),
+    ),
+    (
+        "{\"command\":\"remove-segment\",\"environment\":\"dev\"}",
+        BadDocument::Missing(Field::Id),
+    ),
+    (
+        "{\"command\":\"remove-segment\",\"environment\":\"dev\",\"id\":-1}",
+        BadDocument::WrongKind(Field::Id),
+    ),
+];
+
 #[test]
 fn each_fault_in_its_order(rt: HostRuntime) -> Result<(), Fail> {
     let alloc = rt.alloc();
-    let faulty: [Faulty; 13] = [
-        ("[]", BadDocument::NotJson),
-        ("{}", BadDocument::Missing(Field::Command)),
-        ("{\"command\":7}", BadDocument::WrongKind(Field::Command)),
-        (
-            "{\"command\":\"put\",\"environment\":7}",
-            BadDocument::WrongKind(Field::Command),
-        ),
-        (
-            "{\"command\":\"put-feature\",\"feature\":7}",
-            BadDocument::Missing(Field::Environment),
-        ),
-        (
-            "{\"command\":\"put-feature\",\"environment\":\"\"}",
-            BadDocument::Missing(Field::Environment),
-        ),
-        (
-            "{\"command\":\"put-feature\",\"environment\":\"dev\"}",
-            BadDocument::Missing(Field::Feature),
-        ),
-        (
-            "{\"command\":\"put-feature\",\"environment\":\"dev\",\"feature\":[]}",
-            BadDocument::WrongKind(Field::Feature),
-        ),
-        (
-            "{\"command\":\"put-feature\",\"environment\":\"dev\",\"feature\":{\"name\":\"a\"}}",
-            BadDocument::Missing(Field::Enabled),
-        ),
-        (
-            "{\"command\":\"remove-feature\",\"environment\":\"dev\",\"name\":7}",
-            BadDocument::WrongKind(Field::Name),
-        ),
-        (
-            "{\"command\":\"put-segment\",\"environment\":\"dev\",\"segment\":{\"id\":1.5}}",
-            BadDocument::NotWhole(Field::Id),
-        ),
-        (
-            "{\"command\":\"remove-segment\",\"environment\":\"dev\"}",
-            BadDocument::Missing(Field::Id),
-        ),
-        (
-            "{\"command\":\"remove-segment\",\"environment\":\"dev\",\"id\":-1}",
-            BadDocument::WrongKind(Field::Id),
-        ),
-    ];
-    for (text, fault) in &faulty {
+    for (text, fault) in &FAULTY {
         let read = command(alloc, text).expect(&rt, "a value");
         assert!(rt; read.err().as_ref() == Some(fault), "{text}");
     }
