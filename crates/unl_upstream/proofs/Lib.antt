@@ -5,3 +5,4 @@ pub mod Standing
 pub mod Given
 pub mod Statuses
 pub mod Served
+pub mod Linking

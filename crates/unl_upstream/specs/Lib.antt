@@ -5,3 +5,4 @@ pub mod Answer
 pub mod Lines
 pub mod Serving
 pub mod Requests
+pub mod Hosting

@@ -4,6 +4,7 @@
 mod answering;
 mod command;
 mod event;
+mod hosting;
 pub mod laws;
 mod lines;
 mod reading;
@@ -18,6 +19,8 @@ pub use reading::read_command;
 pub use refusal::CommandRefusal;
 pub use upstream::Upstream;
 
+#[cfg(test)]
+mod limit_tests;
 #[cfg(test)]
 mod serve_tests;
 #[cfg(test)]

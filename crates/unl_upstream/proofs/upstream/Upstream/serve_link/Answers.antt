@@ -1,0 +1,10 @@
+use Rattle.unl_upstream.proofs.Linking.{link_served}
+use Rattle.unl_upstream.proofs.upstream.Upstream.serve_link.Goals as goal
+
+pub returns-clause-served : goal.returns-clause-served
+returns-clause-served g c bytes left sent none =
+    link_served c.args.self.now c.serve.new.self (g.R.Draws.coming c.args.draws.now) (g.R.Draws.coming c.serve.new.draws) bytes
+    c.serve.result.0 c.serve.result.1 (g.D.L.Source.left c.serve.new.link) (g.D.L.Sink.sent c.serve.new.link) (g.D.L.Source.faults c.serve.new.link)
+    (g.D.Door.returned c.args.door.now) (g.D.Door.returned c.give_back.new.self)
+    (rw (sent) at c.serve.ensures.session bytes left) (λ is. rw (sent, none) at c.serve.ensures.memory bytes left is) c.serve.ensures.obeyed
+    (λ is. rw (none) at c.serve.ensures.read_cause is) (λ is. rw (none) at c.serve.ensures.write_cause is) c.give_back.ensures.returns

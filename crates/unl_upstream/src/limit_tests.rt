@@ -1,0 +1,76 @@
+//! An environment with as many features as it may have.
+use crate::reading::read_command_bytes;
+use crate::ready::Ready;
+use crate::{CommandRefusal, Upstream};
+use std::alloc::Global;
+use std::test::Fail;
+use unl_compiled::Snapshot;
+use unl_delta::{Place, Verdict, apply, read_batch_bytes, verdict};
+use unl_documents::{List, Shared, Text};
+use unl_tokens::Book;
+
+/// A hydration of so many features.
+fn hydration(alloc: Global, count: u32) -> Option<String> {
+    let mut text = String::from_str(
+        alloc,
+        "{\"events\":[{\"type\":\"hydration\",\"eventId\":5,\"features\":[",
+    )
+    .ok()?;
+    for number in 0..count {
+        if number > 0 {
+            text.push(',').ok()?;
+        }
+        let feature = format!(in alloc; "{{\"name\":\"f{number}\",\"enabled\":true}}").ok()?;
+        text.push_str(feature.as_str()).ok()?;
+    }
+    text.push_str("]}]}").ok()?;
+    Some(text)
+}
+
+/// An upstream of one environment, which has so many features.
+fn crowded(alloc: Global, count: u32) -> Option<Upstream> {
+    let mut environments = List::new(alloc);
+    environments.push(Text::new(alloc, "dev").ok()?).ok()?;
+    let mut up = Upstream::new(alloc, 0, "s", &environments, Book::new(alloc)).ok()?;
+    let text = hydration(alloc, count)?;
+    let batch = read_batch_bytes(alloc, text.as_bytes(), None).ok()?;
+    let place = Place {
+        version: None,
+        held: false,
+    };
+    if verdict(&place, &batch) != Verdict::Apply {
+        return None;
+    }
+    let version = apply(alloc, &place, &batch).ok()?;
+    let snapshot = Shared::new(alloc, Snapshot::build(alloc, version).ok()?).ok()?;
+    up.commit(Ready {
+        slot: 0,
+        number: 5,
+        snapshot,
+    });
+    Some(up)
+}
+
+/// What putting a feature comes to.
+fn put(alloc: Global, up: &mut Upstream, name: &str) -> Option<Result<u64, CommandRefusal>> {
+    let text = format!(in alloc;
+        "{{\"command\":\"put-feature\",\"environment\":\"dev\",\"feature\":{{\"name\":\"{name}\",\"enabled\":false}}}}"
+    ).ok()?;
+    match read_command_bytes(alloc, text.as_bytes()) {
+        Ok(command) => Some(up.apply(alloc, &command)),
+        Err(_) => None,
+    }
+}
+
+#[test]
+fn a_10_001st_feature(rt: HostRuntime) -> Result<(), Fail> {
+    let alloc = rt.alloc();
+    let mut up = crowded(alloc, 9_999).expect(&rt, "there is memory");
+    assert_eq!(rt; put(alloc, &mut up, "g"), Some(Ok(6)));
+    assert_eq!(rt;
+        put(alloc, &mut up, "h"),
+        Some(Err(CommandRefusal::TooMany(10_000)))
+    );
+    assert_eq!(rt; put(alloc, &mut up, "f7"), Some(Ok(7)));
+    Ok(())
+}
