@@ -3,11 +3,13 @@ use Rattle.std.proofs.Common.{◌≡◌, ◌≢◌, ℕ, ◌==◌, List, Bool, t
 use Rattle.unl_base.specs.Streams.{Sends, SendsFront}
 use Rattle.unl_base.specs.declared.draws.Draw.{Draw}
 use Rattle.unl_documents.specs.Results.{Gives}
-use Rattle.unl_edge.specs.Ends.{CheckEnds, Ends, IsDecided, ReplayEnds, Said, SaysAll, SendsLine, ending_status, said_of}
-use Rattle.unl_edge.specs.Status.{code_of, status_of}
+use Rattle.unl_edge.specs.Ends.{CheckEnds, Ends, IsDecided, ReplayEnds, Said, SaysAll, said_of}
+use Rattle.unl_edge.specs.OwnBook.{own_book}
+use Rattle.unl_edge.specs.Scene.{Scene}
+use Rattle.unl_edge.specs.Status.{SendsLine, code_of, ending_status, status_of}
+use Rattle.unl_edge.proofs.Commands.{refused_is, upstream_decided}
 use Rattle.unl_edge.specs.declared.status.Status.{Status}
-use Rattle.unl_edge.specs.declared.status.Status.TheVariants.{Done, TestFailed, BadWords, Refused, ReadFault, WriteFault, OutOfMemory}
-use Rattle.unl_lines.specs.Taken.{Ending, IsRefused, done, refused}
+use Rattle.unl_edge.specs.declared.status.Status.TheVariants.{Done, TestFailed, BadWords, Refused, ReadFault, WriteFault, OutOfMemory, DoorFault}
 use Rattle.unl_replay.specs.Replay.{replay_of}
 use Rattle.unl_spec_runner.specs.Check.{report_of, IsReported, IsBrokenOff}
 use Rattle.unl_spec_runner.specs.Report.{Report}
@@ -18,21 +20,20 @@ use Rattle.unl_words.specs.declared.refusal.WordsRefusal.TheVariants.{Bad, Memor
 use Rattle.unl_words.specs.declared.words.Words.TheVariants.{Replay, Check, Edge, Upstream}
 
 -- want of memory is an ending of all words
-at_memory : (words : WordsReading) (left left_after old new : Option (List ℕ)) → Ends words OutOfMemory left left_after old new
-at_memory (Ok Replay) left left_after old new = tt
-at_memory (Ok (Check now word)) left left_after old new = tt
-at_memory (Ok (Edge port upstream upstream_tokens tokens host workers interval connections delta)) left left_after old new = tt
-at_memory (Ok (Upstream port secret environments client_tokens frontend_tokens connections)) left left_after old new = tt
-at_memory (Err Bad) left left_after old new = tt
-at_memory (Err Memory) left left_after old new = refl
+at_memory : (words : WordsReading) (before after : Scene) → Ends words OutOfMemory before after
+at_memory (Ok Replay) before after = tt
+at_memory (Ok (Check now word)) before after = tt
+at_memory (Ok (Edge port upstream upstream_tokens tokens host workers interval connections delta)) before after = tt
+at_memory (Ok (Upstream port secret environments client_tokens frontend_tokens connections)) before after = tt
+at_memory (Err Bad) before after = tt
+at_memory (Err Memory) before after = refl
 
 -- what was done by the words that were read was done by the words
-pub ends_by : (given words : WordsReading) (status : Status) (left left_after old new : Option (List ℕ))
-    → Gives Memory given words → Ends given status left left_after old new → (given ≡ Err Memory → status ≡ OutOfMemory) → Ends words status left left_after old new
-ends_by (Ok x) words status left left_after old new gives ends none = subst (λ w. Ends w status left left_after old new) (sym gives) ends
-ends_by (Err Bad) words status left left_after old new gives ends none = subst (λ w. Ends w status left left_after old new) (sym (gives (λ same. absurd (cc same)))) ends
-ends_by (Err Memory) words status left left_after old new gives ends none =
-    subst (λ s. Ends words s left left_after old new) (sym (none refl)) (at_memory words left left_after old new)
+pub ends_by : (given words : WordsReading) (status : Status) (before after : Scene)
+    → Gives Memory given words → Ends given status before after → (given ≡ Err Memory → status ≡ OutOfMemory) → Ends words status before after
+ends_by (Ok x) words status before after gives ends none = subst (λ w. Ends w status before after) (sym gives) ends
+ends_by (Err Bad) words status before after gives ends none = subst (λ w. Ends w status before after) (sym (gives (λ same. absurd (cc same)))) ends
+ends_by (Err Memory) words status before after gives ends none = subst (λ s. Ends words s before after) (sym (none refl)) (at_memory words before after)
 
 -- an input that is refused
 pub refused_ends : (draw : Draw) (status : Status) (left old mid new : Option (List ℕ)) (line : List ℕ) (refusal : Result Report CheckFault)
@@ -46,6 +47,7 @@ refused_ends draw WriteFault (Some bytes) old mid new line refusal is said sends
 refused_ends draw Done left old mid new line refusal is said sends = let other = sends.0 in absurd (cc other)
 refused_ends draw TestFailed left old mid new line refusal is said sends = let other = sends.0 in absurd (cc other)
 refused_ends draw BadWords left old mid new line refusal is said sends = let other = sends.0 in absurd (cc other)
+refused_ends draw DoorFault left old mid new line refusal is said sends = let other = sends.0 in absurd (cc other)
 refused_ends draw Refused None old mid new line refusal is said sends = tt
 refused_ends draw Refused (Some bytes) old mid new line refusal is said sends =
     let told = ap said_of is.0 ∙ said in
@@ -87,6 +89,7 @@ code_of_read_fault Refused same = absurd (cc same)
 code_of_read_fault ReadFault same = refl
 code_of_read_fault WriteFault same = absurd (cc same)
 code_of_read_fault OutOfMemory same = absurd (cc same)
+code_of_read_fault DoorFault same = absurd (cc same)
 
 -- the number of a fault of the output is that ending's alone
 pub code_of_write_fault : (status : Status) → code_of status ≡ 5 → status ≡ WriteFault
@@ -97,11 +100,18 @@ code_of_write_fault Refused same = absurd (cc same)
 code_of_write_fault ReadFault same = absurd (cc same)
 code_of_write_fault WriteFault same = refl
 code_of_write_fault OutOfMemory same = absurd (cc same)
+code_of_write_fault DoorFault same = absurd (cc same)
 
--- a replay that is refused ends so
-refused_is : (ending : Ending) → IsRefused ending → ending_status ending ≡ Refused
-refused_is done is = absurd is
-refused_is (refused k cause) is = refl
+-- the number of a fault of the door is that ending's alone
+pub code_of_door_fault : (status : Status) → code_of status ≡ 7 → status ≡ DoorFault
+code_of_door_fault Done same = absurd (cc same)
+code_of_door_fault TestFailed same = absurd (cc same)
+code_of_door_fault BadWords same = absurd (cc same)
+code_of_door_fault Refused same = absurd (cc same)
+code_of_door_fault ReadFault same = absurd (cc same)
+code_of_door_fault WriteFault same = absurd (cc same)
+code_of_door_fault OutOfMemory same = absurd (cc same)
+code_of_door_fault DoorFault same = refl
 
 -- the lines decide how a replay ends
 replay_decided : (status : Status) (left left_after old new : Option (List ℕ)) → ReplayEnds status left left_after old new
@@ -115,6 +125,7 @@ replay_decided Refused (Some bytes) left_after old new ends read write memory = 
 replay_decided ReadFault (Some bytes) left_after old new ends read write memory = absurd (read refl)
 replay_decided WriteFault (Some bytes) left_after old new ends read write memory = absurd (write refl)
 replay_decided OutOfMemory (Some bytes) left_after old new ends read write memory = absurd (memory refl)
+replay_decided DoorFault (Some bytes) left_after old new ends read write memory = absurd ends
 
 -- the input decides how a check ends
 check_decided : (draw : Draw) (status : Status) (left old new : Option (List ℕ)) → CheckEnds draw status left old new
@@ -128,6 +139,7 @@ check_decided draw Refused (Some bytes) old new ends read write memory = ap code
 check_decided draw ReadFault (Some bytes) old new ends read write memory = absurd (read refl)
 check_decided draw WriteFault (Some bytes) old new ends read write memory = absurd (write refl)
 check_decided draw OutOfMemory (Some bytes) old new ends read write memory = absurd (memory refl)
+check_decided draw DoorFault (Some bytes) old new ends read write memory = ap code_of ends.0
 
 -- bad words decide by themselves
 bad_decided : (line : List ℕ) (status : Status) (old new : Option (List ℕ)) → SendsLine line BadWords status old new
@@ -139,30 +151,27 @@ bad_decided line Refused old new ends write memory = ap code_of ends.0
 bad_decided line ReadFault old new ends write memory = ap code_of ends.0
 bad_decided line WriteFault old new ends write memory = absurd (write refl)
 bad_decided line OutOfMemory old new ends write memory = absurd (memory refl)
-
--- what stands by itself stands of each input
-of_each : {A B : Type 0} (given : Option A) → B → IfSome given (λ x. B)
-of_each None stands = tt
-of_each (Some x) stands = stands
+bad_decided line DoorFault old new ends write memory = ap code_of ends.0
 
 -- the words and the input decide how the program ends
-by_words : (words : WordsReading) (status : Status) (left left_after old new : Option (List ℕ)) → Ends words status left left_after old new
-    → status ≢ ReadFault → status ≢ WriteFault → status ≢ OutOfMemory → IsDecided words (code_of status) left
-by_words (Ok Replay) status left left_after old new ends read write memory = replay_decided status left left_after old new ends read write memory
-by_words (Ok (Check now word)) status left left_after old new ends read write memory =
-    check_decided (record { now = now; word = word }) status left old new ends read write memory
-by_words (Ok (Edge port upstream upstream_tokens tokens host workers interval connections delta)) status left left_after old new ends read write memory =
-    of_each left (bad_decided _ status old new ends write memory)
-by_words (Ok (Upstream port secret environments client_tokens frontend_tokens connections)) status left left_after old new ends read write memory =
-    of_each left (bad_decided _ status old new ends write memory)
-by_words (Err Bad) status left left_after old new ends read write memory = bad_decided _ status old new ends write memory
-by_words (Err Memory) status left left_after old new ends read write memory = absurd (memory ends)
+by_words : (words : WordsReading) (status : Status) (before after : Scene) → Ends words status before after
+    → status ≢ ReadFault → status ≢ WriteFault → status ≢ DoorFault → status ≢ OutOfMemory → IsDecided words (code_of status) before
+by_words (Ok Replay) status before after ends read write door memory =
+    replay_decided status before.left after.left before.sent after.sent ends read write memory
+by_words (Ok (Check now word)) status before after ends read write door memory =
+    check_decided (record { now = now; word = word }) status before.left before.sent after.sent ends read write memory
+by_words (Ok (Edge port upstream upstream_tokens tokens host workers interval connections delta)) status before after ends read write door memory =
+    bad_decided _ status before.sent after.sent ends write memory
+by_words (Ok (Upstream port secret environments client_tokens frontend_tokens connections)) status before after ends read write door memory =
+    upstream_decided secret environments (own_book client_tokens frontend_tokens) status before after ends read write door memory
+by_words (Err Bad) status before after ends read write door memory = bad_decided _ status before.sent after.sent ends write memory
+by_words (Err Memory) status before after ends read write door memory = absurd (memory ends)
 
--- so they decide its number, where neither count rose and memory was found
-pub decided : (words : WordsReading) (status : Status) (code : ℕ) (left left_after old new : Option (List ℕ)) {Read Write : Type 0}
-    → code ≡ code_of status → Ends words status left left_after old new → (status ≡ ReadFault → Read) → (status ≡ WriteFault → Write)
-    → ¬ Read → ¬ Write → code ≢ 6 → IsDecided words code left
-decided words status code left left_after old new is ends read write no_read no_write some =
-    subst (λ c. IsDecided words c left) (sym is)
-    (by_words words status left left_after old new ends (λ same. no_read (read same)) (λ same. no_write (write same))
+-- so they decide its number, where no count rose and memory was found
+pub decided : (words : WordsReading) (status : Status) (code : ℕ) (before after : Scene) {Read Write Door : Type 0}
+    → code ≡ code_of status → Ends words status before after → (status ≡ ReadFault → Read) → (status ≡ WriteFault → Write) → (status ≡ DoorFault → Door)
+    → ¬ Read → ¬ Write → ¬ Door → code ≢ 6 → IsDecided words code before
+decided words status code before after is ends read write door no_read no_write no_door some =
+    subst (λ c. IsDecided words c before) (sym is)
+    (by_words words status before after ends (λ same. no_read (read same)) (λ same. no_write (write same)) (λ same. no_door (door same))
     (λ same. some (is ∙ ap code_of same)))

@@ -3,10 +3,13 @@ use Rattle.std.specs.Prelude.{◌≡◌, ⊤, ℕ, List, [], ◌++◌, codes, Op
 use Rattle.unl_base.specs.Streams.{Sends, SendsFront}
 use Rattle.unl_base.specs.declared.draws.Draw.{Draw}
 use Rattle.unl_documents.specs.FaultText.{fault_text}
-use Rattle.unl_edge.specs.Status.{code_of, status_of}
+use Rattle.unl_edge.specs.OwnBook.{own_book}
+use Rattle.unl_edge.specs.Scene.{Scene}
+use Rattle.unl_edge.specs.Status.{SendsLine, code_of, ending_status, status_of}
+use Rattle.unl_edge.specs.Upstreams.{IsDecidedByLines, UpstreamRuns}
 use Rattle.unl_edge.specs.declared.status.Status.{Status}
-use Rattle.unl_edge.specs.declared.status.Status.TheVariants.{Done, TestFailed, BadWords, Refused, ReadFault, WriteFault, OutOfMemory}
-use Rattle.unl_lines.specs.Taken.{Ending, done, refused, whole_text}
+use Rattle.unl_edge.specs.declared.status.Status.TheVariants.{Done, TestFailed, BadWords, Refused, ReadFault, WriteFault, OutOfMemory, DoorFault}
+use Rattle.unl_lines.specs.Taken.{whole_text}
 use Rattle.unl_lines.specs.Whole.{AnswersRead, IsAnswered, IsRefusing}
 use Rattle.unl_replay.specs.Replay.{line_answer, opening, replay_of}
 use Rattle.unl_spec_runner.specs.Check.{report_of}
@@ -16,12 +19,6 @@ use Rattle.unl_spec_runner.specs.declared.fault.CheckFault.TheVariants as fault
 use Rattle.unl_words.specs.Words.{WordsReading}
 use Rattle.unl_words.specs.declared.refusal.WordsRefusal.TheVariants.{Bad, Memory}
 use Rattle.unl_words.specs.declared.words.Words.TheVariants.{Replay, Check, Edge, Upstream}
-
--- A line was sent, and this is the ending. Or a front of it was sent before the output failed, or memory ran out.
-abbrev pub SendsLine : List ℕ → Status → Status → Option (List ℕ) → Option (List ℕ) → Type 0
-SendsLine line ending OutOfMemory old new = ⊤
-SendsLine line ending WriteFault old new = SendsFront old line new
-SendsLine line ending status old new = (status ≡ ending) × Sends old line new
 
 -- ---- a replay
 
@@ -34,6 +31,7 @@ ReplayEnds WriteFault left left_after old new = IfSome left (λ bytes. SendsFron
 ReplayEnds OutOfMemory left left_after old new = ⊤
 ReplayEnds TestFailed left left_after old new = ⊥
 ReplayEnds BadWords left left_after old new = ⊥
+ReplayEnds DoorFault left left_after old new = ⊥
 
 -- ---- a check
 
@@ -72,16 +70,16 @@ CheckEnds draw status left old new = IfSome left (λ bytes. SaysAll (said_of (re
 abbrev pub bad_words : List ℕ
 bad_words = codes "unl_edge: bad words\n"
 
--- how the program ends, by what its words ask for; it does not serve yet
-abbrev pub Ends : WordsReading → Status → Option (List ℕ) → Option (List ℕ) → Option (List ℕ) → Option (List ℕ) → Type 0
-Ends (Ok Replay) status left left_after old new = ReplayEnds status left left_after old new
-Ends (Ok (Check now word)) status left left_after old new = CheckEnds (record { now = now; word = word }) status left old new
-Ends (Ok (Edge port upstream upstream_tokens tokens host workers interval connections delta)) status left left_after old new =
-    SendsLine bad_words BadWords status old new
-Ends (Ok (Upstream port secret environments client_tokens frontend_tokens connections)) status left left_after old new =
-    SendsLine bad_words BadWords status old new
-Ends (Err Bad) status left left_after old new = SendsLine bad_words BadWords status old new
-Ends (Err Memory) status left left_after old new = status ≡ OutOfMemory
+-- how the program ends, by what its words ask for; it does not serve as an edge yet
+abbrev pub Ends : WordsReading → Status → Scene → Scene → Type 0
+Ends (Ok Replay) status before after = ReplayEnds status before.left after.left before.sent after.sent
+Ends (Ok (Check now word)) status before after = CheckEnds (record { now = now; word = word }) status before.left before.sent after.sent
+Ends (Ok (Edge port upstream upstream_tokens tokens host workers interval connections delta)) status before after =
+    SendsLine bad_words BadWords status before.sent after.sent
+Ends (Ok (Upstream port secret environments client_tokens frontend_tokens connections)) status before after =
+    UpstreamRuns secret environments (own_book client_tokens frontend_tokens) status before after
+Ends (Err Bad) status before after = SendsLine bad_words BadWords status before.sent after.sent
+Ends (Err Memory) status before after = status ≡ OutOfMemory
 
 -- the number is that of an ending, and so the program ended
 abbrev pub Exits : ℕ → (Status → Type 0) → Type 0
@@ -89,21 +87,13 @@ Exits code Ended = (status : Status) × (code ≡ code_of status) × Ended statu
 
 -- ---- what decides, where nothing fails and memory is found
 
--- how a replay ends by its lines
-abbrev pub ending_status : Ending → Status
-ending_status done = Done
-ending_status (refused k cause) = Refused
-
--- how the program ends by its words and its input
-abbrev pub told_by : WordsReading → List ℕ → Status
-told_by (Ok Replay) bytes = ending_status (replay_of bytes).ending
-told_by (Ok (Check now word)) bytes = (said_of (report_of (record { now = now; word = word }) bytes)).status
-told_by (Ok (Edge port upstream upstream_tokens tokens host workers interval connections delta)) bytes = BadWords
-told_by (Ok (Upstream port secret environments client_tokens frontend_tokens connections)) bytes = BadWords
-told_by (Err Bad) bytes = BadWords
-told_by (Err Memory) bytes = OutOfMemory
-
 -- The number is that of the ending that the words and the input tell. Bad words tell it by themselves.
-abbrev pub IsDecided : WordsReading → ℕ → Option (List ℕ) → Type 0
-IsDecided (Err Bad) code left = code ≡ 2
-IsDecided words code left = IfSome left (λ bytes. code ≡ code_of (told_by words bytes))
+abbrev pub IsDecided : WordsReading → ℕ → Scene → Type 0
+IsDecided (Ok Replay) code before = IfSome before.left (λ bytes. code ≡ code_of (ending_status (replay_of bytes).ending))
+IsDecided (Ok (Check now word)) code before =
+    IfSome before.left (λ bytes. code ≡ code_of (said_of (report_of (record { now = now; word = word }) bytes)).status)
+IsDecided (Ok (Edge port upstream upstream_tokens tokens host workers interval connections delta)) code before = code ≡ 2
+IsDecided (Ok (Upstream port secret environments client_tokens frontend_tokens connections)) code before =
+    IsDecidedByLines secret environments (own_book client_tokens frontend_tokens) code before
+IsDecided (Err Bad) code before = code ≡ 2
+IsDecided (Err Memory) code before = code ≡ 6

@@ -1,6 +1,6 @@
 //! Checks of test files, and the words that ask for them.
-use crate::run::{World, run};
-use std::alloc::{AllocError, Global};
+use crate::bench::{quiet, words_of};
+use crate::run::run;
 use std::test::Fail;
 use unl_base::{MemorySink, MemorySource};
 
@@ -68,23 +68,14 @@ const CASES: [(&str, &str, &str, u8); 14] = [
     ("Check", "[]", BAD_WORDS, 2),
 ];
 
-fn words_of(alloc: Global, line: &str) -> Result<Vec<String>, AllocError> {
-    let mut words = Vec::new(alloc);
-    for word in line.split(' ') {
-        words.push(String::from_str(alloc, word)?)?;
-    }
-    Ok(words)
-}
-
 #[test]
 fn each_check(rt: HostRuntime) -> Result<(), Fail> {
     let alloc = rt.alloc();
     for (line, input, output, status) in CASES {
         let words = words_of(alloc, line)?;
-        let mut world = World {
-            input: MemorySource::new(input.as_bytes().to_vec(alloc)?, 7, Vec::new(alloc)),
-            output: MemorySink::new(alloc, ROOM, Vec::new(alloc))?,
-        };
+        let source = MemorySource::new(input.as_bytes().to_vec(alloc)?, 7, Vec::new(alloc));
+        let sink = MemorySink::new(alloc, ROOM, Vec::new(alloc))?;
+        let mut world = quiet(alloc, source, sink, &rt);
         assert_eq!(rt; run(alloc, &words, &mut world), status);
         assert_eq!(rt; str::from_utf8(world.output.sent()).ok(), Some(output));
     }

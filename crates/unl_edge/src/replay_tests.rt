@@ -1,10 +1,6 @@
 //! Whole replays, and what they print.
-use crate::run::{World, run};
-use std::alloc::Global;
+use crate::bench::printed;
 use std::test::Fail;
-use unl_base::{MemorySink, MemorySource};
-
-const ROOM: usize = 65_536;
 
 /// An input, and what its replay prints.
 const CASES: [(&str, &str); 31] = [
@@ -143,23 +139,11 @@ const FULL: (&str, &str) = (
     "1: tokens generation 1 front 1\n2: front 1 status 202 tag - body \n3: front 1 status 503 tag - body {\"error\":\"MetricsFull\"}\n4: metrics {\"applications\":[],\"metrics\":[{\"appName\":\"shop\",\"environment\":\"dev\",\"featureName\":\"a\",\"no\":0,\"timestamp\":\"2024-01-01T10:00:00Z\",\"variants\":{\"v00\":1,\"v01\":1,\"v02\":1,\"v03\":1,\"v04\":1,\"v05\":1,\"v06\":1,\"v07\":1,\"v08\":1,\"v09\":1,\"v10\":1,\"v11\":1,\"v12\":1,\"v13\":1,\"v14\":1,\"v15\":1,\"v16\":1,\"v17\":1,\"v18\":1,\"v19\":1,\"v20\":1,\"v21\":1,\"v22\":1,\"v23\":1,\"v24\":1,\"v25\":1,\"v26\":1,\"v27\":1,\"v28\":1,\"v29\":1,\"v30\":1,\"v31\":1,\"v32\":1,\"v33\":1,\"v34\":1,\"v35\":1,\"v36\":1,\"v37\":1,\"v38\":1,\"v39\":1,\"v40\":1,\"v41\":1,\"v42\":1,\"v43\":1,\"v44\":1,\"v45\":1,\"v46\":1,\"v47\":1,\"v48\":1,\"v49\":1,\"v50\":1,\"v51\":1,\"v52\":1,\"v53\":1,\"v54\":1,\"v55\":1,\"v56\":1,\"v57\":1,\"v58\":1,\"v59\":1},\"yes\":0}]}\n5: front 1 status 202 tag - body \n",
 );
 
-/// What the replay of an input prints.
-fn printed(alloc: Global, input: &str) -> Option<Vec<u8>> {
-    let mut words = Vec::new(alloc);
-    words.push(String::from_str(alloc, "replay").ok()?).ok()?;
-    let mut world = World {
-        input: MemorySource::new(input.as_bytes().to_vec(alloc).ok()?, 4096, Vec::new(alloc)),
-        output: MemorySink::new(alloc, ROOM, Vec::new(alloc)).ok()?,
-    };
-    run(alloc, &words, &mut world);
-    world.output.sent().to_vec(alloc).ok()
-}
-
 #[test]
 fn each_replay_prints(rt: HostRuntime) -> Result<(), Fail> {
     let alloc = rt.alloc();
     for (input, output) in &CASES {
-        let text = printed(alloc, input).expect(&rt, "there is memory");
+        let text = printed(alloc, input, &rt).expect(&rt, "there is memory");
         assert_eq!(rt; str::from_utf8(&text).ok(), Some(*output));
     }
     Ok(())
@@ -169,7 +153,7 @@ fn each_replay_prints(rt: HostRuntime) -> Result<(), Fail> {
 fn reports_are_summed(rt: HostRuntime) -> Result<(), Fail> {
     let alloc = rt.alloc();
     for (input, output) in [REPORTS, FULL] {
-        let text = printed(alloc, input).expect(&rt, "there is memory");
+        let text = printed(alloc, input, &rt).expect(&rt, "there is memory");
         assert_eq!(rt; str::from_utf8(&text).ok(), Some(output));
     }
     Ok(())

@@ -19,6 +19,8 @@ pub enum Status {
     WriteFault,
     /// Memory ran out.
     OutOfMemory,
+    /// The door failed.
+    DoorFault,
 }
 
 impl Status {
@@ -34,6 +36,7 @@ impl Status {
             Status::ReadFault => 4,
             Status::WriteFault => 5,
             Status::OutOfMemory => 6,
+            Status::DoorFault => 7,
         }
     }
 }

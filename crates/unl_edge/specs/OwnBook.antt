@@ -1,0 +1,35 @@
+-- The tokens that an upstream knows, made of the texts that its words give.
+use Rattle.std.specs.Prelude.{ℕ, List, [], ◌++◌, codes, map, Result, Ok, Err}
+use Rattle.serde_json.specs.Data.{Data, string, array, object, no_members}
+use Rattle.serde_json.specs.View.{items_of}
+use Rattle.unl_documents.specs.declared.field.Field.TheVariants as field
+use Rattle.unl_documents.specs.Writing.{with}
+use Rattle.unl_tokens.specs.declared.fault.BadBook.{BadBook}
+use Rattle.unl_tokens.specs.declared.token.Token.{Token}
+use Rattle.unl_tokens.specs.Books.{book_of}
+
+-- a token's text as an entry of this kind, whose projects the text names
+unfoldable pub own_entry : List ℕ → List ℕ → Data
+own_entry kind text = object (
+    with field.Token (string text) (
+    with field.Kind (string kind)
+    no_members))
+
+-- the entries of both lists
+abbrev pub own_entries : List (List ℕ) → List (List ℕ) → List Data
+own_entries clients frontends = map (own_entry (codes "client")) clients ++ map (own_entry (codes "frontend")) frontends
+
+-- the answer of a server that knows these texts
+unfoldable pub own_answer : List (List ℕ) → List (List ℕ) → Data
+own_answer clients frontends = object (
+    with field.Tokens (array (items_of (own_entries clients frontends)))
+    no_members)
+
+-- the tokens that were read, if they were
+abbrev pub tokens_read : Result (List Token) BadBook → List Token
+tokens_read (Ok tokens) = tokens
+tokens_read (Err fault) = []
+
+-- The book of both lists. Where the words are in their ranges the answer is read whole.
+unfoldable pub own_book : List (List ℕ) → List (List ℕ) → List Token
+own_book clients frontends = tokens_read (book_of (own_answer clients frontends))

@@ -1,0 +1,166 @@
+//! The command `upstream`, over lines of commands and links in memory.
+use crate::bench::{Bench, printed, words_of};
+use crate::run::run;
+use crate::world::World;
+use std::alloc::Global;
+use std::sync::Wait;
+use std::test::Fail;
+use unl_base::{ListDraws, MemoryDoor, MemoryLink, MemorySink, MemorySource};
+
+const WORDS: &str =
+    "upstream --secret s --environments dev --client-tokens *:dev.c --frontend-tokens *:dev.f";
+
+const PUT_A: &str =
+    "{\"command\":\"put-feature\",\"environment\":\"dev\",\"feature\":{\"name\":\"a\",\"enabled\":true,\"strategies\":[{\"name\":\"default\"}]}}\n";
+
+/// A feature is put, and then asked for.
+const PUT_B: &str =
+    "POST /commands HTTP/1.1\r\nHost: x\r\nAuthorization: s\r\nContent-Length: 117\r\n\r\n{\"command\":\"put-feature\",\"environment\":\"dev\",\"feature\":{\"name\":\"b\",\"enabled\":true,\"strategies\":[{\"name\":\"default\"}]}}";
+
+const ASK: &str = "GET /api/frontend HTTP/1.1\r\nHost: x\r\nAuthorization: *:dev.f\r\n\r\n";
+
+const FEED: &str = "GET /api/client/features HTTP/1.1\r\nHost: x\r\nAuthorization: *:dev.c\r\n\r\n";
+
+const DELTA: &str = "GET /api/client/delta HTTP/1.1\r\nHost: x\r\nAuthorization: *:dev.c\r\n\r\n";
+
+/// How often calls fail: the numbers, from 0, of one of the input, of one of the output, and of one of the door.
+type Failing = (Option<u64>, Option<u64>, Option<u64>);
+
+const NONE: Failing = (None, None, None);
+
+/// The number of a call that fails, if there is one.
+fn list_of(alloc: Global, call: Option<u64>) -> Option<Vec<u64>> {
+    let mut calls = Vec::new(alloc);
+    if let Some(call) = call {
+        calls.push(call).ok()?;
+    }
+    Some(calls)
+}
+
+/// The status of an upstream over lines and two links, and the world after it.
+fn served<'a, W: Wait>(
+    alloc: Global,
+    lines: &str,
+    asked: [&str; 2],
+    failing: Failing,
+    rt: &'a W,
+) -> Option<(u8, Bench<&'a W>)> {
+    let words = words_of(alloc, WORDS).ok()?;
+    let [first, second] = asked;
+    let first = first.as_bytes().to_vec(alloc).ok()?;
+    let second = second.as_bytes().to_vec(alloc).ok()?;
+    let one = MemoryLink::new(alloc, first, 7, 4096, Vec::new(alloc)).ok()?;
+    let two = MemoryLink::new(alloc, second, 100, 4096, Vec::new(alloc)).ok()?;
+    let links = vec![in alloc; Some(one), Some(two)].ok()?;
+    let mut world = World {
+        input: MemorySource::new(lines.as_bytes().to_vec(alloc).ok()?, 50, list_of(alloc, failing.0)?),
+        output: MemorySink::new(alloc, 4096, list_of(alloc, failing.1)?).ok()?,
+        door: MemoryDoor::new(links, list_of(alloc, failing.2)?),
+        draws: ListDraws::new(Vec::new(alloc)),
+        rt,
+    };
+    let status = run(alloc, &words, &mut world);
+    Some((status, world))
+}
+
+/// Lines, calls that fail, the status, and what is printed.
+const CASES: [(&str, Failing, u8, &str); 9] = [
+    ("", NONE, 0, "connections 2\n"),
+    (PUT_A, NONE, 0, "connections 2\n"),
+    ("{}\n", NONE, 3, "refused: line 1: Missing command\n"),
+    (
+        "{\"command\":\"remove-segment\",\"environment\":\"dev\",\"id\":4}\n",
+        NONE,
+        3,
+        "refused: line 1: NoSuchSegment\n",
+    ),
+    (PUT_A, (Some(1), None, None), 4, ""),
+    (PUT_A, (None, Some(0), None), 5, ""),
+    ("{}\n", (None, Some(0), None), 5, ""),
+    (PUT_A, (None, None, Some(0)), 7, ""),
+    (PUT_A, (None, None, Some(2)), 7, ""),
+];
+
+#[test]
+fn each_end_of_an_upstream(rt: HostRuntime) -> Result<(), Fail> {
+    let alloc = rt.alloc();
+    for (lines, failing, ended, output) in CASES {
+        let (status, world) =
+            served(alloc, lines, [ASK, ASK], failing, &rt).expect(&rt, "there is memory");
+        assert_eq!(rt; status, ended);
+        assert_eq!(rt; str::from_utf8(world.output.sent()).ok(), Some(output));
+        let first = ended == 0 || failing.2 == Some(2);
+        assert_eq!(rt; world.door.sent(0).is_some(), first);
+        assert_eq!(rt; world.door.sent(1).is_some(), ended == 0);
+    }
+    Ok(())
+}
+
+const NUMBER_2: &str =
+    "HTTP/1.1 200 OK\r\nContent-Type: application/json\r\nContent-Length: 12\r\n\r\n{\"number\":2}";
+
+/// Both features are on.
+const TOGGLES: &str =
+    "{\"toggles\":[{\"enabled\":true,\"impressionData\":false,\"name\":\"a\",\"variant\":{\"enabled\":false,\"feature_enabled\":true,\"name\":\"disabled\"}},{\"enabled\":true,\"impressionData\":false,\"name\":\"b\",\"variant\":{\"enabled\":false,\"feature_enabled\":true,\"name\":\"disabled\"}}]}";
+
+/// The body of the reply that a link was sent.
+fn body_at<W: Wait>(world: &Bench<&W>, place: usize) -> Option<&str> {
+    let text = str::from_utf8(world.door.sent(place)?).ok()?;
+    Some(text.split_once("\r\n\r\n")?.1)
+}
+
+#[test]
+fn lines_and_links_change_one_upstream(rt: HostRuntime) -> Result<(), Fail> {
+    let alloc = rt.alloc();
+    let (status, world) =
+        served(alloc, PUT_A, [PUT_B, ASK], NONE, &rt).expect(&rt, "there is memory");
+    assert_eq!(rt; status, 0);
+    assert!(rt; world.door.sent(0) == Some(NUMBER_2.as_bytes()));
+    assert_eq!(rt; body_at(&world, 1), Some(TOGGLES));
+    Ok(())
+}
+
+/// What a replay prints that takes what an upstream gave, as a line's key and value, and is then asked.
+fn asked_after<W: Wait>(alloc: Global, op: &str, given: &str, rt: &W) -> Option<Vec<u8>> {
+    let mut input = String::from_str(
+        alloc,
+        "{\"op\":\"tokens\",\"tokens\":[{\"token\":\"*:dev.f\",\"type\":\"frontend\"}]}\n",
+    )
+    .ok()?;
+    let line = format!(in alloc; "{{\"op\":\"{op}\",\"environment\":\"dev\",\"{op}\":{given}}}\n").ok()?;
+    input.push_str(line.as_str()).ok()?;
+    input
+        .push_str("{\"op\":\"ask\",\"token\":\"*:dev.f\",\"target\":\"/api/frontend\"}\n")
+        .ok()?;
+    printed(alloc, input.as_str(), rt)
+}
+
+/// What a replay prints that has both features.
+fn expected(alloc: Global) -> Option<String> {
+    let mut text = String::from_str(
+        alloc,
+        "1: tokens generation 1 front 1\n2: apply number 2 front 2\n3: front 2 status 200 tag - body ",
+    )
+    .ok()?;
+    text.push_str(TOGGLES).ok()?;
+    text.push('\n').ok()?;
+    Some(text)
+}
+
+// The feed and the hydration of one upstream give a replay the same toggles.
+#[test]
+fn a_feed_and_a_hydration_agree(rt: HostRuntime) -> Result<(), Fail> {
+    let alloc = rt.alloc();
+    let mut lines = String::from_str(alloc, PUT_A)?;
+    lines.push_str(PUT_A.replace(alloc, "\"a\"", "\"b\"")?.as_str())?;
+    let (_, world) =
+        served(alloc, lines.as_str(), [FEED, DELTA], NONE, &rt).expect(&rt, "there is memory");
+    let feed = body_at(&world, 0).expect(&rt, "a feed");
+    let batch = body_at(&world, 1).expect(&rt, "a batch");
+    let text = expected(alloc).expect(&rt, "there is memory");
+    let by_feed = asked_after(alloc, "feed", feed, &rt).expect(&rt, "there is memory");
+    let by_batch = asked_after(alloc, "batch", batch, &rt).expect(&rt, "there is memory");
+    assert!(rt; by_feed.as_slice() == text.as_bytes());
+    assert!(rt; by_batch.as_slice() == text.as_bytes());
+    Ok(())
+}

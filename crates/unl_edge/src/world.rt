@@ -1,0 +1,22 @@
+//! What the program finds outside.
+use std::marker::Model;
+use std::sync::Wait;
+use unl_base::{Door, Draws, Sink, Source};
+
+/// What the program reads and writes, the door whose links it serves, the draws that it answers with, and what it waits by.
+#[derive(Drop)]
+pub struct World<I: Source, O: Sink, D: Door, R: Draws, W: Wait> {
+    pub input: I,
+    pub output: O,
+    pub door: D,
+    pub draws: R,
+    pub rt: W,
+}
+
+impl<I: Source, O: Sink, D: Door, R: Draws, W: Wait> Model for World<I, O, D, R, W> {
+    ghost use Rattle.unl_edge.specs.Scene.{Scene};
+
+    ghost Value = { Scene };
+
+    ghost view = { λ world. record { left = I.left world.input; sent = O.sent world.output; closed = D.closed world.door; given = D.given world.door; back = D.back world.door; links = D.links world.door; returned = D.returned world.door; coming = R.coming world.draws; input_faults = I.faults world.input; output_faults = O.faults world.output; door_faults = D.faults world.door } };
+}
