@@ -1,10 +1,11 @@
 -- The tokens of an upstream's words make a book.
-use Rattle.std.proofs.Common.{◌≡◌, ◌≢◌, ◌≤◌, ◌+◌, ◌&&◌, ◌||◌, ◌∙◌, ℕ, Bool, true, false, not, ltb, List, [], ◌∷◌, ◌++◌, length, map, All, Option, Some, None, Ok, Err, refl, sym, ap, subst, arith, nat_le, length-map, length-append, map-append, true≢false}
+use Rattle.std.proofs.Common.{◌≡◌, ◌≢◌, ◌≤◌, ◌+◌, ◌&&◌, ◌||◌, ◌∙◌, ℕ, Bool, true, false, not, ltb, List, [], ◌∷◌, ◌++◌, length, map, All, Option, Some, None, Result, Ok, Err, refl, sym, ap, subst, arith, nat_le, length-append, true≢false}
 use Rattle.std.specs.Prelude.{codes, option_to_list, ⊤}
 use Rattle.std.specs.List.{AllPairs, list_all}
 use Rattle.std.proofs.lemmas.Bool.{le-ltb}
 use Rattle.std.proofs.lemmas.Bool.Decides.{nat_tests}
 use Rattle.std.proofs.lemmas.List.Elements.{All-cons, All-nil, All-head, All-tail}
+use Rattle.std.proofs.lemmas.List.{length-map}
 use Rattle.std.proofs.lemmas.List.Kept.{AllPairs-cons}
 use Rattle.clap.proofs.WalkLemmas.{both}
 use Rattle.serde_json.specs.Data.{Data, string}
@@ -14,6 +15,7 @@ use Rattle.unl_documents.specs.Kinds.{any_text, text, at}
 use Rattle.unl_documents.specs.Limits.{IsUpTo}
 use Rattle.unl_documents.specs.Texts.{is_name}
 use Rattle.unl_documents.proofs.RoundTrip.{any_text_back, optional_none, required_back, text_back}
+use Rattle.unl_edge.proofs.Gathering.{gathered_same}
 use Rattle.unl_edge.specs.OwnBook.{own_answer, own_book, own_entries, own_entry, tokens_read}
 use Rattle.unl_tokens.specs.declared.fault.BadToken.{BadToken}
 use Rattle.unl_tokens.specs.declared.kind.Kind.{Kind}
@@ -26,7 +28,6 @@ use Rattle.unl_tokens.specs.Kinds.{kind_of}
 use Rattle.unl_tokens.specs.Names.{are_names}
 use Rattle.unl_tokens.specs.Scopes.{scope_of}
 use Rattle.unl_tokens.specs.Valid.{HaveOtherTexts}
-use Rattle.unl_tokens.proofs.Different.{gathered_same, nothing_differs}
 use Rattle.unl_words.specs.Lists.{are_different, are_own_tokens, fit_one_book, is_named, is_token}
 use Rattle.unl_words.specs.Values.{is_line}
 use Rattle.unl_words.proofs.Known.{others_differ}
@@ -133,30 +134,35 @@ none_has token (other ∷ tokens) none =
     (none_has token tokens (All-tail (λ (other : List ℕ). ¬ (other ≡ token.text)) other.text (map (λ (t : Token). t.text) tokens) none))
 
 other_texts : (tokens : List Token) → are_different (map (λ (t : Token). t.text) tokens) ≡ true → HaveOtherTexts tokens
-other_texts [] differ = nothing_differs
+other_texts [] differ = λ i j d before below. absurd (omega arith)
 other_texts (token ∷ tokens) differ =
     let parts = others_differ token.text (map (λ (t : Token). t.text) tokens) differ in
     AllPairs-cons (λ (a b : Token). a.text ≢ b.text) token tokens (none_has token tokens parts.0) (other_texts tokens parts.1)
 
+-- the answer of both lists is read
+Reads : List (List ℕ) → List (List ℕ) → Type 0
+Reads clients frontends = (tokens : List Token) × (book_of (own_answer clients frontends) ≡ Ok tokens)
+
+reads : (clients frontends : List (List ℕ)) → are_own_tokens clients ≡ true → are_own_tokens frontends ≡ true → fit_one_book clients frontends ≡ true
+    → Reads clients frontends
+unfolding Reads book_of own_answer at
+reads clients frontends are also fit =
+    let parts = both (nat_le (length clients + length frontends) 1024) (are_different (clients ++ frontends)) fit in
+    let all : AreTokens 0 (own_entries clients frontends) (clients ++ frontends) =
+    tokens_of 0 (own_entries clients frontends) (clients ++ frontends)
+    (entries_both (map (own_entry (codes "client")) clients) clients (map (own_entry (codes "frontend")) frontends) frontends
+    (entries_read (codes "client") Client clients refl are) (entries_read (codes "frontend") Frontend frontends refl also)) in
+    let differ : are_different (map (λ (t : Token). t.text) all.tokens) ≡ true = rw all.named parts.1 in
+    let counted : length all.tokens ≡ length clients + length frontends =
+    sym (length-map all.tokens (λ (t : Token). t.text)) ∙ ap (λ (ts : List (List ℕ)). length ts) all.named ∙ length-append clients frontends in
+    let below : length clients + length frontends ≤ 1024 = grind (arith, nat_tests) in
+    let few : ltb 1024 (length all.tokens) ≡ false = le-ltb _ _ (omega (arith, counted, below)) in
+    (all.tokens, rw (all.read, gathered_same all.tokens (other_texts all.tokens differ), few) refl)
+
 -- the answer of both lists is read whole, as their book
 pub own_book_read : (clients frontends : List (List ℕ)) → are_own_tokens clients ≡ true → are_own_tokens frontends ≡ true → fit_one_book clients frontends ≡ true
     → book_of (own_answer clients frontends) ≡ Ok (own_book clients frontends)
-unfolding own_book
+unfolding own_book Reads
 own_book_read clients frontends are also fit =
-    let found : (tokens : List Token) × (book_of (own_answer clients frontends) ≡ Ok tokens) = reads in
+    let found : Reads clients frontends = reads clients frontends are also fit in
     found.1 ∙ ap Ok (sym (ap tokens_read found.1))
-  where
-    reads : (tokens : List Token) × (book_of (own_answer clients frontends) ≡ Ok tokens)
-    unfolding book_of own_answer at
-    reads =
-        let parts = both (nat_le (length clients + length frontends) 1024) (are_different (clients ++ frontends)) fit in
-        let all : AreTokens 0 (own_entries clients frontends) (clients ++ frontends) =
-        tokens_of 0 (own_entries clients frontends) (clients ++ frontends)
-        (entries_both (map (own_entry (codes "client")) clients) clients (map (own_entry (codes "frontend")) frontends) frontends
-        (entries_read (codes "client") Client clients refl are) (entries_read (codes "frontend") Frontend frontends refl also)) in
-        let differ : are_different (map (λ (t : Token). t.text) all.tokens) ≡ true = rw all.named parts.1 in
-        let counted : length all.tokens ≡ length clients + length frontends =
-        sym (length-map (λ (t : Token). t.text) all.tokens) ∙ ap length all.named ∙ length-append clients frontends in
-        let below : length clients + length frontends ≤ 1024 = grind (arith, nat_tests) in
-        let few : ltb 1024 (length all.tokens) ≡ false = le-ltb _ _ (omega (arith, counted, below)) in
-        (all.tokens, rw (all.read, gathered_same all.tokens (other_texts all.tokens differ), few) refl)

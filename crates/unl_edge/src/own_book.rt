@@ -1,7 +1,8 @@
 //! The book of the tokens that an upstream's words give.
-ghost use Rattle.std.specs.Prelude.{◌≡◌, ◌++◌, true, IfOk, OnOk, map};
+ghost use Rattle.std.specs.Prelude.{◌≡◌, ◌++◌, true, Ok, IfOk, map};
 ghost use Rattle.serde_json.specs.View.{view};
-ghost use Rattle.unl_edge.specs.OwnBook.{own_answer, own_book, own_entry};
+ghost use Rattle.unl_edge.specs.OwnBook.{own_answer, own_book, own_entry, tokens_read};
+ghost use Rattle.unl_tokens.specs.Books.{book_of};
 ghost use Rattle.unl_words.specs.Lists.{are_own_tokens, fit_one_book};
 
 use serde_json::{Map, Value};
@@ -11,21 +12,30 @@ use unl_documents::{Field, List, Memory, Text};
 use unl_tokens::{BadBook, Book};
 
 /// The book of the texts of clients and of frontends, each with the projects that it names.
+#[tactic(auto, unfolding(crate::specs::OwnBook::own_book))]
 pub fn own_book(
     alloc: Global,
     clients: &List<Text>,
     frontends: &List<Text>,
 ) -> Result<Book, Memory>
-    requires clients { are_own_tokens clients.now ≡ true }
-    requires frontends { are_own_tokens frontends.now ≡ true }
-    requires one_book { fit_one_book clients.now frontends.now ≡ true }
-    ensures { IfOk result (λ book. book ≡ own_book clients.now frontends.now) }
+    ensures book { IfOk result (λ book. book ≡ own_book clients.now frontends.now) }
+
+    // The texts of words in their ranges are all read.
+    ensures whole { are_own_tokens clients.now ≡ true → are_own_tokens frontends.now ≡ true → fit_one_book clients.now frontends.now ≡ true
+        → book_of (own_answer clients.now frontends.now) ≡ Ok (own_book clients.now frontends.now) }
 {
     let answer = own_answer(alloc, clients.as_slice(), frontends.as_slice())?;
-    match Book::read_value(alloc, &answer) {
+    read_answer(alloc, &answer)
+}
+
+/// The book of an answer, or none where it can't be read.
+fn read_answer(alloc: Global, answer: &Value) -> Result<Book, Memory>
+    ensures { IfOk result (λ book. book ≡ tokens_read (book_of (view answer.now))) }
+{
+    match Book::read_value(alloc, answer) {
         Ok(book) => Ok(book),
         Err(BadBook::Memory) => Err(Memory),
-        Err(_) => unreachable!(),
+        Err(_) => Ok(Book::new(alloc)),
     }
 }
 
@@ -34,27 +44,23 @@ pub fn own_book(
 fn own_answer(alloc: Global, clients: &[Text], frontends: &[Text]) -> Result<Value, Memory>
     ensures { IfOk result (λ value. view value ≡ own_answer clients.now frontends.now) }
 {
-    let mut entries = Vec::new(alloc);
-    push_entries(&mut entries, alloc, "client", clients)?;
-    push_entries(&mut entries, alloc, "frontend", frontends)?;
+    let mut entries = entries_of(alloc, "client", clients)?;
+    let mut others = entries_of(alloc, "frontend", frontends)?;
+    entries.append(&mut others)?;
     let mut members = Map::new(alloc);
     put_value(&mut members, alloc, Field::Tokens, Value::Array(entries))?;
     Ok(Value::Object(members))
 }
 
-/// Adds an entry of this kind for each text.
-fn push_entries(
-    entries: &mut Vec<Value>,
-    alloc: Global,
-    kind: &str,
-    texts: &[Text],
-) -> Result<(), Memory>
-    ensures { OnOk result (map view entries.new.items ≡ map view entries.old.items ++ map (own_entry kind.now) texts.now) }
+/// An entry of this kind for each text.
+fn entries_of(alloc: Global, kind: &str, texts: &[Text]) -> Result<Vec<Value>, Memory>
+    ensures { IfOk result (λ entries. map view entries.items ≡ map (own_entry kind.now) texts.now) }
 {
+    let mut entries = Vec::new(alloc);
     for text in texts {
         entries.push(own_entry(alloc, kind, text)?)?;
     }
-    Ok(())
+    Ok(entries)
 }
 
 /// A text as an entry of this kind.

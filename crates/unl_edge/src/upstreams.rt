@@ -1,5 +1,5 @@
 //! The command `upstream`: it takes the commands of its input, and then serves the links of its door.
-ghost use Rattle.std.specs.Prelude.{◌≡◌, ◌≢◌, ◌≤◌, IfOk, string_bytes};
+ghost use Rattle.std.specs.Prelude.{◌≡◌, ◌≢◌, ◌≤◌, ℕ, IfOk, string_bytes};
 ghost use Rattle.unl_base.specs.Faults.{Rose};
 ghost use Rattle.unl_edge.specs.OwnBook.{own_book};
 ghost use Rattle.unl_edge.specs.Status.{SendsLine};
