@@ -26,10 +26,10 @@ use Rattle.unl_refresh.proofs.Receiving.{same_reading}
 pub refreshed_told : (result : Result Outcome RefreshFault) (slot : ℕ) (ask : Ask) (before after : Installed)
     (tag : Option (List ℕ)) (replies : Option (List (List ℕ))) (list : List (List ℕ)) (reading : Result Got BadReply)
     → IfOk result (λ outcome. Refreshes slot ask before (option_map next_of replies)
-        (record { outcome = outcome; installed = after; tag = tag }))
+    (record { outcome = outcome; installed = after; tag = tag }))
     → replies ≡ Some list → IsReply (next_of list) reading
     → IfOk result (λ outcome. record { outcome = outcome; installed = after; tag = tag }
-        ≡ after_reading slot ask.delta ask.tag before reading)
+    ≡ after_reading slot ask.delta ask.tag before reading)
 refreshed_told (Ok outcome) slot ask before after tag replies list reading takes told is =
     takes.gives
     ∙ ap (after_reading slot ask.delta ask.tag before) (same_reading replies list takes.reading reading takes.is_read told is)
@@ -40,12 +40,12 @@ pub applies : (slot : ℕ) (delta : Bool) (tag : Option (List ℕ)) (before : In
     → got.status ≡ 200 → batch_in delta (number_held (place_of before slot)) got.body ≡ Ok batch
     → verdict_of (place_of before slot) batch ≡ Apply
     → after_reading slot delta tag before (Ok got)
-        ≡ record { outcome = Published (before.front + 1); installed = after_install slot batch before; tag = got.tag }
+    ≡ record { outcome = Published (before.front + 1); installed = after_install slot batch before; tag = got.tag }
 applies slot delta tag before got batch status is verdict =
     ap (λ (n : ℕ).
-        if n == 304 then record { outcome = Unchanged; installed = before; tag = tag }
-        else if not (n == 200) then record { outcome = Refused n; installed = before; tag = tag }
-        else after_batch slot got.tag before (batch_in delta (number_held (place_of before slot)) got.body)) status
+    if n == 304 then record { outcome = Unchanged; installed = before; tag = tag }
+    else if not (n == 200) then record { outcome = Refused n; installed = before; tag = tag }
+    else after_batch slot got.tag before (batch_in delta (number_held (place_of before slot)) got.body)) status
     ∙ ap (after_batch slot got.tag before) is
     ∙ ap (after_verdict slot batch got.tag before) verdict
 

@@ -22,11 +22,7 @@ pub struct Ask {
 
 /// The request of an ask that has this tag.
 #[tactic(auto, unfolding(crate::specs::Refresh::refresh_request))]
-pub(crate) fn request_of(
-    alloc: Global,
-    ask: &Ask,
-    tag: &Option<Bytes>,
-) -> Result<Bytes, Memory>
+pub(crate) fn request_of(alloc: Global, ask: &Ask, tag: &Option<Bytes>) -> Result<Bytes, Memory>
     requires host { IsTrue (fits_line ask.now.host) }
     requires token { IsTrue (fits_line ask.now.token) }
     requires tag { IsTrue (fits_if_any tag.now) }

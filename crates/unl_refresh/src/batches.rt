@@ -30,11 +30,7 @@ pub(crate) fn read_batch(
 }
 
 /// The batch that a body spells.
-fn read_delta(
-    alloc: Global,
-    held: Option<u64>,
-    body: &[u8],
-) -> Result<Result<Batch, Bad>, Memory>
+fn read_delta(alloc: Global, held: Option<u64>, body: &[u8]) -> Result<Result<Batch, Bad>, Memory>
     ensures read { IfOk result (λ read. read ≡ delta_in (batch_of_bytes held body.now)) }
     ensures valid { IfOk result (λ read. IfOk read IsValidBatch) }
     ensures named { IfOk result (λ read. IfErr read IsNamed) }

@@ -64,10 +64,7 @@ fn rest_of(text: &[u8], count: usize) -> &[u8]
 }
 
 /// Reads a reply, to its end or until the bytes that came decide how it is read.
-fn read_reply<P: Peer>(
-    alloc: Global,
-    peer: &mut P,
-) -> Result<Result<Got, BadReply>, RefreshFault>
+fn read_reply<P: Peer>(alloc: Global, peer: &mut P) -> Result<Result<Got, BadReply>, RefreshFault>
     ensures read { IfOk result (IsRead (P.Source.left peer.old)) }
     ensures tag { IfOk result (λ reading. IfOk reading (λ got. IsTrue (fits_if_any got.tag))) }
     ensures named { IfOk result (λ reading. IfErr reading (λ e. e ≢ BadReply.Memory)) }

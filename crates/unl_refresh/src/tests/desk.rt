@@ -1,5 +1,5 @@
 //! One place and a book, for tests.
-ghost use Rattle.std.specs.Prelude.{◌≡◌, []};
+ghost use Rattle.std.specs.Prelude.{◌≡◌};
 
 use std::alloc::Global;
 use std::marker::Model;
@@ -58,7 +58,7 @@ impl Installer for OnePlace {
     ghost installed = { λ desk. desk };
 
     fn slots(&self) -> usize {
-        1
+        count_of(&self.place)
     }
 
     fn front(&self) -> u64 {
@@ -92,4 +92,11 @@ impl Installer for OnePlace {
         self.front += 1;
         Ok(Some(self.front))
     }
+}
+
+/// How many places one place is.
+fn count_of(_place: &Place) -> usize
+    ensures { result ≡ 1 }
+{
+    1
 }
