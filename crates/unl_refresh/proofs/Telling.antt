@@ -1,5 +1,5 @@
 -- Where a peer tells its replies, what comes of a call is what comes of the next one.
-use Rattle.std.proofs.Common.{◌≡◌, ◌≢◌, ◌+◌, ◌==◌, not, ℕ, Bool, List, Option, Some, None, Result, Ok, Err, IfOk, ap, ◌∙◌, refl, subst, if◌then◌else◌}
+use Rattle.std.proofs.Common.{◌≡◌, ◌≢◌, ◌+◌, ◌==◌, not, ℕ, Bool, List, Option, Some, None, Result, Ok, Err, IfOk, OnOk, drop, ap, ◌∙◌, refl, subst, if◌then◌else◌}
 use Rattle.std.specs.Option.{option_map}
 use Rattle.serde_json.specs.Data.{Data}
 use Rattle.unl_base.specs.Doors.{next_of}
@@ -16,10 +16,22 @@ use Rattle.unl_refresh.specs.declared.outcome.Outcome.{Outcome}
 use Rattle.unl_refresh.specs.declared.outcome.Outcome.TheVariants.{Published, Unchanged, Refused}
 use Rattle.unl_refresh.specs.declared.outcome.RefreshFault.{RefreshFault}
 use Rattle.unl_refresh.specs.declared.outcome.RefreshFault.TheVariants.{PeerFault, Memory}
+use Rattle.unl_refresh.specs.Exchange.{Asks}
 use Rattle.unl_refresh.specs.Metrics.{IsToldOf, SendsBulk, sent_by}
 use Rattle.unl_refresh.specs.Refresh.{Refreshed, Refreshes, after_batch, after_reading, after_verdict, batch_in, number_held}
 use Rattle.unl_refresh.specs.Tokens.{Installs, RefreshesTokens, book_in_reply}
 use Rattle.unl_refresh.proofs.Receiving.{same_reading}
+
+-- ---- one reply
+
+-- where no call of the peer failed and memory was found, one reply was taken
+pub takes_one : {T : Type 0} (result : Result T RefreshFault) (request : List ℕ) (replies after : Option (List (List ℕ)))
+    (sent sent_after : Option (List ℕ)) (Rises : Type 0)
+    → OnOk result (Asks request replies sent after sent_after) → (result ≡ Err PeerFault → Rises) → ¬ Rises
+    → result ≢ Err Memory → after ≡ option_map (λ list. drop 1 list) replies
+takes_one (Ok x) request replies after sent sent_after Rises asks cause calm found = asks.one_reply
+takes_one (Err PeerFault) request replies after sent sent_after Rises asks cause calm found = absurd (calm (cause refl))
+takes_one (Err Memory) request replies after sent sent_after Rises asks cause calm found = absurd (found refl)
 
 -- ---- a slot
 

@@ -21,7 +21,7 @@ use unl_documents::Memory;
 use unl_http_api::{BadReply, Bytes, Got, Method, write_request};
 use unl_metrics::MetricsBook;
 
-/// SendsBulk a server once what was counted in an environment: as many keys as one report has room for. Those that the server
+/// Sends a server once what was counted in an environment: as many keys as one report has room for. Those that the server
 /// took are dropped; in all other cases the book stays as it was. Where the environment has no key, no peer is asked.
 ///
 /// # Errors
@@ -43,6 +43,8 @@ pub fn send_metrics<P: Peer>(
     // Where the peer tells its replies, this is so of the next one and in no other way.
     ensures told { (list : List (List ℕ)) (reading : Result Got BadReply) → P.replies peer.old ≡ Some list → IsReply (next_of list) reading
         → IfOk result (IsToldOf (bulk_of environment.now book.old) reading) }
+
+    // Want of memory stands in no outcome.
     ensures named { IfOk result IsNamedMetrics }
 
     // The keys that were taken are dropped, and nothing else is.
@@ -55,13 +57,15 @@ pub fn send_metrics<P: Peer>(
     ensures once { AsksBulkAtMostOnce (bulk_of environment.now book.old) host.now token.now
         (P.replies peer.old) (P.Sink.sent peer.old) (P.replies peer.new) (P.Sink.sent peer.new) }
     ensures silent { bulk_of environment.now book.old ≡ None → peer.new ≡ peer.old }
+
+    // A fault is told only where the peer counted one.
     ensures later { P.Source.faults peer.old ≤ P.Source.faults peer.new }
     ensures cause { result ≡ Err RefreshFault.PeerFault → Rose (P.Source.faults peer.old) (P.Source.faults peer.new) }
 {
     send(alloc, book, environment, token, host, peer)
 }
 
-/// SendsBulk once, and drops what was taken.
+/// Sends once, and drops what was taken.
 fn send<P: Peer>(
     alloc: Global,
     book: &mut MetricsBook,
@@ -90,7 +94,7 @@ fn send<P: Peer>(
     Ok(outcome)
 }
 
-/// SendsBulk a report of so many keys, where there is one.
+/// Sends a report of so many keys, where there is one.
 fn send_found<P: Peer>(
     alloc: Global,
     found: Option<(Value, usize)>,

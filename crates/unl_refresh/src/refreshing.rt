@@ -1,5 +1,5 @@
 //! Taking what is new for a slot.
-ghost use Rattle.std.specs.Prelude.{◌≡◌, ◌≢◌, ◌<◌, ◌≤◌, ◌+◌, ◌-◌, ◌^◌, List, ℕ, Some, None, Ok, Err, Result, IfOk, OnOk, OnErr, IsTrue, length, option_map};
+ghost use Rattle.std.specs.Prelude.{◌≡◌, ◌≢◌, ◌<◌, ◌≤◌, ◌+◌, ◌-◌, ◌^◌, List, ℕ, Some, None, Ok, Err, Result, IfOk, OnOk, OnErr, IsTrue, drop, length, option_map};
 ghost use Rattle.unl_base.specs.Doors.{next_of};
 ghost use Rattle.unl_base.specs.Faults.{Rose};
 ghost use Rattle.unl_delta.specs.declared.batch.Batch.{Batch};
@@ -59,6 +59,8 @@ pub fn refresh_once<I: Installer, P: Peer>(
         → verdict_of (place_of (I.installed to.old) slot) batch ≡ Apply
         → ¬ (Rose (P.Source.faults peer.old) (P.Source.faults peer.new)) → result ≢ Err RefreshFault.Memory
         → (result ≡ Ok (Outcome.Published ((I.installed to.old).front + 1))) × (I.installed to.new ≡ after_install slot batch (I.installed to.old)) }
+
+    // Want of memory stands in no outcome.
     ensures named { IfOk result IsNamedOutcome }
 
     // A fault takes nothing, and leaves the ask without its tag.
@@ -74,6 +76,12 @@ pub fn refresh_once<I: Installer, P: Peer>(
         (P.replies peer.old) (P.Sink.sent peer.old) (P.replies peer.new) (P.Sink.sent peer.new)) }
     ensures once { AsksAtMostOnce (refresh_request ask.old.delta ask.old.host ask.old.token ask.old.tag)
         (P.replies peer.old) (P.Sink.sent peer.old) (P.replies peer.new) (P.Sink.sent peer.new) }
+
+    // Where no call of the peer failed and memory was found, one reply was taken.
+    ensures one_reply { ¬ (Rose (P.Source.faults peer.old) (P.Source.faults peer.new)) → result ≢ Err RefreshFault.Memory
+        → P.replies peer.new ≡ option_map (λ list. drop 1 list) (P.replies peer.old) }
+
+    // A fault is told only where the peer counted one.
     ensures later { P.Source.faults peer.old ≤ P.Source.faults peer.new }
     ensures cause { result ≡ Err RefreshFault.PeerFault → Rose (P.Source.faults peer.old) (P.Source.faults peer.new) }
 {

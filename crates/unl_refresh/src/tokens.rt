@@ -1,5 +1,5 @@
 //! Taking the book of tokens that a server knows.
-ghost use Rattle.std.specs.Prelude.{◌≡◌, ◌≢◌, ◌<◌, ◌≤◌, ◌-◌, ◌^◌, List, ℕ, Some, Err, Result, IfOk, IfErr, OnOk, OnErr, IsTrue, option_map, string_bytes, false};
+ghost use Rattle.std.specs.Prelude.{◌≡◌, ◌≢◌, ◌<◌, ◌≤◌, ◌-◌, ◌^◌, List, ℕ, Some, Err, Result, IfOk, IfErr, OnOk, OnErr, IsTrue, drop, option_map, string_bytes, false};
 ghost use Rattle.serde_json.specs.View.{view};
 ghost use Rattle.serde_json.specs.Written.{compact_text, has_float};
 ghost use Rattle.unl_base.specs.Doors.{next_of};
@@ -45,6 +45,8 @@ pub fn refresh_tokens<I: Installer, P: Peer>(
     // Where the peer tells its replies, this is so of the next one and in no other way.
     ensures told { (list : List (List ℕ)) (reading : Result Got BadReply) → P.replies peer.old ≡ Some list → IsReply (next_of list) reading
         → IfOk result (λ outcome. Installs (book_in_reply texts.now reading) (I.installed to.old) outcome (I.installed to.new)) }
+
+    // Want of memory stands in no outcome.
     ensures named { IfOk result IsNamedOutcome }
 
     // A fault takes nothing.
@@ -55,6 +57,12 @@ pub fn refresh_tokens<I: Installer, P: Peer>(
         (P.replies peer.old) (P.Sink.sent peer.old) (P.replies peer.new) (P.Sink.sent peer.new)) }
     ensures once { AsksAtMostOnce (tokens_request texts.now host.now)
         (P.replies peer.old) (P.Sink.sent peer.old) (P.replies peer.new) (P.Sink.sent peer.new) }
+
+    // Where no call of the peer failed and memory was found, one reply was taken.
+    ensures one_reply { ¬ (Rose (P.Source.faults peer.old) (P.Source.faults peer.new)) → result ≢ Err RefreshFault.Memory
+        → P.replies peer.new ≡ option_map (λ list. drop 1 list) (P.replies peer.old) }
+
+    // A fault is told only where the peer counted one.
     ensures later { P.Source.faults peer.old ≤ P.Source.faults peer.new }
     ensures cause { result ≡ Err RefreshFault.PeerFault → Rose (P.Source.faults peer.old) (P.Source.faults peer.new) }
 {
