@@ -73,8 +73,7 @@ entry_read word kind words known is =
     let spelled = required_back (text 512) field.Token value (string words) words refl (text_back 512 field.Token words told.few) in
     let worded = required_back any_text field.Kind value (string word) word refl (any_text_back field.Kind word) in
     let scope : with_named field.Token (scope_of words) ≡ Ok told.scope = rw (told.spelled, told.environment) refl in
-    let names = optional_none project_names field.Projects value refl in
-    (
+    let names = optional_none project_names field.Projects value refl in (
       record { text = words; kind = kind; projects = told.scope.projects; environment = told.scope.environment },
       rw (spelled, worded, scope, names, told.closed, told.projects, known) refl,
       refl,

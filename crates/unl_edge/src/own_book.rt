@@ -13,11 +13,7 @@ use unl_tokens::{BadBook, Book};
 
 /// The book of the texts of clients and of frontends, each with the projects that it names.
 #[tactic(auto, unfolding(crate::specs::OwnBook::own_book))]
-pub fn own_book(
-    alloc: Global,
-    clients: &List<Text>,
-    frontends: &List<Text>,
-) -> Result<Book, Memory>
+pub fn own_book(alloc: Global, clients: &List<Text>, frontends: &List<Text>) -> Result<Book, Memory>
     ensures book { IfOk result (λ book. book ≡ own_book clients.now frontends.now) }
 
     // The texts of words in their ranges are all read.

@@ -53,7 +53,11 @@ fn served<'a, W: Wait>(
     let two = MemoryLink::new(alloc, second, 100, 4096, Vec::new(alloc)).ok()?;
     let links = vec![in alloc; Some(one), Some(two)].ok()?;
     let mut world = World {
-        input: MemorySource::new(lines.as_bytes().to_vec(alloc).ok()?, 50, list_of(alloc, failing.0)?),
+        input: MemorySource::new(
+            lines.as_bytes().to_vec(alloc).ok()?,
+            50,
+            list_of(alloc, failing.0)?,
+        ),
         output: MemorySink::new(alloc, 4096, list_of(alloc, failing.1)?).ok()?,
         door: MemoryDoor::new(links, list_of(alloc, failing.2)?),
         draws: ListDraws::new(Vec::new(alloc)),
@@ -63,35 +67,37 @@ fn served<'a, W: Wait>(
     Some((status, world))
 }
 
-/// Lines, calls that fail, the status, and what is printed.
-const CASES: [(&str, Failing, u8, &str); 9] = [
-    ("", NONE, 0, "connections 2\n"),
-    (PUT_A, NONE, 0, "connections 2\n"),
-    ("{}\n", NONE, 3, "refused: line 1: Missing command\n"),
+/// Lines, calls that fail, the status, what is printed, and how many links were served.
+const CASES: [(&str, Failing, u8, &str, usize); 9] = [
+    ("", NONE, 0, "connections 2\n", 2),
+    (PUT_A, NONE, 0, "connections 2\n", 2),
+    ("{}\n", NONE, 3, "refused: line 1: Missing command\n", 0),
     (
         "{\"command\":\"remove-segment\",\"environment\":\"dev\",\"id\":4}\n",
         NONE,
         3,
         "refused: line 1: NoSuchSegment\n",
+        0,
     ),
-    (PUT_A, (Some(1), None, None), 4, ""),
-    (PUT_A, (None, Some(0), None), 5, ""),
-    ("{}\n", (None, Some(0), None), 5, ""),
-    (PUT_A, (None, None, Some(0)), 7, ""),
-    (PUT_A, (None, None, Some(2)), 7, ""),
+    (PUT_A, (Some(1), None, None), 4, "", 0),
+    (PUT_A, (None, Some(0), None), 5, "", 2),
+    ("{}\n", (None, Some(0), None), 5, "", 0),
+    (PUT_A, (None, None, Some(0)), 7, "", 0),
+    (PUT_A, (None, None, Some(2)), 7, "", 1),
 ];
 
 #[test]
 fn each_end_of_an_upstream(rt: HostRuntime) -> Result<(), Fail> {
     let alloc = rt.alloc();
-    for (lines, failing, ended, output) in CASES {
-        let (status, world) =
-            served(alloc, lines, [ASK, ASK], failing, &rt).expect(&rt, "there is memory");
+    for (lines, failing, ended, output, links) in CASES {
+        let (status, world) = served(alloc, lines, [ASK, ASK], failing, &rt).expect(
+            &rt,
+            "there is memory",
+        );
         assert_eq!(rt; status, ended);
         assert_eq!(rt; str::from_utf8(world.output.sent()).ok(), Some(output));
-        let first = ended == 0 || failing.2 == Some(2);
-        assert_eq!(rt; world.door.sent(0).is_some(), first);
-        assert_eq!(rt; world.door.sent(1).is_some(), ended == 0);
+        assert_eq!(rt; world.door.sent(0).is_some(), links > 0);
+        assert_eq!(rt; world.door.sent(1).is_some(), links > 1);
     }
     Ok(())
 }
@@ -104,7 +110,7 @@ const TOGGLES: &str =
     "{\"toggles\":[{\"enabled\":true,\"impressionData\":false,\"name\":\"a\",\"variant\":{\"enabled\":false,\"feature_enabled\":true,\"name\":\"disabled\"}},{\"enabled\":true,\"impressionData\":false,\"name\":\"b\",\"variant\":{\"enabled\":false,\"feature_enabled\":true,\"name\":\"disabled\"}}]}";
 
 /// The body of the reply that a link was sent.
-fn body_at<W: Wait>(world: &Bench<&W>, place: usize) -> Option<&str> {
+fn body_at<'a, W: Wait>(world: &'a Bench<&W>, place: usize) -> Option<&'a str> {
     let text = str::from_utf8(world.door.sent(place)?).ok()?;
     Some(text.split_once("\r\n\r\n")?.1)
 }
@@ -112,8 +118,10 @@ fn body_at<W: Wait>(world: &Bench<&W>, place: usize) -> Option<&str> {
 #[test]
 fn lines_and_links_change_one_upstream(rt: HostRuntime) -> Result<(), Fail> {
     let alloc = rt.alloc();
-    let (status, world) =
-        served(alloc, PUT_A, [PUT_B, ASK], NONE, &rt).expect(&rt, "there is memory");
+    let (status, world) = served(alloc, PUT_A, [PUT_B, ASK], NONE, &rt).expect(
+        &rt,
+        "there is memory",
+    );
     assert_eq!(rt; status, 0);
     assert!(rt; world.door.sent(0) == Some(NUMBER_2.as_bytes()));
     assert_eq!(rt; body_at(&world, 1), Some(TOGGLES));
@@ -127,7 +135,9 @@ fn asked_after<W: Wait>(alloc: Global, op: &str, given: &str, rt: &W) -> Option<
         "{\"op\":\"tokens\",\"tokens\":[{\"token\":\"*:dev.f\",\"type\":\"frontend\"}]}\n",
     )
     .ok()?;
-    let line = format!(in alloc; "{{\"op\":\"{op}\",\"environment\":\"dev\",\"{op}\":{given}}}\n").ok()?;
+    let line = format!(in alloc;
+        "{{\"op\":\"{op}\",\"environment\":\"dev\",\"{op}\":{given}}}\n"
+    ).ok()?;
     input.push_str(line.as_str()).ok()?;
     input
         .push_str("{\"op\":\"ask\",\"token\":\"*:dev.f\",\"target\":\"/api/frontend\"}\n")
@@ -153,8 +163,10 @@ fn a_feed_and_a_hydration_agree(rt: HostRuntime) -> Result<(), Fail> {
     let alloc = rt.alloc();
     let mut lines = String::from_str(alloc, PUT_A)?;
     lines.push_str(PUT_A.replace(alloc, "\"a\"", "\"b\"")?.as_str())?;
-    let (_, world) =
-        served(alloc, lines.as_str(), [FEED, DELTA], NONE, &rt).expect(&rt, "there is memory");
+    let (_, world) = served(alloc, lines.as_str(), [FEED, DELTA], NONE, &rt).expect(
+        &rt,
+        "there is memory",
+    );
     let feed = body_at(&world, 0).expect(&rt, "a feed");
     let batch = body_at(&world, 1).expect(&rt, "a batch");
     let text = expected(alloc).expect(&rt, "there is memory");

@@ -35,7 +35,14 @@ pub fn run_upstream<I: Source, O: Sink, D: Door, R: Draws, W: Wait>(
     ensures door { result ≡ Status.DoorFault → Rose world.old.door_faults world.new.door_faults }
 {
     let boot = world.draws.draw().word;
-    match begin(alloc, boot, secret, environments, client_tokens, frontend_tokens) {
+    match begin(
+        alloc,
+        boot,
+        secret,
+        environments,
+        client_tokens,
+        frontend_tokens,
+    ) {
         Ok(mut up) => take_commands(alloc, port, &mut up, world),
         Err(Memory) => Status::OutOfMemory,
     }
