@@ -1,6 +1,7 @@
 #!/bin/sh
 # A test over real sockets: starts `upstream` on a loopback port, gives it commands with curl, and compares what it serves.
-# Skipped where curl is not there. It ends what it started, and takes half a minute at most once the program is built.
+# Run after `rt ci` or `rt run`, which build the program. Skipped where curl is not there. It ends what it started, and takes
+# half a minute at most.
 set -u
 cd "$(dirname "$0")/.."
 
@@ -24,9 +25,10 @@ same() {
     test "$2" = "$3" || fail "$1: expected $2, got $3"
 }
 
-(cd crates/unl_edge && rt run -- replay </dev/null >/dev/null 2>"$work/build") || fail "the program isn't built"
+# `rt ci` and `rt run` leave the program here
 program=crates/unl_edge/out/unl_edge
-test -x "$program" || fail "there is no program"
+test -x "$program" || (cd crates/unl_edge && rt run -- replay </dev/null >/dev/null 2>&1)
+test -x "$program" || fail "the program isn't built"
 
 # asks the upstream: the token, the path, and then what else curl takes
 ask() {
