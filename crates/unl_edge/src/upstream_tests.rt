@@ -5,7 +5,7 @@ use crate::world::World;
 use std::alloc::Global;
 use std::sync::Wait;
 use std::test::Fail;
-use unl_base::{ListDraws, MemoryDoor, MemoryLink, MemorySink, MemorySource};
+use unl_base::{BaseMemory, ListDraws, MemoryDoor, MemoryLink, MemorySink, MemorySource};
 
 const WORDS: &str =
     "upstream --secret s --environments dev --client-tokens *:dev.c --frontend-tokens *:dev.f";
@@ -37,6 +37,19 @@ fn list_of(alloc: Global, call: Option<u64>) -> Option<Vec<u64>> {
     Some(calls)
 }
 
+/// A door with a link for each of two texts.
+fn door(alloc: Global, asked: [&str; 2], failing: Vec<u64>) -> Result<MemoryDoor, BaseMemory> {
+    let [first, second] = asked;
+    let first = first.as_bytes().to_vec(alloc)?;
+    let second = second.as_bytes().to_vec(alloc)?;
+    let one = MemoryLink::new(alloc, first, 7, 4096, Vec::new(alloc))?;
+    let two = MemoryLink::new(alloc, second, 100, 4096, Vec::new(alloc))?;
+    match vec![in alloc; Some(one), Some(two)] {
+        Ok(links) => Ok(MemoryDoor::new(links, failing)),
+        Err(_) => Err(BaseMemory),
+    }
+}
+
 /// The status of an upstream over lines and two links, and the world after it.
 fn served<'a, W: Wait>(
     alloc: Global,
@@ -46,20 +59,11 @@ fn served<'a, W: Wait>(
     rt: &'a W,
 ) -> Option<(u8, Bench<&'a W>)> {
     let words = words_of(alloc, WORDS).ok()?;
-    let [first, second] = asked;
-    let first = first.as_bytes().to_vec(alloc).ok()?;
-    let second = second.as_bytes().to_vec(alloc).ok()?;
-    let one = MemoryLink::new(alloc, first, 7, 4096, Vec::new(alloc)).ok()?;
-    let two = MemoryLink::new(alloc, second, 100, 4096, Vec::new(alloc)).ok()?;
-    let links = vec![in alloc; Some(one), Some(two)].ok()?;
+    let lines = lines.as_bytes().to_vec(alloc).ok()?;
     let mut world = World {
-        input: MemorySource::new(
-            lines.as_bytes().to_vec(alloc).ok()?,
-            50,
-            list_of(alloc, failing.0)?,
-        ),
+        input: MemorySource::new(lines, 50, list_of(alloc, failing.0)?),
         output: MemorySink::new(alloc, 4096, list_of(alloc, failing.1)?).ok()?,
-        door: MemoryDoor::new(links, list_of(alloc, failing.2)?),
+        door: door(alloc, asked, list_of(alloc, failing.2)?).ok()?,
         draws: ListDraws::new(Vec::new(alloc)),
         rt,
     };
