@@ -1,0 +1,83 @@
+-- Where a peer tells its replies, what comes of a call is what comes of the next one.
+use Rattle.std.proofs.Common.{◌≡◌, ◌≢◌, ◌+◌, ◌==◌, not, ℕ, Bool, List, Option, Some, None, Result, Ok, Err, IfOk, ap, ◌∙◌, refl, subst, if◌then◌else◌}
+use Rattle.std.specs.Option.{option_map}
+use Rattle.serde_json.specs.Data.{Data}
+use Rattle.unl_base.specs.Doors.{next_of}
+use Rattle.unl_delta.specs.declared.batch.Batch.{Batch}
+use Rattle.unl_delta.specs.declared.batch.Verdict.TheVariants.{Apply}
+use Rattle.unl_delta.specs.Batch.{verdict_of}
+use Rattle.unl_delta.specs.Installing.{Installed, after_install, place_of}
+use Rattle.unl_http_api.specs.declared.got.BadReply.{BadReply}
+use Rattle.unl_http_api.specs.declared.got.Got.{Got}
+use Rattle.unl_http_api.specs.Received.{IsReply}
+use Rattle.unl_refresh.specs.declared.ask.Ask.{Ask}
+use Rattle.unl_refresh.specs.declared.outcome.MetricsOutcome.{MetricsOutcome}
+use Rattle.unl_refresh.specs.declared.outcome.Outcome.{Outcome}
+use Rattle.unl_refresh.specs.declared.outcome.Outcome.TheVariants.{Published, Unchanged, Refused}
+use Rattle.unl_refresh.specs.declared.outcome.RefreshFault.{RefreshFault}
+use Rattle.unl_refresh.specs.declared.outcome.RefreshFault.TheVariants.{PeerFault, Memory}
+use Rattle.unl_refresh.specs.Metrics.{IsToldOf, SendsBulk, sent_by}
+use Rattle.unl_refresh.specs.Refresh.{Refreshed, Refreshes, after_batch, after_reading, after_verdict, batch_in, number_held}
+use Rattle.unl_refresh.specs.Tokens.{Installs, RefreshesTokens, book_in_reply}
+use Rattle.unl_refresh.proofs.Receiving.{same_reading}
+
+-- ---- a slot
+
+pub refreshed_told : (result : Result Outcome RefreshFault) (slot : ℕ) (ask : Ask) (before after : Installed)
+    (tag : Option (List ℕ)) (replies : Option (List (List ℕ))) (list : List (List ℕ)) (reading : Result Got BadReply)
+    → IfOk result (λ outcome. Refreshes slot ask before (option_map next_of replies)
+    (record { outcome = outcome; installed = after; tag = tag }))
+    → replies ≡ Some list → IsReply (next_of list) reading
+    → IfOk result (λ outcome. record { outcome = outcome; installed = after; tag = tag }
+    ≡ after_reading slot ask.delta ask.tag before reading)
+refreshed_told (Ok outcome) slot ask before after tag replies list reading takes told is =
+    takes.gives
+    ∙ ap (after_reading slot ask.delta ask.tag before) (same_reading replies list takes.reading reading takes.is_read told is)
+refreshed_told (Err fault) slot ask before after tag replies list reading takes told is = _
+
+-- a batch that applies is published
+pub applies : (slot : ℕ) (delta : Bool) (tag : Option (List ℕ)) (before : Installed) (got : Got) (batch : Batch)
+    → got.status ≡ 200 → batch_in delta (number_held (place_of before slot)) got.body ≡ Ok batch
+    → verdict_of (place_of before slot) batch ≡ Apply
+    → after_reading slot delta tag before (Ok got)
+    ≡ record { outcome = Published (before.front + 1); installed = after_install slot batch before; tag = got.tag }
+applies slot delta tag before got batch status is verdict =
+    ap (λ (n : ℕ).
+    if n == 304 then record { outcome = Unchanged; installed = before; tag = tag }
+    else if not (n == 200) then record { outcome = Refused n; installed = before; tag = tag }
+    else after_batch slot got.tag before (batch_in delta (number_held (place_of before slot)) got.body)) status
+    ∙ ap (after_batch slot got.tag before) is
+    ∙ ap (after_verdict slot batch got.tag before) verdict
+
+pub completes : (result : Result Outcome RefreshFault) (given wanted : Refreshed) (after : Installed)
+    (tag : Option (List ℕ)) (Rises : Type 0)
+    → IfOk result (λ outcome. record { outcome = outcome; installed = after; tag = tag } ≡ given) → given ≡ wanted
+    → (result ≡ Err PeerFault → Rises) → ¬ Rises → result ≢ Err Memory
+    → (result ≡ Ok wanted.outcome) × (after ≡ wanted.installed)
+completes (Ok outcome) given wanted after tag Rises is same cause calm found =
+    (ap (λ (r : Refreshed). Ok r.outcome) (is ∙ same), ap (λ (r : Refreshed). r.installed) (is ∙ same))
+completes (Err PeerFault) given wanted after tag Rises is same cause calm found = absurd (calm (cause refl))
+completes (Err Memory) given wanted after tag Rises is same cause calm found = absurd (found refl)
+
+-- ---- a book
+
+pub installed_told : (result : Result Outcome RefreshFault) (texts : List (List ℕ)) (before after : Installed)
+    (replies : Option (List (List ℕ))) (list : List (List ℕ)) (reading : Result Got BadReply)
+    → IfOk result (λ outcome. RefreshesTokens texts before (option_map next_of replies) outcome after)
+    → replies ≡ Some list → IsReply (next_of list) reading
+    → IfOk result (λ outcome. Installs (book_in_reply texts reading) before outcome after)
+installed_told (Ok outcome) texts before after replies list reading takes told is =
+    subst (λ (r : Result Got BadReply). Installs (book_in_reply texts r) before outcome after)
+    (same_reading replies list takes.reading reading takes.is_read told is) takes.installs
+installed_told (Err fault) texts before after replies list reading takes told is = _
+
+-- ---- metrics
+
+pub sent_told : (result : Result MetricsOutcome RefreshFault) (found : Option (Data × ℕ))
+    (replies : Option (List (List ℕ))) (list : List (List ℕ)) (reading : Result Got BadReply)
+    → IfOk result (SendsBulk found (option_map next_of replies))
+    → replies ≡ Some list → IsReply (next_of list) reading → IfOk result (IsToldOf found reading)
+sent_told (Ok outcome) None replies list reading sends told is = sends
+sent_told (Ok outcome) (Some (report, count)) replies list reading sends told is =
+    sends.gives ∙ ap (sent_by count) (same_reading replies list sends.reading reading sends.is_read told is)
+sent_told (Err fault) found replies list reading sends told is = _

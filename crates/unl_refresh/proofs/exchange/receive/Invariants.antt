@@ -1,0 +1,16 @@
+use Rattle.std.proofs.Common.{◌≡◌, ◌-◌, ◌≤◌, length}
+use Rattle.unl_refresh.proofs.Receiving.{Taking}
+use Rattle.unl_refresh.proofs.exchange.receive.Given as goal
+
+-- what was taken so far is held
+abbrev pub invariant-loop-room : goal.invariant-loop-room
+invariant-loop-room g l = record {
+  taking : Taking (g.P.Source.left l.initial.peer) l.reader (g.P.Source.left l.peer);
+  sent : g.P.Sink.sent l.peer ≡ g.P.Sink.sent l.initial.peer;
+  replies : g.P.Peer.replies l.peer ≡ g.P.Peer.replies l.initial.peer;
+  later : g.P.Source.faults l.initial.peer ≤ g.P.Source.faults l.peer;
+}
+
+-- each piece has a byte, and fewer than these are held before it
+abbrev pub decreases-loop-room : goal.decreases-loop-room
+decreases-loop-room g l = 16785409 - length l.reader

@@ -1,0 +1,59 @@
+-- One exchange with a peer: a connect, a request, and the reply to it.
+use Rattle.std.specs.Prelude.{◌≡◌, ℕ, ◌<◌, ◌≤◌, ◌⊎◌, Bool, true, false, List, [], ◌++◌, drop, length, Option, Some, None, option_map, Result, ⊤}
+use Rattle.unl_base.specs.Streams.{Takes, HasEnded, SendsFront}
+use Rattle.unl_http_api.specs.declared.got.Got.{Got}
+use Rattle.unl_http_api.specs.declared.got.BadReply.{BadReply}
+use Rattle.unl_http_api.specs.Received.{IsReply}
+
+-- ---- what is sent
+
+-- one connect was made, which took one reply, and on it this request was sent
+pub record Asks
+    (request : List ℕ) (replies : Option (List (List ℕ))) (sent : Option (List ℕ))
+    (replies_after : Option (List (List ℕ))) (sent_after : Option (List ℕ)) : Type 0 where
+  pub one_reply : replies_after ≡ option_map (λ list. drop 1 list) replies
+  pub sends : sent_after ≡ option_map (λ _. request) sent
+
+-- one connect was made, which took one reply, and on it the front of this request was sent
+pub record AsksPart
+    (request : List ℕ) (replies : Option (List (List ℕ))) (sent : Option (List ℕ))
+    (replies_after : Option (List (List ℕ))) (sent_after : Option (List ℕ)) : Type 0 where
+  pub one_reply : replies_after ≡ option_map (λ list. drop 1 list) replies
+  pub sends : SendsFront (option_map (λ _. []) sent) request sent_after
+
+-- no reply was taken and nothing was sent; or one connect was made, and on it the request was sent, or its front
+abbrev pub AsksAtMostOnce :
+    List ℕ → Option (List (List ℕ)) → Option (List ℕ) → Option (List (List ℕ)) → Option (List ℕ) → Type 0
+AsksAtMostOnce request replies sent replies_after sent_after =
+    ((replies_after ≡ replies) × (sent_after ≡ sent)) ⊎ AsksPart request replies sent replies_after sent_after
+
+-- ---- what is read
+
+-- a piece was taken and added to what is held
+pub record AddsPiece
+    (held : List ℕ) (left : Option (List ℕ)) (held_after : List ℕ) (left_after : Option (List ℕ)) : Type 0 where
+  pub piece : List ℕ
+  pub some : 0 < length piece
+  pub took : Takes left piece left_after
+  pub added : held_after ≡ held ++ piece
+
+-- a piece was taken and added to what is held, or the end had come
+abbrev pub TakesPiece : Bool → List ℕ → Option (List ℕ) → List ℕ → Option (List ℕ) → Type 0
+TakesPiece true held left held_after left_after = AddsPiece held left held_after left_after
+TakesPiece false held left held_after left_after = (held_after ≡ held) × HasEnded left
+
+-- what is held is all of the bytes, or a front of them that decides how they are read
+pub record IsEnough (bytes held : List ℕ) : Type 0 where
+  pub more : List ℕ
+  pub split : bytes ≡ held ++ more
+  pub decides : (more ≡ []) ⊎ (16785409 ≤ length held)
+
+-- the same of what was to come, as far as that is told
+abbrev pub HoldsEnough : Option (List ℕ) → List ℕ → Type 0
+HoldsEnough None held = ⊤
+HoldsEnough (Some bytes) held = IsEnough bytes held
+
+-- the reply was read of the bytes that were to come; where these are not told, of some bytes
+abbrev pub IsRead : Option (List ℕ) → Result Got BadReply → Type 0
+IsRead None reading = (bytes : List ℕ) × IsReply bytes reading
+IsRead (Some bytes) reading = IsReply bytes reading

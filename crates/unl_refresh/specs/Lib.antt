@@ -1,0 +1,5 @@
+pub mod Exchange
+pub mod Metrics
+pub mod Named
+pub mod Refresh
+pub mod Tokens

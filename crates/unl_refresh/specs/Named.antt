@@ -1,0 +1,29 @@
+-- Faults that are no want of memory.
+use Rattle.std.specs.Prelude.{◌≢◌, ⊤}
+use Rattle.unl_delta.specs.declared.fault.BadBatch.TheVariants.{Memory as no_memory_for_batch}
+use Rattle.unl_documents.specs.declared.fault.BadDocument.TheVariants.{Memory as no_memory_for_document}
+use Rattle.unl_http_api.specs.declared.got.BadReply.TheVariants.{Memory as no_memory_for_reply}
+use Rattle.unl_tokens.specs.declared.fault.BadBook.TheVariants.{Memory as no_memory_for_book}
+use Rattle.unl_refresh.specs.declared.outcome.Bad.{Bad}
+use Rattle.unl_refresh.specs.declared.outcome.Bad.TheVariants.{Reply, Feed, NoNumber, Batch, Book}
+use Rattle.unl_refresh.specs.declared.outcome.Outcome.{Outcome}
+use Rattle.unl_refresh.specs.declared.outcome.Outcome.TheVariants.{Published, Unchanged, Repeat, Old, Gap, Held, Refused, BadAnswer}
+
+-- no want of memory stands in the cause
+abbrev pub IsNamed : Bad → Type 0
+IsNamed (Reply fault) = fault ≢ no_memory_for_reply
+IsNamed (Feed fault) = fault ≢ no_memory_for_document
+IsNamed NoNumber = ⊤
+IsNamed (Batch fault) = fault ≢ no_memory_for_batch
+IsNamed (Book fault) = fault ≢ no_memory_for_book
+
+-- nor in the outcome
+abbrev pub IsNamedOutcome : Outcome → Type 0
+IsNamedOutcome (Published front) = ⊤
+IsNamedOutcome Unchanged = ⊤
+IsNamedOutcome Repeat = ⊤
+IsNamedOutcome Old = ⊤
+IsNamedOutcome Gap = ⊤
+IsNamedOutcome Held = ⊤
+IsNamedOutcome (Refused status) = ⊤
+IsNamedOutcome (BadAnswer bad) = IsNamed bad

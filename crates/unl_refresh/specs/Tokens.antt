@@ -1,0 +1,53 @@
+-- What comes of a book that a server replied.
+use Rattle.std.specs.Prelude.{◌≡◌, ◌==◌, ℕ, not, List, Option, Some, None, Result, Ok, Err, codes, if◌then◌else◌}
+use Rattle.serde_json.specs.Written.{compact_text}
+use Rattle.unl_delta.specs.Installing.{Installed, IsBookInstalled}
+use Rattle.unl_http_api.specs.declared.got.BadReply.{BadReply}
+use Rattle.unl_http_api.specs.declared.got.Got.{Got}
+use Rattle.unl_http_api.specs.declared.request.Method.TheVariants.{Post}
+use Rattle.unl_http_api.specs.RequestText.{request_text}
+use Rattle.unl_tokens.specs.declared.token.Token.{Token}
+use Rattle.unl_tokens.specs.Books.{BookReading, book_in, kept}
+use Rattle.unl_tokens.specs.Requests.{request_data}
+use Rattle.unl_refresh.specs.declared.outcome.Bad.TheVariants.{Reply, Book}
+use Rattle.unl_refresh.specs.declared.outcome.Outcome.{Outcome}
+use Rattle.unl_refresh.specs.declared.outcome.Outcome.TheVariants.{Published, Unchanged, Repeat, Old, Gap, Held, Refused, BadAnswer}
+use Rattle.unl_refresh.specs.Exchange.{IsRead}
+
+-- the request for a book of these texts, of a host
+unfoldable pub tokens_request : List (List ℕ) → List ℕ → List ℕ
+tokens_request texts host =
+    request_text Post (codes "/edge/validate") host None None (compact_text (request_data texts))
+
+-- the book that was read, cut to these texts; else the outcome
+abbrev pub kept_in : List (List ℕ) → BookReading → Result (List Token) Outcome
+kept_in texts (Ok book) = Ok (kept texts book)
+kept_in texts (Err fault) = Err (BadAnswer (Book fault))
+
+-- the book in a body
+abbrev pub book_read : List (List ℕ) → List ℕ → Result (List Token) Outcome
+book_read texts body = kept_in texts (book_in body)
+
+-- the book in what was read of a server
+abbrev pub book_in_reply : List (List ℕ) → Result Got BadReply → Result (List Token) Outcome
+book_in_reply texts (Ok got) = if not (got.status == 200) then Err (Refused got.status) else book_read texts got.body
+book_in_reply texts (Err bad) = Err (BadAnswer (Reply bad))
+
+-- a book is published where it isn't the one that stands; where there is none, nothing is
+abbrev pub Installs : Result (List Token) Outcome → Installed → Outcome → Installed → Type 0
+Installs (Err other) before outcome after = (outcome ≡ other) × (after ≡ before)
+Installs (Ok book) before (Published front) after = IsBookInstalled book before (Some front) after
+Installs (Ok book) before Repeat after = IsBookInstalled book before None after
+Installs (Ok book) before Unchanged after = ⊥
+Installs (Ok book) before Old after = ⊥
+Installs (Ok book) before Gap after = ⊥
+Installs (Ok book) before Held after = ⊥
+Installs (Ok book) before (Refused status) after = ⊥
+Installs (Ok book) before (BadAnswer bad) after = ⊥
+
+-- the bytes to come, or some bytes where these are not told, were read, and this came of it
+pub record RefreshesTokens
+    (texts : List (List ℕ)) (before : Installed) (coming : Option (List ℕ)) (outcome : Outcome) (after : Installed) : Type 0 where
+  pub reading : Result Got BadReply
+  pub is_read : IsRead coming reading
+  pub installs : Installs (book_in_reply texts reading) before outcome after

@@ -1,0 +1,140 @@
+//! One exchange with a peer: a connect, a request, and the reply to it.
+ghost use Rattle.std.specs.Prelude.{◌≡◌, ◌≢◌, ◌<◌, ◌≤◌, [], Err, IfOk, IfErr, OnOk, OnErr, IsTrue, drop, length, option_map};
+ghost use Rattle.unl_base.specs.Doors.{next_of};
+ghost use Rattle.unl_base.specs.Faults.{HasCause, Rose};
+ghost use Rattle.unl_base.specs.Streams.{Sends, SendsFront};
+ghost use Rattle.unl_http_api.specs.Received.{IsReply};
+ghost use Rattle.unl_http_api.specs.RequestText.{fits_if_any};
+ghost use Rattle.unl_refresh.specs.Exchange.{Asks, AsksAtMostOnce, HoldsEnough, IsRead, TakesPiece};
+
+use crate::outcome::RefreshFault;
+use std::alloc::Global;
+use unl_base::{Failed, Peer};
+use unl_documents::Memory;
+use unl_http_api::{BadReply, Got, ReplyReader};
+
+/// So many bytes are read at a time.
+const PIECE: usize = 16_384;
+
+/// So many bytes decide how a reply is read, whatever follows.
+const ENOUGH: usize = 16_785_409;
+
+/// Connects to a peer, sends a request and reads the reply to it, to its end or until the bytes that came decide how
+/// it is read.
+pub(crate) fn exchange<P: Peer>(
+    alloc: Global,
+    peer: &mut P,
+    request: &[u8],
+) -> Result<Result<Got, BadReply>, RefreshFault>
+    ensures read { IfOk result (IsRead (option_map next_of (P.replies peer.old))) }
+    ensures tag { IfOk result (λ reading. IfOk reading (λ got. IsTrue (fits_if_any got.tag))) }
+    ensures named { IfOk result (λ reading. IfErr reading (λ e. e ≢ BadReply.Memory)) }
+    ensures asks { OnOk result (Asks request.now (P.replies peer.old) (P.Sink.sent peer.old) (P.replies peer.new) (P.Sink.sent peer.new)) }
+    ensures once { AsksAtMostOnce request.now (P.replies peer.old) (P.Sink.sent peer.old) (P.replies peer.new) (P.Sink.sent peer.new) }
+    ensures later { P.Source.faults peer.old ≤ P.Source.faults peer.new }
+    ensures cause { result ≡ Err RefreshFault.PeerFault → Rose (P.Source.faults peer.old) (P.Source.faults peer.new) }
+{
+    peer.connect()?;
+    send(peer, request)?;
+    read_reply(alloc, peer)
+}
+
+/// Sends all of a request. After a fault the front of it was sent.
+fn send<P: Peer>(peer: &mut P, request: &[u8]) -> Result<(), Failed>
+    ensures ok { OnOk result (Sends (P.Sink.sent peer.old) request.now (P.Sink.sent peer.new)) }
+    ensures err { OnErr result (SendsFront (P.Sink.sent peer.old) request.now (P.Sink.sent peer.new)) }
+    ensures left { P.Source.left peer.new ≡ P.Source.left peer.old }
+    ensures replies { P.replies peer.new ≡ P.replies peer.old }
+    ensures cause { HasCause (P.Source.faults peer.old) (P.Source.faults peer.new) result }
+{
+    let mut rest = request;
+    while !rest.is_empty() {
+        let count = peer.write(rest)?;
+        rest = rest_of(rest, count);
+    }
+    Ok(())
+}
+
+/// The bytes of a text from a place on.
+fn rest_of(text: &[u8], count: usize) -> &[u8]
+    requires { count ≤ length text.now }
+    ensures { result.now ≡ drop count text.now }
+{
+    &text[count..]
+}
+
+/// Reads a reply, to its end or until the bytes that came decide how it is read.
+fn read_reply<P: Peer>(alloc: Global, peer: &mut P) -> Result<Result<Got, BadReply>, RefreshFault>
+    ensures read { IfOk result (IsRead (P.Source.left peer.old)) }
+    ensures tag { IfOk result (λ reading. IfOk reading (λ got. IsTrue (fits_if_any got.tag))) }
+    ensures named { IfOk result (λ reading. IfErr reading (λ e. e ≢ BadReply.Memory)) }
+    ensures sent { P.Sink.sent peer.new ≡ P.Sink.sent peer.old }
+    ensures replies { P.replies peer.new ≡ P.replies peer.old }
+    ensures later { P.Source.faults peer.old ≤ P.Source.faults peer.new }
+    ensures cause { result ≡ Err RefreshFault.PeerFault → Rose (P.Source.faults peer.old) (P.Source.faults peer.new) }
+{
+    let mut reader = ReplyReader::new(alloc);
+    receive(peer, &mut reader)?;
+    match finished(alloc, reader) {
+        Ok(reading) => Ok(reading),
+        Err(Memory) => Err(RefreshFault::Memory),
+    }
+}
+
+/// What the bytes that came are read as.
+fn finished(alloc: Global, reader: ReplyReader) -> Result<Result<Got, BadReply>, Memory>
+    ensures read { IfOk result (IsReply reader) }
+    ensures tag { IfOk result (λ reading. IfOk reading (λ got. IsTrue (fits_if_any got.tag))) }
+    ensures named { IfOk result (λ reading. IfErr reading (λ e. e ≢ BadReply.Memory)) }
+{
+    match reader.finish(alloc) {
+        Ok(got) => Ok(Ok(got)),
+        Err(BadReply::Head) => Ok(Err(BadReply::Head)),
+        Err(BadReply::Short) => Ok(Err(BadReply::Short)),
+        Err(BadReply::TooLarge) => Ok(Err(BadReply::TooLarge)),
+        Err(BadReply::Memory) => Err(Memory),
+    }
+}
+
+/// Reads pieces, to the end or until what is held decides how it is read.
+fn receive<P: Peer>(peer: &mut P, reader: &mut ReplyReader) -> Result<(), RefreshFault>
+    requires { reader.old ≡ [] }
+    ensures held { OnOk result (HoldsEnough (P.Source.left peer.old) reader.new) }
+    ensures sent { P.Sink.sent peer.new ≡ P.Sink.sent peer.old }
+    ensures replies { P.replies peer.new ≡ P.replies peer.old }
+    ensures later { P.Source.faults peer.old ≤ P.Source.faults peer.new }
+    ensures cause { result ≡ Err RefreshFault.PeerFault → Rose (P.Source.faults peer.old) (P.Source.faults peer.new) }
+{
+    let mut room = [0; PIECE];
+    while reader.held() < ENOUGH {
+        match read_piece(peer, reader, &mut room) {
+            Ok(true) => (),
+            Ok(false) => return Ok(()),
+            Err(fault) => return Err(fault),
+        }
+    }
+    Ok(())
+}
+
+/// Reads a piece, and tells whether there was one.
+fn read_piece<P: Peer>(
+    peer: &mut P,
+    reader: &mut ReplyReader,
+    room: &mut [u8],
+) -> Result<bool, RefreshFault>
+    requires { 0 < length room.old }
+    ensures piece { IfOk result (λ some. TakesPiece some reader.old (P.Source.left peer.old) reader.new (P.Source.left peer.new)) }
+    ensures sent { P.Sink.sent peer.new ≡ P.Sink.sent peer.old }
+    ensures replies { P.replies peer.new ≡ P.replies peer.old }
+    ensures later { P.Source.faults peer.old ≤ P.Source.faults peer.new }
+    ensures cause { result ≡ Err RefreshFault.PeerFault → Rose (P.Source.faults peer.old) (P.Source.faults peer.new) }
+{
+    match peer.read(room) {
+        Ok(0) => Ok(false),
+        Ok(count) => match reader.feed(&room[..count]) {
+            Ok(()) => Ok(true),
+            Err(Memory) => Err(RefreshFault::Memory),
+        },
+        Err(Failed) => Err(RefreshFault::PeerFault),
+    }
+}

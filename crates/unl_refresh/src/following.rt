@@ -1,0 +1,146 @@
+//! What a place does with what a server replied.
+ghost use Rattle.std.specs.Prelude.{◌≡◌, ◌≢◌, ◌<◌, ◌-◌, ◌^◌, Some, None, IfOk, IfErr, OnErr, IsTrue, length, option_map};
+ghost use Rattle.unl_delta.specs.Batch.{verdict_of};
+ghost use Rattle.unl_delta.specs.Installing.{place_of};
+ghost use Rattle.unl_delta.specs.Valid.{IsValidBatch};
+ghost use Rattle.unl_http_api.specs.RequestText.{fits_if_any};
+ghost use Rattle.unl_refresh.specs.Named.{IsNamedOutcome};
+ghost use Rattle.unl_refresh.specs.Refresh.{after_reading, after_reply, after_verdict, number_held};
+
+use crate::batches::read_batch;
+use crate::outcome::{Bad, Outcome};
+use std::alloc::Global;
+use unl_delta::{Batch, Installer, Verdict, verdict};
+use unl_documents::Memory;
+use unl_http_api::{BadReply, Bytes, Got};
+
+/// What came of a reply, and the tag for the next ask.
+#[derive(Drop)]
+pub(crate) struct Taken {
+    pub(crate) outcome: Outcome,
+    pub(crate) tag: Option<Bytes>,
+}
+
+/// Follows what was read of a server, of which the ask had a tag.
+pub(crate) fn follow<I: Installer>(
+    alloc: Global,
+    to: &mut I,
+    slot: usize,
+    delta: bool,
+    tag: Option<Bytes>,
+    reading: Result<Got, BadReply>,
+) -> Result<Taken, Memory>
+    requires slot { slot < length (I.installed to.old).places }
+    requires front { (I.installed to.old).front < 2 ^ 64 - 1 }
+    requires tag { IsTrue (fits_if_any tag) }
+    requires next_tag { IfOk reading (λ got. IsTrue (fits_if_any got.tag)) }
+    requires named { IfErr reading (λ e. e ≢ BadReply.Memory) }
+    ensures after { IfOk result (λ taken. record { outcome = taken.outcome; installed = I.installed to.new; tag = taken.tag } ≡ after_reading slot delta tag (I.installed to.old) reading) }
+    ensures named { IfOk result (λ taken. IsNamedOutcome taken.outcome) }
+    ensures fits { IfOk result (λ taken. IsTrue (fits_if_any taken.tag)) }
+    ensures memory { OnErr result (I.installed to.new ≡ I.installed to.old) }
+{
+    match reading {
+        Ok(got) => follow_reply(alloc, to, slot, delta, tag, got),
+        Err(bad) => Ok(unread(Bad::Reply(bad))),
+    }
+}
+
+/// Nothing is taken, and the next ask has no tag.
+fn unread(bad: Bad) -> Taken
+    ensures { result ≡ record { outcome = Outcome.BadAnswer bad; tag = None } }
+{
+    Taken {
+        outcome: Outcome::BadAnswer(bad),
+        tag: None,
+    }
+}
+
+/// Follows a reply.
+fn follow_reply<I: Installer>(
+    alloc: Global,
+    to: &mut I,
+    slot: usize,
+    delta: bool,
+    tag: Option<Bytes>,
+    got: Got,
+) -> Result<Taken, Memory>
+    requires slot { slot < length (I.installed to.old).places }
+    requires front { (I.installed to.old).front < 2 ^ 64 - 1 }
+    requires tag { IsTrue (fits_if_any tag) }
+    requires next_tag { IsTrue (fits_if_any got.tag) }
+    ensures after { IfOk result (λ taken. record { outcome = taken.outcome; installed = I.installed to.new; tag = taken.tag } ≡ after_reply slot delta tag (I.installed to.old) got) }
+    ensures named { IfOk result (λ taken. IsNamedOutcome taken.outcome) }
+    ensures fits { IfOk result (λ taken. IsTrue (fits_if_any taken.tag)) }
+    ensures memory { OnErr result (I.installed to.new ≡ I.installed to.old) }
+{
+    if got.status == 304 {
+        return Ok(Taken {
+            outcome: Outcome::Unchanged,
+            tag,
+        });
+    }
+    if got.status != 200 {
+        return Ok(Taken {
+            outcome: Outcome::Refused(got.status),
+            tag,
+        });
+    }
+    let held = number_held(to, slot);
+    match read_batch(alloc, delta, held, got.body.as_slice()) {
+        Ok(Ok(batch)) => follow_batch(alloc, to, slot, &batch, got.tag),
+        Ok(Err(bad)) => Ok(unread(bad)),
+        Err(Memory) => Err(Memory),
+    }
+}
+
+/// The number of the version of a slot, where there is one.
+fn number_held<I: Installer>(to: &I, slot: usize) -> Option<u64>
+    requires { slot < length (I.installed to.now).places }
+    ensures { result ≡ number_held (place_of (I.installed to.now) slot) }
+{
+    match &to.place(slot).version {
+        Some(version) => Some(version.get().number),
+        None => None,
+    }
+}
+
+/// Follows a batch, which came with a tag.
+fn follow_batch<I: Installer>(
+    alloc: Global,
+    to: &mut I,
+    slot: usize,
+    batch: &Batch,
+    tag: Option<Bytes>,
+) -> Result<Taken, Memory>
+    requires slot { slot < length (I.installed to.old).places }
+    requires front { (I.installed to.old).front < 2 ^ 64 - 1 }
+    requires batch { IsValidBatch batch.now }
+    requires tag { IsTrue (fits_if_any tag) }
+    ensures after { IfOk result (λ taken. record { outcome = taken.outcome; installed = I.installed to.new; tag = taken.tag }
+        ≡ after_verdict slot batch.now tag (I.installed to.old) (verdict_of (place_of (I.installed to.old) slot) batch.now)) }
+    ensures named { IfOk result (λ taken. IsNamedOutcome taken.outcome) }
+    ensures fits { IfOk result (λ taken. IsTrue (fits_if_any taken.tag)) }
+    ensures memory { OnErr result (I.installed to.new ≡ I.installed to.old) }
+{
+    match verdict(to.place(slot), batch) {
+        Verdict::Apply => match to.install(alloc, slot, batch) {
+            Ok(front) => Ok(with_tag(Outcome::Published(front), tag)),
+            Err(Memory) => Err(Memory),
+        },
+        Verdict::Repeat => Ok(with_tag(Outcome::Repeat, tag)),
+        Verdict::Old => Ok(with_tag(Outcome::Old, None)),
+        Verdict::Gap => {
+            to.hold(slot);
+            Ok(with_tag(Outcome::Gap, None))
+        }
+        Verdict::Held => Ok(with_tag(Outcome::Held, None)),
+    }
+}
+
+/// An outcome, with the tag for the next ask.
+fn with_tag(outcome: Outcome, tag: Option<Bytes>) -> Taken
+    ensures { result ≡ record { outcome = outcome; tag = tag } }
+{
+    Taken { outcome, tag }
+}

@@ -1,0 +1,165 @@
+//! Sending what was counted.
+ghost use Rattle.std.specs.Prelude.{◌≡◌, ◌≢◌, ◌≤◌, List, ℕ, Some, None, Err, Result, Option, IfOk, IfErr, IfSome, OnErr, IsTrue, option_map, false};
+ghost use Rattle.serde_json.specs.View.{view};
+ghost use Rattle.serde_json.specs.Written.{has_float};
+ghost use Rattle.unl_base.specs.Doors.{next_of};
+ghost use Rattle.unl_base.specs.Faults.{Rose};
+ghost use Rattle.unl_http_api.specs.declared.got.BadReply.{BadReply};
+ghost use Rattle.unl_http_api.specs.declared.got.Got.{Got};
+ghost use Rattle.unl_http_api.specs.Received.{IsReply};
+ghost use Rattle.unl_http_api.specs.RequestText.{fits_line};
+ghost use Rattle.unl_metrics.specs.Bulk.{bulk as bulk_of};
+ghost use Rattle.unl_refresh.specs.Metrics.{AsksBulk, AsksBulkAtMostOnce, IsNamedMetrics, IsToldOf, SendsBulk, book_after, metrics_request, sent_by};
+
+use crate::exchange::exchange;
+use crate::outcome::{MetricsOutcome, RefreshFault};
+use crate::texts::json_text;
+use serde_json::Value;
+use std::alloc::Global;
+use unl_base::Peer;
+use unl_documents::Memory;
+use unl_http_api::{BadReply, Bytes, Got, Method, write_request};
+use unl_metrics::MetricsBook;
+
+/// SendsBulk a server once what was counted in an environment: as many keys as one report has room for. Those that the server
+/// took are dropped; in all other cases the book stays as it was. Where the environment has no key, no peer is asked.
+///
+/// # Errors
+/// `PeerFault` where the peer can't be connected to, written to or read, or want of memory.
+pub fn send_metrics<P: Peer>(
+    alloc: Global,
+    book: &mut MetricsBook,
+    environment: &str,
+    token: &str,
+    host: &str,
+    peer: &mut P,
+) -> Result<MetricsOutcome, RefreshFault>
+    requires host { IsTrue (fits_line host.now) }
+    requires token { IsTrue (fits_line token.now) }
+
+    // Where there is something to send, a reply was read, and the outcome is what comes of it.
+    ensures sends { IfOk result (SendsBulk (bulk_of environment.now book.old) (option_map next_of (P.replies peer.old))) }
+
+    // Where the peer tells its replies, this is so of the next one and in no other way.
+    ensures told { (list : List (List ℕ)) (reading : Result Got BadReply) → P.replies peer.old ≡ Some list → IsReply (next_of list) reading
+        → IfOk result (IsToldOf (bulk_of environment.now book.old) reading) }
+    ensures named { IfOk result IsNamedMetrics }
+
+    // The keys that were taken are dropped, and nothing else is.
+    ensures book { IfOk result (λ outcome. book.new ≡ book_after environment.now outcome book.old) }
+    ensures fault { OnErr result (book.new ≡ book.old) }
+
+    // Where there is something to send, one connect was made, and one request was sent on it.
+    ensures asks { IfOk result (λ _. AsksBulk (bulk_of environment.now book.old) host.now token.now
+        (P.replies peer.old) (P.Sink.sent peer.old) (P.replies peer.new) (P.Sink.sent peer.new)) }
+    ensures once { AsksBulkAtMostOnce (bulk_of environment.now book.old) host.now token.now
+        (P.replies peer.old) (P.Sink.sent peer.old) (P.replies peer.new) (P.Sink.sent peer.new) }
+    ensures silent { bulk_of environment.now book.old ≡ None → peer.new ≡ peer.old }
+    ensures later { P.Source.faults peer.old ≤ P.Source.faults peer.new }
+    ensures cause { result ≡ Err RefreshFault.PeerFault → Rose (P.Source.faults peer.old) (P.Source.faults peer.new) }
+{
+    send(alloc, book, environment, token, host, peer)
+}
+
+/// SendsBulk once, and drops what was taken.
+fn send<P: Peer>(
+    alloc: Global,
+    book: &mut MetricsBook,
+    environment: &str,
+    token: &str,
+    host: &str,
+    peer: &mut P,
+) -> Result<MetricsOutcome, RefreshFault>
+    requires host { IsTrue (fits_line host.now) }
+    requires token { IsTrue (fits_line token.now) }
+    ensures sends { IfOk result (SendsBulk (bulk_of environment.now book.old) (option_map next_of (P.replies peer.old))) }
+    ensures named { IfOk result IsNamedMetrics }
+    ensures book { IfOk result (λ outcome. book.new ≡ book_after environment.now outcome book.old) }
+    ensures fault { OnErr result (book.new ≡ book.old) }
+    ensures asks { IfOk result (λ _. AsksBulk (bulk_of environment.now book.old) host.now token.now
+        (P.replies peer.old) (P.Sink.sent peer.old) (P.replies peer.new) (P.Sink.sent peer.new)) }
+    ensures once { AsksBulkAtMostOnce (bulk_of environment.now book.old) host.now token.now
+        (P.replies peer.old) (P.Sink.sent peer.old) (P.replies peer.new) (P.Sink.sent peer.new) }
+    ensures silent { bulk_of environment.now book.old ≡ None → peer.new ≡ peer.old }
+    ensures later { P.Source.faults peer.old ≤ P.Source.faults peer.new }
+    ensures cause { result ≡ Err RefreshFault.PeerFault → Rose (P.Source.faults peer.old) (P.Source.faults peer.new) }
+{
+    let found = book.bulk(alloc, environment)?;
+    let outcome = send_found(alloc, found, token, host, peer)?;
+    drop_sent(book, environment, outcome);
+    Ok(outcome)
+}
+
+/// SendsBulk a report of so many keys, where there is one.
+fn send_found<P: Peer>(
+    alloc: Global,
+    found: Option<(Value, usize)>,
+    token: &str,
+    host: &str,
+    peer: &mut P,
+) -> Result<MetricsOutcome, RefreshFault>
+    requires host { IsTrue (fits_line host.now) }
+    requires token { IsTrue (fits_line token.now) }
+    requires whole { IfSome found (λ sent. has_float (view sent.0) ≡ false) }
+    ensures sends { IfOk result (SendsBulk (option_map (λ sent. (view sent.0, sent.1)) found) (option_map next_of (P.replies peer.old))) }
+    ensures named { IfOk result IsNamedMetrics }
+    ensures asks { IfOk result (λ _. AsksBulk (option_map (λ sent. (view sent.0, sent.1)) found) host.now token.now
+        (P.replies peer.old) (P.Sink.sent peer.old) (P.replies peer.new) (P.Sink.sent peer.new)) }
+    ensures once { AsksBulkAtMostOnce (option_map (λ sent. (view sent.0, sent.1)) found) host.now token.now
+        (P.replies peer.old) (P.Sink.sent peer.old) (P.replies peer.new) (P.Sink.sent peer.new) }
+    ensures silent { found ≡ None → peer.new ≡ peer.old }
+    ensures later { P.Source.faults peer.old ≤ P.Source.faults peer.new }
+    ensures cause { result ≡ Err RefreshFault.PeerFault → Rose (P.Source.faults peer.old) (P.Source.faults peer.new) }
+{
+    let Some((report, count)) = found else {
+        return Ok(MetricsOutcome::Nothing);
+    };
+    let request = request_of(alloc, &report, token, host)?;
+    let reading = exchange(alloc, peer, request.as_slice())?;
+    Ok(outcome_of(count, reading))
+}
+
+/// The request that tells a report.
+#[tactic(auto, unfolding(crate::specs::Metrics::metrics_request))]
+fn request_of(alloc: Global, report: &Value, token: &str, host: &str) -> Result<Bytes, Memory>
+    requires host { IsTrue (fits_line host.now) }
+    requires token { IsTrue (fits_line token.now) }
+    requires whole { has_float (view report.now) ≡ false }
+    ensures { IfOk result (λ text. text ≡ metrics_request host.now token.now (view report.now)) }
+{
+    let body = json_text(alloc, report)?;
+    write_request(
+        alloc,
+        Method::Post,
+        "/api/client/metrics/bulk",
+        host,
+        Some(token),
+        None,
+        body.as_bytes(),
+    )
+}
+
+/// What comes of what was read of a server that was sent so many keys.
+fn outcome_of(count: usize, reading: Result<Got, BadReply>) -> MetricsOutcome
+    requires { IfErr reading (λ e. e ≢ BadReply.Memory) }
+    ensures outcome { result ≡ sent_by count reading }
+    ensures named { IsNamedMetrics result }
+{
+    match reading {
+        Ok(got) if got.status == 200 || got.status == 202 => MetricsOutcome::Sent(count),
+        Ok(got) => MetricsOutcome::Refused(got.status),
+        Err(bad) => MetricsOutcome::BadAnswer(bad),
+    }
+}
+
+/// Drops the keys that were taken.
+fn drop_sent(book: &mut MetricsBook, environment: &str, outcome: MetricsOutcome)
+    ensures { book.new ≡ book_after environment.now outcome book.old }
+{
+    match outcome {
+        MetricsOutcome::Sent(count) => book.acknowledged(environment, count),
+        MetricsOutcome::Nothing => (),
+        MetricsOutcome::Refused(_) => (),
+        MetricsOutcome::BadAnswer(_) => (),
+    }
+}

@@ -1,0 +1,116 @@
+//! Taking what is new for a slot.
+ghost use Rattle.std.specs.Prelude.{◌≡◌, ◌≢◌, ◌<◌, ◌≤◌, ◌+◌, ◌-◌, ◌^◌, List, ℕ, Some, None, Ok, Err, Result, IfOk, OnOk, OnErr, IsTrue, length, option_map};
+ghost use Rattle.unl_base.specs.Doors.{next_of};
+ghost use Rattle.unl_base.specs.Faults.{Rose};
+ghost use Rattle.unl_delta.specs.declared.batch.Batch.{Batch};
+ghost use Rattle.unl_delta.specs.declared.batch.Verdict.TheVariants.{Apply};
+ghost use Rattle.unl_delta.specs.Batch.{verdict_of};
+ghost use Rattle.unl_delta.specs.Installing.{after_install, place_of};
+ghost use Rattle.unl_http_api.specs.declared.got.BadReply.{BadReply};
+ghost use Rattle.unl_http_api.specs.declared.got.Got.{Got};
+ghost use Rattle.unl_http_api.specs.Received.{IsReply};
+ghost use Rattle.unl_http_api.specs.RequestText.{fits_if_any, fits_line};
+ghost use Rattle.unl_refresh.specs.Exchange.{Asks, AsksAtMostOnce};
+ghost use Rattle.unl_refresh.specs.Named.{IsNamedOutcome};
+ghost use Rattle.unl_refresh.specs.Refresh.{Refreshes, after_reading, batch_in, number_held, refresh_request, with_tag};
+
+use crate::ask::{Ask, request_of};
+use crate::exchange::exchange;
+use crate::following::follow;
+use crate::outcome::{Outcome, RefreshFault};
+use std::alloc::Global;
+use unl_base::Peer;
+use unl_delta::Installer;
+
+/// Asks a server once for what is new, and takes what it answers for a slot: a batch of events, or a feed as one
+/// hydration. What applies there is published by one install. After a gap the slot is held, and in all other outcomes
+/// the place stays as it was.
+///
+/// The ask has the reply's tag afterwards where the reply was published or stands already, and keeps its own where the
+/// server had nothing new or refused. In all other cases it has none, so that the server answers all that stands.
+///
+/// # Errors
+/// `PeerFault` where the peer can't be connected to, written to or read, or want of memory. Nothing is taken then.
+pub fn refresh_once<I: Installer, P: Peer>(
+    alloc: Global,
+    to: &mut I,
+    slot: usize,
+    ask: &mut Ask,
+    peer: &mut P,
+) -> Result<Outcome, RefreshFault>
+    requires slot { slot < length (I.installed to.old).places }
+    requires front { (I.installed to.old).front < 2 ^ 64 - 1 }
+    requires host { IsTrue (fits_line ask.old.host) }
+    requires token { IsTrue (fits_line ask.old.token) }
+    requires tag { IsTrue (fits_if_any ask.old.tag) }
+
+    // A reply was read, and the outcome, what is installed and the tag are what comes of it.
+    ensures takes { IfOk result (λ outcome. Refreshes slot ask.old (I.installed to.old) (option_map next_of (P.replies peer.old))
+        (record { outcome = outcome; installed = I.installed to.new; tag = ask.new.tag })) }
+
+    // Where the peer tells its replies, this is so of the next one and in no other way.
+    ensures told { (list : List (List ℕ)) (reading : Result Got BadReply) → P.replies peer.old ≡ Some list → IsReply (next_of list) reading
+        → IfOk result (λ outcome. record { outcome = outcome; installed = I.installed to.new; tag = ask.new.tag }
+        ≡ after_reading slot ask.old.delta ask.old.tag (I.installed to.old) reading) }
+
+    // So a batch that applies there is published, where no call of the peer failed and memory was found.
+    ensures complete { (list : List (List ℕ)) (got : Got) (batch : Batch) → P.replies peer.old ≡ Some list → IsReply (next_of list) (Ok got)
+        → got.status ≡ 200 → batch_in ask.old.delta (number_held (place_of (I.installed to.old) slot)) got.body ≡ Ok batch
+        → verdict_of (place_of (I.installed to.old) slot) batch ≡ Apply
+        → ¬ (Rose (P.Source.faults peer.old) (P.Source.faults peer.new)) → result ≢ Err RefreshFault.Memory
+        → (result ≡ Ok (Outcome.Published ((I.installed to.old).front + 1))) × (I.installed to.new ≡ after_install slot batch (I.installed to.old)) }
+    ensures named { IfOk result IsNamedOutcome }
+
+    // A fault takes nothing, and leaves the ask without its tag.
+    ensures fault { OnErr result (I.installed to.new ≡ I.installed to.old) }
+    ensures no_tag { OnErr result (ask.new.tag ≡ None) }
+
+    // The ask changes in its tag alone, which may be sent in the next request.
+    ensures same_ask { ask.new ≡ with_tag ask.new.tag ask.old }
+    ensures next_tag { IsTrue (fits_if_any ask.new.tag) }
+
+    // One connect was made, and one request was sent on it.
+    ensures asks { OnOk result (Asks (refresh_request ask.old.delta ask.old.host ask.old.token ask.old.tag)
+        (P.replies peer.old) (P.Sink.sent peer.old) (P.replies peer.new) (P.Sink.sent peer.new)) }
+    ensures once { AsksAtMostOnce (refresh_request ask.old.delta ask.old.host ask.old.token ask.old.tag)
+        (P.replies peer.old) (P.Sink.sent peer.old) (P.replies peer.new) (P.Sink.sent peer.new) }
+    ensures later { P.Source.faults peer.old ≤ P.Source.faults peer.new }
+    ensures cause { result ≡ Err RefreshFault.PeerFault → Rose (P.Source.faults peer.old) (P.Source.faults peer.new) }
+{
+    refresh(alloc, to, slot, ask, peer)
+}
+
+/// Asks once, and follows what is read.
+fn refresh<I: Installer, P: Peer>(
+    alloc: Global,
+    to: &mut I,
+    slot: usize,
+    ask: &mut Ask,
+    peer: &mut P,
+) -> Result<Outcome, RefreshFault>
+    requires slot { slot < length (I.installed to.old).places }
+    requires front { (I.installed to.old).front < 2 ^ 64 - 1 }
+    requires host { IsTrue (fits_line ask.old.host) }
+    requires token { IsTrue (fits_line ask.old.token) }
+    requires tag { IsTrue (fits_if_any ask.old.tag) }
+    ensures takes { IfOk result (λ outcome. Refreshes slot ask.old (I.installed to.old) (option_map next_of (P.replies peer.old))
+        (record { outcome = outcome; installed = I.installed to.new; tag = ask.new.tag })) }
+    ensures named { IfOk result IsNamedOutcome }
+    ensures fault { OnErr result (I.installed to.new ≡ I.installed to.old) }
+    ensures no_tag { OnErr result (ask.new.tag ≡ None) }
+    ensures same_ask { ask.new ≡ with_tag ask.new.tag ask.old }
+    ensures next_tag { IsTrue (fits_if_any ask.new.tag) }
+    ensures asks { OnOk result (Asks (refresh_request ask.old.delta ask.old.host ask.old.token ask.old.tag)
+        (P.replies peer.old) (P.Sink.sent peer.old) (P.replies peer.new) (P.Sink.sent peer.new)) }
+    ensures once { AsksAtMostOnce (refresh_request ask.old.delta ask.old.host ask.old.token ask.old.tag)
+        (P.replies peer.old) (P.Sink.sent peer.old) (P.replies peer.new) (P.Sink.sent peer.new) }
+    ensures later { P.Source.faults peer.old ≤ P.Source.faults peer.new }
+    ensures cause { result ≡ Err RefreshFault.PeerFault → Rose (P.Source.faults peer.old) (P.Source.faults peer.new) }
+{
+    let tag = ask.tag.take();
+    let request = request_of(alloc, ask, &tag)?;
+    let reading = exchange(alloc, peer, request.as_slice())?;
+    let taken = follow(alloc, to, slot, ask.delta, tag, reading)?;
+    ask.tag = taken.tag;
+    Ok(taken.outcome)
+}
