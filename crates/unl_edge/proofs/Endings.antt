@@ -1,8 +1,9 @@
 -- How the program ends, from how its parts end.
-use Rattle.std.proofs.Common.{◌≡◌, ◌≢◌, ℕ, ◌==◌, List, Bool, true, false, cond, Option, Some, None, IfSome, Result, Ok, Err, refl, sym, subst, ap, ◌∙◌}
+use Rattle.std.proofs.Common.{◌≡◌, ◌≢◌, ℕ, ◌==◌, List, Bool, true, false, cond, length, Option, Some, None, IfSome, Result, Ok, Err, refl, sym, subst, ap, ◌∙◌}
 use Rattle.unl_base.specs.Streams.{Sends, SendsFront}
 use Rattle.unl_base.specs.declared.draws.Draw.{Draw}
 use Rattle.unl_documents.specs.Results.{Gives}
+use Rattle.unl_edge.specs.Edges.{EdgeEnds}
 use Rattle.unl_edge.specs.Ends.{CheckEnds, Ends, IsDecided, ReplayEnds, Said, SaysAll, said_of}
 use Rattle.unl_edge.specs.OwnBook.{own_book}
 use Rattle.unl_edge.specs.Scene.{Scene}
@@ -153,6 +154,18 @@ bad_decided line WriteFault old new ends write memory = absurd (write refl)
 bad_decided line OutOfMemory old new ends write memory = absurd (memory refl)
 bad_decided line DoorFault old new ends write memory = ap code_of ends.0
 
+-- an edge ends with its door
+edge_decided : (slots : ℕ) (status : Status) (before after : Scene) → EdgeEnds slots status before after
+    → status ≢ WriteFault → status ≢ DoorFault → status ≢ OutOfMemory → code_of status ≡ 0
+edge_decided slots Done before after ends write door memory = refl
+edge_decided slots WriteFault before after ends write door memory = absurd (write refl)
+edge_decided slots DoorFault before after ends write door memory = absurd (door refl)
+edge_decided slots OutOfMemory before after ends write door memory = absurd (memory refl)
+edge_decided slots TestFailed before after ends write door memory = absurd ends
+edge_decided slots BadWords before after ends write door memory = absurd ends
+edge_decided slots Refused before after ends write door memory = absurd ends
+edge_decided slots ReadFault before after ends write door memory = absurd ends
+
 -- the words and the input decide how the program ends
 by_words : (words : WordsReading) (status : Status) (before after : Scene) → Ends words status before after
     → status ≢ ReadFault → status ≢ WriteFault → status ≢ DoorFault → status ≢ OutOfMemory → IsDecided words (code_of status) before
@@ -161,7 +174,7 @@ by_words (Ok Replay) status before after ends read write door memory =
 by_words (Ok (Check now word)) status before after ends read write door memory =
     check_decided (record { now = now; word = word }) status before.left before.sent after.sent ends read write memory
 by_words (Ok (Edge port upstream upstream_tokens tokens host workers interval connections delta)) status before after ends read write door memory =
-    bad_decided _ status before.sent after.sent ends write memory
+    edge_decided (length upstream_tokens) status before after ends write door memory
 by_words (Ok (Upstream port secret environments client_tokens frontend_tokens connections)) status before after ends read write door memory =
     upstream_decided secret environments (own_book client_tokens frontend_tokens) status before after ends read write door memory
 by_words (Err Bad) status before after ends read write door memory = bad_decided _ status before.sent after.sent ends write memory

@@ -1,8 +1,9 @@
 -- How each command ends, over the bytes to come and those sent, before and after.
-use Rattle.std.specs.Prelude.{◌≡◌, ⊤, ℕ, List, [], ◌++◌, codes, Option, IfSome, Result, Ok, Err}
+use Rattle.std.specs.Prelude.{◌≡◌, ⊤, ℕ, List, [], ◌++◌, length, codes, Option, IfSome, Result, Ok, Err}
 use Rattle.unl_base.specs.Streams.{Sends, SendsFront}
 use Rattle.unl_base.specs.declared.draws.Draw.{Draw}
 use Rattle.unl_documents.specs.FaultText.{fault_text}
+use Rattle.unl_edge.specs.Edges.{EdgeEnds}
 use Rattle.unl_edge.specs.OwnBook.{own_book}
 use Rattle.unl_edge.specs.Scene.{Scene}
 use Rattle.unl_edge.specs.Status.{SendsLine, code_of, ending_status, status_of}
@@ -70,12 +71,12 @@ CheckEnds draw status left old new = IfSome left (λ bytes. SaysAll (said_of (re
 abbrev pub bad_words : List ℕ
 bad_words = codes "unl_edge: bad words\n"
 
--- how the program ends, by what its words ask for; it does not serve as an edge yet
+-- how the program ends, by what its words ask for
 abbrev pub Ends : WordsReading → Status → Scene → Scene → Type 0
 Ends (Ok Replay) status before after = ReplayEnds status before.left after.left before.sent after.sent
 Ends (Ok (Check now word)) status before after = CheckEnds (record { now = now; word = word }) status before.left before.sent after.sent
 Ends (Ok (Edge port upstream upstream_tokens tokens host workers interval connections delta)) status before after =
-    SendsLine bad_words BadWords status before.sent after.sent
+    EdgeEnds (length upstream_tokens) status before after
 Ends (Ok (Upstream port secret environments client_tokens frontend_tokens connections)) status before after =
     UpstreamRuns secret environments (own_book client_tokens frontend_tokens) status before after
 Ends (Err Bad) status before after = SendsLine bad_words BadWords status before.sent after.sent
@@ -92,7 +93,7 @@ abbrev pub IsDecided : WordsReading → ℕ → Scene → Type 0
 IsDecided (Ok Replay) code before = IfSome before.left (λ bytes. code ≡ code_of (ending_status (replay_of bytes).ending))
 IsDecided (Ok (Check now word)) code before =
     IfSome before.left (λ bytes. code ≡ code_of (said_of (report_of (record { now = now; word = word }) bytes)).status)
-IsDecided (Ok (Edge port upstream upstream_tokens tokens host workers interval connections delta)) code before = code ≡ 2
+IsDecided (Ok (Edge port upstream upstream_tokens tokens host workers interval connections delta)) code before = code ≡ 0
 IsDecided (Ok (Upstream port secret environments client_tokens frontend_tokens connections)) code before =
     IsDecidedByLines secret environments (own_book client_tokens frontend_tokens) code before
 IsDecided (Err Bad) code before = code ≡ 2

@@ -75,7 +75,7 @@ fn each_check(rt: HostRuntime) -> Result<(), Fail> {
         let words = words_of(alloc, line)?;
         let source = MemorySource::new(input.as_bytes().to_vec(alloc)?, 7, Vec::new(alloc));
         let sink = MemorySink::new(alloc, ROOM, Vec::new(alloc))?;
-        let mut world = quiet(alloc, source, sink, &rt);
+        let mut world = quiet(alloc, source, sink, &rt).expect(&rt, "there is memory");
         assert_eq!(rt; run(alloc, &words, &mut world), status);
         assert_eq!(rt; str::from_utf8(world.output.sent()).ok(), Some(output));
     }

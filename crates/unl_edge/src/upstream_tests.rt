@@ -1,11 +1,11 @@
 //! The command `upstream`, over lines of commands and links in memory.
-use crate::bench::{Bench, printed, words_of};
+use crate::bench::{Bench, printed, silent_peer, words_of};
 use crate::run::run;
 use crate::world::World;
 use std::alloc::Global;
 use std::sync::Wait;
 use std::test::Fail;
-use unl_base::{BaseMemory, ListDraws, MemoryDoor, MemoryLink, MemorySink, MemorySource};
+use unl_base::{BaseMemory, CountPace, ListDraws, MemoryDoor, MemoryLink, MemorySink, MemorySource};
 
 const WORDS: &str =
     "upstream --secret s --environments dev --client-tokens *:dev.c --frontend-tokens *:dev.f";
@@ -64,7 +64,9 @@ fn served<'a, W: Wait>(
         input: MemorySource::new(lines, 50, list_of(alloc, failing.0)?),
         output: MemorySink::new(alloc, 4096, list_of(alloc, failing.1)?).ok()?,
         door: door(alloc, asked, list_of(alloc, failing.2)?).ok()?,
+        peer: silent_peer(alloc)?,
         draws: ListDraws::new(Vec::new(alloc)),
+        pace: CountPace::new(0),
         rt,
     };
     let status = run(alloc, &words, &mut world);

@@ -12,21 +12,21 @@ use crate::status::Status;
 use crate::world::World;
 use std::alloc::{AllocError, Global};
 use std::sync::Wait;
-use unl_base::{Door, Draws, Sink, Source, write_all};
+use unl_base::{Door, Draws, Pace, Peer, Sink, Source, write_all};
 use unl_documents::{List, Memory, Text};
 use unl_lines::{LinesFault, take_lines};
 use unl_upstream::{CommandLines, Upstream};
 
 /// Begins an upstream, whose boot number is the word of a draw, takes the commands of the input's lines, and then serves
 /// the links of the door, one after the other.
-pub fn run_upstream<I: Source, O: Sink, D: Door, R: Draws, W: Wait>(
+pub fn run_upstream<I: Source, O: Sink, D: Door, P: Peer, R: Draws, T: Pace, W: Wait>(
     alloc: Global,
     port: u16,
     secret: &Text,
     environments: &List<Text>,
     client_tokens: &List<Text>,
     frontend_tokens: &List<Text>,
-    world: &mut World<I, O, D, R, W>,
+    world: &mut World<I, O, D, P, R, T, W>,
 ) -> Status
     requires { IsUpstream port secret.now environments.now client_tokens.now frontend_tokens.now }
     ensures runs { UpstreamRuns secret.now environments.now (own_book client_tokens.now frontend_tokens.now) result world.old world.new }
@@ -65,11 +65,11 @@ fn begin(
 }
 
 /// Takes the commands of the input's lines, and then serves the links of the door.
-fn take_commands<I: Source, O: Sink, D: Door, R: Draws, W: Wait>(
+fn take_commands<I: Source, O: Sink, D: Door, P: Peer, R: Draws, T: Pace, W: Wait>(
     alloc: Global,
     port: u16,
     up: &mut Upstream,
-    world: &mut World<I, O, D, R, W>,
+    world: &mut World<I, O, D, P, R, T, W>,
 ) -> Status
     ensures ends { UpstreamEnds up.old world.old.coming result world.old world.new }
     ensures read { result ≡ Status.ReadFault → Rose world.old.input_faults world.new.input_faults }
@@ -86,11 +86,11 @@ fn take_commands<I: Source, O: Sink, D: Door, R: Draws, W: Wait>(
 }
 
 /// Listens, serves the links of the door until it is closed, and says how many these were.
-fn serve_links<I: Source, O: Sink, D: Door, R: Draws, W: Wait>(
+fn serve_links<I: Source, O: Sink, D: Door, P: Peer, R: Draws, T: Pace, W: Wait>(
     alloc: Global,
     port: u16,
     up: &mut Upstream,
-    world: &mut World<I, O, D, R, W>,
+    world: &mut World<I, O, D, P, R, T, W>,
 ) -> Status
     ensures ends { LinksEnd up.old up.new result world.old world.new }
     ensures same { world.new.left ≡ world.old.left }
@@ -108,7 +108,7 @@ fn serve_links<I: Source, O: Sink, D: Door, R: Draws, W: Wait>(
 }
 
 /// Says how many links were served.
-fn say_connections<O: Sink>(alloc: Global, output: &mut O, served: u64) -> Status
+pub(crate) fn say_connections<O: Sink>(alloc: Global, output: &mut O, served: u64) -> Status
     ensures said { SendsLine (connections_line served) Status.Done result (O.sent output.old) (O.sent output.new) }
     ensures write { result ≡ Status.WriteFault → Rose (O.faults output.old) (O.faults output.new) }
 {

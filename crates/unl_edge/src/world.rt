@@ -1,22 +1,25 @@
 //! What the program finds outside.
 use std::marker::Model;
 use std::sync::Wait;
-use unl_base::{Door, Draws, Sink, Source};
+use unl_base::{Door, Draws, Pace, Peer, Sink, Source};
 
-/// What the program reads and writes, the door whose links it serves, the draws that it answers with, and what it waits by.
+/// What the program reads and writes, the door whose links it serves, the peer that it asks, the draws that it answers with,
+/// the pace of its turns, and what it waits by.
 #[derive(Drop)]
-pub struct World<I: Source, O: Sink, D: Door, R: Draws, W: Wait> {
+pub struct World<I: Source, O: Sink, D: Door, P: Peer, R: Draws, T: Pace, W: Wait> {
     pub input: I,
     pub output: O,
     pub door: D,
+    pub peer: P,
     pub draws: R,
+    pub pace: T,
     pub rt: W,
 }
 
-impl<I: Source, O: Sink, D: Door, R: Draws, W: Wait> Model for World<I, O, D, R, W> {
+impl<I: Source, O: Sink, D: Door, P: Peer, R: Draws, T: Pace, W: Wait> Model for World<I, O, D, P, R, T, W> {
     ghost use Rattle.unl_edge.specs.Scene.{Scene};
 
     ghost Value = { Scene };
 
-    ghost view = { λ world. record { left = I.left world.input; sent = O.sent world.output; closed = D.closed world.door; given = D.given world.door; back = D.back world.door; links = D.links world.door; returned = D.returned world.door; coming = R.coming world.draws; input_faults = I.faults world.input; output_faults = O.faults world.output; door_faults = D.faults world.door } };
+    ghost view = { λ world. record { left = I.left world.input; sent = O.sent world.output; closed = D.closed world.door; given = D.given world.door; back = D.back world.door; links = D.links world.door; returned = D.returned world.door; coming = R.coming world.draws; replies = P.replies world.peer; input_faults = I.faults world.input; output_faults = O.faults world.output; door_faults = D.faults world.door; peer_faults = P.Source.faults world.peer } };
 }

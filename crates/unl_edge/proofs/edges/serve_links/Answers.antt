@@ -1,0 +1,16 @@
+use Rattle.std.proofs.Common.{◌+◌, ◌∙◌, ℕ, ap, refl, sym}
+use Rattle.unl_edge.proofs.Closing.{said_ends_of}
+use Rattle.unl_edge.proofs.Connecting.{connects_still}
+use Rattle.unl_edge.proofs.edges.serve_links.Goals as goal
+
+pub returns-in-Ok-host-clause-ends : goal.returns-in-Ok-host-clause-ends
+returns-in-Ok-host-clause-ends g c =
+    said_ends_of _ c.in-Ok-host.served c.say_connections.result _ _ _ (sym c.world.view_is)
+    (record {
+      given = c.in-Ok-host.ensures.hands.0 ∙ ap (λ (n : ℕ). n + c.in-Ok-host.served) c.listen.ensures.same_given;
+      back = c.in-Ok-host.ensures.hands.1 ∙ ap (λ (n : ℕ). n + c.in-Ok-host.served) c.listen.ensures.same_back;
+      unread = refl;
+    })
+    (connects_still (c.in-Ok.ensures.first c.requires.front c.requires.slots c.requires.few) c.in-Ok-host.ensures.connects)
+    c.say_connections.ensures.said
+    (record { door = c.in-Ok-host.ensures.closed; none_left = c.in-Ok-host.ensures.over })

@@ -1,0 +1,17 @@
+use Rattle.std.proofs.Common.{◌∙◌, arith}
+use Rattle.std.proofs.lemmas.List.{length-set}
+use Rattle.unl_edge.proofs.Connecting.{connects_both}
+use Rattle.unl_edge.proofs.refreshing.feed_slots.Goals as goal
+
+pub returns-in-Err-clause-connects : goal.returns-in-Err-clause-connects
+returns-in-Err-clause-connects g c = connects_both c.loop-slot.invariant.connects c.in-Err.ensures.connects
+
+pub loop-slot-preserved : goal.loop-slot-preserved
+loop-slot-preserved g c = record {
+  places = c.in-Ok.ensures.places ∙ c.loop-slot.invariant.places;
+  front = omega (arith, c.loop-slot.invariant.front, c.in-Ok.ensures.front);
+  size = length-set _ _ _ ∙ c.loop-slot.invariant.size;
+  asks = λ room. connects_both (c.loop-slot.invariant.asks room)
+      (c.in-Ok.ensures.asks (omega (arith, room, c.loop-slot.invariant.front, c.loop-slot-test.true, c.min-count.ensures)));
+  connects = connects_both c.loop-slot.invariant.connects c.in-Ok.ensures.connects;
+}

@@ -1,0 +1,1 @@
+//! The command `edge`, over links and replies in memory.

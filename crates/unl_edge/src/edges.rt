@@ -1,0 +1,162 @@
+//! The command `edge`: it asks its upstream for what stands, and serves the links of its door over that.
+ghost use Rattle.std.specs.Prelude.{◌≡◌, ◌≢◌, ◌<◌, ◌≤◌, ◌+◌, [], ℕ, IfOk, IfSome, IsErrOf, OnErr, OnOk, length, true};
+ghost use Rattle.unl_base.specs.Faults.{HasCause, Rose};
+ghost use Rattle.unl_edge.specs.Edges.{Connects, EdgeEnds, links_of};
+ghost use Rattle.unl_words.specs.Ranges.{IsEdge};
+
+use crate::replica::Replica;
+use crate::status::Status;
+use crate::upstreams::say_connections;
+use crate::world::World;
+use std::alloc::Global;
+use std::sync::Wait;
+use unl_base::{Door, Draws, Failed, Pace, Peer, Sink, Source};
+use unl_documents::{List, Memory, Text};
+
+/// What came of waiting for a link.
+#[derive(Clone, Copy, Debug, PartialEq, Eq)]
+pub enum Next {
+    /// A link came, was served and was handed back.
+    Served,
+    /// The door is closed.
+    Closed,
+}
+
+/// Begins a replica, whose boot number is the word of a draw, asks the upstream for what stands, and then serves the links of
+/// the door, one after the other. Before each of them the upstream is asked again.
+pub fn run_edge<I: Source, O: Sink, D: Door, P: Peer, R: Draws, T: Pace, W: Wait>(
+    alloc: Global,
+    port: u16,
+    upstream: &Text,
+    upstream_tokens: &List<Text>,
+    tokens: &List<Text>,
+    host: &Text,
+    delta: bool,
+    world: &mut World<I, O, D, P, R, T, W>,
+) -> Status
+    requires { (workers : ℕ) × (interval : ℕ) × IsEdge port upstream.now upstream_tokens.now tokens.now host.now workers interval }
+    ensures ends { EdgeEnds (length upstream_tokens.now) result world.old world.new }
+    ensures other { result ≢ Status.ReadFault }
+    ensures write { result ≡ Status.WriteFault → Rose world.old.output_faults world.new.output_faults }
+    ensures door { result ≡ Status.DoorFault → Rose world.old.door_faults world.new.door_faults }
+{
+    let boot = world.draws.draw().word;
+    match Replica::new(alloc, boot, upstream, upstream_tokens, tokens, host, delta) {
+        Ok(mut replica) => serve_links(alloc, port, &mut replica, world),
+        Err(Memory) => Status::OutOfMemory,
+    }
+}
+
+/// Listens, makes the first turn, serves the links of the door until it is closed, and says how many these were.
+fn serve_links<I: Source, O: Sink, D: Door, P: Peer, R: Draws, T: Pace, W: Wait>(
+    alloc: Global,
+    port: u16,
+    replica: &mut Replica,
+    world: &mut World<I, O, D, P, R, T, W>,
+) -> Status
+    requires front { replica.old.desk.front ≡ 0 }
+    requires slots { length replica.old.feeders.items ≤ length replica.old.desk.places }
+    requires few { length replica.old.feeders.items ≤ 8 }
+    ensures ends { EdgeEnds (length replica.old.feeders.items) result world.old world.new }
+    ensures other { result ≢ Status.ReadFault }
+    ensures write { result ≡ Status.WriteFault → Rose world.old.output_faults world.new.output_faults }
+    ensures door { result ≡ Status.DoorFault → Rose world.old.door_faults world.new.door_faults }
+{
+    if world.door.listen(port).is_err() {
+        return Status::DoorFault;
+    }
+    match replica.turn(alloc, &mut world.peer) {
+        Ok(()) => {}
+        Err(Memory) => return Status::OutOfMemory,
+    }
+    match host(alloc, replica, &world.rt, &mut world.door, &mut world.peer, &mut world.draws) {
+        Ok(served) => say_connections(alloc, &mut world.output, served),
+        Err(_) => Status::DoorFault,
+    }
+}
+
+/// Serves one link after the other and hands each back, until the door is closed, and answers how many these were.
+///
+/// # Errors
+/// `Failed`: the door could hand out no link, which it counted.
+fn host<D: Door, P: Peer, R: Draws, W: Wait>(
+    alloc: Global,
+    replica: &mut Replica,
+    rt: &W,
+    door: &mut D,
+    peer: &mut P,
+    draws: &mut R,
+) -> Result<u64, Failed>
+    requires { D.listening door.old ≡ true }
+    ensures hands { IfOk result (λ served. (D.given door.new ≡ D.given door.old + served) × (D.back door.new ≡ D.back door.old + served)) }
+    ensures failed { OnErr result ((served : ℕ) × (D.given door.new ≡ D.given door.old + served) × (D.back door.new ≡ D.back door.old + served)) }
+    ensures closed { OnOk result (D.closed door.new ≡ true) }
+    ensures over { OnOk result (IfSome (D.links door.new) (λ links. links ≡ [])) }
+    ensures connects { Connects 0 (P.replies peer.old) (P.Source.faults peer.old) (P.replies peer.new) (P.Source.faults peer.new) }
+    ensures cause { HasCause (D.faults door.old) (D.faults door.new) result }
+{
+    for served in 0..u64::MAX {
+        match serve_next(alloc, replica, door, peer, draws) {
+            Ok(Next::Served) => {}
+            Ok(Next::Closed) => return Ok(served),
+            Err(failed) => return Err(failed),
+        }
+    }
+    wait_for_ever(rt)
+}
+
+/// Waits for the next link, serves it and hands it back, and then asks the upstream again. A fault of that turn, want of
+/// memory among them, ends nothing.
+fn serve_next<D: Door, P: Peer, R: Draws>(
+    alloc: Global,
+    replica: &mut Replica,
+    door: &mut D,
+    peer: &mut P,
+    draws: &mut R,
+) -> Result<Next, Failed>
+    requires { D.listening door.old ≡ true }
+    ensures given { IfOk result (λ next. D.given door.new ≡ D.given door.old + links_of next) }
+    ensures back { IfOk result (λ next. D.back door.new ≡ D.back door.old + links_of next) }
+    ensures kept_given { OnErr result (D.given door.new ≡ D.given door.old) }
+    ensures kept_back { OnErr result (D.back door.new ≡ D.back door.old) }
+    ensures closed { IfOk result (λ next. next ≡ Next.Closed → D.closed door.new ≡ true) }
+    ensures over { IfOk result (λ next. next ≡ Next.Closed → IfSome (D.links door.new) (λ links. links ≡ [])) }
+    ensures listens { D.listening door.new ≡ true }
+    ensures connects { Connects 0 (P.replies peer.old) (P.Source.faults peer.old) (P.replies peer.new) (P.Source.faults peer.new) }
+    ensures cause { HasCause (D.faults door.old) (D.faults door.new) result }
+{
+    match door.accept()? {
+        Some(link) => {
+            serve_link(alloc, replica, link, door, draws);
+            let _ = replica.turn(alloc, peer);
+            Ok(Next::Served)
+        }
+        None => Ok(Next::Closed),
+    }
+}
+
+/// Serves a link, and hands it back.
+fn serve_link<D: Door, R: Draws>(
+    alloc: Global,
+    replica: &mut Replica,
+    mut link: D::L,
+    door: &mut D,
+    draws: &mut R,
+)
+    requires { D.back door.old < D.given door.old }
+    ensures same_listening { D.listening door.new ≡ D.listening door.old }
+    ensures same_given { D.given door.new ≡ D.given door.old }
+    ensures counted { D.back door.new ≡ D.back door.old + 1 }
+    ensures same_faults { D.faults door.new ≡ D.faults door.old }
+{
+    replica.serve(alloc, &mut link, draws);
+    door.give_back(link);
+}
+
+/// Never returns: no run of the program serves so many links.
+fn wait_for_ever<T, W: Wait>(rt: &W) -> T
+    ensures { ⊥ }
+{
+    for _ in rt.forever() {}
+    unreachable!()
+}
