@@ -1,1 +1,208 @@
 //! The command `edge`, over links and replies in memory.
+ghost use Rattle.std.specs.Prelude.{All};
+ghost use Rattle.unl_base.specs.Memory.{IsNew};
+
+use crate::bench::{Bench, words_of};
+use crate::run::run;
+use crate::world::World;
+use std::alloc::Global;
+use std::sync::Wait;
+use std::test::Fail;
+use unl_base::{
+    CountPace, ListDraws, MemoryDoor, MemoryLink, MemoryPeer, MemorySink, MemorySource,
+};
+
+const DELTA: &str = "edge --upstream h:1 --upstream-tokens *:dev.c --tokens *:dev.f";
+
+const FEED: &str = "edge --upstream h:1 --upstream-tokens *:dev.c --tokens *:dev.f --mode feed";
+
+const BOOK: &str =
+    "HTTP/1.1 200 OK\r\n\r\n{\"tokens\":[{\"token\":\"*:dev.f\",\"type\":\"frontend\",\"projects\":[\"*\"]}]}";
+
+const BATCH_A: &str =
+    "HTTP/1.1 200 OK\r\n\r\n{\"events\":[{\"type\":\"hydration\",\"eventId\":5,\"features\":[{\"name\":\"a\",\"project\":\"default\",\"enabled\":true,\"strategies\":[{\"name\":\"default\"}]}],\"segments\":[]}]}";
+
+const FEED_A: &str =
+    "HTTP/1.1 200 OK\r\n\r\n{\"features\":[{\"name\":\"a\",\"project\":\"default\",\"enabled\":true,\"strategies\":[{\"name\":\"default\"}]}],\"meta\":{\"revisionId\":5}}";
+
+const FEED_NONE: &str =
+    "HTTP/1.1 200 OK\r\n\r\n{\"features\":[],\"meta\":{\"revisionId\":6}}";
+
+const ASK: &str = "GET /api/frontend HTTP/1.1\r\nHost: x\r\nAuthorization: *:dev.f\r\n\r\n";
+
+const REPORT: &str =
+    "POST /api/frontend/client/metrics HTTP/1.1\r\nHost: x\r\nAuthorization: *:dev.f\r\nContent-Type: application/json\r\nContent-Length: 137\r\n\r\n{\"appName\":\"shop\",\"bucket\":{\"start\":\"2024-01-01T10:05:00Z\",\"stop\":\"2024-01-01T10:06:00Z\",\"toggles\":{\"a\":{\"yes\":2,\"no\":1,\"variants\":{}}}}}";
+
+/// The feature is on.
+const TOGGLES: &str =
+    "{\"toggles\":[{\"enabled\":true,\"impressionData\":false,\"name\":\"a\",\"variant\":{\"enabled\":false,\"feature_enabled\":true,\"name\":\"disabled\"}}]}";
+
+/// What an edge is told and meets: its words, the replies of its upstream, and the calls that fail.
+struct Trial<'t> {
+    words: &'t str,
+    replies: &'t [&'t str],
+    peer: &'t [u64],
+    output: &'t [u64],
+    door: &'t [u64],
+}
+
+/// The trial of these words and replies in which no call fails.
+fn faultless<'t>(words: &'t str, replies: &'t [&'t str]) -> Trial<'t> {
+    Trial {
+        words,
+        replies,
+        peer: &[],
+        output: &[],
+        door: &[],
+    }
+}
+
+/// The upstream of a trial.
+fn peer_of(alloc: Global, trial: &Trial<'_>) -> Option<MemoryPeer> {
+    let mut texts = Vec::new(alloc);
+    for reply in trial.replies {
+        texts.push(reply.as_bytes().to_vec(alloc).ok()?).ok()?;
+    }
+    MemoryPeer::new(alloc, texts, 10_000, trial.peer.to_vec(alloc).ok()?).ok()
+}
+
+/// The status of an edge over some links, and the world after it.
+fn over<'a, W: Wait>(
+    alloc: Global,
+    trial: &Trial<'_>,
+    links: Vec<Option<MemoryLink>>,
+    rt: &'a W,
+) -> Option<(u8, Bench<&'a W>)>
+    requires { All IsNew links.items }
+{
+    let words = words_of(alloc, trial.words).ok()?;
+    let mut world = World {
+        input: MemorySource::new(Vec::new(alloc), 1, Vec::new(alloc)),
+        output: MemorySink::new(alloc, 4096, trial.output.to_vec(alloc).ok()?).ok()?,
+        door: MemoryDoor::new(links, trial.door.to_vec(alloc).ok()?),
+        peer: peer_of(alloc, trial)?,
+        draws: ListDraws::new(Vec::new(alloc)),
+        pace: CountPace::new(0),
+        rt,
+    };
+    let status = run(alloc, &words, &mut world);
+    Some((status, world))
+}
+
+/// The same over one link that sends this.
+fn over_one<'a, W: Wait>(
+    alloc: Global,
+    trial: &Trial<'_>,
+    asked: &str,
+    rt: &'a W,
+) -> Option<(u8, Bench<&'a W>)> {
+    let asked = asked.as_bytes().to_vec(alloc).ok()?;
+    let link = MemoryLink::new(alloc, asked, 7, 4096, Vec::new(alloc)).ok()?;
+    let links = vec![in alloc; Some(link)].ok()?;
+    over(alloc, trial, links, rt)
+}
+
+/// The same over two links that send the same.
+fn over_two<'a, W: Wait>(
+    alloc: Global,
+    trial: &Trial<'_>,
+    asked: &str,
+    rt: &'a W,
+) -> Option<(u8, Bench<&'a W>)> {
+    let first = asked.as_bytes().to_vec(alloc).ok()?;
+    let second = asked.as_bytes().to_vec(alloc).ok()?;
+    let one = MemoryLink::new(alloc, first, 7, 4096, Vec::new(alloc)).ok()?;
+    let two = MemoryLink::new(alloc, second, 100, 4096, Vec::new(alloc)).ok()?;
+    let links = vec![in alloc; Some(one), Some(two)].ok()?;
+    over(alloc, trial, links, rt)
+}
+
+/// The first line and the body of the reply that a link was sent.
+fn reply_at<W: Wait>(world: &Bench<&W>, place: usize) -> Option<(&str, &str)> {
+    let text = str::from_utf8(world.door.sent(place)?).ok()?;
+    let (head, body) = text.split_once("\r\n\r\n")?;
+    Some((head.split_once("\r\n")?.0, body))
+}
+
+fn output_of<W: Wait>(world: &Bench<&W>) -> Option<&str> {
+    str::from_utf8(world.output.sent()).ok()
+}
+
+#[test]
+fn an_edge_serves_what_its_upstream_has(rt: HostRuntime) -> Result<(), Fail> {
+    let alloc = rt.alloc();
+    for (words, state) in [(DELTA, BATCH_A), (FEED, FEED_A)] {
+        let trial = faultless(words, &[BOOK, state]);
+        let (status, world) = over_one(alloc, &trial, ASK, &rt).expect(&rt, "there is memory");
+        assert_eq!(rt; status, 0);
+        assert_eq!(rt; output_of(&world), Some("connections 1\n"));
+        assert_eq!(rt; reply_at(&world, 0), Some(("HTTP/1.1 200 OK", TOGGLES)));
+    }
+    Ok(())
+}
+
+// The second link is answered by what the second turn took.
+#[test]
+fn an_edge_asks_again_before_each_link(rt: HostRuntime) -> Result<(), Fail> {
+    let alloc = rt.alloc();
+    let trial = faultless(FEED, &[BOOK, FEED_A, BOOK, FEED_NONE]);
+    let (status, world) = over_two(alloc, &trial, ASK, &rt).expect(&rt, "there is memory");
+    assert_eq!(rt; status, 0);
+    assert_eq!(rt; output_of(&world), Some("connections 2\n"));
+    assert_eq!(rt; reply_at(&world, 0), Some(("HTTP/1.1 200 OK", TOGGLES)));
+    assert_eq!(rt; reply_at(&world, 1), Some(("HTTP/1.1 200 OK", "{\"toggles\":[]}")));
+    Ok(())
+}
+
+const BULK: &[u8] =
+    b"POST /api/client/metrics/bulk HTTP/1.0\r\nHost: h:1\r\nAuthorization: *:dev.c\r\n";
+
+#[test]
+fn an_edge_tells_what_was_counted(rt: HostRuntime) -> Result<(), Fail> {
+    let alloc = rt.alloc();
+    let trial = faultless(DELTA, &[BOOK, BATCH_A]);
+    let (status, world) = over_one(alloc, &trial, REPORT, &rt).expect(&rt, "there is memory");
+    assert_eq!(rt; status, 0);
+    assert_eq!(rt; reply_at(&world, 0), Some(("HTTP/1.1 202 Accepted", "")));
+    assert!(rt; world.peer.sent().starts_with(BULK));
+    Ok(())
+}
+
+const ALL_CALLS: [u64; 8] = [0, 1, 2, 3, 4, 5, 6, 7];
+
+#[test]
+fn faults_of_the_upstream_end_nothing(rt: HostRuntime) -> Result<(), Fail> {
+    let alloc = rt.alloc();
+    let trial = Trial {
+        peer: &ALL_CALLS,
+        ..faultless(DELTA, &[BOOK, BATCH_A])
+    };
+    let (status, world) = over_one(alloc, &trial, ASK, &rt).expect(&rt, "there is memory");
+    assert_eq!(rt; status, 0);
+    assert_eq!(rt; output_of(&world), Some("connections 1\n"));
+    assert_eq!(rt; reply_at(&world, 0), Some(("HTTP/1.1 403 Forbidden", "{\"error\":\"UnknownToken\"}")));
+    Ok(())
+}
+
+/// The calls of the output and of the door that fail, the status, and what is printed.
+const FAULTS: [(&[u64], &[u64], u8, &str); 3] = [
+    (&[], &[0], 7, ""),
+    (&[], &[1], 7, ""),
+    (&[0], &[], 5, ""),
+];
+
+#[test]
+fn faults_of_the_door_and_the_output(rt: HostRuntime) -> Result<(), Fail> {
+    let alloc = rt.alloc();
+    for (output, door, ended, printed) in FAULTS {
+        let trial = Trial {
+            output,
+            door,
+            ..faultless(DELTA, &[BOOK, BATCH_A])
+        };
+        let (status, world) = over_one(alloc, &trial, ASK, &rt).expect(&rt, "there is memory");
+        assert_eq!(rt; status, ended);
+        assert_eq!(rt; output_of(&world), Some(printed));
+    }
+    Ok(())
+}
