@@ -1,7 +1,7 @@
 #!/bin/sh
-# A test over real sockets: starts `upstream` on a loopback port, gives it commands with curl, and compares what it serves.
-# Run after `rt ci` or `rt run`, which build the program. Skipped where curl is not there. It ends what it started, and takes
-# half a minute at most.
+# A test over real sockets: starts `upstream` and `edge` on loopback ports, puts features with curl, and compares what both
+# serve. Run after `rt ci` or `rt run`, which build the program. Skipped where curl is not there. It ends what it started, and
+# takes a minute at most.
 set -u
 cd "$(dirname "$0")/.."
 
@@ -12,8 +12,10 @@ fi
 
 work=$(mktemp -d)
 upstream_port=${UPSTREAM_PORT:-14242}
-started=
-trap 'test -z "$started" || kill $started 2>/dev/null; rm -rf "$work"' EXIT
+edge_port=${EDGE_PORT:-13063}
+upstream=
+edge=
+trap 'kill $upstream $edge 2>/dev/null; rm -rf "$work"' EXIT
 
 fail() {
     echo "loopback: $1"
@@ -30,39 +32,97 @@ program=crates/unl_edge/out/unl_edge
 test -x "$program" || (cd crates/unl_edge && rt run -- replay </dev/null >/dev/null 2>&1)
 test -x "$program" || fail "the program isn't built"
 
-# asks the upstream: the token, the path, and then what else curl takes
+# asks at a port: the port, the token, the path, and then what else curl takes
 ask() {
-    token=$1
-    path=$2
-    shift 2
-    curl --silent --max-time 5 --header "Authorization: $token" "$@" "http://127.0.0.1:$upstream_port$path"
+    port=$1
+    token=$2
+    path=$3
+    shift 3
+    curl --silent --max-time 5 --header "Authorization: $token" "$@" "http://127.0.0.1:$port$path"
 }
 
-# one command is taken from the input; the door closes after seven links
+# waits until a server listens at a port
+wait_for() {
+    tries=0
+    until ask "$1" - /internal-backstage/health >"$work/health" 2>/dev/null; do
+        tries=$((tries + 1))
+        test "$tries" -lt 50 || fail "$2 doesn't listen"
+        sleep 0.1
+    done
+    same "$2's health" '{"status":"OK"}' "$(cat "$work/health")"
+}
+
+put() {
+    ask "$upstream_port" s /commands --data "{\"command\":\"put-feature\",\"environment\":\"dev\",\"feature\":{\"name\":\"$1\",\"enabled\":true,\"strategies\":[{\"name\":\"default\"}]}}"
+}
+
+toggle() {
+    printf '{"enabled":true,"impressionData":false,"name":"%s","variant":{"enabled":false,"feature_enabled":true,"name":"disabled"}}' "$1"
+}
+
+# ---- an upstream alone, whose door closes after seven links; one command is taken from the input
 timeout 30 "$program" upstream --port "$upstream_port" --secret s --environments dev \
     --client-tokens '*:dev.client' --frontend-tokens '*:dev.front' --connections 7 <examples/commands.jsonl >"$work/printed" &
-started=$!
+upstream=$!
+wait_for "$upstream_port" "the upstream"
 
-tries=0
-until ask s /internal-backstage/health >"$work/health" 2>/dev/null; do
-    tries=$((tries + 1))
-    test "$tries" -lt 50 || fail "the upstream doesn't listen"
-    sleep 0.1
-done
-same health '{"status":"OK"}' "$(cat "$work/health")"
-
-same "a command" '{"number":2}' "$(ask s /commands --data '{"command":"put-feature","environment":"dev","feature":{"name":"b","enabled":true,"strategies":[{"name":"default"}]}}')"
-same "a command without the secret" '{"error":"UnknownToken"}' "$(ask x /commands --data '{"command":"remove-feature","environment":"dev","name":"a"}')"
-same "a refused command" '{"error":"NoSuchFeature"}' "$(ask s /commands --data '{"command":"remove-feature","environment":"dev","name":"c"}')"
-same toggles '{"toggles":[{"enabled":true,"impressionData":false,"name":"a","variant":{"enabled":false,"feature_enabled":true,"name":"disabled"}},{"enabled":true,"impressionData":false,"name":"b","variant":{"enabled":false,"feature_enabled":true,"name":"disabled"}}]}' "$(ask '*:dev.front' /api/frontend)"
+same "a command" '{"number":2}' "$(put b)"
+same "a command without the secret" '{"error":"UnknownToken"}' "$(ask "$upstream_port" x /commands --data '{"command":"remove-feature","environment":"dev","name":"a"}')"
+same "a refused command" '{"error":"NoSuchFeature"}' "$(ask "$upstream_port" s /commands --data '{"command":"remove-feature","environment":"dev","name":"c"}')"
+same toggles "{\"toggles\":[$(toggle a),$(toggle b)]}" "$(ask "$upstream_port" '*:dev.front' /api/frontend)"
 
 # what stands under its tag is not sent again
-tag=$(ask '*:dev.client' /api/client/features --dump-header - --output /dev/null | tr -d '\r' | sed -n 's/^ETag: //p')
+tag=$(ask "$upstream_port" '*:dev.client' /api/client/features --dump-header - --output /dev/null | tr -d '\r' | sed -n 's/^ETag: //p')
 test -n "$tag" || fail "the feed has no tag"
-same "a feed that is known" 304 "$(ask '*:dev.client' /api/client/features --header "If-None-Match: $tag" --output /dev/null --write-out '%{http_code}')"
+same "a feed that is known" 304 "$(ask "$upstream_port" '*:dev.client' /api/client/features --header "If-None-Match: $tag" --output /dev/null --write-out '%{http_code}')"
 
-wait "$started"
+wait "$upstream"
 same "the status" 0 "$?"
-started=
 same "what is printed" "connections 7" "$(cat "$work/printed")"
+
+# ---- an upstream and an edge
+timeout 60 "$program" upstream --port "$upstream_port" --secret s --environments dev \
+    --client-tokens '*:dev.client' --frontend-tokens '*:dev.front' <examples/commands.jsonl >/dev/null &
+upstream=$!
+wait_for "$upstream_port" "the second upstream"
+timeout 60 "$program" edge --port "$edge_port" --upstream "127.0.0.1:$upstream_port" --upstream-tokens '*:dev.client' \
+    --tokens '*:dev.client,*:dev.front' >/dev/null &
+edge=$!
+wait_for "$edge_port" "the edge"
+
+same "another command" '{"number":2}' "$(put b)"
+
+# the edge refreshes once before each link that it takes
+tries=0
+until test "$(ask "$edge_port" '*:dev.front' /api/frontend)" = "{\"toggles\":[$(toggle a),$(toggle b)]}"; do
+    tries=$((tries + 1))
+    test "$tries" -lt 10 || fail "the edge isn't refreshed"
+done
+
+# compares what both answer: status and body, but for the tag in a feed, which names the server's start
+alike() {
+    path=$1
+    token=$2
+    shift 2
+    ask "$upstream_port" "$token" "$path" --write-out ' %{http_code}' "$@" | sed 's/"meta":{[^}]*},//' >"$work/upstream"
+    ask "$edge_port" "$token" "$path" --write-out ' %{http_code}' "$@" | sed 's/"meta":{[^}]*},//' >"$work/edge"
+    same "$path" "$(cat "$work/upstream")" "$(cat "$work/edge")"
+}
+
+report='{"appName":"shop","bucket":{"start":"2024-01-01T10:05:00Z","stop":"2024-01-01T10:06:00Z","toggles":{"a":{"yes":2,"no":1}}}}'
+alike /internal-backstage/health -
+alike /edge/validate - --data '{"tokens":["*:dev.front","*:dev.other"]}'
+alike /api/client/features '*:dev.client'
+alike /api/client/features/b '*:dev.client'
+alike /api/client/features/z '*:dev.client'
+alike /api/client/delta '*:dev.client'
+alike /api/frontend '*:dev.front'
+alike /api/proxy/all '*:dev.front' --data '{"context":{"userId":"7"}}'
+alike /api/client/metrics '*:dev.client' --data "$report"
+alike /api/client/metrics/bulk '*:dev.client' --data '{"applications":[],"metrics":[]}'
+alike /api/client/register '*:dev.client' --data '{}'
+alike /api/frontend/client/metrics '*:dev.front' --data "$report"
+alike /api/frontend/client/register '*:dev.front' --data '{}'
+alike /api/frontend '*:dev.client'
+alike /api/nothing '*:dev.front'
 echo "loopback: passed"

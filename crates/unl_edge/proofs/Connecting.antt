@@ -124,7 +124,7 @@ reading_goes slot delta tag before (Ok got) = by_status (got.status == 304) (got
 
     by_status : (unchanged found : Bool)
         → Goes before (cond unchanged (record { outcome = Unchanged; installed = before; tag = tag })
-          (cond (not found) (record { outcome = Refused got.status; installed = before; tag = tag }) taken)).installed
+        (cond (not found) (record { outcome = Refused got.status; installed = before; tag = tag }) taken)).installed
     by_status true found = same_goes before before refl
     by_status false true = batch_goes slot got.tag before (batch_in delta (number_held (place_of before slot)) got.body)
     by_status false false = same_goes before before refl

@@ -106,7 +106,7 @@ address_fits text is = by_place (rfind_below 58 text (length text)) refl is
         let parts = both (is_secret (take place text)) (is_port (drop (place + 1) text)) is in
         let name = both (has_bytes (take place text)) (is_line (take place text)) parts.0 in
         let next : place + 1 ≡ suc place = omega arith in
-        line_fits text (goes_on_around text place found.below (rw found.here refl) name.1 
+        line_fits text (goes_on_around text place found.below (rw found.here refl) name.1
         (subst (λ n. is_line (drop n text) ≡ true) next (port_is_line (drop (place + 1) text) parts.1)))
 
 -- ---- lists of tokens

@@ -3,14 +3,23 @@ use crate::run::run;
 use crate::world::World;
 use std::alloc::{AllocError, Global};
 use std::sync::Wait;
-use unl_base::{CountPace, ListDraws, MemoryDoor, MemoryPeer, MemorySink, MemorySource};
+use unl_base::{
+    BaseMemory, CountPace, ListDraws, MemoryDoor, MemoryLink, MemoryPeer, MemorySink, MemorySource,
+};
 
 /// A world in memory.
-pub type Bench<W> =
-    World<MemorySource, MemorySink, MemoryDoor, MemoryPeer, ListDraws, CountPace, W>;
+pub type Bench<W> = World<
+    MemorySource,
+    MemorySink,
+    MemoryDoor,
+    MemoryPeer,
+    ListDraws,
+    CountPace,
+    W,
+>;
 
 /// A world without links and replies, all of whose draws are zeros.
-pub fn quiet<W: Wait>(
+pub fn quiet<W: Wait + Drop>(
     alloc: Global,
     input: MemorySource,
     output: MemorySink,
@@ -49,4 +58,40 @@ pub fn printed<W: Wait>(alloc: Global, input: &str, rt: &W) -> Option<Vec<u8>> {
     let mut world = quiet(alloc, source, sink, rt)?;
     run(alloc, &words, &mut world);
     world.output.sent().to_vec(alloc).ok()
+}
+
+/// A door with one link, which gives a text.
+pub fn door_of_one(
+    alloc: Global,
+    asked: &str,
+    failing: Vec<u64>,
+) -> Result<MemoryDoor, BaseMemory> {
+    let link = MemoryLink::new(
+        alloc,
+        asked.as_bytes().to_vec(alloc)?,
+        7,
+        4096,
+        Vec::new(alloc),
+    )?;
+    match vec![in alloc; Some(link)] {
+        Ok(links) => Ok(MemoryDoor::new(links, failing)),
+        Err(_) => Err(BaseMemory),
+    }
+}
+
+/// A door with a link for each of two texts.
+pub fn door_of_two(
+    alloc: Global,
+    asked: [&str; 2],
+    failing: Vec<u64>,
+) -> Result<MemoryDoor, BaseMemory> {
+    let [first, second] = asked;
+    let first = first.as_bytes().to_vec(alloc)?;
+    let second = second.as_bytes().to_vec(alloc)?;
+    let one = MemoryLink::new(alloc, first, 7, 4096, Vec::new(alloc))?;
+    let two = MemoryLink::new(alloc, second, 100, 4096, Vec::new(alloc))?;
+    match vec![in alloc; Some(one), Some(two)] {
+        Ok(links) => Ok(MemoryDoor::new(links, failing)),
+        Err(_) => Err(BaseMemory),
+    }
 }

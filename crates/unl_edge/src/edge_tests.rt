@@ -1,16 +1,11 @@
 //! The command `edge`, over links and replies in memory.
-ghost use Rattle.std.specs.Prelude.{All};
-ghost use Rattle.unl_base.specs.Memory.{IsNew};
-
-use crate::bench::{Bench, words_of};
+use crate::bench::{Bench, door_of_one, door_of_two, words_of};
 use crate::run::run;
 use crate::world::World;
 use std::alloc::Global;
 use std::sync::Wait;
 use std::test::Fail;
-use unl_base::{
-    CountPace, ListDraws, MemoryDoor, MemoryLink, MemoryPeer, MemorySink, MemorySource,
-};
+use unl_base::{CountPace, ListDraws, MemoryDoor, MemoryPeer, MemorySink, MemorySource};
 
 const DELTA: &str = "edge --upstream h:1 --upstream-tokens *:dev.c --tokens *:dev.f";
 
@@ -25,8 +20,7 @@ const BATCH_A: &str =
 const FEED_A: &str =
     "HTTP/1.1 200 OK\r\n\r\n{\"features\":[{\"name\":\"a\",\"project\":\"default\",\"enabled\":true,\"strategies\":[{\"name\":\"default\"}]}],\"meta\":{\"revisionId\":5}}";
 
-const FEED_NONE: &str =
-    "HTTP/1.1 200 OK\r\n\r\n{\"features\":[],\"meta\":{\"revisionId\":6}}";
+const FEED_NONE: &str = "HTTP/1.1 200 OK\r\n\r\n{\"features\":[],\"meta\":{\"revisionId\":6}}";
 
 const ASK: &str = "GET /api/frontend HTTP/1.1\r\nHost: x\r\nAuthorization: *:dev.f\r\n\r\n";
 
@@ -38,6 +32,7 @@ const TOGGLES: &str =
     "{\"toggles\":[{\"enabled\":true,\"impressionData\":false,\"name\":\"a\",\"variant\":{\"enabled\":false,\"feature_enabled\":true,\"name\":\"disabled\"}}]}";
 
 /// What an edge is told and meets: its words, the replies of its upstream, and the calls that fail.
+#[derive(Clone, Copy)]
 struct Trial<'t> {
     words: &'t str,
     replies: &'t [&'t str],
@@ -66,20 +61,18 @@ fn peer_of(alloc: Global, trial: &Trial<'_>) -> Option<MemoryPeer> {
     MemoryPeer::new(alloc, texts, 10_000, trial.peer.to_vec(alloc).ok()?).ok()
 }
 
-/// The status of an edge over some links, and the world after it.
-fn over<'a, W: Wait>(
+/// The status of an edge at a door, and the world after it.
+fn at<'a, W: Wait>(
     alloc: Global,
     trial: &Trial<'_>,
-    links: Vec<Option<MemoryLink>>,
+    door: MemoryDoor,
     rt: &'a W,
-) -> Option<(u8, Bench<&'a W>)>
-    requires { All IsNew links.items }
-{
+) -> Option<(u8, Bench<&'a W>)> {
     let words = words_of(alloc, trial.words).ok()?;
     let mut world = World {
         input: MemorySource::new(Vec::new(alloc), 1, Vec::new(alloc)),
         output: MemorySink::new(alloc, 4096, trial.output.to_vec(alloc).ok()?).ok()?,
-        door: MemoryDoor::new(links, trial.door.to_vec(alloc).ok()?),
+        door,
         peer: peer_of(alloc, trial)?,
         draws: ListDraws::new(Vec::new(alloc)),
         pace: CountPace::new(0),
@@ -96,10 +89,8 @@ fn over_one<'a, W: Wait>(
     asked: &str,
     rt: &'a W,
 ) -> Option<(u8, Bench<&'a W>)> {
-    let asked = asked.as_bytes().to_vec(alloc).ok()?;
-    let link = MemoryLink::new(alloc, asked, 7, 4096, Vec::new(alloc)).ok()?;
-    let links = vec![in alloc; Some(link)].ok()?;
-    over(alloc, trial, links, rt)
+    let failing = trial.door.to_vec(alloc).ok()?;
+    at(alloc, trial, door_of_one(alloc, asked, failing).ok()?, rt)
 }
 
 /// The same over two links that send the same.
@@ -109,22 +100,23 @@ fn over_two<'a, W: Wait>(
     asked: &str,
     rt: &'a W,
 ) -> Option<(u8, Bench<&'a W>)> {
-    let first = asked.as_bytes().to_vec(alloc).ok()?;
-    let second = asked.as_bytes().to_vec(alloc).ok()?;
-    let one = MemoryLink::new(alloc, first, 7, 4096, Vec::new(alloc)).ok()?;
-    let two = MemoryLink::new(alloc, second, 100, 4096, Vec::new(alloc)).ok()?;
-    let links = vec![in alloc; Some(one), Some(two)].ok()?;
-    over(alloc, trial, links, rt)
+    let failing = trial.door.to_vec(alloc).ok()?;
+    at(
+        alloc,
+        trial,
+        door_of_two(alloc, [asked, asked], failing).ok()?,
+        rt,
+    )
 }
 
 /// The first line and the body of the reply that a link was sent.
-fn reply_at<W: Wait>(world: &Bench<&W>, place: usize) -> Option<(&str, &str)> {
+fn reply_at<'w, W: Wait>(world: &'w Bench<&W>, place: usize) -> Option<(&'w str, &'w str)> {
     let text = str::from_utf8(world.door.sent(place)?).ok()?;
     let (head, body) = text.split_once("\r\n\r\n")?;
     Some((head.split_once("\r\n")?.0, body))
 }
 
-fn output_of<W: Wait>(world: &Bench<&W>) -> Option<&str> {
+fn output_of<'w, W: Wait>(world: &'w Bench<&W>) -> Option<&'w str> {
     str::from_utf8(world.output.sent()).ok()
 }
 
@@ -132,7 +124,8 @@ fn output_of<W: Wait>(world: &Bench<&W>) -> Option<&str> {
 fn an_edge_serves_what_its_upstream_has(rt: HostRuntime) -> Result<(), Fail> {
     let alloc = rt.alloc();
     for (words, state) in [(DELTA, BATCH_A), (FEED, FEED_A)] {
-        let trial = faultless(words, &[BOOK, state]);
+        let replies = [BOOK, state];
+        let trial = faultless(words, &replies);
         let (status, world) = over_one(alloc, &trial, ASK, &rt).expect(&rt, "there is memory");
         assert_eq!(rt; status, 0);
         assert_eq!(rt; output_of(&world), Some("connections 1\n"));
@@ -150,7 +143,10 @@ fn an_edge_asks_again_before_each_link(rt: HostRuntime) -> Result<(), Fail> {
     assert_eq!(rt; status, 0);
     assert_eq!(rt; output_of(&world), Some("connections 2\n"));
     assert_eq!(rt; reply_at(&world, 0), Some(("HTTP/1.1 200 OK", TOGGLES)));
-    assert_eq!(rt; reply_at(&world, 1), Some(("HTTP/1.1 200 OK", "{\"toggles\":[]}")));
+    assert_eq!(rt;
+        reply_at(&world, 1),
+        Some(("HTTP/1.1 200 OK", "{\"toggles\":[]}"))
+    );
     Ok(())
 }
 
@@ -180,7 +176,10 @@ fn faults_of_the_upstream_end_nothing(rt: HostRuntime) -> Result<(), Fail> {
     let (status, world) = over_one(alloc, &trial, ASK, &rt).expect(&rt, "there is memory");
     assert_eq!(rt; status, 0);
     assert_eq!(rt; output_of(&world), Some("connections 1\n"));
-    assert_eq!(rt; reply_at(&world, 0), Some(("HTTP/1.1 403 Forbidden", "{\"error\":\"UnknownToken\"}")));
+    assert_eq!(rt;
+        reply_at(&world, 0),
+        Some(("HTTP/1.1 403 Forbidden", "{\"error\":\"UnknownToken\"}"))
+    );
     Ok(())
 }
 

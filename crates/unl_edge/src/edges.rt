@@ -69,7 +69,14 @@ fn serve_links<I: Source, O: Sink, D: Door, P: Peer, R: Draws, T: Pace, W: Wait>
         Ok(()) => {}
         Err(Memory) => return Status::OutOfMemory,
     }
-    match host(alloc, replica, &world.rt, &mut world.door, &mut world.peer, &mut world.draws) {
+    match host(
+        alloc,
+        replica,
+        &world.rt,
+        &mut world.door,
+        &mut world.peer,
+        &mut world.draws,
+    ) {
         Ok(served) => say_connections(alloc, &mut world.output, served),
         Err(_) => Status::DoorFault,
     }

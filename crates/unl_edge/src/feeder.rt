@@ -30,7 +30,13 @@ pub fn feeders(
     requires environments { length environments.now ≡ length tokens.now }
     ensures { IfOk result (λ feeders. length feeders.items ≡ length tokens.now) }
 {
-    feeders_of(alloc, host, tokens.as_slice(), environments.as_slice(), delta)
+    feeders_of(
+        alloc,
+        host,
+        tokens.as_slice(),
+        environments.as_slice(),
+        delta,
+    )
 }
 
 /// One feeder for each token.
@@ -48,13 +54,7 @@ fn feeders_of(
 {
     let mut feeders = Vec::new(alloc);
     for place in 0..tokens.len() {
-        feeders.push(feeder_with(
-            alloc,
-            host,
-            &tokens[place],
-            &environments[place],
-            delta,
-        )?)?;
+        feeders.push(feeder_with(alloc, host, &tokens[place], &environments[place], delta)?)?;
     }
     Ok(feeders)
 }

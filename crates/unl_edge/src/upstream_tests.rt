@@ -1,11 +1,11 @@
 //! The command `upstream`, over lines of commands and links in memory.
-use crate::bench::{Bench, printed, silent_peer, words_of};
+use crate::bench::{Bench, door_of_two, printed, silent_peer, words_of};
 use crate::run::run;
 use crate::world::World;
 use std::alloc::Global;
 use std::sync::Wait;
 use std::test::Fail;
-use unl_base::{BaseMemory, CountPace, ListDraws, MemoryDoor, MemoryLink, MemorySink, MemorySource};
+use unl_base::{CountPace, ListDraws, MemorySink, MemorySource};
 
 const WORDS: &str =
     "upstream --secret s --environments dev --client-tokens *:dev.c --frontend-tokens *:dev.f";
@@ -37,19 +37,6 @@ fn list_of(alloc: Global, call: Option<u64>) -> Option<Vec<u64>> {
     Some(calls)
 }
 
-/// A door with a link for each of two texts.
-fn door(alloc: Global, asked: [&str; 2], failing: Vec<u64>) -> Result<MemoryDoor, BaseMemory> {
-    let [first, second] = asked;
-    let first = first.as_bytes().to_vec(alloc)?;
-    let second = second.as_bytes().to_vec(alloc)?;
-    let one = MemoryLink::new(alloc, first, 7, 4096, Vec::new(alloc))?;
-    let two = MemoryLink::new(alloc, second, 100, 4096, Vec::new(alloc))?;
-    match vec![in alloc; Some(one), Some(two)] {
-        Ok(links) => Ok(MemoryDoor::new(links, failing)),
-        Err(_) => Err(BaseMemory),
-    }
-}
-
 /// The status of an upstream over lines and two links, and the world after it.
 fn served<'a, W: Wait>(
     alloc: Global,
@@ -63,7 +50,7 @@ fn served<'a, W: Wait>(
     let mut world = World {
         input: MemorySource::new(lines, 50, list_of(alloc, failing.0)?),
         output: MemorySink::new(alloc, 4096, list_of(alloc, failing.1)?).ok()?,
-        door: door(alloc, asked, list_of(alloc, failing.2)?).ok()?,
+        door: door_of_two(alloc, asked, list_of(alloc, failing.2)?).ok()?,
         peer: silent_peer(alloc)?,
         draws: ListDraws::new(Vec::new(alloc)),
         pace: CountPace::new(0),

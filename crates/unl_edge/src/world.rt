@@ -16,7 +16,8 @@ pub struct World<I: Source, O: Sink, D: Door, P: Peer, R: Draws, T: Pace, W: Wai
     pub rt: W,
 }
 
-impl<I: Source, O: Sink, D: Door, P: Peer, R: Draws, T: Pace, W: Wait> Model for World<I, O, D, P, R, T, W> {
+impl<I: Source, O: Sink, D: Door, P: Peer, R: Draws, T: Pace, W: Wait> Model
+    for World<I, O, D, P, R, T, W> {
     ghost use Rattle.unl_edge.specs.Scene.{Scene};
 
     ghost Value = { Scene };
