@@ -1,12 +1,14 @@
 //! An environment with as many features as it may have.
+ghost use Rattle.unl_delta.specs.Valid.{IsValidBatch};
+
 use crate::reading::read_command_bytes;
 use crate::ready::Ready;
 use crate::{CommandRefusal, Upstream};
 use std::alloc::Global;
 use std::test::Fail;
 use unl_compiled::Snapshot;
-use unl_delta::{Place, Verdict, apply, read_batch_bytes, verdict};
-use unl_documents::{List, Shared, Text};
+use unl_delta::{Batch, Place, Verdict, apply, read_batch_bytes, verdict};
+use unl_documents::{List, Memory, Shared, Text};
 use unl_tokens::Book;
 
 /// A hydration of so many features.
@@ -27,28 +29,49 @@ fn hydration(alloc: Global, count: u32) -> Option<String> {
     Some(text)
 }
 
-/// An upstream of one environment, which has so many features.
-fn crowded(alloc: Global, count: u32) -> Option<Upstream> {
-    let mut environments = List::new(alloc);
-    environments.push(Text::new(alloc, "dev").ok()?).ok()?;
-    let mut up = Upstream::new(alloc, 0, "s", &environments, Book::new(alloc)).ok()?;
-    let text = hydration(alloc, count)?;
-    let batch = read_batch_bytes(alloc, text.as_bytes(), None).ok()?;
+/// What stands after a hydration, where nothing stood before.
+fn snapshot_of(alloc: Global, batch: &Batch) -> Result<Option<Shared<Snapshot>>, Memory>
+    requires { IsValidBatch batch.now }
+{
     let place = Place {
         version: None,
         held: false,
     };
-    if verdict(&place, &batch) != Verdict::Apply {
-        return None;
+    if verdict(&place, batch) != Verdict::Apply {
+        return Ok(None);
     }
-    let version = apply(alloc, &place, &batch).ok()?;
-    let snapshot = Shared::new(alloc, Snapshot::build(alloc, version).ok()?).ok()?;
-    up.commit(Ready {
-        slot: 0,
-        number: 5,
-        snapshot,
-    });
-    Some(up)
+    let version = apply(alloc, &place, batch)?;
+    Ok(Some(Shared::new(alloc, Snapshot::build(alloc, version)?)?))
+}
+
+/// An upstream of one environment that has taken a hydration.
+fn filled(alloc: Global, batch: &Batch) -> Option<Upstream>
+    requires { IsValidBatch batch.now }
+{
+    let mut environments = List::new(alloc);
+    environments.push(Text::new(alloc, "dev").ok()?).ok()?;
+    let mut up = Upstream::new(alloc, 0, "s", &environments, Book::new(alloc)).ok()?;
+    match snapshot_of(alloc, batch) {
+        Ok(Some(snapshot)) => {
+            up.commit(Ready {
+                slot: 0,
+                number: 5,
+                snapshot,
+            });
+            Some(up)
+        }
+        Ok(None) => None,
+        Err(Memory) => None,
+    }
+}
+
+/// An upstream of one environment, which has so many features.
+fn crowded(alloc: Global, count: u32) -> Option<Upstream> {
+    let text = hydration(alloc, count)?;
+    match read_batch_bytes(alloc, text.as_bytes(), None) {
+        Ok(batch) => filled(alloc, &batch),
+        Err(_) => None,
+    }
 }
 
 /// What putting a feature comes to.
