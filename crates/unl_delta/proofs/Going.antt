@@ -11,7 +11,7 @@ use Rattle.serde_json.specs.View.{view, items_view}
 use Rattle.serde_json.specs.declared.value.Value.{Value}
 use Rattle.unl_documents.specs.declared.feed.Feed.{Feed}
 use Rattle.unl_documents.specs.declared.field.Field.TheVariants as field
-use Rattle.unl_documents.specs.Kinds.{at, any_whole, optional}
+use Rattle.unl_documents.specs.Kinds.{at, any_whole, defaulted, optional}
 use Rattle.unl_documents.specs.Results.{◌>>=◌, Gives}
 use Rattle.unl_documents.specs.States.{IsValidState}
 use Rattle.unl_delta.specs.declared.batch.Batch.{Batch}
@@ -137,19 +137,21 @@ read_in_order (item value values) es is = decided (event_at 0 0 value) is
 
 batch_in_order : (held : Option ℕ) (value : Data) (batch : Batch) → batch_of held value ≡ Ok batch → IsBatch batch
 unfolding batch_of
-batch_in_order held value batch is = decided (ok_or (option_and_then as_array (at field.Events value)) NotJson) (or_not_json (optional any_whole field.After value)) is
+batch_in_order held value batch is = decided (ok_or (option_and_then as_array (at field.Events value)) NotJson) (or_not_json (defaulted 0 any_whole field.Epoch value)) (or_not_json (optional any_whole field.After value)) is
   where
-    events : (values : Items) (after : Option ℕ) (r : Result (List Event) BadBatch) → events_from 0 0 values ≡ r → (r >>= λ es. Ok (record { after = option_or after held; events = es })) ≡ Ok batch → IsBatch batch
-    events values after (Err fault) one so = absurd cc
-    events values after (Ok es) one so =
-        let same : record { after = option_or after held; events = es } ≡ batch = cc in
+    events : (values : Items) (epoch : ℕ) (after : Option ℕ) (r : Result (List Event) BadBatch) → events_from 0 0 values ≡ r → (r >>= λ es. Ok (record { epoch = epoch; after = option_or after held; events = es })) ≡ Ok batch → IsBatch batch
+    events values epoch after (Err fault) one so = absurd cc
+    events values epoch after (Ok es) one so =
+        let same : record { epoch = epoch; after = option_or after held; events = es } ≡ batch = cc in
         let order = read_in_order values es one in
         subst IsBatch same (record { changes = order.0; numbers = order.1 })
 
-    decided : (r : Result Items BadBatch) (s : Result (Option ℕ) BadBatch) → (r >>= λ values. s >>= λ after. events_from 0 0 values >>= λ es. Ok (record { after = option_or after held; events = es })) ≡ Ok batch → IsBatch batch
-    decided (Err fault) s so = absurd cc
-    decided (Ok values) (Err fault) so = absurd cc
-    decided (Ok values) (Ok after) so = events values after (events_from 0 0 values) refl so
+    decided : (r : Result Items BadBatch) (q : Result ℕ BadBatch) (s : Result (Option ℕ) BadBatch) → (r >>= λ values. q >>= λ epoch. s >>= λ after. events_from 0 0 values >>= λ es. Ok (record { epoch = epoch; after = option_or after held; events = es })) ≡ Ok batch
+        → IsBatch batch
+    decided (Err fault) q s so = absurd cc
+    decided (Ok values) (Err fault) s so = absurd cc
+    decided (Ok values) (Ok epoch) (Err fault) so = absurd cc
+    decided (Ok values) (Ok epoch) (Ok after) so = events values epoch after (events_from 0 0 values) refl so
 
 pub read_is_valid : (held : Option ℕ) (value : Data) (r : Result Batch BadBatch) → Gives Memory r (batch_of held value) → IfOk r (λ batch. Every IsValidEvent batch.events) → IfOk r IsValidBatch
 read_is_valid held value (Ok batch) gives valid = record { order = batch_in_order held value batch gives; events = valid }
@@ -158,6 +160,6 @@ read_is_valid held value (Err fault) gives valid = tt
 pub feed_is_valid : (feed : Feed) → IsValidState feed.state → IfSome (batch_of_feed feed) IsValidBatch
 feed_is_valid feed valid = decided feed.number
   where
-    decided : (number : Option ℕ) → IfSome (option_map (λ n. record { after = None; events = Hydration n feed.state ∷ [] }) number) IsValidBatch
+    decided : (number : Option ℕ) → IfSome (option_map (λ n. record { epoch = feed.epoch; after = None; events = Hydration n feed.state ∷ [] }) number) IsValidBatch
     decided None = tt
     decided (Some n) = record { order = record { changes = tt; numbers = (omega arith, tt) }; events = (valid, tt) }

@@ -16,11 +16,11 @@ use Rattle.unl_documents.specs.declared.strategy.Strategy.{Strategy}
 use Rattle.unl_documents.specs.declared.variant.Override.{Override}
 use Rattle.unl_documents.specs.declared.variant.Payload.{Payload}
 use Rattle.unl_documents.specs.declared.variant.Variant.{Variant}
-use Rattle.unl_documents.specs.Writing.{count, with_pairs, override_data, payload_data, variant_data, dependency_data, constraint_data, segment_data, parameters_data, strategy_data, feature_data}
+use Rattle.unl_documents.specs.Writing.{count, unless_zero, with_pairs, override_data, payload_data, variant_data, dependency_data, constraint_data, segment_data, parameters_data, strategy_data, feature_data}
 use Rattle.unl_delta.specs.declared.batch.Batch.{Batch}
 use Rattle.unl_delta.specs.declared.event.Event.{Event}
 use Rattle.unl_delta.specs.declared.event.Event.TheVariants.{Hydration, FeatureUpdated, FeatureRemoved, SegmentUpdated, SegmentRemoved}
-use Rattle.unl_delta.specs.Writing.{event_data, batch_data}
+use Rattle.unl_delta.specs.Writing.{event_data, batch_with, batch_data}
 
 pub no_float_in : {T : Type 0} (written : T → Data) → ((x : T) → has_float (written x) ≡ false) → (xs : List T) → items_have_float (items_of (map written xs)) ≡ false
 no_float_in written plain [] = refl
@@ -127,10 +127,13 @@ no_float_event (FeatureRemoved n name project) = refl
 no_float_event (SegmentUpdated n segment) = rw (no_float_segment segment) refl
 no_float_event (SegmentRemoved n id) = refl
 
-no_float_batch_parts : (after : Option ℕ) (es : List Event) → has_float (batch_data (record { after = after; events = es })) ≡ false
-unfolding batch_data
-no_float_batch_parts None es = rw (no_float_in event_data no_float_event es) refl
-no_float_batch_parts (Some a) es = rw (no_float_in event_data no_float_event es) refl
+no_float_batch_parts : (epoch after : Option ℕ) (es : List Event) → has_float (batch_with epoch after es) ≡ false
+unfolding batch_with
+no_float_batch_parts None None es = rw (no_float_in event_data no_float_event es) refl
+no_float_batch_parts None (Some a) es = rw (no_float_in event_data no_float_event es) refl
+no_float_batch_parts (Some g) None es = rw (no_float_in event_data no_float_event es) refl
+no_float_batch_parts (Some g) (Some a) es = rw (no_float_in event_data no_float_event es) refl
 
 pub no_float_batch : (batch : Batch) → has_float (batch_data batch) ≡ false
-no_float_batch batch = no_float_batch_parts batch.after batch.events
+unfolding batch_data
+no_float_batch batch = no_float_batch_parts (unless_zero batch.epoch) batch.after batch.events

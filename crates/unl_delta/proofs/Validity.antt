@@ -21,7 +21,7 @@ use Rattle.unl_delta.specs.declared.event.Event.{Event}
 use Rattle.unl_delta.specs.declared.event.Event.TheVariants.{Hydration, FeatureUpdated, FeatureRemoved, SegmentUpdated, SegmentRemoved}
 use Rattle.unl_delta.specs.declared.version.EnvVersion.{EnvVersion}
 use Rattle.unl_delta.specs.declared.version.Place.{Place}
-use Rattle.unl_delta.specs.Batch.{empty_version, verdict_of, last_number, cut, windowed, from_hydration, go_on, next_on, next_version, hydrated, news, delta_answer}
+use Rattle.unl_delta.specs.Batch.{empty_at, empty_version, verdict_of, last_number, cut, windowed, from_hydration, go_on, next_on, next_version, hydrated, news, delta_answer}
 use Rattle.unl_delta.specs.Keyed.{below, above, put, without}
 use Rattle.unl_delta.specs.State.{number_of, entry_number, later, step, fold_events, project_of, was_in, entries_on}
 use Rattle.unl_delta.specs.Valid.{IsVersion, IsValidEvent, IsValidEntry, IsValidBatch, IsValidVersion, IsValidPlace, IsValidAnswer}
@@ -134,36 +134,36 @@ record Holds (v : EnvVersion) : Type 0 where
   pub state : IsValidState v.state
   pub entries : Every IsValidEntry v.entries
 
-windowed_holds : (state : State) (n base : ℕ) (entries : List Entry) → IsValidState state → Every IsValidEntry entries → Holds (windowed state n base entries)
-windowed_holds state n base entries h each = record { state = h; entries = each_later entry_number IsValidEntry (cut base entries) entries each }
+windowed_holds : (g : ℕ) (state : State) (n base : ℕ) (entries : List Entry) → IsValidState state → Every IsValidEntry entries → Holds (windowed g state n base entries)
+windowed_holds g state n base entries h each = record { state = h; entries = each_later entry_number IsValidEntry (cut base entries) entries each }
 
-hydrated_holds : (n : ℕ) (state : State) (es : List Event) → IsValidState state → Every IsValidEvent es → Holds (from_hydration n state es)
-hydrated_holds n state es h new = windowed_holds (fold_events es state) (last_number n es) n (later entry_number n (entries_on state es)) (fold_is_valid es state new h) (each_later entry_number IsValidEntry n (entries_on state es) (entries_are_valid es state new h))
+hydrated_holds : (g n : ℕ) (state : State) (es : List Event) → IsValidState state → Every IsValidEvent es → Holds (from_hydration g n state es)
+hydrated_holds g n state es h new = windowed_holds g (fold_events es state) (last_number n es) n (later entry_number n (entries_on state es)) (fold_is_valid es state new h) (each_later entry_number IsValidEntry n (entries_on state es) (entries_are_valid es state new h))
 
 changed_holds : (v : EnvVersion) (es : List Event) → Holds v → Every IsValidEvent es → Holds (go_on v es)
 changed_holds v es h new =
     let fresh : List Event = later number_of v.number es in
     let valid : Every IsValidEvent fresh = each_later number_of IsValidEvent v.number es new in
-    windowed_holds (fold_events fresh v.state) (last_number v.number es) v.base (v.entries ++ entries_on v.state fresh) (fold_is_valid fresh v.state valid h.state) (every_append IsValidEntry v.entries (entries_on v.state fresh) h.entries (entries_are_valid fresh v.state valid h.state))
+    windowed_holds v.epoch (fold_events fresh v.state) (last_number v.number es) v.base (v.entries ++ entries_on v.state fresh) (fold_is_valid fresh v.state valid h.state) (every_append IsValidEntry v.entries (entries_on v.state fresh) h.entries (entries_are_valid fresh v.state valid h.state))
 
-next_holds : (v : EnvVersion) (es : List Event) → Holds v → Every IsValidEvent es → Holds (next_on v es)
-next_holds v [] h new = h
-next_holds v (Hydration n state ∷ es) h new = hydrated_holds n state es new.0 new.1
-next_holds v (FeatureUpdated n feature ∷ es) h new = changed_holds v (FeatureUpdated n feature ∷ es) h new
-next_holds v (FeatureRemoved n name project ∷ es) h new = changed_holds v (FeatureRemoved n name project ∷ es) h new
-next_holds v (SegmentUpdated n segment ∷ es) h new = changed_holds v (SegmentUpdated n segment ∷ es) h new
-next_holds v (SegmentRemoved n id ∷ es) h new = changed_holds v (SegmentRemoved n id ∷ es) h new
+next_holds : (g : ℕ) (v : EnvVersion) (es : List Event) → Holds v → Every IsValidEvent es → Holds (next_on g v es)
+next_holds g v [] h new = h
+next_holds g v (Hydration n state ∷ es) h new = hydrated_holds g n state es new.0 new.1
+next_holds g v (FeatureUpdated n feature ∷ es) h new = changed_holds v (FeatureUpdated n feature ∷ es) h new
+next_holds g v (FeatureRemoved n name project ∷ es) h new = changed_holds v (FeatureRemoved n name project ∷ es) h new
+next_holds g v (SegmentUpdated n segment ∷ es) h new = changed_holds v (SegmentUpdated n segment ∷ es) h new
+next_holds g v (SegmentRemoved n id ∷ es) h new = changed_holds v (SegmentRemoved n id ∷ es) h new
 
-pub empty_is_valid : IsValidVersion empty_version
+pub empty_is_valid : (g : ℕ) → IsValidVersion (empty_at g)
 unfolding IsStrictlySortedBy
-empty_is_valid = record {
+empty_is_valid g = record {
   order = record { base = omega arith; changes = tt; numbers = tt; most = tt };
   state = record { features = All-nil IsValidFeature; names = tt; segments = All-nil IsValidSegment; ids = tt };
   entries = tt;
 }
 
 start_holds : (o : Option EnvVersion) → IfSome o IsValidVersion → Holds (unwrap_or o empty_version)
-start_holds None h = record { state = empty_is_valid.state; entries = tt }
+start_holds None h = let start = empty_is_valid 0 in record { state = start.state; entries = tt }
 start_holds (Some v) h = record { state = h.state; entries = h.entries }
 
 start_in_order : (o : Option EnvVersion) → IfSome o IsValidVersion → IfSome o IsVersion
@@ -172,7 +172,7 @@ start_in_order (Some v) h = h.order
 
 pub next_is_valid : (place : Place) (batch : Batch) → IsValidPlace place → IsValidBatch batch → verdict_of place batch ≡ Apply → IsValidVersion (next_version place batch)
 next_is_valid place batch h b is =
-    let holds : Holds (next_version place batch) = next_holds (unwrap_or place.version empty_version) batch.events (start_holds place.version h) b.events in
+    let holds : Holds (next_version place batch) = next_holds batch.epoch (unwrap_or place.version empty_version) batch.events (start_holds place.version h) b.events in
     record { order = next_is_version place batch (start_in_order place.version h) b.order is; state = holds.state; entries = holds.entries }
 
 -- ---- answers
@@ -206,20 +206,20 @@ AnswerHolds : DeltaAnswer → Type 0
 AnswerHolds Same = Unit {0}
 AnswerHolds (Sent batch) = Every IsValidEvent batch.events
 
-news_hold : (since : ℕ) (es : List Event) → Every IsValidEvent es → AnswerHolds (news since es)
+news_hold : (g since : ℕ) (es : List Event) → Every IsValidEvent es → AnswerHolds (news g since es)
 unfolding AnswerHolds
-news_hold since [] h = tt
-news_hold since (e ∷ es) h = h
+news_hold g since [] h = tt
+news_hold g since (e ∷ es) h = h
 
 answer_holds : (v : EnvVersion) (since : Option ℕ) (projects : Sees) → IsValidVersion v → AnswerHolds (delta_answer v since projects)
 unfolding AnswerHolds
 answer_holds v None projects h = (view_is_valid projects v.state h.state, tt)
 answer_holds v (Some since) projects h = decided (since == v.number) (ltb since v.base || ltb v.number since)
   where
-    decided : (s t : Bool) → AnswerHolds (cond s Same (cond t (hydrated v projects) (news since (shown_to projects (later entry_number since v.entries)))))
+    decided : (s t : Bool) → AnswerHolds (cond s Same (cond t (hydrated v projects) (news v.epoch since (shown_to projects (later entry_number since v.entries)))))
     decided true t = tt
     decided false true = (view_is_valid projects v.state h.state, tt)
-    decided false false = news_hold since _ (shown_are_valid projects (later entry_number since v.entries) (each_later entry_number IsValidEntry since v.entries h.entries))
+    decided false false = news_hold v.epoch since _ (shown_are_valid projects (later entry_number since v.entries) (each_later entry_number IsValidEntry since v.entries h.entries))
 
 pub answer_is_valid : (v : EnvVersion) (since : Option ℕ) (projects : Sees) → IsValidVersion v → IsValidAnswer (delta_answer v since projects)
 unfolding AnswerHolds

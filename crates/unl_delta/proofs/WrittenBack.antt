@@ -1,6 +1,6 @@
 -- What is written is read again.
 use Rattle.std.proofs.Common.{◌≡◌, ℕ, ◌+◌, ◌≤◌, Bool, true, false, ltb, List, [], ◌∷◌, length, map, Option, Some, None, Ok, refl, ◌∙◌, ◌&&◌, not}
-use Rattle.std.specs.Prelude.{codes, drop}
+use Rattle.std.specs.Prelude.{codes, drop, option_map}
 use Rattle.std.specs.List.{AllByRecursion as Every}
 use Rattle.std.specs.Option.{option_or}
 use Rattle.std.proofs.lemmas.Bool.{le-ltb}
@@ -10,13 +10,14 @@ use Rattle.serde_json.specs.View.{items_of}
 use Rattle.unl_documents.specs.declared.field.Field.{Field}
 use Rattle.unl_documents.specs.declared.field.Field.TheVariants as field
 use Rattle.unl_documents.specs.declared.state.State.{State}
-use Rattle.unl_documents.specs.Kinds.{at, present, any_text, any_whole, name, object_of, required, is_object}
+use Rattle.unl_documents.specs.Kinds.{at, present, any_text, any_whole, name, object_of, required, optional, is_object}
 use Rattle.unl_documents.specs.Parameters.{AreRising}
 use Rattle.unl_documents.specs.Reading.{Reading}
 use Rattle.unl_documents.specs.Sorting.{in_order}
 use Rattle.unl_documents.specs.States.{state_of, IsValidState, name_key, as_is, id_key, id_text}
-use Rattle.unl_documents.specs.Writing.{count, feature_data, segment_data}
+use Rattle.unl_documents.specs.Writing.{count, unless_zero, feature_data, segment_data}
 use Rattle.unl_documents.specs.Writing.{list as list_data}
+use Rattle.unl_documents.proofs.FeedTrip.{zero_back}
 use Rattle.unl_documents.proofs.InOrder.{order_from_sorting}
 use Rattle.unl_documents.proofs.RoundTrip.{name_back, any_text_back, any_whole_back, required_back, defaulted_back, optional_back, optional_none, ComesBack, objects_back, features, segments}
 use Rattle.unl_delta.specs.declared.batch.Batch.{Batch}
@@ -25,7 +26,7 @@ use Rattle.unl_delta.specs.declared.event.Event.TheVariants.{Hydration, FeatureU
 use Rattle.unl_delta.specs.Reading.{hydration_of, feature_updated_of, feature_removed_of, segment_updated_of, segment_removed_of, event_of_type, event_of, event_at, in_order as placed, events_from, batch_of}
 use Rattle.unl_delta.specs.State.{number_of, is_change}
 use Rattle.unl_delta.specs.Valid.{NeverFall, IsReadable, IsValidEvent, IsValidBatch}
-use Rattle.unl_delta.specs.Writing.{event_data, batch_data}
+use Rattle.unl_delta.specs.Writing.{event_data, batch_with, batch_data}
 
 -- ---- a state inside another object
 
@@ -126,10 +127,29 @@ unfolding events_from
 events_back [] changes numbers valid readable = refl
 events_back (e ∷ es) changes numbers valid readable = rw (at_back 0 0 e valid.0 readable.0 refl numbers.0, changes_back 0 (number_of e) es changes numbers.1 valid.1 readable.1) refl
 
-parts_back : (held after : Option ℕ) (es : List Event) → events_from 0 0 (items_of (map event_data es)) ≡ Ok es → batch_of held (batch_data (record { after = after; events = es })) ≡ Ok (record { after = option_or after held; events = es })
-unfolding batch_of batch_data at
-parts_back held None es back = rw (optional_none any_whole field.After (batch_data (record { after = None; events = es })) refl, back) refl
-parts_back held (Some a) es back = rw (optional_back any_whole field.After (batch_data (record { after = Some a; events = es })) (count a) a refl (any_whole_back field.After a), back) refl
+-- what stands at each key, whichever of them are told
+record Stands (value : Data) (told since : Option ℕ) (es : List Event) : Type 0 where
+  pub epoch : at field.Epoch value ≡ option_map count told
+  pub after : at field.After value ≡ option_map count since
+  pub events : at field.Events value ≡ Some (list_data event_data es)
 
-pub batch_back : (held : Option ℕ) (batch : Batch) → IsValidBatch batch → Every IsReadable batch.events → batch_of held (batch_data batch) ≡ Ok (record { after = option_or batch.after held; events = batch.events })
-batch_back held batch valid readable = parts_back held batch.after batch.events (events_back batch.events valid.order.changes valid.order.numbers valid.events readable)
+parts_stand : (epoch after : Option ℕ) (es : List Event) → Stands (batch_with epoch after es) epoch after es
+unfolding batch_with at
+parts_stand None None es = record { epoch = refl; after = refl; events = refl }
+parts_stand None (Some a) es = record { epoch = refl; after = refl; events = refl }
+parts_stand (Some g) None es = record { epoch = refl; after = refl; events = refl }
+parts_stand (Some g) (Some a) es = record { epoch = refl; after = refl; events = refl }
+
+after_back : (value : Data) (after : Option ℕ) → at field.After value ≡ option_map count after → optional any_whole field.After value ≡ Ok after
+after_back value None here = optional_none any_whole field.After value here
+after_back value (Some a) here = optional_back any_whole field.After value (count a) a here (any_whole_back field.After a)
+
+parts_back : (held : Option ℕ) (value : Data) (batch : Batch) → Stands value (unless_zero batch.epoch) batch.after batch.events → events_from 0 0 (items_of (map event_data batch.events)) ≡ Ok batch.events
+    → batch_of held value ≡ Ok (record { epoch = batch.epoch; after = option_or batch.after held; events = batch.events })
+unfolding batch_of
+parts_back held value batch stands back = rw (stands.events, zero_back field.Epoch value batch.epoch stands.epoch, after_back value batch.after stands.after, back) refl
+
+pub batch_back : (held : Option ℕ) (batch : Batch) → IsValidBatch batch → Every IsReadable batch.events → batch_of held (batch_data batch) ≡ Ok (record { epoch = batch.epoch; after = option_or batch.after held; events = batch.events })
+unfolding batch_data
+batch_back held batch valid readable =
+    parts_back held (batch_with (unless_zero batch.epoch) batch.after batch.events) batch (parts_stand (unless_zero batch.epoch) batch.after batch.events) (events_back batch.events valid.order.changes valid.order.numbers valid.events readable)

@@ -107,13 +107,14 @@ abbrev pub or_not_json : {T : Type 0} → Reading T → Result T BadBatch
 or_not_json (Ok x) = Ok x
 or_not_json (Err e) = Err NotJson
 
--- the batch of one who has what is numbered up to `held`, where the document doesn't say after which number it comes
+-- the batch of one who has what is numbered up to `held`, where the document doesn't say after which number it comes; where it tells no epoch, of the epoch 0
 unfoldable pub batch_of : Option ℕ → Data → BatchReading
 batch_of held value = do
   items ← ok_or (option_and_then as_array (at field.Events value)) NotJson
+  epoch ← or_not_json (defaulted 0 any_whole field.Epoch value)
   after ← or_not_json (optional any_whole field.After value)
   events ← events_from 0 0 items
-  Ok (record { after = option_or after held; events = events })
+  Ok (record { epoch = epoch; after = option_or after held; events = events })
 
 -- the longest batch that is read, in bytes
 abbrev pub longest_batch : ℕ
@@ -125,4 +126,4 @@ batch_of_bytes held bytes = if nat_lt longest_batch (length bytes) then Err NotJ
 
 -- a feed with a number is one hydration
 abbrev pub batch_of_feed : Feed → Option Batch
-batch_of_feed feed = option_map (λ number. record { after = None; events = Hydration number feed.state ∷ [] }) feed.number
+batch_of_feed feed = option_map (λ number. record { epoch = feed.epoch; after = None; events = Hydration number feed.state ∷ [] }) feed.number

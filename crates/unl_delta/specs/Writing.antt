@@ -1,8 +1,8 @@
 -- What events and batches are written as. A `put` keeps the keys in byte order.
-use Rattle.std.specs.Prelude.{codes, option_map}
+use Rattle.std.specs.Prelude.{ℕ, List, Option, codes, option_map}
 use Rattle.serde_json.specs.Data.{Data, string, object, no_members}
 use Rattle.unl_documents.specs.declared.field.Field.TheVariants as field
-use Rattle.unl_documents.specs.Writing.{with, with_some, count, list, feature_data, segment_data}
+use Rattle.unl_documents.specs.Writing.{with, with_some, count, unless_zero, list, feature_data, segment_data}
 use Rattle.unl_delta.specs.declared.batch.Batch.{Batch}
 use Rattle.unl_delta.specs.declared.event.Event.{Event}
 use Rattle.unl_delta.specs.declared.event.Event.TheVariants.{Hydration, FeatureUpdated, FeatureRemoved, SegmentUpdated, SegmentRemoved}
@@ -37,9 +37,14 @@ event_data (SegmentRemoved number id) = object (
     with field.SegmentId (count id)
     no_members)))
 
--- the events, and the number after which they come where the batch has one
+-- the events, with an epoch and the number after which they come, where these are told
+unfoldable pub batch_with : Option ℕ → Option ℕ → List Event → Data
+batch_with epoch after events = object (
+    with_some field.Epoch (option_map count epoch) (
+    with_some field.After (option_map count after) (
+    with field.Events (list event_data events)
+    no_members)))
+
+-- the events, with the epoch where it isn't 0, and the number after which they come where the batch has one
 unfoldable pub batch_data : Batch → Data
-batch_data batch = object (
-    with_some field.After (option_map count batch.after) (
-    with field.Events (list event_data batch.events)
-    no_members))
+batch_data batch = batch_with (unless_zero batch.epoch) batch.after batch.events

@@ -3,7 +3,7 @@ ghost use Rattle.std.specs.Prelude.{◌≡◌, IfOk, IfSome};
 ghost use Rattle.std.specs.List.{AllByRecursion};
 ghost use Rattle.serde_json.specs.View.{view, items_view};
 ghost use Rattle.unl_documents.specs.declared.field.Field.TheVariants as field;
-ghost use Rattle.unl_documents.specs.Kinds.{any_whole, optional as optional_at};
+ghost use Rattle.unl_documents.specs.Kinds.{any_whole, optional as optional_at, defaulted as defaulted_at};
 ghost use Rattle.unl_documents.specs.Reading.{Gives as Reads};
 ghost use Rattle.unl_documents.specs.Results.{Gives};
 ghost use Rattle.unl_documents.specs.States.{IsValidState};
@@ -18,7 +18,7 @@ use serde_json::Value;
 use std::alloc::Global;
 use unl_documents::document::{Document, Object};
 use unl_documents::json::read_json;
-use unl_documents::keys::{name_or, optional, required, value_at};
+use unl_documents::keys::{defaulted, name_or, optional, required, value_at};
 use unl_documents::kind::{AnyText, AnyWhole, Name};
 use unl_documents::{BadDocument, Feature, Feed, Field, List, Memory, Segment, Shared, State};
 
@@ -156,6 +156,18 @@ fn events_of(alloc: Global, values: &[Value]) -> Result<List<Event>, BadBatch>
     Ok(events)
 }
 
+/// The epoch of the events, which is 0 where the document tells none.
+fn epoch_of(alloc: Global, value: &Value) -> Result<u64, BadBatch>
+    ensures { Gives memory result
+        (or_not_json (defaulted_at 0 any_whole field.Epoch (view value.now))) }
+{
+    match defaulted::<AnyWhole>(alloc, 0, Field::Epoch, value) {
+        Ok(epoch) => Ok(epoch),
+        Err(BadDocument::Memory) => Err(BadBatch::Memory),
+        Err(_) => Err(BadBatch::NotJson),
+    }
+}
+
 /// The number after which the events come, where the document has one.
 fn after_of(alloc: Global, value: &Value) -> Result<Option<u64>, BadBatch>
     ensures gives { Gives memory result
@@ -176,9 +188,11 @@ fn batch_of(alloc: Global, value: &Value, held: Option<u64>) -> Result<Batch, Ba
     let Some(values) = value_at(Field::Events, value).and_then(Value::as_array) else {
         return Err(BadBatch::NotJson);
     };
+    let epoch = epoch_of(alloc, value)?;
     let after = after_of(alloc, value)?;
     let events = events_of(alloc, values)?;
     Ok(Batch {
+        epoch,
         after: after.or(held),
         events,
     })
@@ -187,7 +201,7 @@ fn batch_of(alloc: Global, value: &Value, held: Option<u64>) -> Result<Batch, Ba
 /// The batch that a value stands for, or its first fault by place. Where the document doesn't say
 /// after which number its events come, that number is `held`, which the asker had.
 ///
-/// `NotJson` comes where there is no list of events, or an `after` that is no unsigned whole number.
+/// `NotJson` comes where there is no list of events, or an `epoch` or an `after` that is no unsigned whole number.
 pub fn read_batch(alloc: Global, value: &Value, held: Option<u64>) -> Result<Batch, BadBatch>
     ensures gives { Gives memory result (batch_read held (view value.now)) }
     ensures valid { IfOk result IsValidBatch }
@@ -210,7 +224,7 @@ pub fn read_batch_bytes(alloc: Global, bytes: &[u8], held: Option<u64>) -> Resul
     read_batch(alloc, &value, held)
 }
 
-/// A feed as one hydration, or none exactly where the feed has no number.
+/// A feed as one hydration of its epoch, or none exactly where the feed has no number.
 pub fn of_feed(alloc: Global, feed: Feed) -> Result<Option<Batch>, Memory>
     ensures batch { IfOk result (λ batch. batch ≡ batch_of_feed feed) }
     ensures valid { IsValidState feed.state → IfOk result (λ batch. IfSome batch IsValidBatch) }
@@ -230,6 +244,7 @@ fn one_hydration(alloc: Global, feed: Feed) -> Result<Option<Batch>, Memory>
         state: feed.state,
     })?;
     Ok(Some(Batch {
+        epoch: feed.epoch,
         after: None,
         events,
     }))

@@ -100,6 +100,9 @@ fn bad_batches_are_named(rt: HostRuntime) {
         ("{\"events\":null}", BadBatch::NotJson),
         ("{\"after\":-1,\"events\":[7]}", BadBatch::NotJson),
         ("{\"after\":1.5,\"events\":[]}", BadBatch::NotJson),
+        ("{\"epoch\":-1,\"events\":[7]}", BadBatch::NotJson),
+        ("{\"epoch\":1.5,\"events\":[]}", BadBatch::NotJson),
+        ("{\"epoch\":\"1\",\"events\":[]}", BadBatch::NotJson),
         ("{\"events\":[7]}", BadBatch::BadEvent(0)),
         (
             "{\"events\":[{\"type\":\"feature-moved\",\"eventId\":1}]}",
@@ -200,6 +203,62 @@ fn a_moved_feature_is_shown(rt: HostRuntime) {
     }
 }
 
+/// The place after a batch, whatever it does with it.
+fn taken(alloc: Global, place: Place, text: &str) -> Option<(Place, Verdict)> {
+    let batch = batch(alloc, text)?;
+    let does = verdict(&place, &batch);
+    let place = match does {
+        Verdict::Apply => applied(alloc, &place, &batch)?,
+        Verdict::Gap => Place {
+            version: place.version,
+            held: true,
+        },
+        Verdict::Repeat | Verdict::Old | Verdict::Held => place,
+    };
+    Some((place, does))
+}
+
+/// The epoch and the number of a place's version.
+fn revision(place: &Place) -> Option<(u64, u64)> {
+    let Some(version) = &place.version else {
+        return None;
+    };
+    Some((version.get().epoch, version.get().number))
+}
+
+#[test]
+fn a_newer_epoch_comes_by_a_hydration(rt: HostRuntime) {
+    let alloc = rt.alloc();
+    let next_10 =
+        "{\"epoch\":1,\"after\":9,\"events\":[{\"type\":\"segment-removed\",\"eventId\":10,\"segmentId\":1}]}";
+    let all_at_2 = "{\"epoch\":1,\"events\":[{\"type\":\"hydration\",\"eventId\":2}]}";
+    let old_all_at_12 = "{\"events\":[{\"type\":\"hydration\",\"eventId\":12}]}";
+    let old_3 =
+        "{\"after\":2,\"events\":[{\"type\":\"segment-removed\",\"eventId\":3,\"segmentId\":1}]}";
+    let next_9 =
+        "{\"epoch\":1,\"after\":2,\"events\":[{\"type\":\"segment-removed\",\"eventId\":9,\"segmentId\":1}]}";
+    let table = [
+        (next_10, Verdict::Gap, true, (0, 9)),
+        (next_10, Verdict::Held, true, (0, 9)),
+        (all_at_2, Verdict::Apply, false, (1, 2)),
+        (old_all_at_12, Verdict::Old, false, (1, 2)),
+        (old_3, Verdict::Old, false, (1, 2)),
+        (next_9, Verdict::Apply, false, (1, 9)),
+    ];
+    let mut place = place(alloc, Some(9), false).expect(&rt, "there is memory");
+    for (text, expected, held, stands) in table {
+        let (after, does) = taken(alloc, place, text).expect(&rt, "it is a batch");
+        assert!(rt; does == expected);
+        assert!(rt; after.held == held);
+        assert!(rt; revision(&after) == Some(stands));
+        place = after;
+    }
+    let news =
+        "{\"after\":2,\"epoch\":1,\"events\":[{\"eventId\":9,\"segmentId\":1,\"type\":\"segment-removed\"}]}";
+    let given = answered(alloc, &place, Some(2), "A").expect(&rt, "there is memory");
+    assert!(rt; given.as_str() == news);
+}
+
 /// Events on nothing, the first of that number and each of the others one above the one before it.
 fn run(alloc: Global, first: u64, count: u64, events: &mut List<Event>) -> Option<()> {
     for more in 0..count {
@@ -216,6 +275,7 @@ fn window(alloc: Global, second: u64) -> Option<(usize, u64)> {
     run(alloc, 1, 1, &mut events)?;
     run(alloc, second, 1000, &mut events)?;
     let batch = Batch {
+        epoch: 0,
         after: Some(0),
         events,
     };
@@ -236,6 +296,7 @@ fn the_window_keeps_whole_numbers(rt: HostRuntime) {
         segments: List::new(alloc),
     };
     let feed = Feed {
+        epoch: 0,
         state,
         number: Some(4),
     };

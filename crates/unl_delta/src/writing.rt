@@ -16,7 +16,7 @@ use crate::batch::Batch;
 use crate::event::Event;
 use serde_json::{Map, Value};
 use std::alloc::Global;
-use unl_documents::written::{Written, put, put_some, put_value};
+use unl_documents::written::{Written, put, put_some, put_unless_zero, put_value};
 use unl_documents::{Feature, Field, List, Memory, Segment, Shared, State, Text};
 
 /// An object with an event's type and number, and nothing else so far.
@@ -129,17 +129,19 @@ impl Written for Event {
     }
 }
 
-#[tactic(auto, unfolding(crate::specs::Writing::batch_data))]
+#[tactic(auto, unfolding(crate::specs::Writing::batch_data, crate::specs::Writing::batch_with))]
 fn batch_value(alloc: Global, batch: &Batch) -> Result<Value, Memory>
     ensures { IfOk result (λ v. view v ≡ batch_data batch.now) }
 {
     let mut members = Map::new(alloc);
     put(&mut members, alloc, Field::Events, &batch.events)?;
     put_some(&mut members, alloc, Field::After, &batch.after)?;
+    put_unless_zero(&mut members, alloc, Field::Epoch, batch.epoch)?;
     Ok(Value::Object(members))
 }
 
-/// The value that is read as the batch: its events, and `after` where the batch has one.
+/// The value that is read as the batch: its events, `epoch` where that isn't 0, and `after` where
+/// the batch has one.
 ///
 /// A hydration past the limits that a document has on features and segments is written too, and
 /// is not read again.
@@ -147,7 +149,7 @@ pub fn write_batch(alloc: Global, batch: &Batch) -> Result<Value, Memory>
     ensures written { IfOk result (λ v. view v ≡ batch_data batch.now) }
     ensures reads_back { IsValidBatch batch.now → AllByRecursion IsReadable batch.now.events
         → IfOk result (λ v. (held : Option ℕ) → batch_of held (view v)
-        ≡ Ok (record { after = option_or batch.now.after held; events = batch.now.events })) }
+        ≡ Ok (record { epoch = batch.now.epoch; after = option_or batch.now.after held; events = batch.now.events })) }
     ensures no_float { IfOk result (λ v. has_float (view v) ≡ false) }
 {
     batch_value(alloc, batch)

@@ -1,34 +1,22 @@
 -- What is read of a value is what it stands for.
 use Rattle.std.proofs.Common.{◌≡◌, ℕ, List, [], ◌∷◌, length, Bool, true, false, Option, Some, None, Ok, Err, eqb, refl, sym, ap, subst, ◌∙◌}
 use Rattle.std.specs.Prelude.{MatchOption, codes, nat_lt, not, option_to_list, option_map, ◌++◌, if◌then◌else◌}
-use Rattle.serde_json.specs.Data.{Data, Num, unsigned, negative, float, null, boolean, number, string, array, object, Items, no_items, item, Members, no_members, member}
+use Rattle.serde_json.specs.Data.{Data, unsigned, negative, float, null, boolean, number, string, array, object, Items, no_items, item, Members, no_members, member}
 use Rattle.serde_json.specs.Events.{items_len, members_len}
-use Rattle.serde_json.specs.Find.{is_float}
 use Rattle.serde_json.specs.Written.{compact_text}
 use Rattle.unl_documents.specs.declared.field.Field.{Field}
 use Rattle.unl_documents.specs.declared.field.Field.TheVariants as field
 use Rattle.unl_documents.specs.declared.fault.BadDocument.{BadDocument}
-use Rattle.unl_documents.specs.declared.fault.BadDocument.TheVariants.{Missing, TooLarge, NotWhole, WrongKind, NotJson}
-use Rattle.unl_documents.specs.declared.operator.Operator.{Operator}
+use Rattle.unl_documents.specs.declared.fault.BadDocument.TheVariants.{Missing, TooLarge, NotWhole, WrongKind}
 use Rattle.unl_documents.specs.declared.parameters.Pair.{Pair}
-use Rattle.unl_documents.specs.declared.variant.Override.{Override}
-use Rattle.unl_documents.specs.declared.variant.Payload.{Payload}
-use Rattle.unl_documents.specs.declared.variant.Variant.{Variant}
-use Rattle.unl_documents.specs.declared.constraint.Constraint.{Constraint}
-use Rattle.unl_documents.specs.declared.segment.Segment.{Segment}
-use Rattle.unl_documents.specs.declared.strategy.Strategy.{Strategy}
-use Rattle.unl_documents.specs.declared.feature.Feature.{Feature}
-use Rattle.unl_documents.specs.declared.dependency.Dependency.{Dependency}
-use Rattle.unl_documents.specs.declared.state.State.{State}
-use Rattle.unl_documents.specs.declared.feed.Feed.{Feed}
 use Rattle.unl_documents.specs.Documents.{override_of, payload_of, variant_of, dependency_of, constraint_of, segment_of, strategy_of, feature_of}
-use Rattle.unl_documents.specs.Kinds.{all, within, name_of, name, any_text, text, truth, any_whole, whole, plain, text_or_whole, at, present, if_present, required, defaulted, optional, some, each, list, objects, names, texts, numbers, object_of, is_object}
+use Rattle.unl_documents.specs.Kinds.{all, within, name_of, name, any_text, text, truth, any_whole, whole, text_or_whole, at, present, if_present, required, defaulted, optional, some, each, list, objects, names, texts, numbers, object_of, is_object}
 use Rattle.unl_documents.specs.Operators.{operator}
 use Rattle.unl_documents.specs.Parameters.{pair_of, pairs_of, parameters}
 use Rattle.unl_documents.specs.Reading.{Reading, ◌>>=◌}
-use Rattle.unl_documents.specs.Reads.{IsText, IsTruth, IsWhole, IsTextOrWhole, IsOperator, AreEach, IsList, IsObject, ArePairs, IsParameters, Has, HasOr, MayHave, HasList, HasSorted, ReadsOverride, ReadsDependency, ReadsPayload, ReadsVariant, ReadsConstraint, ReadsSegment, ReadsStrategy, ReadsFeature, ReadsState, ReadsFeed}
+use Rattle.unl_documents.specs.Reads.{IsText, IsTruth, IsWhole, IsTextOrWhole, IsOperator, AreEach, IsList, IsObject, ArePairs, IsParameters, Has, HasOr, MayHave, HasList, ReadsOverride, ReadsDependency, ReadsPayload, ReadsVariant, ReadsConstraint, ReadsSegment, ReadsStrategy, ReadsFeature, ReadsState, ReadsMeta, ReadsFeed}
 use Rattle.unl_documents.specs.Sorting.{in_order}
-use Rattle.unl_documents.specs.States.{name_key, id_key, as_is, id_text, state_of, feed_of, revision_of}
+use Rattle.unl_documents.specs.States.{name_key, id_key, as_is, id_text, state_of, no_meta, meta_of, feed_of}
 use Rattle.unl_documents.proofs.InOrder.{sorting_from_order}
 
 -- ---- steps
@@ -160,7 +148,7 @@ pub object_at : {T : Type 0} (test : Bool) (r : Reading T) (e : BadDocument) (x 
 object_at true r e x h = (refl, h)
 object_at false r e x h = absurd cc
 
-object_is : {T : Type 0} (reads : Data → Reading T) (Reads : Data → T → Type 0) (f : Field) → Sound reads Reads → Sound (object_of reads f) (IsObject Reads)
+pub object_is : {T : Type 0} (reads : Data → Reading T) (Reads : Data → T → Type 0) (f : Field) → Sound reads Reads → Sound (object_of reads f) (IsObject Reads)
 unfolding object_of
 object_is reads Reads f one value x h = let a = object_at (is_object value) (reads value) _ x h in (a.0, one value x a.1)
 
@@ -367,16 +355,22 @@ state_is value x h =
       segments = (c.0, objects_is 1000 segment_of ReadsSegment field.Segments segment_is value c.0 c.1, sorting_from_order id_key id_text field.Id c.0 d.0 d.1);
     })
 
-revision_is : Sound revision_of (MayHave IsWhole field.RevisionId)
-unfolding revision_of
-revision_is value x h = optional_is any_whole IsWhole field.RevisionId (any_whole_is field.RevisionId) value x h
+pub meta_is : Sound meta_of ReadsMeta
+unfolding meta_of
+meta_is value x h =
+    let a = bind (defaulted 0 any_whole field.Epoch value) _ x h in
+    let b = bind (optional any_whole field.RevisionId value) _ x a.2 in
+    subst (ReadsMeta value) (ok_is _ x b.2) (record {
+      epoch = defaulted_is 0 any_whole IsWhole field.Epoch (any_whole_is field.Epoch) value a.0 a.1;
+      number = optional_is any_whole IsWhole field.RevisionId (any_whole_is field.RevisionId) value b.0 b.1;
+    })
 
 pub feed_is : Sound feed_of ReadsFeed
 unfolding feed_of
 feed_is value x h =
     let a = bind (state_of value) _ x h in
-    let b = bind (defaulted None (object_of revision_of) field.Meta value) _ x a.2 in
+    let b = bind (defaulted no_meta (object_of meta_of) field.Meta value) _ x a.2 in
     subst (ReadsFeed value) (ok_is _ x b.2) (record {
       state = state_is value a.0 a.1;
-      number = defaulted_is None (object_of revision_of) (IsObject (MayHave IsWhole field.RevisionId)) field.Meta (object_is revision_of (MayHave IsWhole field.RevisionId) field.Meta revision_is) value b.0 b.1;
+      meta = defaulted_is no_meta (object_of meta_of) (IsObject ReadsMeta) field.Meta (object_is meta_of ReadsMeta field.Meta meta_is) value b.0 b.1;
     })

@@ -1,5 +1,5 @@
 -- What is written stands for the document.
-use Rattle.std.proofs.Common.{◌≡◌, List, [], ◌∷◌, map, Option, Some, None, refl, arith}
+use Rattle.std.proofs.Common.{◌≡◌, List, [], ◌∷◌, map, Some, refl, arith}
 use Rattle.std.specs.Prelude.{All}
 use Rattle.std.proofs.lemmas.List.Elements.{All-tail}
 use Rattle.std.proofs.lemmas.List.Sorted.{IsPermutation-refl}
@@ -12,13 +12,14 @@ use Rattle.unl_documents.specs.declared.field.Field.TheVariants as field
 use Rattle.unl_documents.specs.declared.segment.Segment.{Segment}
 use Rattle.unl_documents.specs.declared.state.State.{State}
 use Rattle.unl_documents.specs.Kinds.{at}
-use Rattle.unl_documents.specs.Reads.{IsWhole, AreEach, IsList, IsObject, MayHave, HasOr, ReadsFeature, ReadsSegment, ReadsFeed}
-use Rattle.unl_documents.specs.States.{IsValidState}
+use Rattle.unl_documents.specs.Reads.{AreEach, IsList, IsObject, HasOr, ReadsFeature, ReadsSegment, ReadsMeta, ReadsFeed}
+use Rattle.unl_documents.specs.States.{no_meta, meta_of, IsValidState}
 use Rattle.unl_documents.specs.Valid.{IsValidFeature, IsValidSegment}
-use Rattle.unl_documents.specs.Writing.{feature_data, segment_data, meta_data, feed_data, count}
+use Rattle.unl_documents.specs.Writing.{feature_data, segment_data, meta_with, meta_data, feed_data}
 use Rattle.unl_documents.specs.Writing.{list as list_data}
-use Rattle.unl_documents.proofs.RoundTrip.{ComesBack, features, segments}
-use Rattle.unl_documents.proofs.Sound.{Sound, feature_is, segment_is}
+use Rattle.unl_documents.proofs.RoundTrip.{features, segments}
+use Rattle.unl_documents.proofs.FeedTrip.{meta_back}
+use Rattle.unl_documents.proofs.Sound.{object_is, meta_is, feature_is, segment_is}
 
 pub feature_stands : (f : Feature) → IsValidFeature f → ReadsFeature (feature_data f) f
 feature_stands f valid = feature_is (feature_data f) f (features.back f valid)
@@ -33,13 +34,12 @@ each_stands reads written P one (x ∷ xs) valid = (one x (valid 0 x (omega arit
 has_or_at : {T : Type 0} (default : T) (Is : Data → T → Type 0) (f : Field) (value found : Data) (x : T) → at f value ≡ Some found → Is found x → HasOr default Is f value x
 has_or_at default Is f value found x here is = rw here is
 
-meta_stands : (head : FeedHead) → IsObject (MayHave IsWhole field.RevisionId) (meta_data head) (Some head.number)
-unfolding meta_data at
-meta_stands head = (refl, (head.number, refl, refl))
+meta_stands : (head : FeedHead) → IsObject ReadsMeta (meta_data head) (record { epoch = head.epoch; number = Some head.number })
+meta_stands head = object_is meta_of ReadsMeta field.Meta meta_is (meta_data head) (record { epoch = head.epoch; number = Some head.number }) (meta_back head)
 
 -- however many features and segments the state has
-pub feed_stands : (head : FeedHead) (s : State) → IsValidState s → ReadsFeed (feed_data head s) (record { state = s; number = Some head.number })
-unfolding feed_data meta_data at
+pub feed_stands : (head : FeedHead) (s : State) → IsValidState s → ReadsFeed (feed_data head s) (record { epoch = head.epoch; state = s; number = Some head.number })
+unfolding feed_data meta_data meta_with at
 feed_stands head s valid =
     let value = feed_data head s in
     let fs = each_stands (IsObject ReadsFeature) feature_data IsValidFeature (λ f v. (features.is_one f, feature_stands f v)) s.features valid.features in
@@ -49,5 +49,5 @@ feed_stands head s valid =
         features = (s.features, has_or_at [] (IsList (IsObject ReadsFeature)) field.Features value (list_data feature_data s.features) s.features refl (items_of (map feature_data s.features), refl, fs), record { same = IsPermutation-refl s.features; rising = valid.names });
         segments = (s.segments, has_or_at [] (IsList (IsObject ReadsSegment)) field.Segments value (list_data segment_data s.segments) s.segments refl (items_of (map segment_data s.segments), refl, ss), record { same = IsPermutation-refl s.segments; rising = valid.ids });
       };
-      number = has_or_at None (IsObject (MayHave IsWhole field.RevisionId)) field.Meta value (meta_data head) (Some head.number) refl (meta_stands head);
+      meta = has_or_at no_meta (IsObject ReadsMeta) field.Meta value (meta_data head) (record { epoch = head.epoch; number = Some head.number }) refl (meta_stands head);
     }

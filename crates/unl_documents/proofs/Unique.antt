@@ -1,25 +1,14 @@
 -- A value stands for one document.
-use Rattle.std.proofs.Common.{◌≡◌, ℕ, List, [], ◌∷◌, Bool, true, false, Option, Some, None, refl, sym, ap, subst, ◌∙◌}
+use Rattle.std.proofs.Common.{◌≡◌, ℕ, List, [], ◌∷◌, true, false, Option, Some, None, refl, sym, ap, subst, ◌∙◌}
 use Rattle.std.specs.Prelude.{MatchOption}
 use Rattle.serde_json.specs.Data.{Data, unsigned, null, boolean, number, string, array, object, Items, no_items, item, Members, no_members, member}
 use Rattle.unl_documents.specs.declared.field.Field.{Field}
-use Rattle.unl_documents.specs.declared.field.Field.TheVariants as field
-use Rattle.unl_documents.specs.declared.operator.Operator.{Operator}
 use Rattle.unl_documents.specs.declared.parameters.Pair.{Pair}
-use Rattle.unl_documents.specs.declared.variant.Override.{Override}
-use Rattle.unl_documents.specs.declared.variant.Payload.{Payload}
-use Rattle.unl_documents.specs.declared.variant.Variant.{Variant}
-use Rattle.unl_documents.specs.declared.constraint.Constraint.{Constraint}
-use Rattle.unl_documents.specs.declared.segment.Segment.{Segment}
-use Rattle.unl_documents.specs.declared.strategy.Strategy.{Strategy}
-use Rattle.unl_documents.specs.declared.feature.Feature.{Feature}
-use Rattle.unl_documents.specs.declared.dependency.Dependency.{Dependency}
-use Rattle.unl_documents.specs.declared.state.State.{State}
-use Rattle.unl_documents.specs.declared.feed.Feed.{Feed}
 use Rattle.unl_documents.specs.Kinds.{at, present}
 use Rattle.unl_documents.specs.Operators.{operator_of}
 use Rattle.unl_documents.specs.Sorting.{IsSorting}
-use Rattle.unl_documents.specs.Reads.{IsText, IsTruth, IsWhole, IsTextOrWhole, IsOperator, AreEach, IsList, IsObject, ArePairs, IsParameters, Has, HasOr, MayHave, HasList, HasSorted, ReadsOverride, ReadsDependency, ReadsPayload, ReadsVariant, ReadsConstraint, ReadsSegment, ReadsStrategy, ReadsFeature, ReadsState, ReadsFeed}
+use Rattle.unl_documents.specs.Reads.{IsText, IsTruth, IsWhole, IsTextOrWhole, IsOperator, AreEach, IsList, IsObject, ArePairs, IsParameters, Has, HasOr, MayHave, HasList, HasSorted, ReadsOverride, ReadsDependency, ReadsPayload, ReadsVariant, ReadsConstraint, ReadsSegment, ReadsStrategy, ReadsFeature, ReadsState, ReadsMeta, ReadsFeed}
+use Rattle.unl_documents.specs.States.{no_meta}
 use Rattle.unl_documents.proofs.OneOrder.{one_sorting}
 
 -- a value stands for at most one thing
@@ -188,8 +177,14 @@ state_one value a b x y =
     let segments = has_sorted_one _ ReadsSegment segment_one _ value _ _ x.segments y.segments in
     λ i. record { features = features i; segments = segments i }
 
+meta_one : One ReadsMeta
+meta_one value a b x y =
+    let epoch = has_or_one 0 IsWhole whole_one _ value _ _ x.epoch y.epoch in
+    let number = may_have_one IsWhole whole_one _ value _ _ x.number y.number in
+    λ i. record { epoch = epoch i; number = number i }
+
 pub feed_one : One ReadsFeed
 feed_one value a b x y =
     let state = state_one value _ _ x.state y.state in
-    let number = has_or_one None (IsObject (MayHave IsWhole field.RevisionId)) (object_one (MayHave IsWhole field.RevisionId) (may_have_one IsWhole whole_one field.RevisionId)) _ value _ _ x.number y.number in
-    λ i. record { state = state i; number = number i }
+    let meta = has_or_one no_meta (IsObject ReadsMeta) (object_one ReadsMeta meta_one) _ value _ _ x.meta y.meta in
+    λ i. record { epoch = (meta i).epoch; state = state i; number = (meta i).number }

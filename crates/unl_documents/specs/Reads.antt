@@ -18,12 +18,13 @@ use Rattle.unl_documents.specs.declared.feature.Feature.{Feature}
 use Rattle.unl_documents.specs.declared.dependency.Dependency.{Dependency}
 use Rattle.unl_documents.specs.declared.state.State.{State}
 use Rattle.unl_documents.specs.declared.feed.Feed.{Feed}
+use Rattle.unl_documents.specs.declared.feed.Meta.{Meta}
 use Rattle.unl_documents.specs.Documents.{feature_of, segment_of}
 use Rattle.unl_documents.specs.Kinds.{at, present, is_object, document}
 use Rattle.unl_documents.specs.Operators.{operator_of}
 use Rattle.unl_documents.specs.Reading.{Reading}
 use Rattle.unl_documents.specs.Sorting.{IsSorting}
-use Rattle.unl_documents.specs.States.{name_key, id_key, state_of, feed_of}
+use Rattle.unl_documents.specs.States.{name_key, id_key, state_of, no_meta, feed_of}
 
 -- ---- what a value stands for
 
@@ -164,10 +165,15 @@ pub record ReadsState (value : Data) (s : State) : Type 0 where
   pub features : HasSorted name_key ReadsFeature key.Features value s.features
   pub segments : HasSorted id_key ReadsSegment key.Segments value s.segments
 
+-- the value reads as an epoch, which is 0 where none is told, and a number where there is one
+pub record ReadsMeta (value : Data) (m : Meta) : Type 0 where
+  pub epoch : HasOr 0 IsWhole key.Epoch value m.epoch
+  pub number : MayHave IsWhole key.RevisionId value m.number
+
 -- the value reads as the feed
 pub record ReadsFeed (value : Data) (f : Feed) : Type 0 where
   pub state : ReadsState value f.state
-  pub number : HasOr None (IsObject (MayHave IsWhole key.RevisionId)) key.Meta value f.number
+  pub meta : HasOr no_meta (IsObject ReadsMeta) key.Meta value (record { epoch = f.epoch; number = f.number })
 
 -- ---- faults
 

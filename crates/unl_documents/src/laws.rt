@@ -46,7 +46,7 @@ pub fn feeds_are_read()
 pub fn what_is_written_is_read()
     ensures feature { (f : Feature) → IsValidFeature f → document feature_of (feature_data f) ≡ Ok f }
     ensures segment { (s : Segment) → IsValidSegment s → document segment_of (segment_data s) ≡ Ok s }
-    ensures feed { (head : FeedHead) (s : State) → IsValidState s → length s.features ≤ 10000 → length s.segments ≤ 1000 → document feed_of (feed_data head s) ≡ Ok (record { state = s; number = Some head.number }) }
+    ensures feed { (head : FeedHead) (s : State) → IsValidState s → length s.features ≤ 10000 → length s.segments ≤ 1000 → document feed_of (feed_data head s) ≡ Ok (record { epoch = head.epoch; state = s; number = Some head.number }) }
 {}
 
 /// The order of a list's items is the one sorting by their keys; where a key stands twice there is none, and the fault names the least such key.
