@@ -118,17 +118,7 @@ impl Door for MemoryDoor {
 
     type L = MemoryLink;
 
-    ghost listening = { λ door. door.listening };
-
-    ghost closed = { λ door. nat_eq (length door.stock.links) 0 };
-
-    ghost given = { λ door. length door.stock.returned + door.stock.out };
-
-    ghost back = { λ door. length door.stock.returned };
-
-    ghost links = { λ door. Some door.stock.links };
-
-    ghost returned = { λ door. Some door.stock.returned };
+    ghost state = { λ door. record { listening = door.listening; closed = nat_eq (length door.stock.links) 0; given = length door.stock.returned + door.stock.out; back = length door.stock.returned; links = Some door.stock.links; returned = Some door.stock.returned } };
 
     ghost faults = { λ door. door.faults };
 

@@ -93,17 +93,14 @@ impl MemoryPeer {
 }
 
 impl Source for MemoryPeer {
-    ghost use Rattle.std.specs.Prelude.{Some, is_some, unwrap_or};
+    ghost use Rattle.std.specs.Prelude.{Some, None, unwrap_or};
+    ghost use Rattle.unl_base.specs.Memory.{peer_of};
 
     ghost left = { λ peer. Some (unwrap_or peer.line []) };
 
     ghost faults = { λ peer. peer.faults };
 
-    ghost sent_beside = { λ peer. Some peer.sent };
-
-    ghost connected_beside = { λ peer. is_some peer.line };
-
-    ghost replies_beside = { λ peer. Some peer.replies };
+    ghost beside = { λ peer. record (peer_of peer) { left = None } };
 
     fn read(&mut self, room: &mut [u8]) -> Result<usize, Failed> {
         if self.calls.fails() {
@@ -117,17 +114,14 @@ impl Source for MemoryPeer {
 }
 
 impl Sink for MemoryPeer {
-    ghost use Rattle.std.specs.Prelude.{Some, is_some, unwrap_or};
+    ghost use Rattle.std.specs.Prelude.{Some, None, unwrap_or};
+    ghost use Rattle.unl_base.specs.Memory.{peer_of};
 
     ghost sent = { λ peer. Some peer.sent };
 
     ghost faults = { λ peer. peer.faults };
 
-    ghost left_beside = { λ peer. Some (unwrap_or peer.line []) };
-
-    ghost connected_beside = { λ peer. is_some peer.line };
-
-    ghost replies_beside = { λ peer. Some peer.replies };
+    ghost beside = { λ peer. record (peer_of peer) { sent = None } };
 
     fn write(&mut self, piece: &[u8]) -> Result<usize, Failed> {
         if self.calls.fails() {
@@ -154,12 +148,10 @@ impl Link for MemoryPeer {
 }
 
 impl Peer for MemoryPeer {
-    ghost use Rattle.std.specs.Prelude.{Some, is_some};
     ghost use Rattle.std.proofs.Common.{refl};
+    ghost use Rattle.unl_base.specs.Memory.{idle_line, peer_of};
 
-    ghost connected = { λ peer. is_some peer.line };
-
-    ghost replies = { λ peer. Some peer.replies };
+    ghost state = { peer_of };
 
     fn connect(&mut self) -> Result<(), Failed> {
         self.line = None;
@@ -171,15 +163,9 @@ impl Peer for MemoryPeer {
         Ok(())
     }
 
-    ghost use Rattle.unl_base.specs.Memory.{idle_line};
-
     ghost idle = { λ peer. idle_line peer.line };
 
-    ghost reads_connected = { λ peer. refl };
+    ghost reads = { λ peer. refl };
 
-    ghost reads_replies = { λ peer. refl };
-
-    ghost writes_connected = { λ peer. refl };
-
-    ghost writes_replies = { λ peer. refl };
+    ghost writes = { λ peer. refl };
 }
