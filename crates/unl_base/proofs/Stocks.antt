@@ -1,9 +1,8 @@
 -- The links of a door in memory, as they go out and come back.
-use Rattle.std.proofs.Common.{◌≡◌, ◌≤◌, ◌<◌, ◌+◌, ◌-◌, ℕ, List, [], ◌∷◌, take, drop, map, length, slice_set, slice_index_or, Option, Some, None, All, arith, ap, refl, subst}
+use Rattle.std.proofs.Common.{◌≡◌, ◌≤◌, ◌<◌, ◌+◌, ◌-◌, ℕ, List, [], ◌∷◌, take, drop, map, length, slice_set, slice_index_or, Option, Some, None, true, All, IfSome, arith, ap, is_some, refl, subst}
 use Rattle.std.proofs.lemmas.List.{drop-set-lt, take-set-le, take_more_set, drop_more}
 use Rattle.std.proofs.lemmas.List.Elements.{All-tail, All-push, All-head}
-use Rattle.unl_base.specs.Doors.{next_of}
-use Rattle.unl_base.specs.Memory.{IsNew, IsStocked, IsThere, Stock, Wire, brought, to_come}
+use Rattle.unl_base.specs.Memory.{IsNew, IsNext, IsStocked, IsThere, Stock, Wire, brought, to_come}
 
 -- what is known of the links of a door
 abbrev seen : List (Option Wire) → ℕ → ℕ → Stock
@@ -29,18 +28,28 @@ came links given back wire out held stocked = record {
       (All-push IsThere (take back links) (Some wire) stocked.there refl);
 }
 
--- a new link is known by what it gives
-pub new_is : (link : Option Wire) → IsNew link → link ≡ Some (record { left = to_come link; sent = []; faults = 0 })
-new_is None new = absurd new
-new_is (Some wire) new = λ i. Some (record { left = wire.left; sent = new.0 i; faults = new.1 i })
+-- a new link is there
+pub new_there : (link : Option Wire) → IsNew link → is_some link ≡ true
+new_there None new = absurd new
+new_there (Some wire) new = refl
 
--- the next link is new, and gives what is next to come
+-- it gives what is to come, and has neither sent nor failed
+pub new_is : (link : Option Wire) (more : List (List ℕ)) → IsNew link → IfSome link (λ wire. IsNext (to_come link ∷ more) wire)
+new_is None more new = absurd new
+new_is (Some wire) more new = record { gives = refl; silent = new.0; faultless = new.1 }
+
+-- the next link to come is new
 pub next_new : (links : List (Option Wire)) (given back : ℕ) (default : Option Wire) → given < length links → IsStocked links given back
-    → slice_index_or links given default ≡ Some (record { left = next_of (map to_come (drop given links)); sent = []; faults = 0 })
+    → IsNew (slice_index_or links given default)
 next_new links given back default more stocked =
+    All-head IsNew (slice_index_or links given default) (drop (given + 1) links) (subst (All IsNew) (drop_more links given default more) stocked.new)
+
+-- and it is the first of those to come
+pub next_is : (links : List (Option Wire)) (given back : ℕ) (default : Option Wire) → given < length links → IsStocked links given back
+    → IfSome (slice_index_or links given default) (λ wire. IsNext (map to_come (drop given links)) wire)
+next_is links given back default more stocked =
     rw (drop_more links given default more)
-    (new_is (slice_index_or links given default)
-    (All-head IsNew (slice_index_or links given default) (drop (given + 1) links) (subst (All IsNew) (drop_more links given default more) stocked.new)))
+    (new_is (slice_index_or links given default) (map to_come (drop (given + 1) links)) (next_new links given back default more stocked))
 
 -- what is known of the links once the next one went out
 pub gone_view : (links : List (Option Wire)) (given back : ℕ) (left : Option Wire) → given < length links → IsStocked links given back

@@ -1,7 +1,7 @@
 //! A door whose links are kept in memory.
-ghost use Rattle.std.specs.Prelude.{◌≡◌, ◌<◌, ◌+◌, ◌-◌, ◌∷◌, ◌++◌, [], All, drop, false, length, map, option_map, slice_get, IfSome, IsNone, ◌↔◌};
-ghost use Rattle.unl_base.specs.Doors.{count_of, next_of};
-ghost use Rattle.unl_base.specs.Memory.{IsNew, to_come};
+ghost use Rattle.std.specs.Prelude.{◌≡◌, ◌<◌, ◌+◌, ◌-◌, ◌∷◌, ◌++◌, [], Some, All, drop, false, true, length, map, option_map, slice_get, IfOk, IfSome, IsNone, OnErr, OnOk, ◌↔◌};
+ghost use Rattle.unl_base.specs.Doors.{Accepts, count_of};
+ghost use Rattle.unl_base.specs.Memory.{Answers, IsNew, IsNext, brought, calls_of, door_of, to_come};
 
 use crate::Failed;
 use crate::door::Door;
@@ -43,7 +43,7 @@ impl Stock {
     /// Hands out the next link.
     fn take(&mut self) -> Option<MemoryLink>
         ensures ends { IsNone result ↔ (self.old.links ≡ []) }
-        ensures comes { IfSome result (λ link. link ≡ record { left = next_of self.old.links; sent = []; faults = 0 }) }
+        ensures comes { IfSome result (λ link. IsNext self.old.links link) }
         ensures rest { self.new ≡ record { links = drop 1 self.old.links; out = self.old.out + count_of result; returned = self.old.returned } }
     {
         if self.given == self.links.len() {
@@ -57,7 +57,7 @@ impl Stock {
     /// Takes back a link.
     fn put(&mut self, link: MemoryLink)
         requires { 0 < self.old.out }
-        ensures { self.new ≡ record { links = self.old.links; out = self.old.out - 1; returned = self.old.returned ++ (link.sent, link.faults) ∷ [] } }
+        ensures { self.new ≡ record { links = self.old.links; out = self.old.out - 1; returned = self.old.returned ++ brought (Some link) ∷ [] } }
     {
         self.links[self.back] = Some(link);
         self.back += 1;
@@ -87,7 +87,7 @@ impl Model for MemoryDoor {
 
     ghost Value = { Gate };
 
-    ghost view = { λ door. record { listening = door.listening; stock = door.stock; faults = door.calls.faults } };
+    ghost view = { λ door. record { listening = door.listening; stock = door.stock; calls = door.calls } };
 }
 
 impl MemoryDoor {
@@ -95,7 +95,7 @@ impl MemoryDoor {
     /// The calls of `listen` and `accept` whose numbers, from 0, are in `failing` fail.
     pub fn new(links: Vec<Option<MemoryLink>>, failing: Vec<u64>) -> Self
         requires { All IsNew links.items }
-        ensures { result ≡ record { listening = false; stock = record { links = map to_come links.items; out = 0; returned = [] }; faults = 0 } }
+        ensures { result ≡ record { listening = false; stock = record { links = map to_come links.items; out = 0; returned = [] }; calls = calls_of failing.items } }
     {
         MemoryDoor {
             listening: false,
@@ -113,26 +113,22 @@ impl MemoryDoor {
 }
 
 impl Door for MemoryDoor {
-    ghost use Rattle.std.specs.Prelude.{◌+◌, Some, length, nat_eq};
     ghost use Rattle.std.proofs.Common.{rules};
+    ghost use Rattle.unl_base.specs.Memory.{door_of};
 
     type L = MemoryLink;
 
-    ghost listening = { λ door. door.listening };
+    ghost state = { door_of };
 
-    ghost closed = { λ door. nat_eq (length door.stock.links) 0 };
+    ghost faults = { λ door. door.calls.faults };
 
-    ghost given = { λ door. length door.stock.returned + door.stock.out };
-
-    ghost back = { λ door. length door.stock.returned };
-
-    ghost links = { λ door. Some door.stock.links };
-
-    ghost returned = { λ door. Some door.stock.returned };
-
-    ghost faults = { λ door. door.faults };
-
-    fn listen(&mut self, _port: u16) -> Result<(), Failed> {
+    /// Fails exactly where it is told to.
+    fn listen(&mut self, _port: u16) -> Result<(), Failed>
+        ensures listens { OnOk result (self.new.listening ≡ true) }
+        ensures kept { OnErr result (self.new.listening ≡ self.old.listening) }
+        ensures stock { self.new.stock ≡ self.old.stock }
+        ensures answers { Answers result self.old.calls self.new.calls }
+    {
         if self.calls.fails() {
             return Err(Failed);
         }
@@ -140,7 +136,15 @@ impl Door for MemoryDoor {
         Ok(())
     }
 
-    fn accept(&mut self) -> Result<Option<MemoryLink>, Failed> {
+    /// Fails exactly where it is told to.
+    fn accept(&mut self) -> Result<Option<MemoryLink>, Failed>
+        requires { self.old.listening ≡ true }
+        ensures accepts { IfOk result (λ link. Accepts link (door_of self.old) (door_of self.new)) }
+        ensures comes { IfOk result (λ link. IfSome link (λ wire. IsNext self.old.stock.links wire)) }
+        ensures kept { OnErr result (self.new.stock ≡ self.old.stock) }
+        ensures same { self.new.listening ≡ self.old.listening }
+        ensures answers { Answers result self.old.calls self.new.calls }
+    {
         if self.calls.fails() {
             return Err(Failed);
         }

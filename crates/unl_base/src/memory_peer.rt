@@ -1,6 +1,8 @@
 //! A peer whose replies are kept in memory.
-ghost use Rattle.std.specs.Prelude.{◌≡◌, [], None, drop, map, IfOk};
+ghost use Rattle.std.specs.Prelude.{◌≡◌, ◌<◌, ◌≤◌, ◌++◌, [], None, drop, take, length, map, IfOk, OnErr, OnOk};
 ghost use Rattle.unl_base.specs.Doors.{next_of};
+ghost use Rattle.unl_base.specs.Memory.{Answers, ReadsLine, Writes, calls_of, on_line, peer_of};
+ghost use Rattle.unl_base.specs.Peers.{connecting, parting};
 
 use crate::link::{Link, Sink, Source};
 use crate::memory::{Calls, Incoming, Outgoing};
@@ -57,7 +59,7 @@ impl Model for MemoryPeer {
 
     ghost Value = { Call };
 
-    ghost view = { λ peer. record { line = peer.line; replies = peer.replies; sent = peer.going; faults = peer.calls.faults } };
+    ghost view = { λ peer. record { line = peer.line; replies = peer.replies; store = peer.going; calls = peer.calls } };
 }
 
 impl MemoryPeer {
@@ -74,7 +76,12 @@ impl MemoryPeer {
         room: usize,
         failing: Vec<u64>,
     ) -> Result<Self, BaseMemory>
-        ensures { IfOk result (λ peer. peer ≡ record { line = None; replies = map (λ text. text.items) replies.items; sent = []; faults = 0 }) }
+        ensures { IfOk result (λ peer. peer ≡ record {
+          line = None;
+          replies = map (λ text. text.items) replies.items;
+          store = record { sent = []; room = room };
+          calls = calls_of failing.items;
+        }) }
     {
         Ok(MemoryPeer {
             line: None,
@@ -86,26 +93,31 @@ impl MemoryPeer {
 
     /// The bytes that were sent since the last connect.
     pub fn sent(&self) -> &[u8]
-        ensures { result.now ≡ self.now.sent }
+        ensures { result.now ≡ self.now.store.sent }
     {
         self.going.as_slice()
     }
 }
 
 impl Source for MemoryPeer {
-    ghost use Rattle.std.specs.Prelude.{Some, is_some, unwrap_or};
+    ghost use Rattle.std.specs.Prelude.{Some, None};
+    ghost use Rattle.unl_base.specs.Memory.{on_line, peer_of};
 
-    ghost left = { λ peer. Some (unwrap_or peer.line []) };
+    ghost left = { λ peer. Some (on_line peer.line) };
 
-    ghost faults = { λ peer. peer.faults };
+    ghost faults = { λ peer. peer.calls.faults };
 
-    ghost sent_beside = { λ peer. Some peer.sent };
+    ghost beside = { λ peer. record (peer_of peer) { left = None } };
 
-    ghost connected_beside = { λ peer. is_some peer.line };
-
-    ghost replies_beside = { λ peer. Some peer.replies };
-
-    fn read(&mut self, room: &mut [u8]) -> Result<usize, Failed> {
+    /// Gives as many bytes of the reply as there is room for, and fails exactly where it is told to.
+    fn read(&mut self, room: &mut [u8]) -> Result<usize, Failed>
+        requires { 0 < length room.old }
+        ensures fits { IfOk result (λ n. n ≤ length room.new) }
+        ensures taken { IfOk result (λ n. on_line self.old.line ≡ take n room.new ++ on_line self.new.line) }
+        ensures end { IfOk result (λ n. n ≡ 0 → on_line self.old.line ≡ []) }
+        ensures reads { ReadsLine result (length room.old) self.old self.new }
+        ensures answers { Answers result self.old.calls self.new.calls }
+    {
         if self.calls.fails() {
             return Err(Failed);
         }
@@ -117,19 +129,22 @@ impl Source for MemoryPeer {
 }
 
 impl Sink for MemoryPeer {
-    ghost use Rattle.std.specs.Prelude.{Some, is_some, unwrap_or};
+    ghost use Rattle.std.specs.Prelude.{Some, None};
+    ghost use Rattle.unl_base.specs.Memory.{on_line, peer_of};
 
-    ghost sent = { λ peer. Some peer.sent };
+    ghost sent = { λ peer. Some peer.store.sent };
 
-    ghost faults = { λ peer. peer.faults };
+    ghost faults = { λ peer. peer.calls.faults };
 
-    ghost left_beside = { λ peer. Some (unwrap_or peer.line []) };
+    ghost beside = { λ peer. record (peer_of peer) { sent = None } };
 
-    ghost connected_beside = { λ peer. is_some peer.line };
-
-    ghost replies_beside = { λ peer. Some peer.replies };
-
-    fn write(&mut self, piece: &[u8]) -> Result<usize, Failed> {
+    /// Takes all of the piece, and fails exactly past the room and where it is told to.
+    fn write(&mut self, piece: &[u8]) -> Result<usize, Failed>
+        requires { 0 < length piece.now }
+        ensures writes { Writes result piece.now self.old.calls self.new.calls self.old.store self.new.store }
+        ensures line { self.new.line ≡ self.old.line }
+        ensures replies { self.new.replies ≡ self.old.replies }
+    {
         if self.calls.fails() {
             return Err(Failed);
         }
@@ -154,14 +169,18 @@ impl Link for MemoryPeer {
 }
 
 impl Peer for MemoryPeer {
-    ghost use Rattle.std.specs.Prelude.{Some, is_some};
     ghost use Rattle.std.proofs.Common.{refl};
+    ghost use Rattle.unl_base.specs.Memory.{idle_line, peer_of};
 
-    ghost connected = { λ peer. is_some peer.line };
+    ghost state = { peer_of };
 
-    ghost replies = { λ peer. Some peer.replies };
-
-    fn connect(&mut self) -> Result<(), Failed> {
+    /// Fails exactly where it is told to.
+    fn connect(&mut self) -> Result<(), Failed>
+        ensures connects { OnOk result (peer_of self.new ≡ connecting (peer_of self.old)) }
+        ensures parts { OnErr result (peer_of self.new ≡ parting (peer_of self.old)) }
+        ensures room { self.new.store.room ≡ self.old.store.room }
+        ensures answers { Answers result self.old.calls self.new.calls }
+    {
         self.line = None;
         if self.calls.fails() {
             return Err(Failed);
@@ -171,15 +190,9 @@ impl Peer for MemoryPeer {
         Ok(())
     }
 
-    ghost use Rattle.unl_base.specs.Memory.{idle_line};
-
     ghost idle = { λ peer. idle_line peer.line };
 
-    ghost reads_connected = { λ peer. refl };
+    ghost reads = { λ peer. refl };
 
-    ghost reads_replies = { λ peer. refl };
-
-    ghost writes_connected = { λ peer. refl };
-
-    ghost writes_replies = { λ peer. refl };
+    ghost writes = { λ peer. refl };
 }

@@ -1,7 +1,7 @@
 //! A peer, which is connected to anew for each exchange.
-ghost use Rattle.std.specs.Prelude.{◌≡◌, ℕ, Bool, true, false, List, [], Option, drop, option_map, OnErr, OnOk};
-ghost use Rattle.unl_base.specs.Doors.{next_of};
+ghost use Rattle.std.specs.Prelude.{◌≡◌, false, OnErr, OnOk};
 ghost use Rattle.unl_base.specs.Faults.{HasCause};
+ghost use Rattle.unl_base.specs.Peers.{PeerState, connecting, parting};
 ghost use Rattle.unl_base.specs.Streams.{HasEnded};
 
 use crate::Failed;
@@ -9,11 +9,9 @@ use crate::link::Link;
 
 /// A link to a peer. Reads and writes concern the last connection and leave the next ones alone.
 pub trait Peer: Link {
-    /// Whether it is connected.
-    ghost connected: { Self → Bool };
-
-    /// What each of the next connects gives to read, where that is told.
-    ghost replies: { Self → Option (List (List ℕ)) };
+    /// Whether it is connected, and, where that is told, the bytes to come, those sent since the last connect, and what each of
+    /// the next connects gives to read.
+    ghost state: { Self → PeerState };
 
     /// Connects anew, in place of a connection that stands. Nothing is sent on the new one yet.
     ///
@@ -21,28 +19,16 @@ pub trait Peer: Link {
     ///
     /// `Failed`: the peer can't be connected to. The fault is counted, and there is no connection.
     fn connect(&mut self) -> Result<(), Failed>
-        ensures connects { OnOk result (connected self.new ≡ true) }
-        ensures comes { OnOk result (Self.Source.left self.new ≡ option_map next_of (replies self.old)) }
-        ensures rest { OnOk result (replies self.new ≡ option_map (λ list. drop 1 list) (replies self.old)) }
-        ensures silent { OnOk result (Self.Sink.sent self.new ≡ option_map (λ _. []) (Self.Sink.sent self.old)) }
-        ensures parts { OnErr result (connected self.new ≡ false) }
-        ensures ends { OnErr result (Self.Source.left self.new ≡ option_map (λ _. []) (Self.Source.left self.old)) }
-        ensures kept_replies { OnErr result (replies self.new ≡ replies self.old) }
-        ensures kept_sent { OnErr result (Self.Sink.sent self.new ≡ Self.Sink.sent self.old) }
+        ensures connects { OnOk result (state self.new ≡ connecting (state self.old)) }
+        ensures parts { OnErr result (state self.new ≡ parting (state self.old)) }
         ensures cause { HasCause (Self.Source.faults self.old) (Self.Source.faults self.new) result };
 
     /// Nothing is to come while there is no connection.
-    ghost idle: { (peer : Self) → connected peer ≡ false → HasEnded (Self.Source.left peer) };
+    ghost idle: { (peer : Self) → (state peer).connected ≡ false → HasEnded (state peer).left };
 
-    /// A read leaves the connection alone.
-    ghost reads_connected: { (peer : Self) → Self.Source.connected_beside peer ≡ connected peer };
+    /// A read leaves all but the bytes to come alone.
+    ghost reads: { (peer : Self) → state peer ≡ record (Self.Source.beside peer) { left = Self.Source.left peer } };
 
-    /// A read leaves the next connects alone.
-    ghost reads_replies: { (peer : Self) → Self.Source.replies_beside peer ≡ replies peer };
-
-    /// A write leaves the connection alone.
-    ghost writes_connected: { (peer : Self) → Self.Sink.connected_beside peer ≡ connected peer };
-
-    /// A write leaves the next connects alone.
-    ghost writes_replies: { (peer : Self) → Self.Sink.replies_beside peer ≡ replies peer };
+    /// A write leaves all but the bytes sent alone.
+    ghost writes: { (peer : Self) → state peer ≡ record (Self.Sink.beside peer) { sent = Self.Sink.sent peer } };
 }

@@ -62,17 +62,7 @@ impl<N: Net + Drop> Door for RealDoor<N> {
 
     type L = RealLink<N::Stream>;
 
-    ghost listening = { λ door. is_some door.listener };
-
-    ghost closed = { λ door. nat_le door.bound door.given };
-
-    ghost given = { λ door. door.given };
-
-    ghost back = { λ door. door.back };
-
-    ghost links = { λ _. None };
-
-    ghost returned = { λ _. None };
+    ghost state = { λ door. record { listening = is_some door.listener; closed = nat_le door.bound door.given; given = door.given; back = door.back; links = None; returned = None } };
 
     ghost faults = { λ door. door.faults };
 
@@ -135,14 +125,13 @@ impl<N: Net + Drop, A: ToSocketAddrs> RealPeer<N, A> {
 
 impl<N: Net + Drop, A: ToSocketAddrs> Source for RealPeer<N, A> {
     ghost use Rattle.std.specs.Prelude.{is_some};
+    ghost use Rattle.unl_base.specs.Peers.{nothing_beside};
 
     ghost left = { λ _. None };
 
     ghost faults = { λ peer. peer.faults };
 
-    ghost sent_beside = { λ _. None };
-
-    ghost connected_beside = { λ peer. is_some peer.stream };
+    ghost beside = { λ peer. record nothing_beside { connected = is_some peer.stream } };
 
     /// Reads from the last connection. Where there is none, nothing is to come.
     fn read(&mut self, room: &mut [u8]) -> Result<usize, Failed> {
@@ -161,14 +150,13 @@ impl<N: Net + Drop, A: ToSocketAddrs> Source for RealPeer<N, A> {
 
 impl<N: Net + Drop, A: ToSocketAddrs> Sink for RealPeer<N, A> {
     ghost use Rattle.std.specs.Prelude.{is_some};
+    ghost use Rattle.unl_base.specs.Peers.{nothing_beside};
 
     ghost sent = { λ _. None };
 
     ghost faults = { λ peer. peer.faults };
 
-    ghost left_beside = { λ _. None };
-
-    ghost connected_beside = { λ peer. is_some peer.stream };
+    ghost beside = { λ peer. record nothing_beside { connected = is_some peer.stream } };
 
     /// Writes to the last connection. Where there is none, the piece is dropped.
     fn write(&mut self, piece: &[u8]) -> Result<usize, Failed> {
@@ -198,10 +186,9 @@ impl<N: Net + Drop, A: ToSocketAddrs> Link for RealPeer<N, A> {
 impl<N: Net + Drop, A: ToSocketAddrs> Peer for RealPeer<N, A> {
     ghost use Rattle.std.specs.Prelude.{is_some};
     ghost use Rattle.std.proofs.Common.{refl};
+    ghost use Rattle.unl_base.specs.Peers.{nothing_beside};
 
-    ghost connected = { λ peer. is_some peer.stream };
-
-    ghost replies = { λ _. None };
+    ghost state = { λ peer. record nothing_beside { connected = is_some peer.stream } };
 
     fn connect(&mut self) -> Result<(), Failed> {
         self.stream = None;
@@ -219,11 +206,7 @@ impl<N: Net + Drop, A: ToSocketAddrs> Peer for RealPeer<N, A> {
 
     ghost idle = { λ peer off. tt };
 
-    ghost reads_connected = { λ peer. refl };
+    ghost reads = { λ peer. refl };
 
-    ghost reads_replies = { λ peer. refl };
-
-    ghost writes_connected = { λ peer. refl };
-
-    ghost writes_replies = { λ peer. refl };
+    ghost writes = { λ peer. refl };
 }

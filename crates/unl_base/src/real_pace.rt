@@ -1,29 +1,34 @@
 //! A pace by a clock.
-ghost use Rattle.std.specs.Prelude.{None};
+ghost use Rattle.unl_base.specs.Paces.{turns_of};
 
 use crate::pace::Pace;
 use std::thread;
 use std::time::{Clock, Duration};
 
-/// A pace that sleeps so long before each turn, and has no last one.
+/// A pace that sleeps so long before each turn and has no last one, or that has no turn.
 #[derive(Drop)]
 pub struct RealPace<C: Clock + Drop> {
     clock: C,
-    interval: Duration,
+    interval: Option<Duration>,
 }
 
 impl<C: Clock + Drop> RealPace<C> {
-    /// A pace of turns that stand so far from each other.
-    pub fn new(clock: C, interval: Duration) -> Self {
+    /// A pace of turns that stand so far from each other, or of none where there is no interval.
+    pub fn new(clock: C, interval: Option<Duration>) -> Self {
         RealPace { clock, interval }
     }
 }
 
 impl<C: Clock + Drop> Pace for RealPace<C> {
-    ghost turns = { λ _. None };
+    ghost turns = { λ pace. turns_of pace.interval };
 
     fn more(&mut self) -> bool {
-        thread::sleep(&self.clock, self.interval);
-        true
+        match self.interval {
+            Some(interval) => {
+                thread::sleep(&self.clock, interval);
+                true
+            }
+            None => false,
+        }
     }
 }

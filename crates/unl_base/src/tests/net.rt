@@ -96,8 +96,8 @@ impl Net for Town {
 
 /// Answers the next link with what it gives, and hands it back. Tells how much that was.
 fn echo<D: Door>(door: &mut D) -> Result<Option<usize>, Failed>
-    requires { D.listening door.old ≡ true }
-    ensures { D.listening door.new ≡ true }
+    requires { (D.state door.old).listening ≡ true }
+    ensures { (D.state door.new).listening ≡ true }
 {
     let Some(mut link) = door.accept()? else {
         return Ok(None);

@@ -1,7 +1,7 @@
-use Rattle.std.proofs.Common.{◌≡◌, ◌∙◌, ◌<◌, ◌+◌, [], Some, drop, length, ap, is_some, sym, refl, arith, true≢false}
-use Rattle.unl_base.specs.Doors.{count_of, next_of}
-use Rattle.unl_base.specs.Memory.{Stock}
-use Rattle.unl_base.proofs.Stocks.{gone, gone_view, next_new, some_to_come}
+use Rattle.std.proofs.Common.{◌≡◌, ◌∙◌, ◌<◌, ◌+◌, Option, Some, None, refl, IfSome, drop, length, slice_index_or, ap, is_some, sym, subst, arith, true, true≢false}
+use Rattle.unl_base.specs.Doors.{count_of}
+use Rattle.unl_base.specs.Memory.{IsNext, Stock, Wire}
+use Rattle.unl_base.proofs.Stocks.{gone, gone_view, new_there, next_is, next_new, some_to_come}
 use Rattle.unl_base.proofs.memory_door.Stock.take.Goals as goal
 
 -- there is a next link
@@ -9,13 +9,19 @@ more : (c : goal.After-self-2-1) → c.self.inside.given < length c.self.inside.
 more c = omega (arith, c.self.invariant.0, c.if-self-len.false, c.len.ensures, c.self.inside.links.ok.0)
 
 -- it is the one that the door takes out
-next : (c : goal.After-self-2-1) → c.take-link.result ≡ Some (record { left = next_of c.args.self.now.links; sent = []; faults = 0 })
-next c =
+next : (c : goal.After-self-2-1) → c.take-link.result ≡ slice_index_or c.self.inside.links.items c.self.inside.given c.index_mut.result.now
+next c = c.take-link.ensures.value ∙ c.index_mut.ensures.value
+
+-- and it is there
+there : (c : goal.After-self-2-1) → is_some c.take-link.result ≡ true
+there c =
     let stock = c.self.inside in
-    c.take-link.ensures.value
-    ∙ c.index_mut.ensures.value
-    ∙ next_new stock.links.items stock.given stock.back _ (more c) c.self.invariant.1
-    ∙ ap (λ (s : Stock). Some (record { left = next_of s.links; sent = []; faults = 0 })) c.self.view_is
+    ap is_some (next c) ∙ new_there _ (next_new stock.links.items stock.given stock.back _ (more c) c.self.invariant.1)
+
+-- one link is counted where there is one
+counted : {X : Type 0} (o : Option X) → is_some o ≡ true → 1 ≡ count_of o
+counted None is = absurd (true≢false (sym is))
+counted (Some x) is = refl
 
 pub invariant_of-self : goal.invariant_of-self
 invariant_of-self c =
@@ -27,16 +33,20 @@ invariant_of-self c =
 pub returns-clause-ends : goal.returns-clause-ends
 returns-clause-ends c =
     let stock = c.self.inside in (
-      λ none. absurd (true≢false (sym (ap is_some (next c)) ∙ none)),
+      λ none. absurd (true≢false (sym (there c) ∙ none)),
       λ empty. absurd (some_to_come stock.links.items stock.given (more c) (ap (λ (s : Stock). s.links) c.self.view_is ∙ empty)),
     )
 
 pub returns-clause-comes : goal.returns-clause-comes
-returns-clause-comes c = rw (next c) refl
+returns-clause-comes c =
+    let stock = c.self.inside in
+    subst (λ (o : Option Wire). IfSome o (λ wire. IsNext c.args.self.now.links wire)) (sym (next c))
+    (subst (λ (s : Stock). IfSome (slice_index_or stock.links.items stock.given c.index_mut.result.now) (λ wire. IsNext s.links wire)) c.self.view_is
+    (next_is stock.links.items stock.given stock.back _ (more c) c.self.invariant.1))
 
 pub returns-clause-rest : goal.returns-clause-rest
 returns-clause-rest c =
     let stock = c.self.inside in
     gone_view stock.links.items stock.given stock.back _ (more c) c.self.invariant.1
     ∙ ap (λ (s : Stock). record { links = drop 1 s.links; out = s.out + 1; returned = s.returned }) c.self.view_is
-    ∙ ap (λ o. record { links = drop 1 c.args.self.now.links; out = c.args.self.now.out + count_of o; returned = c.args.self.now.returned }) (sym (next c))
+    ∙ ap (λ n. record { links = drop 1 c.args.self.now.links; out = c.args.self.now.out + n; returned = c.args.self.now.returned }) (counted c.take-link.result (there c))

@@ -1,0 +1,200 @@
+//! Jobs in threads.
+ghost use Rattle.std.specs.Prelude.{◌≡◌, ◌<◌, ◌≤◌, ◌++◌, ◌∷◌, [], IfOk, OnErr, OnOk, map, vec_capacity, vec_len};
+ghost use Rattle.std.specs.List.{AllZip};
+
+use crate::Failed;
+use crate::job::Job;
+use std::snapshot::Snapshot;
+use std::sync::Wait;
+use std::thread;
+use std::thread::{Promise, PromisedHandle, Scope, Threads};
+
+/// Runs each job in a thread of its own and `here` on this one.
+pub fn run_beside<R: Threads + Wait, J: Job + Send + Drop, M: Job>(
+    rt: &R,
+    jobs: Vec<J>,
+    here: M,
+) -> (M, Result<Vec<J>, Failed>)
+    ensures here { OnOk result.1 (M.worked here result.0) }
+    ensures each { IfOk result.1 (λ done. AllZip J.worked jobs.items done.items) }
+    ensures cancelled { OnErr result.1 (M.cancelled here result.0) }
+{
+    let mut here = here;
+    let (lent, done) = run_around(rt, jobs, Lent { job: &mut here });
+    take_back(lent);
+    (here, done)
+}
+
+/// Work for `run_around`. A scope says nothing of a `&mut` that its closure holds, so the closure holds a value of a type
+/// parameter.
+trait Errand {
+    type Done;
+
+    ghost works: { Self → Self.Done → Type 0 };
+
+    ghost cancels: { Self → Self.Done → Type 0 };
+
+    fn run(self) -> Self::Done
+        ensures { works self result };
+
+    fn call_off(self) -> Self::Done
+        ensures { cancels self result };
+}
+
+/// A job that is lent.
+#[derive(Drop)]
+struct Lent<'a, M> {
+    job: &'a mut M,
+}
+
+impl<'a, M: Job> Errand for Lent<'a, M> {
+    type Done = &'a mut M;
+
+    ghost works = { λ lent done. (done.ghost_name ≡ lent.job.ghost_name) × M.worked lent.job.now done.now };
+
+    ghost cancels = { λ lent done. (done.ghost_name ≡ lent.job.ghost_name) × M.cancelled lent.job.now done.now };
+
+    fn run(self) -> &'a mut M {
+        let Lent { job } = self;
+        job.work();
+        job
+    }
+
+    fn call_off(self) -> &'a mut M {
+        let Lent { job } = self;
+        job.cancel();
+        job
+    }
+}
+
+/// Does nothing. It ties a reference, for the borrow checker, to the variable that it was lent from.
+fn take_back<T>(x: &mut T)
+    ensures { x.new ≡ x.old }
+{}
+
+/// A job that was done, and this is what it was before.
+#[derive(Drop)]
+struct Worked<J> {
+    was: Snapshot<J>,
+}
+
+impl<J: Job> Promise<J> for Worked<J> {
+    ghost kept_by = { λ promise job. J.worked promise.was.value job };
+}
+
+/// A job that runs.
+type Running<J> = PromisedHandle<J, Worked<J>>;
+
+/// Runs each job in a thread of its own and the errand on this one.
+fn run_around<R: Threads + Wait, J: Job + Send + Drop, E: Errand + Drop>(
+    rt: &R,
+    jobs: Vec<J>,
+    errand: E,
+) -> (E::Done, Result<Vec<J>, Failed>)
+    ensures here { OnOk result.1 (E.works errand result.0) }
+    ensures each { IfOk result.1 (λ done. AllZip J.worked jobs.items done.items) }
+    ensures cancelled { OnErr result.1 (E.cancels errand result.0) }
+{
+    let Ok(room) = Vec::with_capacity(*jobs.allocator(), jobs.len()) else {
+        return (errand.call_off(), Err(Failed));
+    };
+    thread::scope(
+        thread::scope_env(),
+        rt,
+        move |scope| -> (E::Done, Result<Vec<J>, Failed>)
+            requires room { vec_len jobs ≤ vec_capacity room }
+            requires empty { room.items ≡ [] }
+            ensures here { OnOk result.1 (E.works errand result.0) }
+            ensures each { IfOk result.1 (λ done. AllZip J.worked jobs.items done.items) }
+            ensures cancelled { OnErr result.1 (E.cancels errand result.0) }
+        {
+            match start_all(scope, jobs) {
+                Ok(started) => {
+                    let here = errand.run();
+                    (here, Ok(join_all(rt, started, room)))
+                }
+                Err(started) => {
+                    let here = errand.call_off();
+                    end_all(rt, started);
+                    (here, Err(Failed))
+                }
+            }
+        },
+    )
+}
+
+/// Starts each job in a thread of its own.
+///
+/// # Errors
+/// Those that were started, where one can't be.
+fn start_all<'s, X, J: Job + Send + Drop + 's>(
+    scope: &Scope<'s, X>,
+    jobs: Vec<J>,
+) -> Result<Vec<Running<J>>, Vec<Running<J>>>
+    ensures { IfOk result (λ started. map (λ handle. handle.promise.was.value) started.items ≡ jobs.items) }
+{
+    let mut started = Vec::new(*jobs.allocator());
+    for job in jobs {
+        match start(scope, job) {
+            Ok(handle) => {
+                if started.push(handle).is_err() {
+                    return Err(started);
+                }
+            }
+            Err(_) => return Err(started),
+        }
+    }
+    Ok(started)
+}
+
+fn start<'s, X, J: Job + Send + Drop + 's>(
+    scope: &Scope<'s, X>,
+    job: J,
+) -> Result<Running<J>, Failed>
+    ensures { IfOk result (λ handle. handle.promise.was.value ≡ job) }
+{
+    let was = Snapshot::of(&job);
+    let started = scope.spawn_with(
+        Worked { was },
+        move || -> J
+            ensures { J.worked job result }
+        {
+            let mut job = job;
+            job.work();
+            job
+        },
+    );
+    match started {
+        Ok(handle) => Ok(handle),
+        Err(_) => Err(Failed),
+    }
+}
+
+/// Waits for each job, and hands them back in order, in the room given.
+fn join_all<R: Threads, J: Job + Drop>(rt: &R, started: Vec<Running<J>>, room: Vec<J>) -> Vec<J>
+    requires room { vec_len started ≤ vec_capacity room }
+    requires empty { room.items ≡ [] }
+    ensures { AllZip J.worked (map (λ handle. handle.promise.was.value) started.items) result.items }
+{
+    let mut done = room;
+    for handle in started {
+        keep(&mut done, handle.join(rt));
+    }
+    done
+}
+
+/// Puts a job behind the others, for which there is room.
+fn keep<J: Drop>(done: &mut Vec<J>, job: J)
+    requires { vec_len done.old < vec_capacity done.old }
+    ensures items { done.new.items ≡ done.old.items ++ job ∷ [] }
+    ensures room { vec_capacity done.old ≤ vec_capacity done.new }
+{
+    done.push(job).unwrap();
+}
+
+/// Waits for each job, and drops them.
+fn end_all<R: Threads, J: Job + Drop>(rt: &R, started: Vec<Running<J>>) {
+    for handle in started {
+        handle.join(rt);
+    }
+}

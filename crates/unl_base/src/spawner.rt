@@ -1,0 +1,93 @@
+//! What runs jobs side by side.
+ghost use Rattle.std.specs.Prelude.{◌≡◌, ◌≤◌, ℕ, IfOk, OnErr, OnOk};
+ghost use Rattle.std.specs.List.{AllZip};
+ghost use Rattle.unl_base.specs.Faults.{HasCause, Rose};
+
+use crate::Failed;
+use crate::beside::run_beside;
+use crate::in_turn::work_all;
+use crate::job::Job;
+use std::sync::Wait;
+use std::thread::Threads;
+
+/// Where a spawner runs its jobs.
+pub enum Place<'a, R> {
+    /// All on the caller's thread, one after the other.
+    Here,
+    /// Each on a thread of its own.
+    Threads(&'a R),
+    /// Nowhere: no job can be started.
+    Nowhere,
+}
+
+/// Runs jobs side by side.
+pub trait Spawner {
+    /// What its threads are started by.
+    type Rt: Threads + Wait;
+
+    /// How often a job couldn't be started.
+    ghost faults: { Self → ℕ };
+
+    /// Where it runs jobs.
+    fn place(&self) -> Place<'_, Self::Rt>;
+
+    /// Counts that a job couldn't be started.
+    fn count_fault(&mut self)
+        ensures later { faults self.old ≤ faults self.new }
+        ensures rose { Rose (faults self.old) (faults self.new) };
+
+    /// Runs each job on a thread of its own and `here` on the caller, waits for all, and hands them back, the jobs in order.
+    ///
+    /// # Errors
+    ///
+    /// `Failed`: a job couldn't be started. `here` was called off, those jobs that were started have ended, and all jobs are
+    /// dropped. The fault is counted.
+    final fn with<J: Job + Send + Drop, M: Job>(
+        &mut self,
+        jobs: Vec<J>,
+        here: M,
+    ) -> (M, Result<Vec<J>, Failed>)
+        ensures here { OnOk result.1 (M.worked here result.0) }
+        ensures each { IfOk result.1 (λ done. AllZip J.worked jobs.items done.items) }
+        ensures cancelled { OnErr result.1 (M.cancelled here result.0) }
+        ensures cause { HasCause (faults self.old) (faults self.new) result.1 }
+    {
+        match self.place() {
+            Place::Here => run_in_turn(jobs, here),
+            Place::Threads(rt) => {
+                let (here, done) = run_beside(rt, jobs, here);
+                if done.is_err() {
+                    self.count_fault();
+                }
+                (here, done)
+            }
+            Place::Nowhere => {
+                self.count_fault();
+                (call_off(here), Err(Failed))
+            }
+        }
+    }
+}
+
+/// Runs `here` and then each job in turn.
+fn run_in_turn<J: Job, M: Job>(jobs: Vec<J>, here: M) -> (M, Result<Vec<J>, Failed>)
+    ensures here { OnOk result.1 (M.worked here result.0) }
+    ensures each { IfOk result.1 (λ done. AllZip J.worked jobs.items done.items) }
+    ensures cancelled { OnErr result.1 (M.cancelled here result.0) }
+    ensures started { OnErr result.1 ⊥ }
+{
+    let mut here = here;
+    let mut jobs = jobs;
+    here.work();
+    work_all(jobs.as_mut_slice());
+    (here, Ok(jobs))
+}
+
+/// Calls off a job.
+fn call_off<M: Job>(here: M) -> M
+    ensures { M.cancelled here result }
+{
+    let mut here = here;
+    here.cancel();
+    here
+}
