@@ -1,22 +1,19 @@
 -- Texts that stand several times: each counts once, where it comes first.
-use Rattle.std.proofs.Common.{◌≡◌, ℕ, suc, ◌+◌, ◌<◌, Bool, true, false, cond, List, [], ◌∷◌, ◌++◌, length, get_or, map, Option, Some, None, Ok, Err, refl, sym, ap, ◌∙◌, append_assoc, arith, inl, inr}
-use Rattle.std.specs.Prelude.{◌≢◌, ◌==◌, ◌&&◌, ◌||◌, not, All, fold, filter, filter_map, position, slice_set, nat_lt, option_and_then, option_to_list, if◌then◌else◌}
+use Rattle.std.proofs.Common.{◌≡◌, ℕ, suc, ◌+◌, Bool, true, false, cond, List, [], ◌∷◌, ◌++◌, length, Option, Some, None, Ok, Err, refl, sym, ap, ◌∙◌, append_assoc, arith, inl, inr}
+use Rattle.std.specs.Prelude.{◌≢◌, ◌&&◌, ◌||◌, not, All, fold, filter, filter_map, nat_lt, option_to_list, if◌then◌else◌}
 use Rattle.std.specs.List.{position_or_len, cons_option}
 use Rattle.std.specs.Option.{option_or}
 use Rattle.std.specs.Str.{bytes_eq}
-use Rattle.std.proofs.lemmas.Bool.{cases_Bool, nat_tests}
+use Rattle.std.proofs.lemmas.Bool.{cases_Bool}
+use Rattle.std.proofs.lemmas.Bool.Decides.{nat_tests}
 use Rattle.std.proofs.lemmas.List.{append-nil}
 use Rattle.std.proofs.lemmas.List.Elements.{All-head, All-tail}
 use Rattle.std.proofs.lemmas.List.Folds.{list_any-append}
 use Rattle.std.proofs.lemmas.Slice.Eq.{bytes_eq-Decides}
-use Rattle.serde_json.specs.Data.{Data, Items}
-use Rattle.serde_json.specs.Find.{as_array}
-use Rattle.unl_documents.specs.declared.field.Field.TheVariants as field
-use Rattle.unl_documents.specs.Kinds.{at}
 use Rattle.unl_tokens.specs.declared.fault.BadBook.TheVariants.{TooMany}
 use Rattle.unl_tokens.specs.declared.token.Token.{Token}
-use Rattle.unl_tokens.specs.Books.{has_text, put_at, with_token, gathered, tokens_from, book_of, within_limit}
-use Rattle.unl_tokens.specs.Laws.{each_once, texts_of, last_of, latest, LatestAreGathered, LatestAreRead, KnownOnce}
+use Rattle.unl_tokens.specs.Books.{has_text, put_at, with_token, gathered, book_of, within_limit}
+use Rattle.unl_tokens.specs.Laws.{each_once, texts_of, last_of, LatestAreGathered, LatestAreRead, KnownOnce}
 use Rattle.unl_tokens.specs.Names.{stands_in}
 use Rattle.unl_tokens.specs.Requests.{token_of, answered, known_after, known}
 use Rattle.unl_tokens.specs.Valid.{HaveOtherTexts}
@@ -42,11 +39,11 @@ filter_same p q e (x ∷ xs) = λ i. cond (e x i) (x ∷ filter_same p q e xs i)
 
 filter_both : {X : Type 0} (p q : X → Bool) (xs : List X) → filter p (filter q xs) ≡ filter (λ x. q x && p x) xs
 filter_both p q [] = refl
-filter_both p q (x ∷ xs) = by (q x)
+filter_both p q (x ∷ xs) = by (q x) (filter_both p q xs)
   where
-    by : (b : Bool) → filter p (cond b (x ∷ filter q xs) (filter q xs)) ≡ cond (b && p x) (x ∷ filter (λ x. q x && p x) xs) (filter (λ x. q x && p x) xs)
-    by true = rw (filter_both p q xs) refl
-    by false = filter_both p q xs
+    by : (b : Bool) → filter p (filter q xs) ≡ filter (λ x. q x && p x) xs → filter p (cond b (x ∷ filter q xs) (filter q xs)) ≡ cond (b && p x) (x ∷ filter (λ x. q x && p x) xs) (filter (λ x. q x && p x) xs)
+    by true later = rw later refl
+    by false later = later
 
 nothing_before : (texts : Texts) → others [] texts ≡ texts
 nothing_before [] = refl
@@ -113,7 +110,7 @@ put_next true n a x book =
     rw here refl
 put_next false n a x book =
     elim (cases_Bool (nat_lt n (length book))) [
-      | inl told ↦ let here : nat_lt (1 + n) (suc (length book)) ≡ true = grind (arith, nat_tests) in rw (here, told) refl
+      | inl told ↦ let here : nat_lt (1 + n) (suc (length book)) ≡ true = grind (arith, nat_tests) in let one : 1 + n ≡ suc n = omega arith in rw (here, told, one) refl
       | inr told ↦ let here : nat_lt (1 + n) (suc (length book)) ≡ false = grind (arith, nat_tests) in rw (here, told) refl
     ]
 
@@ -141,7 +138,7 @@ token_put : (t : List ℕ) (book : List Token) (x : Token) → token_of t (with_
 token_put t [] x = rw (with_first x) refl
 token_put t (a ∷ book) x =
     ap (token_of t) (with_next a book x) ∙ elim (cases_Bool (bytes_eq a.text x.text)) [
-      | inl told ↦ let same : a.text ≡ x.text = (bytes_eq-Decides a.text x.text).0 told in rw (told, same) (skip (bytes_eq x.text t))
+      | inl told ↦ let same : bytes_eq a.text t ≡ bytes_eq x.text t = ap (λ (s : List ℕ). bytes_eq s t) ((bytes_eq-Decides a.text x.text).0 told) in rw (told, same) (skip (bytes_eq x.text t))
       | inr told ↦ rw (told, token_put t book x) (either (bytes_eq a.text t) (bytes_eq x.text t) (not_both told))
     ]
   where
