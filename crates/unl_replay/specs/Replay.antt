@@ -89,13 +89,25 @@ revision_at slot d = option_map revision_of (place_of (installed_by d) slot).ver
 abbrev pub judged_as : ℕ → List ℕ → ℕ → Standing → Answered
 judged_as k word slot after = record { text = verdict_line k word (revision_text (revision_at slot after)) after.front; desk = after }
 
+-- the word of a verdict
+abbrev pub word_of : Verdict → List ℕ
+word_of Apply = codes "apply"
+word_of Repeat = codes "repeat"
+word_of Old = codes "old"
+word_of Gap = codes "gap"
+word_of Held = codes "held"
+
+-- what a batch does to the desk by its verdict
+abbrev pub after_verdict : Verdict → ℕ → Batch → Standing → Standing
+after_verdict Apply slot batch d = with_batch slot batch d
+after_verdict Gap slot batch d = with_hold slot d
+after_verdict Repeat slot batch d = d
+after_verdict Old slot batch d = d
+after_verdict Held slot batch d = d
+
 -- what a batch does by its verdict, and its line
 abbrev pub judged : ℕ → ℕ → Batch → Standing → Verdict → Answered
-judged k slot batch d Apply = judged_as k (codes "apply") slot (with_batch slot batch d)
-judged k slot batch d Repeat = judged_as k (codes "repeat") slot d
-judged k slot batch d Old = judged_as k (codes "old") slot d
-judged k slot batch d Gap = judged_as k (codes "gap") slot (with_hold slot d)
-judged k slot batch d Held = judged_as k (codes "held") slot d
+judged k slot batch d v = judged_as k (word_of v) slot (after_verdict v slot batch d)
 
 -- a batch arrives at a slot, if there is one
 abbrev pub arrive : ℕ → Batch → Standing → Option ℕ → LineReading Answered

@@ -6,7 +6,7 @@ ghost use Rattle.unl_core.specs.Tag.{with_epoch};
 ghost use Rattle.unl_delta.specs.Batch.{verdict_of};
 ghost use Rattle.unl_delta.specs.Installing.{place_of};
 ghost use Rattle.unl_delta.specs.Valid.{IsValidBatch};
-ghost use Rattle.unl_replay.specs.Replay.{batch_of_line, environment_in, feed_of_line, judged, judged_as, number_in, put_batch, revision_at, revision_text, put_tokens, same_line, tokens_line, tokens_of_line, verdict_line};
+ghost use Rattle.unl_replay.specs.Replay.{batch_of_line, environment_in, feed_of_line, judged, judged_as, number_in, put_batch, revision_at, revision_text, put_tokens, same_line, tokens_line, tokens_of_line, verdict_line, word_of};
 ghost use Rattle.unl_replay.specs.Refusals.{Gives};
 ghost use Rattle.unl_replay.specs.Steps.{Steps};
 
@@ -15,7 +15,7 @@ use crate::refusal::Refusal;
 use serde_json::Value;
 use std::alloc::{AllocError, Global};
 use unl_core::OneDesk;
-use unl_delta::{Batch, Installer, Verdict, verdict};
+use unl_delta::{Batch, Installer, Verdict, take_batch};
 use unl_documents::{Field, Text};
 use unl_documents::keys::required;
 use unl_documents::kind::Name;
@@ -115,6 +115,7 @@ fn judged_as(
 }
 
 /// A batch is judged at a slot, and taken where it applies.
+#[tactic(auto, using(crate::proofs::Judging::judged_so))]
 fn judge(
     alloc: Global,
     desk: &mut OneDesk,
@@ -128,18 +129,19 @@ fn judge(
     ensures given { Steps result desk.new (Ok (judged number slot batch.now desk.old (verdict_of (place_of (installed_by desk.old) slot) batch.now))) }
     ensures front { desk.new.front ≤ desk.old.front + 1 }
 {
-    match verdict(desk.place(slot), batch) {
-        Verdict::Apply => {
-            desk.install(alloc, slot, batch)?;
-            judged_as(alloc, desk, number, "apply", slot)
-        }
-        Verdict::Repeat => judged_as(alloc, desk, number, "repeat", slot),
-        Verdict::Old => judged_as(alloc, desk, number, "old", slot),
-        Verdict::Gap => {
-            desk.hold(slot);
-            judged_as(alloc, desk, number, "gap", slot)
-        }
-        Verdict::Held => judged_as(alloc, desk, number, "held", slot),
+    let verdict = take_batch(alloc, desk, slot, batch)?;
+    judged_as(alloc, desk, number, word_of(verdict), slot)
+}
+
+fn word_of(verdict: Verdict) -> &'static str
+    ensures { result.now ≡ word_of verdict }
+{
+    match verdict {
+        Verdict::Apply => "apply",
+        Verdict::Repeat => "repeat",
+        Verdict::Old => "old",
+        Verdict::Gap => "gap",
+        Verdict::Held => "held",
     }
 }
 
