@@ -125,4 +125,29 @@ alike /api/frontend/client/metrics '*:dev.front' --data "$report"
 alike /api/frontend/client/register '*:dev.front' --data '{}'
 alike /api/frontend '*:dev.client'
 alike /api/nothing '*:dev.front'
+
+# ---- an upstream that lost what it had, of which only the command of the input is left, numbered from 1 again
+begin_again() {
+    kill "$upstream"
+    wait "$upstream" 2>/dev/null
+    timeout 60 "$program" upstream --port "$upstream_port" --secret s --environments dev \
+        --client-tokens '*:dev.client' --frontend-tokens '*:dev.front' "$@" <examples/commands.jsonl >/dev/null &
+    upstream=$!
+    wait_for "$upstream_port" "the upstream that began again"
+}
+
+# in the epoch of what it lost it is behind the edge, which keeps what it has
+begin_again
+for turn in 1 2 3; do
+    same "what an edge keeps, turn $turn" "{\"toggles\":[$(toggle a),$(toggle b)]}" "$(ask "$edge_port" '*:dev.front' /api/frontend)"
+done
+
+# in a later epoch it is followed
+begin_again --epoch 1
+tries=0
+until test "$(ask "$edge_port" '*:dev.front' /api/frontend)" = "{\"toggles\":[$(toggle a)]}"; do
+    tries=$((tries + 1))
+    test "$tries" -lt 10 || fail "the edge doesn't follow into a later epoch"
+done
+alike /api/client/delta '*:dev.client'
 echo "loopback: passed"

@@ -1,18 +1,25 @@
 -- The limits of a context: texts of up to 4,096 bytes, and up to 256 properties whose names have 1 to 255 bytes.
-use Rattle.std.specs.Prelude.{ℕ, List, length, Bool, true, ◌&&◌, not, Option, Some, None, Ok, Err, nat_lt, if◌then◌else◌}
+use Rattle.std.specs.Prelude.{ℕ, List, length, Bool, true, ◌&&◌, not, Option, Some, None, Ok, Err, nat_lt, nat_le, if◌then◌else◌}
 use Rattle.std.specs.List.{list_all}
-use Rattle.unl_documents.specs.Texts.{is_name}
-use Rattle.unl_documents.specs.declared.parameters.Pair.{Pair}
+use Rattle.unl_context.specs.declared.properties.Property.{Property}
 use Rattle.unl_context.specs.declared.fault.BadContext.TheVariants.{TooLarge}
 use Rattle.unl_context.specs.Context.{Fields}
 use Rattle.unl_context.specs.Reading.{Reading}
+
+-- a name has 1 to 255 bytes
+abbrev pub is_name : List ℕ → Bool
+is_name text = nat_lt 0 (length text) && nat_le (length text) 255
 
 -- a text as the name of a property
 abbrev pub name_of : List ℕ → Reading (List ℕ)
 name_of key = if is_name key then Ok key else Err TooLarge
 
+-- a text as a value, unless it is too long
+abbrev pub short_text : List ℕ → Reading (List ℕ)
+short_text text = if nat_lt 4096 (length text) then Err TooLarge else Ok text
+
 -- the properties, unless there are too many
-abbrev pub up_to_256 : List Pair → Reading (List Pair)
+abbrev pub up_to_256 : List Property → Reading (List Property)
 up_to_256 properties = if nat_lt 256 (length properties) then Err TooLarge else Ok properties
 
 -- a field is absent or short enough
@@ -21,8 +28,8 @@ text_fits None = true
 text_fits (Some text) = not (nat_lt 4096 (length text))
 
 -- a property has a name and a value that is short enough
-abbrev pub property_fits : Pair → Bool
-property_fits p = is_name p.key && not (nat_lt 4096 (length p.value))
+abbrev pub property_fits : Property → Bool
+property_fits p = is_name p.name && not (nat_lt 4096 (length p.value))
 
 -- every part of the context is within its limit
 unfoldable pub is_within_limits : Fields → Bool

@@ -1,19 +1,21 @@
 //! The answer to one request.
 ghost use Rattle.std.specs.Prelude.{◌≡◌, ◌≢◌, ◌∷◌, [], codes, IfOk, IfSome, Err, Ok, Some};
-ghost use Rattle.unl_core.specs.Answer.{answer_of, asked_context, at_route, fed, featured, feature_reply, has_tag, listed, news_since, one_text, plain, registered, reply, reported, reported_by, seen, still_at, told, toggled, toggles_for, validated};
+ghost use Rattle.unl_core.specs.Answer.{answer_of, asked_context, at_route, delta_reply, document_reply, feature_reply, feed_for, feed_reply, feed_state, feed_tag, feed_with, has_tag, listed, news_since, one_text, plain, registered, reply, reported, reported_by, seen, still_at, tag_at, toggles_for, toggles_reply, validated};
 ghost use Rattle.unl_core.specs.Board.{AreSlots};
 ghost use Rattle.unl_core.specs.Shown.{ready_by, shown_by};
 ghost use Rattle.unl_dependencies.specs.Evaluation.{feature_named};
 ghost use Rattle.unl_context.specs.declared.fault.BadContext.TheVariants.{Memory as memory};
 ghost use Rattle.unl_documents.specs.Results.{Gives};
+ghost use Rattle.unl_documents.specs.States.{IsValidState};
 ghost use Rattle.unl_metrics.specs.Reports.{IsReport, bulk_report_of, single_report_of};
 ghost use Rattle.unl_tokens.specs.Requests.{asked_in};
 
 use crate::board::Board;
+use crate::client::knows_no_segments;
 use crate::desk::Answer;
 use crate::reply::{bare, made, one_text, refuse, refuse_method, refuse_unseen, tagged, unchanged};
 use crate::shown::{Ready, ready_by, shown_by};
-use crate::tag::{since_of, tag_of};
+use crate::tag::{inlined_tag_of, since_of, tag_of};
 use http::StatusCode;
 use std::alloc::Global;
 use unl_base::Draw;
@@ -21,7 +23,7 @@ use unl_context::{BadContext, Context};
 use unl_delta::{DeltaAnswer, answer as delta_answer, view, write_batch};
 use unl_dependencies::feature_named;
 use unl_documents::json::read_object;
-use unl_documents::{Copied, FeedHead, List, Memory, Text, write_feature, write_feed};
+use unl_documents::{Copied, FeedHead, InlineRefusal, List, Memory, State, Text, inline, write_feature, write_feed};
 use unl_http_api::{Reply, Request, Route, is_post, query_of};
 use unl_metrics::{BadReport, Report};
 use unl_strategies::Moment;
@@ -180,7 +182,7 @@ fn toggles(
     draw: &Draw,
     all: bool,
 ) -> Result<Reply, Memory>
-    ensures { IfOk result (λ r. r ≡ toggled board.now request.now draw.entry.now all (ready_by board.now request.now Kind.Frontend)) }
+    ensures { IfOk result (λ r. r ≡ toggles_reply board.now request.now draw.entry.now all (ready_by board.now request.now Kind.Frontend)) }
 {
     match ready_by(board, request, Kind::Frontend) {
         Err(unseen) => refuse_unseen(alloc, unseen),
@@ -244,7 +246,7 @@ fn feature(
     request: &Request,
     name: &Option<Text>,
 ) -> Result<Reply, Memory>
-    ensures { IfOk result (λ r. r ≡ featured name.now (ready_by board.now request.now Kind.Client)) }
+    ensures { IfOk result (λ r. r ≡ feature_reply name.now (ready_by board.now request.now Kind.Client)) }
 {
     match ready_by(board, request, Kind::Client) {
         Err(unseen) => refuse_unseen(alloc, unseen),
@@ -257,7 +259,7 @@ fn feature(
 
 #[tactic(auto, using(crate::proofs::Bodies::feature_written))]
 fn feature_of(alloc: Global, ready: &Ready, name: &str) -> Result<Reply, Memory>
-    ensures { IfOk result (λ r. r ≡ feature_reply (feature_named name.now (seen ready.now).features)) }
+    ensures { IfOk result (λ r. r ≡ document_reply (feature_named name.now (seen ready.now).features)) }
 {
     let seen = view(
         alloc,
@@ -273,39 +275,90 @@ fn feature_of(alloc: Global, ready: &Ready, name: &str) -> Result<Reply, Memory>
     }
 }
 
-/// The features and segments that the request's token sees, unless the asker has them.
+/// The features and segments that the request's token sees, in the form that the asker knows, unless the asker has them.
 fn feed(alloc: Global, board: &Board, request: &Request) -> Result<Reply, Memory>
-    ensures { IfOk result (λ r. r ≡ fed board.now request.now (ready_by board.now request.now Kind.Client)) }
+    ensures { IfOk result (λ r. r ≡ feed_reply board.now request.now (ready_by board.now request.now Kind.Client)) }
 {
     match ready_by(board, request, Kind::Client) {
         Err(unseen) => refuse_unseen(alloc, unseen),
-        Ok(ready) => feed_for(alloc, board, request, &ready),
+        Ok(ready) => {
+            let inlined = knows_no_segments(alloc, request)?;
+            feed_for(alloc, board, request, inlined, &ready)
+        }
     }
 }
 
-#[tactic(auto, using(crate::proofs::Bodies::feed_written))]
-fn feed_for(alloc: Global, board: &Board, request: &Request, ready: &Ready) -> Result<Reply, Memory>
-    ensures { IfOk result (λ r. r ≡ fed board.now request.now (Ok ready.now)) }
+fn feed_for(
+    alloc: Global,
+    board: &Board,
+    request: &Request,
+    inlined: bool,
+    ready: &Ready,
+) -> Result<Reply, Memory>
+    ensures { IfOk result (λ r. r ≡ feed_for board.now request.now inlined ready.now) }
 {
-    let version = ready.snapshot.version();
-    let tag = tag_of(alloc, board, ready.place, version.number)?;
+    let tag = feed_tag(alloc, board, inlined, ready)?;
     if has_tag(request, tag.as_str()) {
         return unchanged(alloc, tag);
     }
+    match feed_state(alloc, inlined, ready) {
+        Err(InlineRefusal::Memory) => Err(Memory),
+        Err(InlineRefusal::TooMany(_)) => {
+            refuse(alloc, StatusCode::SERVICE_UNAVAILABLE, "TooManyConstraints")
+        }
+        Ok(state) => feed_with(alloc, ready, tag, &state),
+    }
+}
+
+/// The tag of a feed, whose segments may be inlined.
+fn feed_tag(alloc: Global, board: &Board, inlined: bool, ready: &Ready) -> Result<Text, Memory>
+    ensures { IfOk result (λ tag. tag ≡ feed_tag board.now inlined ready.now) }
+{
+    let version = ready.snapshot.version();
+    if inlined {
+        return inlined_tag_of(alloc, board, ready.place, version.epoch, version.number);
+    }
+    tag_of(alloc, board, ready.place, version.epoch, version.number)
+}
+
+/// What a feed holds: what the token sees, with its segments inlined where that is asked.
+///
+/// # Errors
+///
+/// `TooMany`: a strategy would have more than 100 constraints.
+fn feed_state(alloc: Global, inlined: bool, ready: &Ready) -> Result<State, InlineRefusal>
+    ensures state { Gives InlineRefusal.Memory result (feed_state inlined (seen ready.now)) }
+    ensures valid { IfOk result IsValidState }
+{
+    let seen = view(
+        alloc,
+        &ready.snapshot.version().state,
+        &ready.token.projects,
+    )?;
+    if inlined { inline(alloc, &seen) } else { Ok(seen) }
+}
+
+/// The feed of a state with its tag.
+#[tactic(auto, using(crate::proofs::Bodies::feed_written))]
+fn feed_with(alloc: Global, ready: &Ready, tag: Text, state: &State) -> Result<Reply, Memory>
+    requires { IsValidState state.now }
+    ensures { IfOk result (λ r. r ≡ feed_with ready.now tag (Ok state.now)) }
+{
+    let version = ready.snapshot.version();
     let head = FeedHead {
         environment: ready.token.environment.copy(alloc)?,
         projects: listed(alloc, &ready.token.projects)?,
         tag: tag.copy(alloc)?,
         number: version.number,
+        epoch: version.epoch,
     };
-    let seen = view(alloc, &version.state, &ready.token.projects)?;
-    let body = write_feed(alloc, &head, &seen)?;
+    let body = write_feed(alloc, &head, state)?;
     tagged(alloc, tag, &body)
 }
 
 /// What changed since the number of the request's tag, as its token sees it.
 fn changes(alloc: Global, board: &Board, request: &Request) -> Result<Reply, Memory>
-    ensures { IfOk result (λ r. r ≡ told board.now request.now (ready_by board.now request.now Kind.Client)) }
+    ensures { IfOk result (λ r. r ≡ delta_reply board.now request.now (ready_by board.now request.now Kind.Client)) }
 {
     match ready_by(board, request, Kind::Client) {
         Err(unseen) => refuse_unseen(alloc, unseen),
@@ -319,9 +372,10 @@ fn changes_for(
     request: &Request,
     ready: &Ready,
 ) -> Result<Reply, Memory>
-    ensures { IfOk result (λ r. r ≡ told board.now request.now (Ok ready.now)) }
+    ensures { IfOk result (λ r. r ≡ delta_reply board.now request.now (Ok ready.now)) }
 {
-    let since = since_of(alloc, board, ready.place, &request.tag)?;
+    let epoch = ready.snapshot.version().epoch;
+    let since = since_of(alloc, board, ready.place, epoch, &request.tag)?;
     news_since(alloc, board, ready, since)
 }
 
@@ -343,7 +397,7 @@ fn news_since(
         DeltaAnswer::Same => still_at(alloc, board, ready, since),
         DeltaAnswer::Batch(batch) => {
             let number = batch.number().unwrap_or(0);
-            let tag = tag_of(alloc, board, ready.place, number)?;
+            let tag = tag_at(alloc, board, ready, number)?;
             let body = write_batch(alloc, &batch)?;
             tagged(alloc, tag, &body)
         }
@@ -361,10 +415,18 @@ fn still_at(
     match since {
         None => bare(alloc, StatusCode::NOT_MODIFIED),
         Some(number) => {
-            let tag = tag_of(alloc, board, ready.place, number)?;
+            let tag = tag_at(alloc, board, ready, number)?;
             unchanged(alloc, tag)
         }
     }
+}
+
+/// The tag of what is answered at a number of the version's epoch.
+fn tag_at(alloc: Global, board: &Board, ready: &Ready, number: u64) -> Result<Text, Memory>
+    ensures { IfOk result (λ tag. tag ≡ tag_at board.now ready.now number) }
+{
+    let epoch = ready.snapshot.version().epoch;
+    tag_of(alloc, board, ready.place, epoch, number)
 }
 
 /// Whether the request has this tag.

@@ -1,6 +1,6 @@
 //! The tags of answers.
-ghost use Rattle.std.specs.Prelude.{◌≡◌, ◌++◌, codes, decimal, IfOk, string_bytes};
-ghost use Rattle.unl_core.specs.Tag.{front_length, hex_16, if_spelled, number_of_tag, number_part, since_of, tag_text, whole_in};
+ghost use Rattle.std.specs.Prelude.{◌≡◌, ◌++◌, codes, decimal, length, IfOk, string_bytes};
+ghost use Rattle.unl_core.specs.Tag.{hex_16, if_spelled, inlined_tag, number_of_tag, number_part, since_of, tag_front, tag_text, whole_in};
 
 use crate::board::Board;
 use serde_json::Value;
@@ -9,40 +9,59 @@ use unl_documents::json::read_json;
 use unl_documents::{Memory, Text};
 use unl_http_api::Bytes;
 
-/// The tag for the token at a place, of what stands at a number.
-pub(crate) fn tag_of(alloc: Global, board: &Board, place: u32, number: u64) -> Result<Text, Memory>
-    ensures { IfOk result (λ tag. tag ≡ tag_text board.now place number) }
+/// The tag for the token at a place, of what stands at a number of an epoch.
+pub(crate) fn tag_of(
+    alloc: Global,
+    board: &Board,
+    place: u32,
+    epoch: u64,
+    number: u64,
+) -> Result<Text, Memory>
+    ensures { IfOk result (λ tag. tag ≡ tag_text board.now place (record { epoch = epoch; number = number })) }
+{
+    let front = tag_front(alloc, board, place, epoch)?;
+    Ok(Text::from(format!(in alloc; "{front}{number}\"")?))
+}
+
+/// The tag of a feed whose segments are inlined.
+pub(crate) fn inlined_tag_of(
+    alloc: Global,
+    board: &Board,
+    place: u32,
+    epoch: u64,
+    number: u64,
+) -> Result<Text, Memory>
+    ensures { IfOk result (λ tag. tag ≡ inlined_tag board.now place (record { epoch = epoch; number = number })) }
+{
+    let front = tag_front(alloc, board, place, epoch)?;
+    Ok(Text::from(format!(in alloc; "{front}{number}i\"")?))
+}
+
+/// What stands before the number in each tag for the token at a place, of what is answered in an epoch.
+fn tag_front(alloc: Global, board: &Board, place: u32, epoch: u64) -> Result<String, AllocError>
+    ensures { IfOk result (λ s. string_bytes s ≡ tag_front board.now place epoch) }
 {
     let boot = board.boot;
     let generation = board.generation;
-    Ok(Text::from(spelled(alloc, boot, generation, place, number)?))
+    if epoch == 0 {
+        return format!(in alloc; "\"{boot:016x}-{generation}-{place}-");
+    }
+    format!(in alloc; "\"{boot:016x}-{generation}-{place}-{epoch}.")
 }
 
-fn spelled(
-    alloc: Global,
-    boot: u64,
-    generation: u64,
-    place: u32,
-    number: u64,
-) -> Result<String, AllocError>
-    ensures { IfOk result (λ s. string_bytes s ≡ codes "\"" ++ (hex_16 boot ++ (codes "-" ++ (decimal generation
-        ++ (codes "-" ++ (decimal place ++ (codes "-" ++ (decimal number ++ codes "\"")))))))) }
-{
-    format!(in alloc; "\"{boot:016x}-{generation}-{place}-{number}\"")
-}
-
-/// The number of a request's tag, where it has one that is spelled exactly so for the token at a place.
+/// The number of a request's tag, where it has one that is spelled exactly so for the token at a place and this epoch.
 pub(crate) fn since_of(
     alloc: Global,
     board: &Board,
     place: u32,
+    epoch: u64,
     tag: &Option<Bytes>,
 ) -> Result<Option<u64>, Memory>
-    ensures { IfOk result (λ since. since ≡ since_of board.now place tag.now) }
+    ensures { IfOk result (λ since. since ≡ since_of board.now place epoch tag.now) }
 {
     match tag {
         None => Ok(None),
-        Some(tag) => number_of_tag(alloc, board, place, tag.as_slice()),
+        Some(tag) => number_of_tag(alloc, board, place, epoch, tag.as_slice()),
     }
 }
 
@@ -51,14 +70,15 @@ fn number_of_tag(
     alloc: Global,
     board: &Board,
     place: u32,
+    epoch: u64,
     tag: &[u8],
 ) -> Result<Option<u64>, Memory>
-    ensures { IfOk result (λ since. since ≡ number_of_tag board.now place tag.now) }
+    ensures { IfOk result (λ since. since ≡ number_of_tag board.now place epoch tag.now) }
 {
-    let front = front_length(alloc, board, place)?;
+    let front = front_length(alloc, board, place, epoch)?;
     match whole_in(alloc, number_part(front, tag))? {
         None => Ok(None),
-        Some(number) => if_spelled(alloc, board, place, tag, number),
+        Some(number) => if_spelled(alloc, board, place, epoch, tag, number),
     }
 }
 
@@ -67,12 +87,13 @@ fn if_spelled(
     alloc: Global,
     board: &Board,
     place: u32,
+    epoch: u64,
     tag: &[u8],
     number: u64,
 ) -> Result<Option<u64>, Memory>
-    ensures { IfOk result (λ since. since ≡ if_spelled board.now place tag.now number) }
+    ensures { IfOk result (λ since. since ≡ if_spelled board.now place epoch tag.now number) }
 {
-    let spelled = tag_of(alloc, board, place, number)?;
+    let spelled = tag_of(alloc, board, place, epoch, number)?;
     if tag == spelled.as_str().as_bytes() {
         Ok(Some(number))
     } else {
@@ -80,15 +101,15 @@ fn if_spelled(
     }
 }
 
-/// How many bytes stand before the number in each tag for a place.
-fn front_length(alloc: Global, board: &Board, place: u32) -> Result<usize, Memory>
-    ensures { IfOk result (λ front. front ≡ front_length board.now place) }
+/// How many bytes stand before the number in each such tag.
+fn front_length(alloc: Global, board: &Board, place: u32, epoch: u64) -> Result<usize, Memory>
+    ensures { IfOk result (λ front. front ≡ length (tag_front board.now place epoch)) }
 {
-    let short = tag_of(alloc, board, place, 0)?;
-    Ok(short.as_str().len().saturating_sub(2))
+    let front = tag_front(alloc, board, place, epoch)?;
+    Ok(front.len())
 }
 
-/// The bytes of a tag that spell its number, if it is one for this place.
+/// The bytes of a tag that spell its number, if it is one that begins with so many bytes.
 fn number_part(front: usize, tag: &[u8]) -> &[u8]
     ensures { result.now ≡ number_part front tag.now }
 {

@@ -2,6 +2,8 @@
 use Rattle.std.specs.Prelude.{ℕ, ◌+◌, ◌≡◌, ◌≢◌, List, Option, Some, None, slice_get, slice_set, true, false, unwrap_or}
 use Rattle.unl_tokens.specs.declared.token.Token.{Token}
 use Rattle.unl_delta.specs.declared.batch.Batch.{Batch}
+use Rattle.unl_delta.specs.declared.batch.Verdict.{Verdict}
+use Rattle.unl_delta.specs.declared.batch.Verdict.TheVariants.{Apply, Repeat, Old, Gap, Held}
 use Rattle.unl_delta.specs.declared.version.Place.{Place}
 use Rattle.unl_delta.specs.Batch.{empty_place, next_version}
 
@@ -30,6 +32,22 @@ after_install slot batch now = published (with_place slot (record { version = So
 -- a slot is held from now on; nothing is published
 abbrev pub after_hold : ℕ → Installed → Installed
 after_hold slot now = with_place slot (record { version = (place_of now slot).version; held = true }) now
+
+-- what a batch does to a slot by its verdict: what applies is published, a gap holds the slot, and all else leaves it
+abbrev pub after_batch : Verdict → ℕ → Batch → Installed → Installed
+after_batch Apply slot batch now = after_install slot batch now
+after_batch Gap slot batch now = after_hold slot now
+after_batch Repeat slot batch now = now
+after_batch Old slot batch now = now
+after_batch Held slot batch now = now
+
+-- of these three facts the one that the verdict is about: of what applies, of what holds, of all else
+abbrev pub ByVerdict : Verdict → Type 0 → Type 0 → Type 0 → Type 0
+ByVerdict Apply installs holds stays = installs
+ByVerdict Gap installs holds stays = holds
+ByVerdict Repeat installs holds stays = stays
+ByVerdict Old installs holds stays = stays
+ByVerdict Held installs holds stays = stays
 
 -- the book that stands is published no second time; any other one is
 abbrev pub IsBookInstalled : List Token → Installed → Option ℕ → Installed → Type 0

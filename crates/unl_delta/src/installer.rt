@@ -1,4 +1,5 @@
-ghost use Rattle.std.specs.Prelude.{◌≡◌, ◌<◌, ◌^◌, ◌-◌, IfOk, OnErr, OnOk, length};
+ghost use Rattle.std.specs.Prelude.{◌≡◌, ℕ, ◌<◌, ◌^◌, ◌-◌, IfOk, OnErr, OnOk, length};
+ghost use Rattle.unl_delta.specs.declared.batch.Batch.{Batch};
 ghost use Rattle.unl_delta.specs.declared.batch.Verdict.TheVariants.{Apply};
 ghost use Rattle.unl_delta.specs.Batch.{verdict_of};
 ghost use Rattle.unl_delta.specs.Installing.{Installed, place_of, after_install, after_hold, IsBookInstalled};
@@ -15,8 +16,14 @@ use unl_tokens::Book;
 /// Publications are counted: the number of those so far is the front. What a call doesn't name
 /// stays, and after want of memory everything does.
 pub trait Installer {
-    // The places, the front and the book that stands.
+    /// The places, the front and the book that stands.
     ghost installed: { Self → Installed };
+
+    /// What an install of a batch in a slot does to the whole of it, where more is to be said than of the places.
+    ghost installs: { ℕ → Batch → Self → Self → Type 0 } = { λ _ _ _ _. Unit {0} };
+
+    /// What holding a slot does to the whole of it, likewise.
+    ghost holds: { ℕ → Self → Self → Type 0 } = { λ _ _ _. Unit {0} };
 
     /// How many slots there are. Takes no memory.
     fn slots(&self) -> usize
@@ -40,6 +47,7 @@ pub trait Installer {
         requires batch { IsValidBatch batch.now }
         requires applies { verdict_of (place_of (installed self.old) slot) batch.now ≡ Apply }
         ensures published { OnOk result (installed self.new ≡ after_install slot batch.now (installed self.old)) }
+        ensures whole { OnOk result (installs slot batch.now self.old self.new) }
         ensures front { IfOk result (λ front. front ≡ (installed self.new).front) }
         ensures memory { OnErr result (installed self.new ≡ installed self.old) };
 
@@ -47,7 +55,8 @@ pub trait Installer {
     /// takes no memory.
     fn hold(&mut self, slot: usize)
         requires { slot < length (installed self.old).places }
-        ensures { installed self.new ≡ after_hold slot (installed self.old) };
+        ensures held { installed self.new ≡ after_hold slot (installed self.old) }
+        ensures whole { holds slot self.old self.new };
 
     /// Publishes a book and answers the new front, or none exactly where the book is the one that
     /// stands, and then publishes nothing.

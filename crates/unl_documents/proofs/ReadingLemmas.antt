@@ -1,5 +1,5 @@
 -- Reading, and what a value stands for.
-use Rattle.std.proofs.Common.{◌≡◌, ℕ, Bool, true, false, List, Option, Some, None, Ok, Err, refl, sym, ap, ◌∙◌}
+use Rattle.std.proofs.Common.{◌≡◌, ℕ, true, false, List, Some, None, Ok, Err, refl, ap, ◌∙◌}
 use Rattle.std.specs.Prelude.{◌↔◌, if◌then◌else◌}
 use Rattle.std.specs.Str.{is_utf8}
 use Rattle.std.proofs.lemmas.Str.{IsUtf8-from_is_utf8, is_utf8-from_IsUtf8}
@@ -9,7 +9,7 @@ use Rattle.unl_documents.specs.declared.fault.BadDocument.{BadDocument}
 use Rattle.unl_documents.specs.declared.fault.BadDocument.TheVariants.{NotJson}
 use Rattle.unl_documents.specs.Kinds.{document, is_object}
 use Rattle.unl_documents.specs.Reading.{Reading}
-use Rattle.unl_documents.specs.Reads.{fault_of}
+use Rattle.unl_documents.specs.Faults.{fault_of}
 use Rattle.unl_documents.specs.Results.{json_of, IsJson}
 use Rattle.unl_documents.proofs.Sound.{Sound, object_at}
 use Rattle.unl_documents.proofs.Unique.{One}
@@ -19,17 +19,19 @@ faultless (Ok x) h = (x, refl)
 faultless (Err e) h = absurd cc
 
 -- a reading that is sound gives a document exactly where the value stands for it and has no fault
-pub exactly : {T : Type 0} (reads : Data → Reading T) (Reads : Data → T → Type 0) → Sound reads Reads → One Reads → (value : Data) (d : T) → (document reads value ≡ Ok d) ↔ (Reads value d × (fault_of (document reads value) ≡ None))
-exactly reads Reads sound one value d = (
-  λ h. (sound value d (object_at (is_object value) (reads value) NotJson d h).1, ap fault_of h),
-  λ p. let a = faultless (document reads value) p.1 in
+pub exactly : {T : Type 0} (reads : Data → Reading T) (Reads : Data → T → Type 0) → Sound reads Reads → One Reads → (value : Data) (d : T) (fault : Option BadDocument)
+    → fault_of (document reads value) ≡ fault → (document reads value ≡ Ok d) ↔ (Reads value d × (fault ≡ None))
+exactly reads Reads sound one value d fault same = (
+  λ h. (sound value d (object_at (is_object value) (reads value) NotJson d h).1, sym same ∙ ap fault_of h),
+  λ p. let a = faultless (document reads value) (same ∙ p.1) in
       let stands = sound value a.0 (object_at (is_object value) (reads value) NotJson a.0 a.1).1 in
       a.1 ∙ ap Ok (one value a.0 d stands p.0),
 )
 
-pub faulty : {T : Type 0} (r : Reading T) (e : BadDocument) → (r ≡ Err e) ↔ (fault_of r ≡ Some e)
-faulty (Ok x) e = (λ h. absurd cc, λ h. absurd cc)
-faulty (Err d) e = (λ h. cc, λ h. cc)
+-- and ends with a fault exactly where it has that one
+pub faulty : {T : Type 0} (r : Reading T) (e : BadDocument) (fault : Option BadDocument) → fault_of r ≡ fault → (r ≡ Err e) ↔ (fault ≡ Some e)
+faulty (Ok x) e fault same = (λ h. absurd cc, λ h. absurd cc)
+faulty (Err d) e fault same = (λ h. cc, λ h. cc)
 
 pub spelled : (bytes : List ℕ) (value : Data) → (json_of bytes ≡ Some value) ↔ IsJson bytes value
 unfolding json_of

@@ -1,11 +1,10 @@
--- When a JSON value reads as a document: key by key and in no order, limits apart; and the first fault of a value.
-use Rattle.std.specs.Prelude.{◌≡◌, ℕ, List, [], ◌∷◌, codes, Bool, true, false, Option, None, Some, MatchOption, Ok, Err}
+-- When a JSON value reads as a document: key by key and in no order, limits apart.
+use Rattle.std.specs.Prelude.{◌≡◌, ℕ, List, [], ◌∷◌, codes, Bool, true, false, Option, None, Some, MatchOption}
 use Rattle.serde_json.specs.Data.{Data, unsigned, null, boolean, number, string, array, object, Items, no_items, item, Members, no_members, member}
 use Rattle.serde_json.specs.Find.{is_float}
 use Rattle.serde_json.specs.Written.{compact_text}
 use Rattle.unl_documents.specs.declared.field.Field.{Field}
 use Rattle.unl_documents.specs.declared.field.Field.TheVariants as key
-use Rattle.unl_documents.specs.declared.fault.BadDocument.{BadDocument}
 use Rattle.unl_documents.specs.declared.operator.Operator.{Operator}
 use Rattle.unl_documents.specs.declared.parameters.Pair.{Pair}
 use Rattle.unl_documents.specs.declared.variant.Override.{Override}
@@ -19,12 +18,10 @@ use Rattle.unl_documents.specs.declared.dependency.Dependency.{Dependency}
 use Rattle.unl_documents.specs.declared.state.State.{State}
 use Rattle.unl_documents.specs.declared.feed.Feed.{Feed}
 use Rattle.unl_documents.specs.declared.feed.Meta.{Meta}
-use Rattle.unl_documents.specs.Documents.{feature_of, segment_of}
-use Rattle.unl_documents.specs.Kinds.{at, present, is_object, document}
+use Rattle.unl_documents.specs.Kinds.{at, present, is_object}
 use Rattle.unl_documents.specs.Operators.{operator_of}
-use Rattle.unl_documents.specs.Reading.{Reading}
 use Rattle.unl_documents.specs.Sorting.{IsSorting}
-use Rattle.unl_documents.specs.States.{name_key, id_key, state_of, no_meta, feed_of}
+use Rattle.unl_documents.specs.States.{name_key, id_key, no_meta}
 
 -- ---- what a value stands for
 
@@ -174,26 +171,3 @@ pub record ReadsMeta (value : Data) (m : Meta) : Type 0 where
 pub record ReadsFeed (value : Data) (f : Feed) : Type 0 where
   pub state : ReadsState value f.state
   pub meta : HasOr no_meta (IsObject ReadsMeta) key.Meta value (record { epoch = f.epoch; number = f.number })
-
--- ---- faults
-
--- the fault that a reading ends with, or none
-abbrev pub fault_of : {T : Type 0} → Reading T → Option BadDocument
-fault_of (Ok x) = None
-fault_of (Err e) = Some e
-
--- the first fault of a value as a feature, in the order of the keys of specs/Documents, or none
-unfoldable pub first_fault_of_feature : Data → Option BadDocument
-first_fault_of_feature value = fault_of (document feature_of value)
-
--- the first fault of a value as a segment
-unfoldable pub first_fault_of_segment : Data → Option BadDocument
-first_fault_of_segment value = fault_of (document segment_of value)
-
--- the first fault of a value as a state
-unfoldable pub first_fault_of_state : Data → Option BadDocument
-first_fault_of_state value = fault_of (document state_of value)
-
--- the first fault of a value as a feed
-unfoldable pub first_fault_of_feed : Data → Option BadDocument
-first_fault_of_feed value = fault_of (document feed_of value)

@@ -9,16 +9,18 @@ ghost use Rattle.unl_documents.specs.declared.state.State.{State};
 ghost use Rattle.unl_documents.specs.declared.feed.Feed.{Feed};
 ghost use Rattle.unl_documents.specs.declared.feed.FeedHead.{FeedHead};
 ghost use Rattle.unl_documents.specs.declared.field.Field.{Field};
-ghost use Rattle.unl_documents.specs.Documents.{feature_of, segment_of};
+ghost use Rattle.unl_documents.specs.Documents.{feature_of, segment_of, override_of, dependency_of, payload_of, variant_of, constraint_of, strategy_of};
 ghost use Rattle.unl_documents.specs.Kinds.{document};
-ghost use Rattle.unl_documents.specs.Reads.{ReadsFeature, ReadsSegment, ReadsState, ReadsFeed, first_fault_of_feature, first_fault_of_segment, first_fault_of_state, first_fault_of_feed};
+ghost use Rattle.unl_documents.specs.Reads.{ReadsFeature, ReadsSegment, ReadsState, ReadsFeed};
+ghost use Rattle.unl_documents.specs.Faults.{fault_of, first, first_fault_of_feature, first_fault_of_segment, first_fault_of_state, first_fault_of_feed, faults_of_override, faults_of_dependency, faults_of_payload, faults_of_variant, faults_of_constraint, faults_of_strategy};
 ghost use Rattle.unl_documents.specs.Results.{json_of, IsJson};
 ghost use Rattle.unl_documents.specs.Sorting.{IsSorting, IsLeastTwice, in_order};
 ghost use Rattle.unl_documents.specs.States.{state_of, feed_of, IsValidState};
 ghost use Rattle.unl_documents.specs.Valid.{IsValidFeature, IsValidSegment};
 ghost use Rattle.unl_documents.specs.Writing.{feature_data, segment_data, feed_data};
 
-/// A value is read as a feature exactly where it reads as it, key by key, and has no fault; else its first fault is named.
+/// A value is read as a feature exactly where it reads as it, key by key, and has no fault; else the first fault of its keys
+/// is named, in the order of their table.
 pub fn features_are_read()
     ensures read { (value : Data) (f : Feature) → (document feature_of value ≡ Ok f) ↔ (ReadsFeature value f × (first_fault_of_feature value ≡ None)) }
     ensures fault { (value : Data) (e : BadDocument) → (document feature_of value ≡ Err e) ↔ (first_fault_of_feature value ≡ Some e) }
@@ -40,6 +42,16 @@ pub fn states_are_read()
 pub fn feeds_are_read()
     ensures read { (value : Data) (f : Feed) → (document feed_of value ≡ Ok f) ↔ (ReadsFeed value f × (first_fault_of_feed value ≡ None)) }
     ensures fault { (value : Data) (e : BadDocument) → (document feed_of value ≡ Err e) ↔ (first_fault_of_feed value ≡ Some e) }
+{}
+
+/// The fault of an object in a document is the first of its keys' own faults, in the order of its table.
+pub fn objects_have_their_first_fault()
+    ensures overrides { (value : Data) → fault_of (override_of value) ≡ first (faults_of_override value) }
+    ensures dependencies { (value : Data) → fault_of (dependency_of value) ≡ first (faults_of_dependency value) }
+    ensures payloads { (value : Data) → fault_of (payload_of value) ≡ first (faults_of_payload value) }
+    ensures variants { (value : Data) → fault_of (variant_of value) ≡ first (faults_of_variant value) }
+    ensures constraints { (value : Data) → fault_of (constraint_of value) ≡ first (faults_of_constraint value) }
+    ensures strategies { (value : Data) → fault_of (strategy_of value) ≡ first (faults_of_strategy value) }
 {}
 
 /// What is written of a valid document is read as it. Of a state, where it has no more than the limits let in.

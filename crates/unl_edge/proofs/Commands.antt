@@ -137,16 +137,16 @@ ends_from start coming TestFailed before after ends = absurd ends
 ends_from start coming BadWords before after ends = absurd ends
 
 -- how an upstream ends that took a draw first
-pub runs_so : (secret : List ℕ) (environments : List (List ℕ)) (book : List Token) (status : Status) (before after : Scene) (start : UpstreamState)
-    (coming : Coming) → Begins secret environments book before.coming start coming
+pub runs_so : (secret : List ℕ) (environments : List (List ℕ)) (book : List Token) (epoch : ℕ) (status : Status) (before after : Scene) (start : UpstreamState)
+    (coming : Coming) → Begins secret environments book epoch before.coming start coming
     → UpstreamEnds start coming status (record before { coming = coming }) after
-    → UpstreamRuns secret environments book status before after
-runs_so secret environments book status before after start coming begins ends = by_status status (ends_from start coming status before after ends)
+    → UpstreamRuns secret environments book epoch status before after
+runs_so secret environments book epoch status before after start coming begins ends = by_status status (ends_from start coming status before after ends)
   where
-    runs : (status : Status) → UpstreamEnds start coming status before after → RunsUpstream secret environments book status before after
+    runs : (status : Status) → UpstreamEnds start coming status before after → RunsUpstream secret environments book epoch status before after
     runs status ends = record { start = start; coming = coming; begins = begins; ends = ends }
 
-    by_status : (status : Status) → UpstreamEnds start coming status before after → UpstreamRuns secret environments book status before after
+    by_status : (status : Status) → UpstreamEnds start coming status before after → UpstreamRuns secret environments book epoch status before after
     by_status Done ends = runs Done ends
     by_status TestFailed ends = runs TestFailed ends
     by_status BadWords ends = runs BadWords ends
@@ -214,15 +214,15 @@ ends_decided start coming TestFailed before after ends read write door memory = 
 ends_decided start coming BadWords before after ends read write door memory = absurd ends
 
 -- the lines decide how an upstream ends
-pub upstream_decided : (secret : List ℕ) (environments : List (List ℕ)) (book : List Token) (status : Status) (before after : Scene)
-    → UpstreamRuns secret environments book status before after
+pub upstream_decided : (secret : List ℕ) (environments : List (List ℕ)) (book : List Token) (epoch : ℕ) (status : Status) (before after : Scene)
+    → UpstreamRuns secret environments book epoch status before after
     → status ≢ ReadFault → status ≢ WriteFault → status ≢ DoorFault → status ≢ OutOfMemory
-    → IsDecidedByLines secret environments book (code_of status) before
-upstream_decided secret environments book status before after runs read write door memory = by_status status runs read write door memory
+    → IsDecidedByLines secret environments book epoch (code_of status) before
+upstream_decided secret environments book epoch status before after runs read write door memory = by_status status runs read write door memory
   where
-    decided : (status : Status) → RunsUpstream secret environments book status before after
+    decided : (status : Status) → RunsUpstream secret environments book epoch status before after
         → status ≢ ReadFault → status ≢ WriteFault → status ≢ DoorFault → status ≢ OutOfMemory
-        → IsDecidedByLines secret environments book (code_of status) before
+        → IsDecidedByLines secret environments book epoch (code_of status) before
     decided status runs read write door memory = record {
       start = runs.start;
       coming = runs.coming;
@@ -230,9 +230,9 @@ upstream_decided secret environments book status before after runs read write do
       decided = ends_decided runs.start runs.coming status before after runs.ends read write door memory;
     }
 
-    by_status : (status : Status) → UpstreamRuns secret environments book status before after
+    by_status : (status : Status) → UpstreamRuns secret environments book epoch status before after
         → status ≢ ReadFault → status ≢ WriteFault → status ≢ DoorFault → status ≢ OutOfMemory
-        → IsDecidedByLines secret environments book (code_of status) before
+        → IsDecidedByLines secret environments book epoch (code_of status) before
     by_status Done runs read write door memory = decided Done runs read write door memory
     by_status TestFailed runs read write door memory = decided TestFailed runs read write door memory
     by_status BadWords runs read write door memory = decided BadWords runs read write door memory

@@ -25,7 +25,7 @@ at_memory : (words : WordsReading) (before after : Scene) → Ends words OutOfMe
 at_memory (Ok Replay) before after = tt
 at_memory (Ok (Check now word)) before after = tt
 at_memory (Ok (Edge port upstream upstream_tokens tokens host workers interval connections delta)) before after = tt
-at_memory (Ok (Upstream port secret environments client_tokens frontend_tokens connections)) before after = tt
+at_memory (Ok (Upstream port secret environments client_tokens frontend_tokens connections epoch)) before after = tt
 at_memory (Err Bad) before after = tt
 at_memory (Err Memory) before after = refl
 
@@ -175,8 +175,8 @@ by_words (Ok (Check now word)) status before after ends read write door memory =
     check_decided (record { now = now; word = word }) status before.left before.sent after.sent ends read write memory
 by_words (Ok (Edge port upstream upstream_tokens tokens host workers interval connections delta)) status before after ends read write door memory =
     edge_decided (length upstream_tokens) status before after ends write door memory
-by_words (Ok (Upstream port secret environments client_tokens frontend_tokens connections)) status before after ends read write door memory =
-    upstream_decided secret environments (own_book client_tokens frontend_tokens) status before after ends read write door memory
+by_words (Ok (Upstream port secret environments client_tokens frontend_tokens connections epoch)) status before after ends read write door memory =
+    upstream_decided secret environments (own_book client_tokens frontend_tokens) epoch status before after ends read write door memory
 by_words (Err Bad) status before after ends read write door memory = bad_decided _ status before.sent after.sent ends write memory
 by_words (Err Memory) status before after ends read write door memory = absurd (memory ends)
 

@@ -15,7 +15,7 @@ use Rattle.unl_documents.specs.Kinds.{any_text, text, at}
 use Rattle.unl_documents.specs.Limits.{IsUpTo}
 use Rattle.unl_documents.specs.Texts.{is_name}
 use Rattle.unl_documents.proofs.RoundTrip.{any_text_back, optional_none, required_back, text_back}
-use Rattle.unl_edge.proofs.Gathering.{gathered_same}
+use Rattle.unl_tokens.proofs.Different.{gathered_same}
 use Rattle.unl_edge.specs.OwnBook.{own_answer, own_book, own_entries, own_entry, tokens_read}
 use Rattle.unl_tokens.specs.declared.fault.BadToken.{BadToken}
 use Rattle.unl_tokens.specs.declared.kind.Kind.{Kind}

@@ -77,8 +77,8 @@ Ends (Ok Replay) status before after = ReplayEnds status before.left after.left 
 Ends (Ok (Check now word)) status before after = CheckEnds (record { now = now; word = word }) status before.left before.sent after.sent
 Ends (Ok (Edge port upstream upstream_tokens tokens host workers interval connections delta)) status before after =
     EdgeEnds (length upstream_tokens) status before after
-Ends (Ok (Upstream port secret environments client_tokens frontend_tokens connections)) status before after =
-    UpstreamRuns secret environments (own_book client_tokens frontend_tokens) status before after
+Ends (Ok (Upstream port secret environments client_tokens frontend_tokens connections epoch)) status before after =
+    UpstreamRuns secret environments (own_book client_tokens frontend_tokens) epoch status before after
 Ends (Err Bad) status before after = SendsLine bad_words BadWords status before.sent after.sent
 Ends (Err Memory) status before after = status ≡ OutOfMemory
 
@@ -94,7 +94,7 @@ IsDecided (Ok Replay) code before = IfSome before.left (λ bytes. code ≡ code_
 IsDecided (Ok (Check now word)) code before =
     IfSome before.left (λ bytes. code ≡ code_of (said_of (report_of (record { now = now; word = word }) bytes)).status)
 IsDecided (Ok (Edge port upstream upstream_tokens tokens host workers interval connections delta)) code before = code ≡ 0
-IsDecided (Ok (Upstream port secret environments client_tokens frontend_tokens connections)) code before =
-    IsDecidedByLines secret environments (own_book client_tokens frontend_tokens) code before
+IsDecided (Ok (Upstream port secret environments client_tokens frontend_tokens connections epoch)) code before =
+    IsDecidedByLines secret environments (own_book client_tokens frontend_tokens) epoch code before
 IsDecided (Err Bad) code before = code ≡ 2
 IsDecided (Err Memory) code before = code ≡ 6

@@ -23,10 +23,10 @@ abbrev pub connections_line : ℕ → List ℕ
 connections_line served = codes "connections " ++ (decimal served ++ codes "\n")
 
 -- an upstream begins, and takes a draw for its boot number
-pub record Begins (secret : List ℕ) (environments : List (List ℕ)) (book : List Token) (coming : Coming) (start : UpstreamState) (coming_after : Coming) : Type 0 where
+pub record Begins (secret : List ℕ) (environments : List (List ℕ)) (book : List Token) (epoch : ℕ) (coming : Coming) (start : UpstreamState) (coming_after : Coming) : Type 0 where
   pub draw : Draw
   pub taken : TakesDraw coming draw coming_after
-  pub opens : start ≡ opening draw.word secret environments book
+  pub opens : start ≡ opening draw.word secret environments book epoch
 
 -- the upstream, the draws to come and the links, as they stand while links are served
 abbrev pub hosting : UpstreamState → Coming → Scene → Hosting
@@ -90,20 +90,20 @@ UpstreamEnds start coming TestFailed before after = ⊥
 UpstreamEnds start coming BadWords before after = ⊥
 
 -- an upstream of these words began, and ended so
-pub record RunsUpstream (secret : List ℕ) (environments : List (List ℕ)) (book : List Token) (status : Status) (before after : Scene) : Type 0 where
+pub record RunsUpstream (secret : List ℕ) (environments : List (List ℕ)) (book : List Token) (epoch : ℕ) (status : Status) (before after : Scene) : Type 0 where
   pub start : UpstreamState
   pub coming : Coming
-  pub begins : Begins secret environments book before.coming start coming
+  pub begins : Begins secret environments book epoch before.coming start coming
   pub ends : UpstreamEnds start coming status before after
 
 -- how an upstream of these words ends, unless memory ran out
-abbrev pub UpstreamRuns : List ℕ → List (List ℕ) → List Token → Status → Scene → Scene → Type 0
-UpstreamRuns secret environments book OutOfMemory before after = ⊤
-UpstreamRuns secret environments book status before after = RunsUpstream secret environments book status before after
+abbrev pub UpstreamRuns : List ℕ → List (List ℕ) → List Token → ℕ → Status → Scene → Scene → Type 0
+UpstreamRuns secret environments book epoch OutOfMemory before after = ⊤
+UpstreamRuns secret environments book epoch status before after = RunsUpstream secret environments book epoch status before after
 
 -- the number is that of how the lines end, from what an upstream of these words begins with
-pub record IsDecidedByLines (secret : List ℕ) (environments : List (List ℕ)) (book : List Token) (code : ℕ) (before : Scene) : Type 0 where
+pub record IsDecidedByLines (secret : List ℕ) (environments : List (List ℕ)) (book : List Token) (epoch : ℕ) (code : ℕ) (before : Scene) : Type 0 where
   pub start : UpstreamState
   pub coming : Coming
-  pub begins : Begins secret environments book before.coming start coming
+  pub begins : Begins secret environments book epoch before.coming start coming
   pub decided : IfSome before.left (λ bytes. code ≡ code_of (ending_status (outcome_of obeying start bytes).ending))

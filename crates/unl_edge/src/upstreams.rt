@@ -26,10 +26,11 @@ pub fn run_upstream<I: Source, O: Sink, D: Door, P: Peer, R: Draws, T: Pace, W: 
     environments: &List<Text>,
     client_tokens: &List<Text>,
     frontend_tokens: &List<Text>,
+    epoch: u64,
     world: &mut World<I, O, D, P, R, T, W>,
 ) -> Status
     requires { IsUpstream port secret.now environments.now client_tokens.now frontend_tokens.now }
-    ensures runs { UpstreamRuns secret.now environments.now (own_book client_tokens.now frontend_tokens.now) result world.old world.new }
+    ensures runs { UpstreamRuns secret.now environments.now (own_book client_tokens.now frontend_tokens.now) epoch result world.old world.new }
     ensures read { result ≡ Status.ReadFault → Rose world.old.input_faults world.new.input_faults }
     ensures write { result ≡ Status.WriteFault → Rose world.old.output_faults world.new.output_faults }
     ensures door { result ≡ Status.DoorFault → Rose world.old.door_faults world.new.door_faults }
@@ -42,6 +43,7 @@ pub fn run_upstream<I: Source, O: Sink, D: Door, P: Peer, R: Draws, T: Pace, W: 
         environments,
         client_tokens,
         frontend_tokens,
+        epoch,
     ) {
         Ok(mut up) => take_commands(alloc, port, &mut up, world),
         Err(Memory) => Status::OutOfMemory,
@@ -56,12 +58,13 @@ fn begin(
     environments: &List<Text>,
     client_tokens: &List<Text>,
     frontend_tokens: &List<Text>,
+    epoch: u64,
 ) -> Result<Upstream, Memory>
     requires { (port : ℕ) × IsUpstream port secret.now environments.now client_tokens.now frontend_tokens.now }
-    ensures { IfOk result (λ up. up ≡ opening boot secret.now environments.now (own_book client_tokens.now frontend_tokens.now)) }
+    ensures { IfOk result (λ up. up ≡ opening boot secret.now environments.now (own_book client_tokens.now frontend_tokens.now) epoch) }
 {
     let book = own_book(alloc, client_tokens, frontend_tokens)?;
-    Upstream::new(alloc, boot, secret.as_str(), environments, book)
+    Upstream::new(alloc, boot, secret.as_str(), environments, book, epoch)
 }
 
 /// Takes the commands of the input's lines, and then serves the links of the door.

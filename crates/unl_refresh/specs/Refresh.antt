@@ -1,11 +1,11 @@
 -- What comes of what a server replied.
-use Rattle.std.specs.Prelude.{◌≡◌, ℕ, ◌+◌, ◌==◌, Bool, not, List, [], Option, Some, None, option_map, Result, Ok, Err, ok_or, codes, if◌then◌else◌}
+use Rattle.std.specs.Prelude.{◌≡◌, ℕ, ◌==◌, Bool, not, List, [], Option, Some, None, option_map, Result, Ok, Err, ok_or, codes, if◌then◌else◌}
 use Rattle.unl_delta.specs.declared.batch.Batch.{Batch as TheBatch}
 use Rattle.unl_delta.specs.declared.batch.Verdict.{Verdict}
 use Rattle.unl_delta.specs.declared.batch.Verdict.TheVariants as verdict
 use Rattle.unl_delta.specs.declared.version.Place.{Place}
 use Rattle.unl_delta.specs.Batch.{verdict_of}
-use Rattle.unl_delta.specs.Installing.{Installed, after_hold, after_install, place_of}
+use Rattle.unl_delta.specs.Installing.{Installed, after_batch as taken_by, place_of}
 use Rattle.unl_delta.specs.Reading.{BatchReading, batch_of_bytes, batch_of_feed}
 use Rattle.unl_documents.specs.declared.feed.Feed.{Feed as TheFeed}
 use Rattle.unl_documents.specs.Reading.{Reading}
@@ -67,15 +67,29 @@ pub record Refreshed : Type 0 where
 abbrev pub unread : Bad → Installed → Refreshed
 unread bad before = record { outcome = BadAnswer bad; installed = before; tag = None }
 
+-- the outcome of a verdict, at the front that stands after it
+abbrev pub outcome_of : Verdict → ℕ → Outcome
+outcome_of verdict.Apply front = Published front
+outcome_of verdict.Repeat front = Repeat
+outcome_of verdict.Old front = Old
+outcome_of verdict.Gap front = Gap
+outcome_of verdict.Held front = Held
+
+-- the tag of the next ask: none where the server must answer all that stands
+abbrev pub tag_after : Verdict → Option (List ℕ) → Option (List ℕ)
+tag_after verdict.Apply tag = tag
+tag_after verdict.Repeat tag = tag
+tag_after verdict.Old tag = None
+tag_after verdict.Gap tag = None
+tag_after verdict.Held tag = None
+
 -- by what the place does with the batch, which came with a tag
 abbrev pub after_verdict : ℕ → TheBatch → Option (List ℕ) → Installed → Verdict → Refreshed
-after_verdict slot batch tag before verdict.Apply =
-    record { outcome = Published (before.front + 1); installed = after_install slot batch before; tag = tag }
-after_verdict slot batch tag before verdict.Repeat = record { outcome = Repeat; installed = before; tag = tag }
-after_verdict slot batch tag before verdict.Old = record { outcome = Old; installed = before; tag = None }
-after_verdict slot batch tag before verdict.Gap =
-    record { outcome = Gap; installed = after_hold slot before; tag = None }
-after_verdict slot batch tag before verdict.Held = record { outcome = Held; installed = before; tag = None }
+after_verdict slot batch tag before v = record {
+  outcome = outcome_of v (taken_by v slot batch before).front;
+  installed = taken_by v slot batch before;
+  tag = tag_after v tag;
+}
 
 -- by the batch that the body is
 abbrev pub after_batch : ℕ → Option (List ℕ) → Installed → Result TheBatch Bad → Refreshed

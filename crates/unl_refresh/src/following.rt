@@ -5,12 +5,12 @@ ghost use Rattle.unl_delta.specs.Installing.{place_of};
 ghost use Rattle.unl_delta.specs.Valid.{IsValidBatch};
 ghost use Rattle.unl_http_api.specs.RequestText.{fits_if_any};
 ghost use Rattle.unl_refresh.specs.Named.{IsNamedOutcome};
-ghost use Rattle.unl_refresh.specs.Refresh.{after_reading, after_reply, after_verdict, number_held};
+ghost use Rattle.unl_refresh.specs.Refresh.{after_reading, after_reply, after_verdict, number_held, outcome_of, tag_after};
 
 use crate::batches::read_batch;
 use crate::outcome::{Bad, Outcome};
 use std::alloc::Global;
-use unl_delta::{Batch, Installer, Verdict, verdict};
+use unl_delta::{Batch, Installer, Verdict, take_batch};
 use unl_documents::Memory;
 use unl_http_api::{BadReply, Bytes, Got};
 
@@ -123,24 +123,35 @@ fn follow_batch<I: Installer>(
     ensures fits { IfOk result (λ taken. IsTrue (fits_if_any taken.tag)) }
     ensures memory { OnErr result (I.installed to.new ≡ I.installed to.old) }
 {
-    match verdict(to.place(slot), batch) {
-        Verdict::Apply => match to.install(alloc, slot, batch) {
-            Ok(front) => Ok(with_tag(Outcome::Published(front), tag)),
-            Err(Memory) => Err(Memory),
-        },
-        Verdict::Repeat => Ok(with_tag(Outcome::Repeat, tag)),
-        Verdict::Old => Ok(with_tag(Outcome::Old, None)),
-        Verdict::Gap => {
-            to.hold(slot);
-            Ok(with_tag(Outcome::Gap, None))
-        }
-        Verdict::Held => Ok(with_tag(Outcome::Held, None)),
+    let verdict = take_batch(alloc, to, slot, batch)?;
+    Ok(Taken {
+        outcome: outcome_of(verdict, to.front()),
+        tag: tag_after(verdict, tag),
+    })
+}
+
+/// The outcome of a verdict, at the front that stands after it.
+fn outcome_of(verdict: Verdict, front: u64) -> Outcome
+    ensures outcome { result ≡ outcome_of verdict front }
+    ensures named { IsNamedOutcome result }
+{
+    match verdict {
+        Verdict::Apply => Outcome::Published(front),
+        Verdict::Repeat => Outcome::Repeat,
+        Verdict::Old => Outcome::Old,
+        Verdict::Gap => Outcome::Gap,
+        Verdict::Held => Outcome::Held,
     }
 }
 
-/// An outcome, with the tag for the next ask.
-fn with_tag(outcome: Outcome, tag: Option<Bytes>) -> Taken
-    ensures { result ≡ record { outcome = outcome; tag = tag } }
+/// The tag of the next ask: none where the server must answer all that stands.
+fn tag_after(verdict: Verdict, tag: Option<Bytes>) -> Option<Bytes>
+    requires { IsTrue (fits_if_any tag) }
+    ensures after { result ≡ tag_after verdict tag }
+    ensures fits { IsTrue (fits_if_any result) }
 {
-    Taken { outcome, tag }
+    match verdict {
+        Verdict::Apply | Verdict::Repeat => tag,
+        Verdict::Old | Verdict::Gap | Verdict::Held => None,
+    }
 }

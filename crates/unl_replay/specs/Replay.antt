@@ -9,12 +9,14 @@ use Rattle.unl_core.specs.Board.{slot_of, snapshot_in}
 use Rattle.unl_core.specs.Same.{same_book}
 use Rattle.unl_core.specs.declared.desk.Answer.{Answer}
 use Rattle.unl_core.specs.Settling.{final_book, final_reply}
-use Rattle.unl_core.specs.Standing.{Standing, installed_by, with_name, with_batch, with_hold, with_book}
+use Rattle.unl_core.specs.Tag.{with_epoch}
+use Rattle.unl_core.specs.Standing.{Standing, has_room, installed_by, with_name, with_batch, with_hold, with_book}
 use Rattle.unl_delta.specs.declared.batch.Batch.{Batch}
 use Rattle.unl_delta.specs.declared.batch.Verdict.{Verdict}
 use Rattle.unl_delta.specs.declared.batch.Verdict.TheVariants.{Apply, Repeat, Old, Gap, Held}
 use Rattle.unl_delta.specs.Batch.{verdict_of}
 use Rattle.unl_delta.specs.Installing.{place_of}
+use Rattle.unl_delta.specs.Revision.{Revision, revision_of}
 use Rattle.unl_documents.specs.declared.fault.BadDocument.TheVariants.{NotJson, WrongKind}
 use Rattle.unl_documents.specs.declared.field.Field.TheVariants as field
 use Rattle.unl_documents.specs.Kinds.{any_text, name, required}
@@ -41,14 +43,14 @@ same_line k = decimal k ++ codes ": same\n"
 abbrev pub tokens_line : ℕ → ℕ → ℕ → List ℕ
 tokens_line k generation front = decimal k ++ (codes ": tokens generation " ++ (decimal generation ++ (codes " front " ++ (decimal front ++ codes "\n"))))
 
--- a number, where there is one
-abbrev pub number_text : Option ℕ → List ℕ
-number_text None = codes "-"
-number_text (Some n) = decimal n
+-- the number of a revision, after its epoch and a point where the epoch isn't 0
+abbrev pub revision_text : Option Revision → List ℕ
+revision_text None = codes "-"
+revision_text (Some now) = with_epoch now.epoch (decimal now.number)
 
 -- the word of a verdict, and where the environment stands then
 abbrev pub verdict_line : ℕ → List ℕ → List ℕ → ℕ → List ℕ
-verdict_line k word number front = decimal k ++ (codes ": " ++ (word ++ (codes " number " ++ (number ++ (codes " front " ++ (decimal front ++ codes "\n"))))))
+verdict_line k word revision front = decimal k ++ (codes ": " ++ (word ++ (codes " number " ++ (revision ++ (codes " front " ++ (decimal front ++ codes "\n"))))))
 
 -- a tag, where there is one
 abbrev pub tag_or_dash : Option (List ℕ) → List ℕ
@@ -79,21 +81,33 @@ put_tokens k tokens d =
 abbrev pub number_in : List ℕ → Board → Option ℕ
 number_in environment board = option_map (λ version. version.number) (snapshot_in environment board.slots)
 
--- the number at which a slot stands
-abbrev pub number_at : ℕ → Standing → Option ℕ
-number_at slot d = option_map (λ version. version.number) (place_of (installed_by d) slot).version
+-- the revision at which a slot stands, where it has a state
+abbrev pub revision_at : ℕ → Standing → Option Revision
+revision_at slot d = option_map revision_of (place_of (installed_by d) slot).version
 
 -- what is printed of a verdict, with the desk after it
 abbrev pub judged_as : ℕ → List ℕ → ℕ → Standing → Answered
-judged_as k word slot after = record { text = verdict_line k word (number_text (number_at slot after)) after.front; desk = after }
+judged_as k word slot after = record { text = verdict_line k word (revision_text (revision_at slot after)) after.front; desk = after }
+
+-- the word of a verdict
+abbrev pub word_of : Verdict → List ℕ
+word_of Apply = codes "apply"
+word_of Repeat = codes "repeat"
+word_of Old = codes "old"
+word_of Gap = codes "gap"
+word_of Held = codes "held"
+
+-- what a batch does to the desk by its verdict
+abbrev pub after_verdict : Verdict → ℕ → Batch → Standing → Standing
+after_verdict Apply slot batch d = with_batch slot batch d
+after_verdict Gap slot batch d = with_hold slot d
+after_verdict Repeat slot batch d = d
+after_verdict Old slot batch d = d
+after_verdict Held slot batch d = d
 
 -- what a batch does by its verdict, and its line
 abbrev pub judged : ℕ → ℕ → Batch → Standing → Verdict → Answered
-judged k slot batch d Apply = judged_as k (codes "apply") slot (with_batch slot batch d)
-judged k slot batch d Repeat = judged_as k (codes "repeat") slot d
-judged k slot batch d Old = judged_as k (codes "old") slot d
-judged k slot batch d Gap = judged_as k (codes "gap") slot (with_hold slot d)
-judged k slot batch d Held = judged_as k (codes "held") slot d
+judged k slot batch d v = judged_as k (word_of v) slot (after_verdict v slot batch d)
 
 -- a batch arrives at a slot, if there is one
 abbrev pub arrive : ℕ → Batch → Standing → Option ℕ → LineReading Answered
@@ -108,14 +122,19 @@ put_batch k environment d batch = arrive k batch (with_name environment d) (slot
 abbrev pub tokens_of_line : ℕ → Standing → Data → LineReading Answered
 tokens_of_line k d line = and_then (refusing refusal_for_book (book_of line)) (λ tokens. Ok (put_tokens k tokens d))
 
+-- the environment of a line, which has its slot or finds room for one
+abbrev pub environment_in : Standing → Data → LineReading (List ℕ)
+environment_in d line = and_then (documented (required name field.Environment line)) (λ environment.
+    if has_room environment d.board.slots then Ok environment else Err TooManyEnvironments)
+
 -- the answer to a line with a batch
 abbrev pub batch_of_line : ℕ → Standing → Data → LineReading Answered
-batch_of_line k d line = and_then (documented (required name field.Environment line)) (λ environment.
+batch_of_line k d line = and_then (environment_in d line) (λ environment.
     and_then (batch_in (number_in environment d.board) line) (put_batch k environment d))
 
 -- the answer to a line with a feed
 abbrev pub feed_of_line : ℕ → Standing → Data → LineReading Answered
-feed_of_line k d line = and_then (documented (required name field.Environment line)) (λ environment.
+feed_of_line k d line = and_then (environment_in d line) (λ environment.
     and_then (feed_in line) (put_batch k environment d))
 
 -- ---- one line, beside the book of metrics

@@ -2,10 +2,12 @@
 ghost use Rattle.std.specs.Prelude.{◌≡◌, ◌+◌, ◌-◌, ◌^◌, ◌<◌, ◌≤◌, Ok, IfOk, string_bytes, length, decimal};
 ghost use Rattle.serde_json.specs.View.{view};
 ghost use Rattle.unl_core.specs.Standing.{installed_by};
+ghost use Rattle.unl_core.specs.Tag.{with_epoch};
 ghost use Rattle.unl_delta.specs.Batch.{verdict_of};
 ghost use Rattle.unl_delta.specs.Installing.{place_of};
 ghost use Rattle.unl_delta.specs.Valid.{IsValidBatch};
-ghost use Rattle.unl_replay.specs.Replay.{batch_of_line, feed_of_line, judged, judged_as, number_at, number_in, number_text, put_batch, put_tokens, same_line, tokens_line, tokens_of_line, verdict_line};
+ghost use Rattle.unl_replay.specs.Replay.{batch_of_line, environment_in, feed_of_line, judged, judged_as, number_in, put_batch, revision_at, revision_text, put_tokens, same_line, tokens_line, tokens_of_line, verdict_line, word_of};
+ghost use Rattle.unl_replay.specs.Refusals.{Gives};
 ghost use Rattle.unl_replay.specs.Steps.{Steps};
 
 use crate::batch::{batch_in, feed_in};
@@ -13,8 +15,8 @@ use crate::refusal::Refusal;
 use serde_json::Value;
 use std::alloc::{AllocError, Global};
 use unl_core::OneDesk;
-use unl_delta::{Batch, Installer, Verdict, verdict};
-use unl_documents::Field;
+use unl_delta::{Batch, Installer, Verdict, take_batch};
+use unl_documents::{Field, Text};
 use unl_documents::keys::required;
 use unl_documents::kind::Name;
 use unl_tokens::Book;
@@ -29,21 +31,24 @@ fn number_in(desk: &OneDesk, environment: &str) -> Option<u64>
     }
 }
 
-/// The number at which a slot stands, as it is printed.
-fn number_text(alloc: Global, desk: &OneDesk, slot: usize) -> Result<String, AllocError>
+/// The revision at which a slot stands, as it is printed.
+fn revision_text(alloc: Global, desk: &OneDesk, slot: usize) -> Result<String, AllocError>
     requires { slot < length desk.now.places }
-    ensures { IfOk result (λ s. string_bytes s ≡ number_text (number_at slot desk.now)) }
+    ensures { IfOk result (λ s. string_bytes s ≡ revision_text (revision_at slot desk.now)) }
 {
     match &desk.place(slot).version {
         None => String::from_str(alloc, "-"),
-        Some(version) => decimal_of(alloc, version.get().number),
+        Some(version) => text_of(alloc, version.get().epoch, version.get().number),
     }
 }
 
-fn decimal_of(alloc: Global, number: u64) -> Result<String, AllocError>
-    ensures { IfOk result (λ s. string_bytes s ≡ decimal number) }
+fn text_of(alloc: Global, epoch: u64, number: u64) -> Result<String, AllocError>
+    ensures { IfOk result (λ s. string_bytes s ≡ with_epoch epoch (decimal number)) }
 {
-    format!(in alloc; "{number}")
+    if epoch == 0 {
+        return format!(in alloc; "{number}");
+    }
+    format!(in alloc; "{epoch}.{number}")
 }
 
 fn same_line(alloc: Global, number: u64) -> Result<String, AllocError>
@@ -105,11 +110,12 @@ fn judged_as(
     requires { slot < length desk.now.places }
     ensures { Steps result desk.now (Ok (judged_as number word.now slot desk.now)) }
 {
-    let version = number_text(alloc, desk, slot)?;
+    let version = revision_text(alloc, desk, slot)?;
     Ok(verdict_line(alloc, number, word, version.as_str(), desk.front())?.into_bytes())
 }
 
 /// A batch is judged at a slot, and taken where it applies.
+#[tactic(auto, using(crate::proofs::Judging::judged_so))]
 fn judge(
     alloc: Global,
     desk: &mut OneDesk,
@@ -123,18 +129,19 @@ fn judge(
     ensures given { Steps result desk.new (Ok (judged number slot batch.now desk.old (verdict_of (place_of (installed_by desk.old) slot) batch.now))) }
     ensures front { desk.new.front ≤ desk.old.front + 1 }
 {
-    match verdict(desk.place(slot), batch) {
-        Verdict::Apply => {
-            desk.install(alloc, slot, batch)?;
-            judged_as(alloc, desk, number, "apply", slot)
-        }
-        Verdict::Repeat => judged_as(alloc, desk, number, "repeat", slot),
-        Verdict::Old => judged_as(alloc, desk, number, "old", slot),
-        Verdict::Gap => {
-            desk.hold(slot);
-            judged_as(alloc, desk, number, "gap", slot)
-        }
-        Verdict::Held => judged_as(alloc, desk, number, "held", slot),
+    let verdict = take_batch(alloc, desk, slot, batch)?;
+    judged_as(alloc, desk, number, word_of(verdict), slot)
+}
+
+fn word_of(verdict: Verdict) -> &'static str
+    ensures { result.now ≡ word_of verdict }
+{
+    match verdict {
+        Verdict::Apply => "apply",
+        Verdict::Repeat => "repeat",
+        Verdict::Old => "old",
+        Verdict::Gap => "gap",
+        Verdict::Held => "held",
     }
 }
 
@@ -172,7 +179,19 @@ pub(crate) fn tokens_of_line(
     put_tokens(alloc, desk, number, tokens)
 }
 
+/// The environment of a line, which has its slot or finds room for one.
 #[tactic(auto, using(crate::proofs::RefusalLemmas::refused))]
+fn environment_in(alloc: Global, desk: &OneDesk, line: &Value) -> Result<Text, Refusal>
+    ensures { Gives result (environment_in desk.now (view line.now)) }
+{
+    let environment = required::<Name>(alloc, Field::Environment, line)?;
+    if desk.has_room(environment.as_str()) {
+        Ok(environment)
+    } else {
+        Err(Refusal::TooManyEnvironments)
+    }
+}
+
 pub(crate) fn batch_of_line(
     alloc: Global,
     desk: &mut OneDesk,
@@ -183,13 +202,12 @@ pub(crate) fn batch_of_line(
     ensures given { Steps result desk.new (batch_of_line number desk.old (view line.now)) }
     ensures front { desk.new.front ≤ desk.old.front + 1 }
 {
-    let environment = required::<Name>(alloc, Field::Environment, line)?;
+    let environment = environment_in(alloc, desk, line)?;
     let held = number_in(desk, environment.as_str());
     let batch = batch_in(alloc, held, line)?;
     put_batch(alloc, desk, number, environment.as_str(), &batch)
 }
 
-#[tactic(auto, using(crate::proofs::RefusalLemmas::refused))]
 pub(crate) fn feed_of_line(
     alloc: Global,
     desk: &mut OneDesk,
@@ -200,7 +218,7 @@ pub(crate) fn feed_of_line(
     ensures given { Steps result desk.new (feed_of_line number desk.old (view line.now)) }
     ensures front { desk.new.front ≤ desk.old.front + 1 }
 {
-    let environment = required::<Name>(alloc, Field::Environment, line)?;
+    let environment = environment_in(alloc, desk, line)?;
     let batch = feed_in(alloc, line)?;
     put_batch(alloc, desk, number, environment.as_str(), &batch)
 }

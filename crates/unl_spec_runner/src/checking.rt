@@ -1,5 +1,5 @@
 //! The check of an input.
-ghost use Rattle.std.specs.Prelude.{◌≤◌, IsErrOf};
+ghost use Rattle.std.specs.Prelude.{◌≢◌, ◌≤◌, Err, IsErrOf};
 ghost use Rattle.unl_base.specs.Faults.{Rose};
 ghost use Rattle.unl_documents.specs.Reading.{Gives};
 ghost use Rattle.unl_spec_runner.specs.Check.{Checks, accepted};
@@ -26,9 +26,11 @@ pub fn check<S: Source, K: Sink>(
     sink: &mut K,
     draw: &Draw,
 ) -> Result<Summary, CheckFault>
-    // The report was sent, and the summary has its counts; or the input is refused and nothing was sent; or a front of
-    // the report was sent.
-    ensures checks { Checks result draw.entry.now (S.left source.old) (K.sent sink.old) (K.sent sink.new) }
+    // The whole input was read. Its report was sent, and the summary has its counts; or it is refused and nothing was
+    // sent; or a front of the report was sent.
+    ensures checks { Checks result draw.entry.now (S.left source.old) (S.left source.new) (K.sent sink.old) (K.sent sink.new) }
+    // Want of memory is no fault of the input.
+    ensures named { result ≢ Err (CheckFault.BadFile BadDocument.Memory) }
     // It doesn't give up by itself.
     ensures read { IsErrOf result CheckFault.ReadFault → Rose (S.faults source.old) (S.faults source.new) }
     ensures write { IsErrOf result CheckFault.WriteFault → Rose (K.faults sink.old) (K.faults sink.new) }

@@ -16,7 +16,7 @@ const LONGEST: usize = 16_777_216;
 
 /// All bytes to come, where they are not too many.
 pub fn read_input<S: Source>(alloc: Global, source: &mut S) -> Result<List<u8>, CheckFault>
-    ensures read { HasRead result (S.left source.old) }
+    ensures read { HasRead result (S.left source.old) (S.left source.new) }
     ensures failed { IsErrOf result CheckFault.ReadFault → Rose (S.faults source.old) (S.faults source.new) }
     ensures later { S.faults source.old ≤ S.faults source.new }
 {
@@ -31,7 +31,7 @@ fn read_to_end<S: Source>(
     room: &mut [u8],
 ) -> Result<List<u8>, CheckFault>
     requires { 0 < length room.old }
-    ensures read { HasRead result (S.left source.old) }
+    ensures read { HasRead result (S.left source.old) (S.left source.new) }
     ensures failed { IsErrOf result CheckFault.ReadFault → Rose (S.faults source.old) (S.faults source.new) }
     ensures later { S.faults source.old ≤ S.faults source.new }
 {

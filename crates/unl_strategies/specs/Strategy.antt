@@ -1,13 +1,14 @@
 -- When a strategy is active, by the strategies of the Unleash strategy reference.
-use Rattle.std.specs.Prelude.{ℕ, List, [], Bool, true, false, ◌&&◌, ◌==◌, Option, Some, codes, unwrap_or, if◌then◌else◌}
-use Rattle.std.specs.List.{list_all, find}
+use Rattle.std.specs.Prelude.{ℕ, List, [], ◌∷◌, Bool, true, false, ◌&&◌, Option, Some, None, codes, unwrap_or, if◌then◌else◌}
+use Rattle.std.specs.List.{list_all}
 use Rattle.std.specs.Option.{option_map_or, option_or}
 use Rattle.std.specs.Fmt.{decimal}
 use Rattle.std.specs.Str.{bytes_eq}
 use Rattle.unl_documents.specs.declared.parameters.Pair.{Pair}
 use Rattle.unl_documents.specs.declared.segment.Segment.{Segment}
 use Rattle.unl_documents.specs.declared.strategy.Strategy.{Strategy}
-use Rattle.unl_context.specs.Context.{Fields, field_of, filled, property}
+use Rattle.unl_documents.specs.Inline.{segment_of}
+use Rattle.unl_context.specs.Context.{Fields, field_of, filled}
 use Rattle.unl_constraints.specs.Constraint.{all_hold}
 use Rattle.unl_strategies.specs.declared.moment.Mark.TheVariants as mark
 use Rattle.unl_strategies.specs.Moment.{Moment}
@@ -16,9 +17,14 @@ use Rattle.unl_strategies.specs.Percent.{percent_of}
 use Rattle.unl_strategies.specs.Random.{random_number, random_id}
 use Rattle.unl_strategies.specs.Rollout.{is_rolled_out, is_drawn}
 
+-- the value of a parameter, as it stands
+abbrev pub value_at : List ℕ → List Pair → Option (List ℕ)
+value_at key [] = None
+value_at key (p ∷ ps) = if bytes_eq p.key key then Some p.value else value_at key ps
+
 -- the value of a parameter; one of no bytes counts as absent
 unfoldable pub parameter : List ℕ → List Pair → Option (List ℕ)
-parameter key parameters = filled (property key parameters)
+parameter key parameters = filled (value_at key parameters)
 
 -- the value of a parameter, or another text where it is absent
 unfoldable pub parameter_or : List ℕ → List ℕ → List Pair → List ℕ
@@ -79,10 +85,6 @@ rule_holds s feature index context moment =
     if bytes_eq s.name (codes "applicationHostname") then is_host_listed (parameter_or [] (codes "hostNames") s.parameters) moment.host else (
     if bytes_eq s.name (codes "flexibleRollout") then is_flexibly_rolled_out s.parameters feature (random_at feature index moment) context else
     false)))))))
-
--- the segment of an id, if there is one
-abbrev pub segment_of : ℕ → List Segment → Option Segment
-segment_of id segments = find (λ s. s.id == id) segments
 
 -- there is a segment of the id, and all its constraints hold
 unfoldable pub is_met : List Segment → Fields → ℕ → ℕ → Bool

@@ -1,7 +1,7 @@
 //! The parameters of a strategy.
 ghost use Rattle.std.specs.Prelude.{◌≡◌, option_map};
-ghost use Rattle.unl_context.specs.Context.{filled, property};
-ghost use Rattle.unl_strategies.specs.Strategy.{parameter as value_in, parameter_or as value_or};
+ghost use Rattle.unl_context.specs.Context.{filled};
+ghost use Rattle.unl_strategies.specs.Strategy.{parameter as value_in, parameter_or as value_or, value_at};
 
 use unl_documents::{List, Pair, Text};
 
@@ -22,7 +22,7 @@ pub fn parameter_or<'a>(parameters: &'a List<Pair>, key: &str, other: &'a str) -
 }
 
 fn value_of<'a>(key: &str, parameters: &'a [Pair]) -> Option<&'a Text>
-    ensures { option_map (λ text. text.now) result ≡ property key.now parameters.now }
+    ensures { option_map (λ text. text.now) result ≡ value_at key.now parameters.now }
 {
     for one in parameters {
         if one.key.as_str() == key {

@@ -1,31 +1,12 @@
 //! The segments that strategies name.
-ghost use Rattle.std.specs.Prelude.{◌≡◌, IfOk, option_map};
+ghost use Rattle.std.specs.Prelude.{◌≡◌, IfOk};
 ghost use Rattle.std.specs.List.{list_all};
-ghost use Rattle.unl_strategies.specs.Strategy.{segment_of as segment_with, is_met as is_met_by};
+ghost use Rattle.unl_strategies.specs.Strategy.{is_met as is_met_by};
 
 use std::alloc::Global;
 use unl_constraints::segment_holds;
 use unl_context::Context;
-use unl_documents::{List, Memory, Segment, Shared};
-
-/// The first segment of an id, if the list has one. No more than one has it where the ids rise.
-pub fn segment_of(segments: &List<Shared<Segment>>, id: u64) -> Option<&Segment>
-    ensures { option_map (λ s. s.now) result ≡ segment_with id segments.now }
-{
-    first_of(segments.as_slice(), id)
-}
-
-fn first_of(segments: &[Shared<Segment>], id: u64) -> Option<&Segment>
-    ensures { option_map (λ s. s.now) result ≡ segment_with id segments.now }
-{
-    for shared in segments {
-        let segment = shared.get();
-        if segment.id == id {
-            return Some(segment);
-        }
-    }
-    None
-}
+use unl_documents::{List, Memory, Segment, Shared, segment_of};
 
 /// Whether the list has a segment of each id, and the context meets it. `now` is in milliseconds since 1970.
 pub(crate) fn all_met(

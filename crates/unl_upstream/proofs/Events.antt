@@ -5,7 +5,7 @@ use Rattle.std.specs.List.{AllByRecursion as Every}
 use Rattle.unl_delta.specs.declared.event.Event.{Event}
 use Rattle.unl_delta.specs.declared.event.Event.TheVariants.{Hydration, FeatureUpdated, FeatureRemoved, SegmentUpdated, SegmentRemoved}
 use Rattle.unl_delta.specs.declared.version.EnvVersion.{EnvVersion}
-use Rattle.unl_delta.specs.Batch.{empty_version, go_on}
+use Rattle.unl_delta.specs.Batch.{empty_at, go_on}
 use Rattle.unl_delta.specs.History.{IsHistory, IsTrueOf, StandsFor, everything}
 use Rattle.unl_delta.specs.State.{empty_state, fold_events, is_change, later, number_of, project_of, step, up_to}
 use Rattle.unl_delta.specs.Valid.{NeverFall}
@@ -136,14 +136,14 @@ folded (x ∷ xs) e s = folded xs e (step x s)
 
 -- ---- a version that follows accepted commands
 
-pub record Follows (commands : List Command) (v : EnvVersion) : Type 0 where
-  pub history : IsHistoryOf commands v
+pub record Follows (epoch : ℕ) (commands : List Command) (v : EnvVersion) : Type 0 where
+  pub history : IsHistoryOf epoch commands v
   pub state : v.state ≡ fold_events (history_of commands) empty_state
 
-pub nothing_follows : Follows [] empty_version
+pub nothing_follows : (epoch : ℕ) → Follows epoch [] (empty_at epoch)
 unfolding later up_to
-nothing_follows = record {
-  history = record { stands = record { moment = inl refl; state = refl; base = omega arith; entries = refl }; number = refl };
+nothing_follows epoch = record {
+  history = record { era = refl; stands = record { moment = inl refl; state = refl; base = omega arith; entries = refl }; number = refl };
   state = refl;
 }
 
@@ -154,8 +154,8 @@ goes_on v (FeatureRemoved n name project) change = refl
 goes_on v (SegmentUpdated n segment) change = refl
 goes_on v (SegmentRemoved n id) change = refl
 
-pub one_follows : (commands : List Command) (c : Command) (v : EnvVersion) (e : Event) → Follows commands v → event_of c v ≡ Ok e → Follows (commands ++ c ∷ []) (version_after v e)
-one_follows commands c v e follows told =
+pub one_follows : (epoch : ℕ) (commands : List Command) (c : Command) (v : EnvVersion) (e : Event) → Follows epoch commands v → event_of c v ≡ Ok e → Follows epoch (commands ++ c ∷ []) (version_after v e)
+one_follows epoch commands c v e follows told =
     let comes : ComesTo v c e = comes_to c v e told in
     let count : v.number ≡ length commands = follows.history.number in
     let grown : history_of (commands ++ c ∷ []) ≡ history_of commands ++ e ∷ [] =
@@ -169,7 +169,7 @@ one_follows commands c v e follows told =
     let state : (go_on v (e ∷ [])).state ≡ fold_events (history_of commands ++ e ∷ []) empty_state =
     ap (λ (es : List Event). fold_events es v.state) (later_all number_of v.number (e ∷ []) (news, tt)) ∙ ap (step e) follows.state ∙ sym (folded (history_of commands) e empty_state) in
     let number : (go_on v (e ∷ [])).number ≡ length (commands ++ c ∷ []) = comes.number ∙ omega (arith, length-append commands (c ∷ [])) in
-    subst (Follows (commands ++ c ∷ [])) (sym (goes_on v e comes.change)) (record {
-      history = record { stands = subst (λ (h : List Event). StandsFor h everything (go_on v (e ∷ []))) (sym grown) stands; number = number };
+    subst (Follows epoch (commands ++ c ∷ [])) (sym (goes_on v e comes.change)) (record {
+      history = record { era = follows.history.era; stands = subst (λ (h : List Event). StandsFor h everything (go_on v (e ∷ []))) (sym grown) stands; number = number };
       state = state ∙ ap (λ (h : List Event). fold_events h empty_state) (sym grown);
     })

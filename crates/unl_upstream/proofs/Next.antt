@@ -1,5 +1,5 @@
 -- The next event after a version, and its batch.
-use Rattle.std.proofs.Common.{◌≡◌, ℕ, ◌<◌, List, [], ◌∷◌, Bool, true, false, cond, Option, Some, All, refl, subst, arith, leb}
+use Rattle.std.proofs.Common.{◌≡◌, ℕ, ◌<◌, List, [], ◌∷◌, Bool, true, false, cond, Option, Some, All, refl, subst, arith, leb, ltb}
 use Rattle.std.specs.Prelude.{find, option_map}
 use Rattle.std.specs.Str.{bytes_eq}
 use Rattle.std.proofs.lemmas.Bool.{le-leb}
@@ -19,9 +19,9 @@ use Rattle.unl_upstream.specs.Upstream.{IsNext, batch_of, is_named, place_with}
 
 -- ---- its batch
 
--- changes from the version's number on, up to a higher one, apply
-goes_on : (v : EnvVersion) (n : ℕ) → v.number < n → changes_verdict (Some v) false (Some v.number) n ≡ Apply
-goes_on v n above = let past : leb n v.number ≡ false = grind arith in let reached : leb v.number v.number ≡ true = le-leb v.number v.number (omega arith) in rw (past, reached) refl
+-- changes of the version's epoch from its number on, up to a higher one, apply
+goes_on : (v : EnvVersion) (n : ℕ) → v.number < n → changes_verdict (Some v) false v.epoch (Some v.number) n ≡ Apply
+goes_on v n above = let same : ltb v.epoch v.epoch ≡ false = grind arith in let past : leb n v.number ≡ false = grind arith in let reached : leb v.number v.number ≡ true = le-leb v.number v.number (omega arith) in rw (same, past, reached) refl
 
 -- the batch of the next event applies
 pub next_applies : (v : EnvVersion) (event : Event) → IsNext v event → verdict_of (place_with v) (batch_of v event) ≡ Apply

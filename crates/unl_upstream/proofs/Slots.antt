@@ -7,7 +7,7 @@ use Rattle.unl_core.specs.declared.board.Slot.{Slot}
 use Rattle.unl_core.specs.Board.{AreDifferent, AreSlots, is_named, names_of, same_text, snapshot_in, taking}
 use Rattle.unl_core.proofs.Same.{text_same}
 use Rattle.unl_delta.specs.declared.version.EnvVersion.{EnvVersion}
-use Rattle.unl_delta.specs.Batch.{empty_version}
+use Rattle.unl_delta.specs.Batch.{empty_at}
 use Rattle.unl_upstream.specs.Upstream.{opening_slot}
 
 -- the version of the slot that was found
@@ -20,35 +20,36 @@ with_version slot v = record slot { snapshot = Some v }
 
 -- ---- at the beginning
 
-names_of-opening : (names : List (List ℕ)) → names_of (map opening_slot names) ≡ names
-names_of-opening [] = refl
-names_of-opening (x ∷ xs) = ap (λ names. x ∷ names) (names_of-opening xs)
+names_of-opening : (epoch : ℕ) (names : List (List ℕ)) → names_of (map (opening_slot epoch) names) ≡ names
+names_of-opening epoch [] = refl
+names_of-opening epoch (x ∷ xs) = ap (λ names. x ∷ names) (names_of-opening epoch xs)
 
 -- slots of different names
-pub slots_opened : (slots : List Slot) (names : List (List ℕ)) → slots ≡ map opening_slot names → length names ≤ 8 → AreDifferent names → AreSlots slots
-slots_opened slots names are few different =
+pub slots_opened : (epoch : ℕ) (slots : List Slot) (names : List (List ℕ)) → slots ≡ map (opening_slot epoch) names → length names ≤ 8 → AreDifferent names → AreSlots slots
+slots_opened epoch slots names are few different =
     subst AreSlots (sym are) (record {
-      few = omega (arith, length-map names opening_slot);
-      different = subst AreDifferent (sym (names_of-opening names)) different;
+      few = omega (arith, length-map names (opening_slot epoch));
+      different = subst AreDifferent (sym (names_of-opening epoch names)) different;
     })
 
 -- nothing stands yet in any of them
-pub opened_empty : (environment : List ℕ) (names : List (List ℕ)) (v : EnvVersion) → snapshot_in environment (map opening_slot names) ≡ Some v → v ≡ empty_version
-opened_empty environment [] v is = absurd cc
-opened_empty environment (x ∷ xs) v is = decided (same_text x environment) is (opened_empty environment xs v)
+pub opened_empty : (epoch : ℕ) (environment : List ℕ) (names : List (List ℕ)) (v : EnvVersion) → snapshot_in environment (map (opening_slot epoch) names) ≡ Some v → v ≡ empty_at epoch
+opened_empty epoch environment [] v is = absurd cc
+opened_empty epoch environment (x ∷ xs) v is = decided (same_text x environment) is (opened_empty epoch environment xs v)
   where
-    decided : (t : Bool) → version_of (cond t (Some (opening_slot x)) (find (is_named environment) (map opening_slot xs))) ≡ Some v
-        → (snapshot_in environment (map opening_slot xs) ≡ Some v → v ≡ empty_version) → v ≡ empty_version
+    decided : (t : Bool) → version_of (cond t (Some (opening_slot epoch x)) (find (is_named environment) (map (opening_slot epoch) xs))) ≡ Some v
+        → (snapshot_in environment (map (opening_slot epoch) xs) ≡ Some v → v ≡ empty_at epoch) → v ≡ empty_at epoch
     decided true found others = cc
     decided false more others = others more
 
 -- the environments are those of these names
-pub opened_names : (environment : List ℕ) (names : List (List ℕ)) → is_some (snapshot_in environment (map opening_slot names)) ≡ list_any (λ name. same_text name environment) names
-opened_names environment [] = refl
-opened_names environment (x ∷ xs) = decided (same_text x environment) (opened_names environment xs)
+pub opened_names : (epoch : ℕ) (environment : List ℕ) (names : List (List ℕ))
+    → is_some (snapshot_in environment (map (opening_slot epoch) names)) ≡ list_any (λ name. same_text name environment) names
+opened_names epoch environment [] = refl
+opened_names epoch environment (x ∷ xs) = decided (same_text x environment) (opened_names epoch environment xs)
   where
-    decided : (t : Bool) → is_some (snapshot_in environment (map opening_slot xs)) ≡ list_any (λ name. same_text name environment) xs
-        → is_some (version_of (cond t (Some (opening_slot x)) (find (is_named environment) (map opening_slot xs)))) ≡ (t || list_any (λ name. same_text name environment) xs)
+    decided : (t : Bool) → is_some (snapshot_in environment (map (opening_slot epoch) xs)) ≡ list_any (λ name. same_text name environment) xs
+        → is_some (version_of (cond t (Some (opening_slot epoch x)) (find (is_named environment) (map (opening_slot epoch) xs)))) ≡ (t || list_any (λ name. same_text name environment) xs)
     decided true others = refl
     decided false others = others
 

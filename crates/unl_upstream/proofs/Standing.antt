@@ -7,6 +7,8 @@ use Rattle.unl_core.specs.Board.{same_text, slot_of, snapshot_in}
 use Rattle.unl_core.proofs.Same.{text_same}
 use Rattle.unl_delta.specs.declared.event.Event.{Event}
 use Rattle.unl_delta.specs.declared.version.EnvVersion.{EnvVersion}
+use Rattle.unl_delta.proofs.Growth.{stands_alone}
+use Rattle.unl_delta.specs.History.{IsLine, StandsIn, everything}
 use Rattle.unl_delta.specs.State.{number_of}
 use Rattle.unl_documents.specs.Results.{◌>>=◌}
 use Rattle.unl_tokens.specs.declared.token.Token.{Token}
@@ -16,8 +18,9 @@ use Rattle.unl_upstream.specs.declared.refusal.CommandRefusal.{CommandRefusal}
 use Rattle.unl_upstream.specs.declared.refusal.CommandRefusal.TheVariants.{NoSuchEnvironment}
 use Rattle.unl_upstream.specs.Command.{environment_of}
 use Rattle.unl_upstream.specs.Upstream.{Obeyed, Obeying, UpstreamState, commanded, committed, event_of, opening, prepared, version_after}
-use Rattle.unl_upstream.specs.History.{IsHistoryOf, accepted, after_command, after_commands, for_environment, if_accepted, up_after}
-use Rattle.unl_upstream.proofs.Events.{Follows, nothing_follows, one_follows}
+use Rattle.unl_upstream.specs.History.{IsHistoryOf, accepted, after_command, after_commands, for_environment, history_of, if_accepted, up_after}
+use Rattle.unl_upstream.specs.Laws.{EnvironmentsStay, VersionsStand, VersionsStandInLines, line_of}
+use Rattle.unl_upstream.proofs.Events.{Follows, is_history, nothing_follows, one_follows}
 use Rattle.unl_upstream.proofs.Slots.{opened_empty, opened_names, taken_elsewhere, taken_here}
 
 -- ---- one accepted command
@@ -84,60 +87,63 @@ secret_stays command up = decided (commanded command up) refl
 
 -- ---- versions
 
--- the version of an environment follows these commands
-Holds : List ℕ → List Command → UpstreamState → Type 0
-Holds environment commands up = (v : EnvVersion) → snapshot_in environment up.board.slots ≡ Some v → Follows commands v
+-- the version of an environment follows these commands, in this epoch
+Holds : ℕ → List ℕ → List Command → UpstreamState → Type 0
+Holds epoch environment commands up = (v : EnvVersion) → snapshot_in environment up.board.slots ≡ Some v → Follows epoch commands v
 
-holds_at_first : (boot : ℕ) (secret : List ℕ) (environments : List (List ℕ)) (book : List Token) (environment : List ℕ) → Holds environment [] (opening boot secret environments book)
+holds_at_first : (boot : ℕ) (secret : List ℕ) (environments : List (List ℕ)) (book : List Token) (epoch : ℕ) (environment : List ℕ) → Holds epoch environment [] (opening boot secret environments book epoch)
 unfolding Holds
-holds_at_first boot secret environments book environment v is = subst (Follows []) (sym (opened_empty environment environments v is)) nothing_follows
+holds_at_first boot secret environments book epoch environment v is = subst (Follows epoch []) (sym (opened_empty epoch environment environments v is)) (nothing_follows epoch)
 
 -- a command for the environment is one more
-holds_here : (environment : List ℕ) (before : List Command) (command : Command) (up : UpstreamState) (obeyed : Obeyed) → IsObeyed command up obeyed
-    → environment_of command ≡ environment → Holds environment before up → Holds environment (before ++ command ∷ []) obeyed.up
+holds_here : (epoch : ℕ) (environment : List ℕ) (before : List Command) (command : Command) (up : UpstreamState) (obeyed : Obeyed) → IsObeyed command up obeyed
+    → environment_of command ≡ environment → Holds epoch environment before up → Holds epoch environment (before ++ command ∷ []) obeyed.up
 unfolding Holds
-holds_here environment before command up obeyed o here holds v is =
+holds_here epoch environment before command up obeyed o here holds v is =
     let stood : snapshot_in environment up.board.slots ≡ Some o.version = subst (λ (name : List ℕ). snapshot_in name up.board.slots ≡ Some o.version) here o.stood in
     let same : Some (version_after o.version o.event) ≡ Some v = sym (new_here command up obeyed o environment here) ∙ is in
     let this : version_after o.version o.event ≡ v = cc in
-    subst (Follows (before ++ command ∷ [])) this (one_follows before command o.version o.event (holds o.version stood) o.told)
+    subst (Follows epoch (before ++ command ∷ [])) this (one_follows epoch before command o.version o.event (holds o.version stood) o.told)
 
 -- one for another changes nothing here
-holds_elsewhere : (environment : List ℕ) (before : List Command) (command : Command) (up : UpstreamState) (obeyed : Obeyed) → IsObeyed command up obeyed
-    → same_text (environment_of command) environment ≡ false → Holds environment before up → Holds environment before obeyed.up
+holds_elsewhere : (epoch : ℕ) (environment : List ℕ) (before : List Command) (command : Command) (up : UpstreamState) (obeyed : Obeyed) → IsObeyed command up obeyed
+    → same_text (environment_of command) environment ≡ false → Holds epoch environment before up → Holds epoch environment before obeyed.up
 unfolding Holds
-holds_elsewhere environment before command up obeyed o apart holds v is = holds v (sym (same_elsewhere command up obeyed o environment apart) ∙ is)
+holds_elsewhere epoch environment before command up obeyed o apart holds v is = holds v (sym (same_elsewhere command up obeyed o environment apart) ∙ is)
 
-all_hold : (environment : List ℕ) (before commands : List Command) (up : UpstreamState) → Holds environment before up
-    → Holds environment (before ++ for_environment environment (accepted commands up)) (after_commands commands up)
-all_hold environment before [] up holds = subst (λ (cs : List Command). Holds environment cs up) (sym (append-nil before)) holds
-all_hold environment before (command ∷ commands) up holds = decided (commanded command up) refl (λ cs now here. all_hold environment cs commands now here)
+all_hold : (epoch : ℕ) (environment : List ℕ) (before commands : List Command) (up : UpstreamState) → Holds epoch environment before up
+    → Holds epoch environment (before ++ for_environment environment (accepted commands up)) (after_commands commands up)
+all_hold epoch environment before [] up holds = subst (λ (cs : List Command). Holds epoch environment cs up) (sym (append-nil before)) holds
+all_hold epoch environment before (command ∷ commands) up holds = decided (commanded command up) refl (λ cs now here. all_hold epoch environment cs commands now here)
   where
     Others : Type 0
-    Others = (cs : List Command) (now : UpstreamState) → Holds environment cs now
-        → Holds environment (cs ++ for_environment environment (accepted commands now)) (after_commands commands now)
+    Others = (cs : List Command) (now : UpstreamState) → Holds epoch environment cs now
+        → Holds epoch environment (cs ++ for_environment environment (accepted commands now)) (after_commands commands now)
 
     counted : (obeyed : Obeyed) (t : Bool) → IsObeyed command up obeyed → same_text (environment_of command) environment ≡ t → Others
-        → Holds environment (before ++ cond t (command ∷ for_environment environment (accepted commands obeyed.up)) (for_environment environment (accepted commands obeyed.up))) (after_commands commands obeyed.up)
+        → Holds epoch environment (before ++ cond t (command ∷ for_environment environment (accepted commands obeyed.up)) (for_environment environment (accepted commands obeyed.up))) (after_commands commands obeyed.up)
     counted obeyed true o here others =
         let name : environment_of command ≡ environment = text_same (environment_of command) environment here in
-        subst (λ (cs : List Command). Holds environment cs (after_commands commands obeyed.up)) (append_assoc before (command ∷ []) (for_environment environment (accepted commands obeyed.up)))
-        (others (before ++ command ∷ []) obeyed.up (holds_here environment before command up obeyed o name holds))
-    counted obeyed false o apart others = others before obeyed.up (holds_elsewhere environment before command up obeyed o apart holds)
+        subst (λ (cs : List Command). Holds epoch environment cs (after_commands commands obeyed.up)) (append_assoc before (command ∷ []) (for_environment environment (accepted commands obeyed.up)))
+        (others (before ++ command ∷ []) obeyed.up (holds_here epoch environment before command up obeyed o name holds))
+    counted obeyed false o apart others = others before obeyed.up (holds_elsewhere epoch environment before command up obeyed o apart holds)
 
     decided : (r : Obeying Obeyed) → commanded command up ≡ r → Others
-        → Holds environment (before ++ for_environment environment (if_accepted command r (accepted commands (up_after up r)))) (after_commands commands (up_after up r))
+        → Holds epoch environment (before ++ for_environment environment (if_accepted command r (accepted commands (up_after up r)))) (after_commands commands (up_after up r))
     decided (Err refusal) is others = others before up holds
     decided (Ok obeyed) is others = counted obeyed (same_text (environment_of command) environment) (obeyed_by command up obeyed is) refl others
 
-pub versions_follow : (boot : ℕ) (secret : List ℕ) (environments : List (List ℕ)) (book : List Token) (commands : List Command) (environment : List ℕ) (v : EnvVersion)
-    → snapshot_in environment (after_commands commands (opening boot secret environments book)).board.slots ≡ Some v
-    → IsHistoryOf (for_environment environment (accepted commands (opening boot secret environments book))) v
+pub versions_follow : VersionsStand
 unfolding Holds
-versions_follow boot secret environments book commands environment v is =
-    let begun : UpstreamState = opening boot secret environments book in
-    let follows : Follows (for_environment environment (accepted commands begun)) v = all_hold environment [] commands begun (holds_at_first boot secret environments book environment) v is in
+versions_follow boot secret environments book epoch commands environment v is =
+    let begun : UpstreamState = opening boot secret environments book epoch in
+    let follows : Follows epoch (for_environment environment (accepted commands begun)) v = all_hold epoch environment [] commands begun (holds_at_first boot secret environments book epoch environment) v is in
     follows.history
+
+pub versions_stand_in_lines : VersionsStandInLines
+versions_stand_in_lines epoch commands v is =
+    subst (λ (g : ℕ). IsLine (line_of g commands) × StandsIn (line_of g commands) everything v) is.era
+    (stands_alone (history_of commands) everything v (is_history commands) is.stands)
 
 -- ---- environments
 
@@ -160,10 +166,9 @@ some_after_all [] up environment = refl
 some_after_all (command ∷ commands) up environment =
     some_after_all commands (after_command command up) environment ∙ some_after_one command up environment (commanded command up) refl
 
-pub environments_are : (boot : ℕ) (secret : List ℕ) (environments : List (List ℕ)) (book : List Token) (commands : List Command) (environment : List ℕ)
-    → is_some (snapshot_in environment (after_commands commands (opening boot secret environments book)).board.slots) ≡ list_any (λ name. same_text name environment) environments
-environments_are boot secret environments book commands environment =
-    some_after_all commands (opening boot secret environments book) environment ∙ opened_names environment environments
+pub environments_are : EnvironmentsStay
+environments_are boot secret environments book epoch commands environment =
+    some_after_all commands (opening boot secret environments book epoch) environment ∙ opened_names epoch environment environments
 
 -- ---- the accepted commands alone
 

@@ -60,7 +60,8 @@ events_from n s (command ∷ commands) = event_at (n + 1) s command ∷ events_f
 abbrev pub history_of : List Command → List Event
 history_of commands = events_from 0 empty_state commands
 
--- a version stands for the history of these commands, and its number is their count
-pub record IsHistoryOf (commands : List Command) (v : EnvVersion) : Type 0 where
+-- a version of this epoch stands for the history of these commands, and its number is their count
+pub record IsHistoryOf (epoch : ℕ) (commands : List Command) (v : EnvVersion) : Type 0 where
+  pub era : v.epoch ≡ epoch
   pub stands : StandsFor (history_of commands) everything v
   pub number : v.number ≡ length commands

@@ -6,3 +6,4 @@ pub mod Lines
 pub mod Serving
 pub mod Requests
 pub mod Hosting
+pub mod Laws

@@ -10,7 +10,7 @@ use Rattle.unl_delta.specs.declared.event.Event.{Event}
 use Rattle.unl_delta.specs.declared.event.Event.TheVariants.{FeatureUpdated, FeatureRemoved, SegmentUpdated, SegmentRemoved}
 use Rattle.unl_delta.specs.declared.version.EnvVersion.{EnvVersion}
 use Rattle.unl_delta.specs.declared.version.Place.{Place}
-use Rattle.unl_delta.specs.Batch.{empty_version, next_version}
+use Rattle.unl_delta.specs.Batch.{empty_at, next_version}
 use Rattle.unl_delta.specs.State.{is_change, number_of, project_of}
 use Rattle.unl_delta.specs.Valid.{IsValidEvent}
 use Rattle.unl_documents.specs.declared.feature.Feature.{Feature}
@@ -31,17 +31,18 @@ pub record UpstreamState : Type 0 where
 
 -- ---- how it begins
 
--- an environment with nothing in it
-abbrev pub opening_slot : List ℕ → Slot
-opening_slot environment = record { environment = environment; snapshot = Some empty_version }
+-- an environment with nothing in it, at the number 0 of an epoch
+abbrev pub opening_slot : ℕ → List ℕ → Slot
+opening_slot epoch environment = record { environment = environment; snapshot = Some (empty_at epoch) }
 
 -- a board of these environments with an empty host, on which the book was published once
-abbrev pub opening_board : ℕ → List (List ℕ) → List Token → Board
-opening_board boot environments book = with_tokens book (record { boot = boot; host = []; generation = 0; book = []; slots = map opening_slot environments })
+abbrev pub opening_board : ℕ → List (List ℕ) → List Token → ℕ → Board
+opening_board boot environments book epoch =
+    with_tokens book (record { boot = boot; host = []; generation = 0; book = []; slots = map (opening_slot epoch) environments })
 
 -- an upstream that was given no command
-abbrev pub opening : ℕ → List ℕ → List (List ℕ) → List Token → UpstreamState
-opening boot secret environments book = record { board = opening_board boot environments book; secret = secret }
+abbrev pub opening : ℕ → List ℕ → List (List ℕ) → List Token → ℕ → UpstreamState
+opening boot secret environments book epoch = record { board = opening_board boot environments book epoch; secret = secret }
 
 -- ---- what a command comes to at a version
 
@@ -134,7 +135,7 @@ place_with v = record { version = Some v; held = false }
 
 -- the batch of one event, for one who has the version
 abbrev pub batch_of : EnvVersion → Event → Batch
-batch_of v event = record { after = Some v.number; events = event ∷ [] }
+batch_of v event = record { epoch = v.epoch; after = Some v.number; events = event ∷ [] }
 
 -- the version after one event
 abbrev pub version_after : EnvVersion → Event → EnvVersion

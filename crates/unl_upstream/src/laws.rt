@@ -1,29 +1,27 @@
 //! What holds of an upstream after any commands.
-ghost use Rattle.std.specs.Prelude.{◌≡◌, ℕ, List, Some, Err, is_some, option_to_list};
-ghost use Rattle.std.specs.List.{list_any};
-ghost use Rattle.unl_core.specs.Board.{same_text, snapshot_in};
-ghost use Rattle.unl_delta.specs.declared.version.EnvVersion.{EnvVersion};
+ghost use Rattle.std.specs.Prelude.{◌≡◌, List, Err, option_to_list};
 ghost use Rattle.unl_delta.specs.History.{IsHistory};
 ghost use Rattle.unl_base.specs.declared.draws.Draw.{Draw};
 ghost use Rattle.unl_http_api.specs.declared.request.Request.{Request};
-ghost use Rattle.unl_tokens.specs.declared.token.Token.{Token};
 ghost use Rattle.unl_upstream.specs.declared.command.Command.{Command};
 ghost use Rattle.unl_upstream.specs.declared.refusal.CommandRefusal.{CommandRefusal};
-ghost use Rattle.unl_upstream.specs.Upstream.{UpstreamState, commanded, opening};
+ghost use Rattle.unl_upstream.specs.Upstream.{UpstreamState, commanded};
 ghost use Rattle.unl_upstream.specs.Answer.{upstream_answer};
 ghost use Rattle.unl_upstream.specs.Requests.{command_given};
-ghost use Rattle.unl_upstream.specs.History.{IsHistoryOf, accepted, after_command, after_commands, for_environment, history_of};
+ghost use Rattle.unl_upstream.specs.History.{accepted, after_command, after_commands, history_of};
+ghost use Rattle.unl_upstream.specs.Laws.{EnvironmentsStay, VersionsStand, VersionsStandInLines};
 
-/// After any commands each environment's version stands for the history of those that were accepted for it, and its number
-/// is their count.
+/// After any commands each environment's version stands for the history of those that were accepted for it, its number is
+/// their count, and its epoch is the one that the upstream began with. So it stands in the line of that one history.
 pub fn versions_stand()
     ensures history { (commands : List Command) → IsHistory (history_of commands) }
-    ensures stands { (boot : ℕ) (secret : List ℕ) (environments : List (List ℕ)) (book : List Token) (commands : List Command) (environment : List ℕ) (v : EnvVersion) → snapshot_in environment (after_commands commands (opening boot secret environments book)).board.slots ≡ Some v → IsHistoryOf (for_environment environment (accepted commands (opening boot secret environments book))) v }
+    ensures stands { VersionsStand }
+    ensures lines { VersionsStandInLines }
 {}
 
 /// After any commands an environment has a version exactly where the upstream began with it.
 pub fn environments_stay()
-    ensures { (boot : ℕ) (secret : List ℕ) (environments : List (List ℕ)) (book : List Token) (commands : List Command) (environment : List ℕ) → is_some (snapshot_in environment (after_commands commands (opening boot secret environments book)).board.slots) ≡ list_any (λ name. same_text name environment) environments }
+    ensures { EnvironmentsStay }
 {}
 
 /// A refused command changes nothing, so the accepted ones alone lead to the same, and are accepted.

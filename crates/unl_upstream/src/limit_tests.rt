@@ -50,7 +50,7 @@ fn filled(alloc: Global, batch: &Batch) -> Option<Upstream>
 {
     let mut environments = List::new(alloc);
     environments.push(Text::new(alloc, "dev").ok()?).ok()?;
-    let mut up = Upstream::new(alloc, 0, "s", &environments, Book::new(alloc)).ok()?;
+    let mut up = Upstream::new(alloc, 0, "s", &environments, Book::new(alloc), 0).ok()?;
     match snapshot_of(alloc, batch) {
         Ok(Some(snapshot)) => {
             up.commit(Ready {

@@ -32,6 +32,7 @@ pub(crate) fn snapshot_after(
     let mut events = List::new(alloc);
     events.push(event)?;
     let batch = Batch {
+        epoch: snapshot.version().epoch,
         after: Some(snapshot.version().number),
         events,
     };

@@ -12,7 +12,7 @@ use unl_tokens::Book;
 fn upstream(alloc: Global) -> Option<Upstream> {
     let mut environments = List::new(alloc);
     environments.push(Text::new(alloc, "dev").ok()?).ok()?;
-    Upstream::new(alloc, 0, "s", &environments, Book::new(alloc)).ok()
+    Upstream::new(alloc, 0, "s", &environments, Book::new(alloc), 0).ok()
 }
 
 /// A command that is obeyed, one that is refused, and a request.

@@ -17,7 +17,7 @@ fn upstream(alloc: Global) -> Option<Upstream> {
     let mut environments = List::new(alloc);
     environments.push(Text::new(alloc, "dev").ok()?).ok()?;
     let book = Book::read(alloc, TOKENS.as_bytes()).ok()?;
-    Upstream::new(alloc, 0, SECRET, &environments, book).ok()
+    Upstream::new(alloc, 0, SECRET, &environments, book, 0).ok()
 }
 
 /// The command that a text spells, or its fault.

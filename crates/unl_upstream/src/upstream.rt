@@ -37,8 +37,9 @@ impl Model for Upstream {
 }
 
 impl Upstream {
-    /// An upstream of up to eight environments of different names, each empty and at the number 0, on whose board the book
-    /// was published once.
+    /// An upstream of up to eight environments of different names, each empty and at the number 0 of the epoch, on whose board
+    /// the book was published once. An upstream that lost what it had begins with a higher epoch than before, so that those
+    /// behind it take what it has.
     #[tactic(auto, using(crate::proofs::Slots::slots_opened))]
     pub fn new(
         alloc: Global,
@@ -46,13 +47,14 @@ impl Upstream {
         secret: &str,
         environments: &List<Text>,
         book: Book,
+        epoch: u64,
     ) -> Result<Upstream, Memory>
         requires few { length environments.now ≤ 8 }
         requires different { AreDifferent environments.now }
-        ensures { IfOk result (λ up. up ≡ opening boot secret.now environments.now book) }
+        ensures { IfOk result (λ up. up ≡ opening boot secret.now environments.now book epoch) }
     {
         let mut board = Board::new(alloc, boot, "", environments)?;
-        board.slots = List::from_vec(opening_slots(alloc, environments.as_slice())?);
+        board.slots = List::from_vec(opening_slots(alloc, environments.as_slice(), epoch)?);
         install(&mut board, Install::Tokens(Shared::new(alloc, book)?));
         Ok(Upstream {
             board,
@@ -125,20 +127,24 @@ impl Upstream {
 }
 
 /// A slot for each environment, with nothing in it.
-fn opening_slots(alloc: Global, environments: &[Text]) -> Result<Vec<Slot>, Memory>
-    ensures { IfOk result (λ slots. slots.items ≡ map opening_slot environments.now) }
+fn opening_slots(
+    alloc: Global,
+    environments: &[Text],
+    epoch: u64,
+) -> Result<Vec<Slot>, Memory>
+    ensures { IfOk result (λ slots. slots.items ≡ map (opening_slot epoch) environments.now) }
 {
     let mut slots = Vec::new(alloc);
     for environment in environments {
-        slots.push(opening_slot(alloc, environment.as_str())?)?;
+        slots.push(opening_slot(alloc, environment.as_str(), epoch)?)?;
     }
     Ok(slots)
 }
 
-fn opening_slot(alloc: Global, environment: &str) -> Result<Slot, Memory>
-    ensures { IfOk result (λ slot. slot ≡ opening_slot environment.now) }
+fn opening_slot(alloc: Global, environment: &str, epoch: u64) -> Result<Slot, Memory>
+    ensures { IfOk result (λ slot. slot ≡ opening_slot epoch environment.now) }
 {
-    let snapshot = Snapshot::build(alloc, EnvVersion::empty(alloc))?;
+    let snapshot = Snapshot::build(alloc, EnvVersion::at(alloc, epoch))?;
     Ok(Slot {
         environment: Text::new(alloc, environment)?,
         snapshot: Some(Shared::new(alloc, snapshot)?),

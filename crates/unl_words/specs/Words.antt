@@ -112,7 +112,7 @@ unfoldable pub upstream_app : App
 upstream_app = with_options (codes "upstream") (option_named (codes "port")
     ∷ required_named (codes "secret") ∷ required_named (codes "environments")
     ∷ option_named (codes "client-tokens") ∷ option_named (codes "frontend-tokens")
-    ∷ option_named (codes "connections") ∷ [])
+    ∷ option_named (codes "connections") ∷ option_named (codes "epoch") ∷ [])
 
 -- what `upstream` is to do
 unfoldable pub asks_upstream : List Row → WordsReading
@@ -123,7 +123,8 @@ asks_upstream rows = do
   client_tokens ← or_empty (items_of are_own_tokens) (first_of (codes "client-tokens") rows)
   frontend_tokens ← or_empty (items_of are_own_tokens) (first_of (codes "frontend-tokens") rows)
   connections ← number_or 0 0 last_number (first_of (codes "connections") rows)
-  passed (fit_one_book client_tokens frontend_tokens) (Upstream port secret environments client_tokens frontend_tokens connections)
+  epoch ← number_or 0 0 last_number (first_of (codes "epoch") rows)
+  passed (fit_one_book client_tokens frontend_tokens) (Upstream port secret environments client_tokens frontend_tokens connections epoch)
 
 -- takes commands and serves what they make
 abbrev pub upstream : Command

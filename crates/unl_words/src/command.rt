@@ -51,7 +51,8 @@ pub(crate) fn upstream<'a>(alloc: Global) -> Result<Command<'a>, AllocError>
     let command = with_required(alloc, command, "environments")?;
     let command = with_option(alloc, command, "client-tokens")?;
     let command = with_option(alloc, command, "frontend-tokens")?;
-    with_option(alloc, command, "connections")
+    let command = with_option(alloc, command, "connections")?;
+    with_option(alloc, command, "epoch")
 }
 
 /// The command with one more option, which takes one value behind its long name.

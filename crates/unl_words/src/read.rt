@@ -29,7 +29,8 @@ const LAST_MOMENT: u64 = 100_000_000_000_000;
 ///   upstream and both lists must be given.
 /// - `upstream` takes `--port` (4242), `--secret`, which isn't empty, `--environments`, 1 to 8 different names,
 ///   `--client-tokens` and `--frontend-tokens` (empty), in all at most 1,024 of different texts, each with one project or
-///   all, and `--connections` (0). The secret and the environments must be given.
+///   all, `--connections` (0), and `--epoch`, an unsigned number of 64 bits (0). The secret and the environments must be
+///   given.
 ///
 /// A port is 1 to 65535. A token's text has at most 512 bytes, is read by `Scope::read`, and its environment and project
 /// are names. No carriage return, line feed or NUL stands in a host, a secret or a token.
@@ -152,6 +153,7 @@ fn asked_upstream(alloc: Global, matches: &ArgMatches<'_>) -> Result<Words, Word
     let client_tokens = items::own_tokens(alloc, given(matches, "client-tokens"))?;
     let frontend_tokens = items::own_tokens(alloc, given(matches, "frontend-tokens"))?;
     let connections = number_or(given(matches, "connections"), 0, 0, u64::MAX)?;
+    let epoch = number_or(given(matches, "epoch"), 0, 0, u64::MAX)?;
     if !items::fit_one_book(&client_tokens, &frontend_tokens) {
         return Err(WordsRefusal::Bad);
     }
@@ -162,5 +164,6 @@ fn asked_upstream(alloc: Global, matches: &ArgMatches<'_>) -> Result<Words, Word
         client_tokens,
         frontend_tokens,
         connections,
+        epoch,
     })
 }

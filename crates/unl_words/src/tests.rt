@@ -157,6 +157,7 @@ fn upstream_words(rt: HostRuntime) -> Result<(), Fail> {
         client_tokens: texts(alloc, &[])?,
         frontend_tokens: texts(alloc, &[])?,
         connections: 0,
+        epoch: 0,
     };
     let line = "upstream --environments dev --secret s";
     assert!(rt; read(alloc, line) == Some(Ok(defaults)));
@@ -167,9 +168,10 @@ fn upstream_words(rt: HostRuntime) -> Result<(), Fail> {
         client_tokens: texts(alloc, &["*:dev.s", "a:dev.s"])?,
         frontend_tokens: texts(alloc, &["a:qa.s"])?,
         connections: 7,
+        epoch: u64::MAX,
     };
     let line = "upstream --secret=-s --environments dev,qa --client-tokens *:dev.s,a:dev.s \
-        --frontend-tokens a:qa.s, --port 65535 --connections 7";
+        --frontend-tokens a:qa.s, --port 65535 --connections 7 --epoch 18446744073709551615";
     assert!(rt; read(alloc, line) == Some(Ok(all)));
     Ok(())
 }
@@ -209,6 +211,7 @@ fn upstream_words_out_of_range(rt: HostRuntime) {
     for line in [
         "upstream --secret=s",
         "upstream --environments=dev",
+        "upstream --secret=s --environments=dev --epoch=18446744073709551616",
         "edge --upstream=u:1 --upstream-tokens=a:d.s",
         "edge --upstream=u:1 --tokens=a:d.s",
         "edge --upstream-tokens=a:d.s --tokens=a:d.s",

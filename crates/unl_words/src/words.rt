@@ -48,5 +48,7 @@ pub enum Words {
         frontend_tokens: List<Text>,
         /// After how many links the door closes: never, where it is 0.
         connections: u64,
+        /// The epoch in which each environment begins.
+        epoch: u64,
     },
 }

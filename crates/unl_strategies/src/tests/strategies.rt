@@ -1,4 +1,4 @@
-use crate::{Moment, active, rule, segment_of};
+use crate::{Moment, active, rule};
 use std::alloc::Global;
 use std::test::Fail;
 use unl_context::Context;
@@ -529,7 +529,5 @@ fn constraints_and_segments(rt: HostRuntime) -> Result<(), Fail> {
         let outcome = outcome_at(alloc, &feed, &context, place);
         assert!(rt; outcome == Some(*expected), "case {place}");
     }
-    assert!(rt; segment_of(&feed.state.segments, 10).is_some());
-    assert!(rt; segment_of(&feed.state.segments, 8).is_none());
     Ok(())
 }

@@ -1,5 +1,5 @@
 use Rattle.std.proofs.Common.{arith}
-use Rattle.unl_spec_runner.proofs.Taking.{takes_more, takes_none, takes_all, takes_too_much}
+use Rattle.unl_spec_runner.proofs.Taking.{takes_more, takes_none, takes_end}
 use Rattle.unl_spec_runner.proofs.input.read_to_end.Goals as goal
 
 pub reads-init : goal.reads-init
@@ -18,9 +18,9 @@ reads-preserved g c = record {
 
 pub returns-in-Ok-eq0-clause-read : goal.returns-in-Ok-eq0-clause-read
 returns-in-Ok-eq0-clause-read g c = rw c.from_vec.ensures (
-  takes_all _ _ _ c.reads.invariant.took (c.in-Ok-eq0.ensures.end c.in-Ok-eq0.field-0-test),
+  takes_end _ _ _ _ _ _ c.in-Ok-eq0.field-0-test c.reads.invariant.took c.in-Ok-eq0.ensures.taken (c.in-Ok-eq0.ensures.end c.in-Ok-eq0.field-0-test),
   omega (arith, c.reads-test.true, c.len.ensures, c.reads.bytes.ok),
 )
 
 pub returns-clause-read : goal.returns-clause-read
-returns-clause-read g c = takes_too_much _ _ _ c.reads.invariant.took (omega (arith, c.reads-test.false, c.len.ensures, c.reads.bytes.ok))
+returns-clause-read g c = (c.reads.bytes.items, c.reads.invariant.took, omega (arith, c.reads-test.false, c.len.ensures, c.reads.bytes.ok))

@@ -1,6 +1,6 @@
 use Rattle.std.proofs.Common.{◌≡◌, drop}
-use Rattle.unl_context.specs.Context.{property}
+use Rattle.unl_strategies.specs.Strategy.{value_at}
 use Rattle.unl_strategies.proofs.parameters.value_of.Given as goal
 
 abbrev pub invariant-loop-one : goal.invariant-loop-one
-invariant-loop-one l = property l.key (drop l.one-index l.parameters) ≡ property l.key l.parameters
+invariant-loop-one l = value_at l.key (drop l.one-index l.parameters) ≡ value_at l.key l.parameters

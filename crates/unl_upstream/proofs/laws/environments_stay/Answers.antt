@@ -2,4 +2,4 @@ use Rattle.unl_upstream.proofs.Standing.{environments_are}
 use Rattle.unl_upstream.proofs.laws.environments_stay.Goals as goal
 
 pub returns : goal.returns
-returns c boot secret environments book commands environment = environments_are boot secret environments book commands environment
+returns c = environments_are

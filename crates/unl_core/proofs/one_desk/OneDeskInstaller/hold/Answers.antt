@@ -13,7 +13,7 @@ returns-clause-held c =
     let low : c.args.slot < length c.self.inside.places.items = subst (λ (s : Standing). c.args.slot < length s.places) (sym c.self.view_is) c.requires in
     ap installed_by (hold_is c.self.inside.board c.self.inside.places.items c.self.inside.front c.args.slot c.index_mut.result.now c.args.self.now c.self.view_is low c.index_mut.ensures.value)
 
-pub returns-clause-standing : goal.returns-clause-standing
-returns-clause-standing c =
+pub returns-clause-whole : goal.returns-clause-whole
+returns-clause-whole c =
     let low : c.args.slot < length c.self.inside.places.items = subst (λ (s : Standing). c.args.slot < length s.places) (sym c.self.view_is) c.requires in
     hold_is c.self.inside.board c.self.inside.places.items c.self.inside.front c.args.slot c.index_mut.result.now c.args.self.now c.self.view_is low c.index_mut.ensures.value

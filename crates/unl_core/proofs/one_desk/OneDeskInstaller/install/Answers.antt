@@ -15,8 +15,8 @@ returns-clause-published c =
     c.in_ok-snapshot.snapshot c.in_ok-version.version c.in_ok-snapshot-2.snapshot c.args.self.now c.self.view_is low c.index.ensures c.in_ok-snapshot.ensures.snapshot
     c.in_ok-snapshot-2.ensures c.in_ok-version.ensures c.install.ensures.changed)
 
-pub returns-clause-standing : goal.returns-clause-standing
-returns-clause-standing c =
+pub returns-clause-whole : goal.returns-clause-whole
+returns-clause-whole c =
     let low : c.args.slot < length c.self.inside.places.items = subst (λ (s : Standing). c.args.slot < length s.places) (sym c.self.view_is) c.requires.slot in
     install_is c.self.inside.board c.install.new.board c.self.inside.places.items c.self.inside.front c.args.slot c.args.batch.now c.index.result.now
     c.in_ok-snapshot.snapshot c.in_ok-version.version c.in_ok-snapshot-2.snapshot c.args.self.now c.self.view_is low c.index.ensures c.in_ok-snapshot.ensures.snapshot

@@ -1,0 +1,142 @@
+-- The faults of a value, key by key in the order of the table of its document: each key has its own fault, whatever stands at
+-- the others. The first of them is the fault of the document.
+use Rattle.std.specs.Prelude.{[], ◌∷◌, List, codes, true, false, Option, Some, None, Ok, Err, if◌then◌else◌}
+use Rattle.serde_json.specs.Data.{Data}
+use Rattle.unl_documents.specs.declared.fault.BadDocument.{BadDocument}
+use Rattle.unl_documents.specs.declared.fault.BadDocument.TheVariants.{NotJson}
+use Rattle.unl_documents.specs.declared.field.Field.TheVariants as field
+use Rattle.unl_documents.specs.Documents.{override_of, dependency_of, payload_of, variant_of, constraint_of, segment_of, strategy_of, feature_of}
+use Rattle.unl_documents.specs.Kinds.{name, any_text, text, truth, any_whole, whole, text_or_whole, required, defaulted, optional, objects, names, texts, numbers, object_of, is_object}
+use Rattle.unl_documents.specs.Operators.{operator}
+use Rattle.unl_documents.specs.Parameters.{parameters}
+use Rattle.unl_documents.specs.Reading.{Reading, ◌>>=◌}
+use Rattle.unl_documents.specs.Sorting.{in_order}
+use Rattle.unl_documents.specs.States.{name_key, id_key, as_is, id_text, no_meta, meta_of}
+
+-- the fault that a reading ends with, or none
+abbrev pub fault_of : {T : Type 0} → Reading T → Option BadDocument
+fault_of (Ok x) = None
+fault_of (Err e) = Some e
+
+-- the fault of what stands at a key, if it has one, before those of the keys behind it
+abbrev pub before : {T : Type 0} → Reading T → List BadDocument → List BadDocument
+before (Ok x) others = others
+before (Err e) others = e ∷ others
+
+-- the first of some faults
+abbrev pub first : List BadDocument → Option BadDocument
+first [] = None
+first (e ∷ es) = Some e
+
+-- ---- objects in documents
+
+-- of an override
+unfoldable pub faults_of_override : Data → List BadDocument
+faults_of_override value =
+    before (required name field.ContextName value) (
+    before (defaulted [] (texts 10000 4096) field.Values value) [])
+
+-- of a dependency
+unfoldable pub faults_of_dependency : Data → List BadDocument
+faults_of_dependency value =
+    before (required name field.Feature value) (
+    before (defaulted true truth field.Enabled value) (
+    before (defaulted [] (names 100) field.Variants value) []))
+
+-- of a payload
+unfoldable pub faults_of_payload : Data → List BadDocument
+faults_of_payload value =
+    before (required any_text field.Kind value) (
+    before (required (text_or_whole 65536) field.Value value) [])
+
+-- of a variant
+unfoldable pub faults_of_variant : Data → List BadDocument
+faults_of_variant value =
+    before (required name field.Name value) (
+    before (required (whole 1000) field.Weight value) (
+    before (optional any_text field.Stickiness value) (
+    before (optional (object_of payload_of) field.Payload value) (
+    before (defaulted [] (objects 100 override_of) field.Overrides value) []))))
+
+-- of a constraint
+unfoldable pub faults_of_constraint : Data → List BadDocument
+faults_of_constraint value =
+    before (required name field.ContextName value) (
+    before (required operator field.Operator value) (
+    before (defaulted [] (texts 10000 4096) field.Values value) (
+    before (optional (text_or_whole 4096) field.Value value) (
+    before (defaulted false truth field.CaseInsensitive value) (
+    before (defaulted false truth field.Inverted value) [])))))
+
+-- of a strategy
+unfoldable pub faults_of_strategy : Data → List BadDocument
+faults_of_strategy value =
+    before (required name field.Name value) (
+    before (defaulted [] parameters field.Parameters value) (
+    before (defaulted [] (objects 100 constraint_of) field.Constraints value) (
+    before (defaulted [] (numbers 1000) field.Segments value) (
+    before (defaulted [] (objects 100 variant_of) field.Variants value) []))))
+
+-- of what stands beside a feed's state
+unfoldable pub faults_of_meta : Data → List BadDocument
+faults_of_meta value =
+    before (defaulted 0 any_whole field.Epoch value) (
+    before (optional any_whole field.RevisionId value) [])
+
+-- ---- documents
+
+-- of a segment
+unfoldable pub faults_of_segment : Data → List BadDocument
+faults_of_segment value =
+    before (required any_whole field.Id value) (
+    before (defaulted [] (objects 100 constraint_of) field.Constraints value) [])
+
+-- of a feature
+unfoldable pub faults_of_feature : Data → List BadDocument
+faults_of_feature value =
+    before (required name field.Name value) (
+    before (defaulted (codes "default") name field.Project value) (
+    before (defaulted (codes "release") name field.Kind value) (
+    before (optional (text 65536) field.Description value) (
+    before (required truth field.Enabled value) (
+    before (defaulted false truth field.Stale value) (
+    before (defaulted false truth field.ImpressionData value) (
+    before (defaulted [] (objects 100 strategy_of) field.Strategies value) (
+    before (defaulted [] (objects 100 variant_of) field.Variants value) (
+    before (defaulted [] (objects 100 dependency_of) field.Dependencies value) [])))))))))
+
+-- of a state, before those of what stands beside it: a list's items come before the name or id that stands twice
+abbrev pub faults_of_lists : Data → List BadDocument → List BadDocument
+faults_of_lists value others =
+    before (defaulted [] (objects 10000 feature_of) field.Features value >>= in_order name_key as_is field.Name) (
+    before (defaulted [] (objects 1000 segment_of) field.Segments value >>= in_order id_key id_text field.Id) others)
+
+-- of a state
+unfoldable pub faults_of_state : Data → List BadDocument
+faults_of_state value = faults_of_lists value []
+
+-- of a feed
+unfoldable pub faults_of_feed : Data → List BadDocument
+faults_of_feed value = faults_of_lists value (before (defaulted no_meta (object_of meta_of) field.Meta value) [])
+
+-- ---- the first fault of a whole document
+
+-- what is no object has the one fault that it is none
+abbrev pub faults_of_document : (Data → List BadDocument) → Data → List BadDocument
+faults_of_document faults value = if is_object value then faults value else NotJson ∷ []
+
+-- of a value as a feature
+unfoldable pub first_fault_of_feature : Data → Option BadDocument
+first_fault_of_feature value = first (faults_of_document faults_of_feature value)
+
+-- of a value as a segment
+unfoldable pub first_fault_of_segment : Data → Option BadDocument
+first_fault_of_segment value = first (faults_of_document faults_of_segment value)
+
+-- of a value as a state
+unfoldable pub first_fault_of_state : Data → Option BadDocument
+first_fault_of_state value = first (faults_of_document faults_of_state value)
+
+-- of a value as a feed
+unfoldable pub first_fault_of_feed : Data → Option BadDocument
+first_fault_of_feed value = first (faults_of_document faults_of_feed value)

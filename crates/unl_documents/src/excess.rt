@@ -1,0 +1,81 @@
+//! How many constraints strategies would have, were their segments written out.
+ghost use Rattle.std.specs.Prelude.{◌≡◌, ◌+◌, IfOk, flat_map, length, nat_lt};
+ghost use Rattle.std.specs.List.{find};
+ghost use Rattle.unl_documents.specs.Inline.{all_constraints, constraints_for, counts, first_excess as first_excess_of};
+
+use crate::feature::Feature;
+use crate::list::List;
+use crate::memory::Memory;
+use crate::segment::Segment;
+use crate::segments::segment_of;
+use crate::shared::Shared;
+use crate::state::State;
+use crate::strategy::Strategy;
+
+/// The count of the first strategy that would have more than 100 constraints. Nothing is built for it.
+#[tactic(auto, unfolding(crate::specs::Inline::first_excess))]
+pub(crate) fn first_excess(state: &State) -> Result<Option<u64>, Memory>
+    ensures { IfOk result (λ found. found ≡ first_excess_of state.now) }
+{
+    first_excess_among(state.features.as_slice(), &state.segments)
+}
+
+fn first_excess_among(
+    features: &[Shared<Feature>],
+    segments: &List<Shared<Segment>>,
+) -> Result<Option<u64>, Memory>
+    ensures { IfOk result (λ found. found
+        ≡ find (nat_lt 100) (flat_map (λ f. counts segments.now f.strategies) features.now)) }
+{
+    for shared in features {
+        let found = excess_among(shared.get().strategies.as_slice(), segments)?;
+        if found.is_some() {
+            return Ok(found);
+        }
+    }
+    Ok(None)
+}
+
+fn excess_among(
+    strategies: &[Strategy],
+    segments: &List<Shared<Segment>>,
+) -> Result<Option<u64>, Memory>
+    ensures { IfOk result (λ found. found ≡ find (nat_lt 100) (counts segments.now strategies.now)) }
+{
+    for strategy in strategies {
+        let count = count_of(strategy, segments)?;
+        if count > 100 {
+            return Ok(Some(count));
+        }
+    }
+    Ok(None)
+}
+
+/// How many constraints a strategy would have. More than memory holds count as want of it.
+#[tactic(auto, unfolding(crate::specs::Inline::all_constraints))]
+fn count_of(strategy: &Strategy, segments: &List<Shared<Segment>>) -> Result<u64, Memory>
+    ensures { IfOk result (λ count. count ≡ length (all_constraints segments.now strategy.now)) }
+{
+    let mut count = strategy.constraints.len() as u64;
+    for id in strategy.segments.as_slice() {
+        count = sum_of(count, count_for(segments, *id))?;
+    }
+    Ok(count)
+}
+
+fn sum_of(count: u64, more: u64) -> Result<u64, Memory>
+    ensures { IfOk result (λ sum. sum ≡ count + more) }
+{
+    count.checked_add(more).ok_or(Memory)
+}
+
+/// How many constraints are written out for an id.
+#[tactic(auto, unfolding(crate::specs::Inline::constraints_for))]
+fn count_for(segments: &List<Shared<Segment>>, id: u64) -> u64
+    ensures { result ≡ length (constraints_for segments.now id) }
+{
+    match segment_of(segments, id) {
+        None => 1,
+        Some(segment) => segment.constraints.len() as u64,
+    }
+}

@@ -1,0 +1,213 @@
+//! Segments written out in the strategies that name them, for those who don't know segments.
+ghost use Rattle.std.specs.Prelude.{◌≡◌, ◌==◌, ◌++◌, IfOk, OnOk, length, map};
+ghost use Rattle.std.specs.List.{list_all};
+ghost use Rattle.unl_documents.specs.Inline.{all_constraints as constraints_of, constraints_for, holds_for_nobody as nobody_meets, inlined as inlined_state, inlined_feature as feature_inlined, inlined_strategy as strategy_inlined, inlining_of};
+ghost use Rattle.unl_documents.specs.Results.{Gives};
+ghost use Rattle.unl_documents.specs.States.{IsValidState};
+ghost use Rattle.unl_documents.specs.declared.inlining.InlineRefusal.TheVariants.{Memory as memory};
+
+use crate::constraint::Constraint;
+use crate::copied::Copied;
+use crate::excess::first_excess;
+use crate::feature::Feature;
+use crate::list::List;
+use crate::memory::Memory;
+use crate::operator::Operator;
+use crate::segment::Segment;
+use crate::segments::segment_of;
+use crate::shared::Shared;
+use crate::state::State;
+use crate::strategy::Strategy;
+use crate::text::Text;
+use std::alloc::Global;
+
+/// Why the segments of a state are not written out.
+#[derive(Clone, Copy, Debug, PartialEq, Eq)]
+pub enum InlineRefusal {
+    /// A strategy would have so many constraints, more than 100.
+    TooMany(u64),
+    /// Memory ran out.
+    Memory,
+}
+
+impl From<Memory> for InlineRefusal {
+    ghost from_gives = { λ _ e. e ≡ memory };
+
+    fn from(_e: Memory) -> InlineRefusal {
+        InlineRefusal::Memory
+    }
+}
+
+/// The state without segments: each strategy names none, and has the constraints of those that it named behind its own,
+/// in the order in which it named them. For an id that the state lacks it has one that holds for nobody: `userId` IN no
+/// values. So each feature is on for whom it was on.
+///
+/// # Errors
+/// `TooMany(n)` exactly where a strategy would have n, more than 100, constraints, and is the first such in the order of
+/// features and strategies; or want of memory, as which also counts a count past 64 bits.
+#[tactic(auto, unfolding(crate::specs::Inline::inlining_of))]
+pub fn inline(alloc: Global, state: &State) -> Result<State, InlineRefusal>
+    ensures gives { Gives memory result (inlining_of state.now) }
+    ensures valid { IsValidState state.now → IfOk result IsValidState }
+{
+    match first_excess(state)? {
+        Some(count) => Err(InlineRefusal::TooMany(count)),
+        None => Ok(inlined(alloc, state)?),
+    }
+}
+
+/// The state without segments, whatever the counts.
+#[tactic(auto, unfolding(crate::specs::Inline::inlined))]
+fn inlined(alloc: Global, state: &State) -> Result<State, Memory>
+    ensures { IfOk result (λ s. s ≡ inlined_state state.now) }
+{
+    Ok(State {
+        features: inlined_features(alloc, state.features.as_slice(), &state.segments)?,
+        segments: List::new(alloc),
+    })
+}
+
+fn inlined_features(
+    alloc: Global,
+    features: &[Shared<Feature>],
+    segments: &List<Shared<Segment>>,
+) -> Result<List<Shared<Feature>>, Memory>
+    ensures { IfOk result (λ fs. fs ≡ map (feature_inlined segments.now) features.now) }
+{
+    let mut inlined = List::new(alloc);
+    for feature in features {
+        inlined.push(inlined_feature(alloc, feature, segments)?)?;
+    }
+    Ok(inlined)
+}
+
+/// The feature itself where none of its strategies names a segment.
+fn inlined_feature(
+    alloc: Global,
+    feature: &Shared<Feature>,
+    segments: &List<Shared<Segment>>,
+) -> Result<Shared<Feature>, Memory>
+    ensures { IfOk result (λ f. f ≡ feature_inlined segments.now feature.now) }
+{
+    if names_none(feature.get().strategies.as_slice()) {
+        return feature.copy();
+    }
+    Shared::new(alloc, feature_anew(alloc, feature.get(), segments)?)
+}
+
+/// Whether no strategy names a segment.
+fn names_none(strategies: &[Strategy]) -> bool
+    ensures { result ≡ list_all (λ s. length s.segments == 0) strategies.now }
+{
+    strategies.iter().all(|s| s.segments.is_empty())
+}
+
+#[tactic(auto, unfolding(crate::specs::Inline::inlined_feature))]
+fn feature_anew(
+    alloc: Global,
+    feature: &Feature,
+    segments: &List<Shared<Segment>>,
+) -> Result<Feature, Memory>
+    ensures { IfOk result (λ f. f ≡ feature_inlined segments.now feature.now) }
+{
+    Ok(Feature {
+        name: feature.name.copy(alloc)?,
+        project: feature.project.copy(alloc)?,
+        kind: feature.kind.copy(alloc)?,
+        description: feature.description.copy(alloc)?,
+        enabled: feature.enabled,
+        stale: feature.stale,
+        impression: feature.impression,
+        strategies: inlined_strategies(alloc, feature.strategies.as_slice(), segments)?,
+        variants: feature.variants.copy(alloc)?,
+        dependencies: feature.dependencies.copy(alloc)?,
+    })
+}
+
+fn inlined_strategies(
+    alloc: Global,
+    strategies: &[Strategy],
+    segments: &List<Shared<Segment>>,
+) -> Result<List<Strategy>, Memory>
+    ensures { IfOk result (λ ss. ss ≡ map (strategy_inlined segments.now) strategies.now) }
+{
+    let mut inlined = List::new(alloc);
+    for strategy in strategies {
+        inlined.push(inlined_strategy(alloc, strategy, segments)?)?;
+    }
+    Ok(inlined)
+}
+
+#[tactic(auto, unfolding(crate::specs::Inline::inlined_strategy))]
+fn inlined_strategy(
+    alloc: Global,
+    strategy: &Strategy,
+    segments: &List<Shared<Segment>>,
+) -> Result<Strategy, Memory>
+    ensures { IfOk result (λ s. s ≡ strategy_inlined segments.now strategy.now) }
+{
+    Ok(Strategy {
+        name: strategy.name.copy(alloc)?,
+        parameters: strategy.parameters.copy(alloc)?,
+        constraints: all_constraints(alloc, strategy, segments)?,
+        segments: List::new(alloc),
+        variants: strategy.variants.copy(alloc)?,
+    })
+}
+
+#[tactic(auto, unfolding(crate::specs::Inline::all_constraints))]
+fn all_constraints(
+    alloc: Global,
+    strategy: &Strategy,
+    segments: &List<Shared<Segment>>,
+) -> Result<List<Constraint>, Memory>
+    ensures { IfOk result (λ cs. cs ≡ constraints_of segments.now strategy.now) }
+{
+    let mut constraints = strategy.constraints.copy(alloc)?;
+    for id in strategy.segments.as_slice() {
+        push_for(alloc, &mut constraints, *id, segments)?;
+    }
+    Ok(constraints)
+}
+
+/// Adds what is written out for an id.
+#[tactic(auto, unfolding(crate::specs::Inline::constraints_for))]
+fn push_for(
+    alloc: Global,
+    constraints: &mut List<Constraint>,
+    id: u64,
+    segments: &List<Shared<Segment>>,
+) -> Result<(), Memory>
+    ensures { OnOk result (constraints.new ≡ constraints.old ++ constraints_for segments.now id) }
+{
+    match segment_of(segments, id) {
+        None => constraints.push(holds_for_nobody(alloc)?),
+        Some(segment) => push_copies(alloc, constraints, segment.constraints.as_slice()),
+    }
+}
+
+fn push_copies(
+    alloc: Global,
+    constraints: &mut List<Constraint>,
+    more: &[Constraint],
+) -> Result<(), Memory>
+    ensures { OnOk result (constraints.new ≡ constraints.old ++ more.now) }
+{
+    for constraint in more {
+        constraints.push(constraint.copy(alloc)?)?;
+    }
+    Ok(())
+}
+
+fn holds_for_nobody(alloc: Global) -> Result<Constraint, Memory>
+    ensures { IfOk result (λ c. c ≡ nobody_meets) }
+{
+    Ok(Constraint {
+        field: Text::new(alloc, "userId")?,
+        operator: Operator::In,
+        values: List::new(alloc),
+        value: None,
+        caseless: false,
+        inverted: false,
+    })
+}

@@ -1,0 +1,26 @@
+//! The segments that strategies name.
+ghost use Rattle.std.specs.Prelude.{◌≡◌, option_map};
+ghost use Rattle.unl_documents.specs.Inline.{segment_of as segment_with};
+
+use crate::list::List;
+use crate::segment::Segment;
+use crate::shared::Shared;
+
+/// The first segment of an id, if the list has one. No more than one has it where the ids rise.
+pub fn segment_of(segments: &List<Shared<Segment>>, id: u64) -> Option<&Segment>
+    ensures { option_map (λ s. s.now) result ≡ segment_with id segments.now }
+{
+    first_of(segments.as_slice(), id)
+}
+
+fn first_of(segments: &[Shared<Segment>], id: u64) -> Option<&Segment>
+    ensures { option_map (λ s. s.now) result ≡ segment_with id segments.now }
+{
+    for shared in segments {
+        let segment = shared.get();
+        if segment.id == id {
+            return Some(segment);
+        }
+    }
+    None
+}

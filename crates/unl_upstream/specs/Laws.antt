@@ -1,0 +1,31 @@
+-- What holds of an upstream after any commands, from its opening on.
+use Rattle.std.specs.Prelude.{◌≡◌, ℕ, List, [], ◌∷◌, Some, is_some}
+use Rattle.std.specs.List.{list_any}
+use Rattle.unl_core.specs.Board.{same_text, snapshot_in}
+use Rattle.unl_delta.specs.declared.version.EnvVersion.{EnvVersion}
+use Rattle.unl_delta.specs.History.{Era, IsLine, StandsIn, everything}
+use Rattle.unl_tokens.specs.declared.token.Token.{Token}
+use Rattle.unl_upstream.specs.declared.command.Command.{Command}
+use Rattle.unl_upstream.specs.Upstream.{UpstreamState, opening}
+use Rattle.unl_upstream.specs.History.{IsHistoryOf, accepted, after_commands, for_environment, history_of}
+
+-- the line of histories of an upstream that began in an epoch: the one history that these commands make
+abbrev pub line_of : ℕ → List Command → List Era
+line_of epoch commands = record { epoch = epoch; history = history_of commands } ∷ []
+
+-- each environment's version stands for the history of its accepted commands, in the epoch of the opening
+abbrev pub VersionsStand : Type 0
+VersionsStand = (boot : ℕ) (secret : List ℕ) (environments : List (List ℕ)) (book : List Token) (epoch : ℕ) (commands : List Command) (environment : List ℕ) (v : EnvVersion)
+    → snapshot_in environment (after_commands commands (opening boot secret environments book epoch)).board.slots ≡ Some v
+    → IsHistoryOf epoch (for_environment environment (accepted commands (opening boot secret environments book epoch))) v
+
+-- a version that stands for such a history stands in its line, seen by who sees all
+abbrev pub VersionsStandInLines : Type 0
+VersionsStandInLines = (epoch : ℕ) (commands : List Command) (v : EnvVersion) → IsHistoryOf epoch commands v
+    → IsLine (line_of epoch commands) × StandsIn (line_of epoch commands) everything v
+
+-- an environment has a version exactly where the upstream began with it
+abbrev pub EnvironmentsStay : Type 0
+EnvironmentsStay = (boot : ℕ) (secret : List ℕ) (environments : List (List ℕ)) (book : List Token) (epoch : ℕ) (commands : List Command) (environment : List ℕ)
+    → is_some (snapshot_in environment (after_commands commands (opening boot secret environments book epoch)).board.slots)
+    ≡ list_any (λ name. same_text name environment) environments
