@@ -1,5 +1,5 @@
 -- What a door hands out and is handed back. What is not told is none.
-use Rattle.std.specs.Prelude.{◌≡◌, ◌+◌, Bool, true, false, List, [], ◌∷◌, ◌++◌, Option, Some, None, ℕ, drop, option_map, option_and_then, IfSome}
+use Rattle.std.specs.Prelude.{◌≡◌, ◌+◌, ◌||◌, Bool, true, false, List, [], ◌∷◌, ◌++◌, Option, Some, None, ℕ, drop, option_map, option_and_then, IfSome}
 
 -- Whether a door listens and is closed; how many links it handed out and was handed back; what each link to come gives to
 -- read; what each that came back had sent, and how often it had failed.
@@ -20,6 +20,10 @@ next_of (first ∷ rest) = first
 abbrev pub count_of : {A : Type 0} → Option A → ℕ
 count_of None = 0
 count_of (Some link) = 1
+
+-- a door that listens from now on, or does so if it did before
+abbrev pub listening_if : Bool → DoorState → DoorState
+listening_if now door = record door { listening = now || door.listening }
 
 -- no link comes any more
 pub record IsClosed (door : DoorState) : Type 0 where

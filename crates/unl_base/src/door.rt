@@ -1,6 +1,6 @@
 //! A door, which hands out links and takes them back.
-ghost use Rattle.std.specs.Prelude.{◌≡◌, ◌<◌, ◌≤◌, ℕ, true, IfOk, IfSome, OnErr, OnOk};
-ghost use Rattle.unl_base.specs.Doors.{Accepts, DoorState, IsFresh, taking_back};
+ghost use Rattle.std.specs.Prelude.{◌≡◌, ◌<◌, ◌≤◌, ℕ, true, is_ok, IfOk, IfSome, OnErr};
+ghost use Rattle.unl_base.specs.Doors.{Accepts, DoorState, IsFresh, listening_if, taking_back};
 ghost use Rattle.unl_base.specs.Faults.{HasCause};
 
 use crate::Failed;
@@ -24,8 +24,7 @@ pub trait Door {
     ///
     /// `Failed`: the port can't be listened at. The fault is counted, and all else is as before.
     fn listen(&mut self, port: u16) -> Result<(), Failed>
-        ensures listens { OnOk result (state self.new ≡ record (state self.old) { listening = true }) }
-        ensures kept { OnErr result (state self.new ≡ state self.old) }
+        ensures listens { state self.new ≡ listening_if (is_ok result) (state self.old) }
         ensures cause { HasCause (faults self.old) (faults self.new) result };
 
     /// Waits for the next link, and hands it out: none exactly where the door is closed. The link has sent nothing and

@@ -94,12 +94,12 @@ fn host<D: Door, P: Peer, R: Draws, W: Wait>(
     peer: &mut P,
     draws: &mut R,
 ) -> Result<u64, Failed>
-    requires { D.listening door.old ≡ true }
-    ensures hands { IfOk result (λ served. (D.given door.new ≡ D.given door.old + served) × (D.back door.new ≡ D.back door.old + served)) }
-    ensures failed { OnErr result ((served : ℕ) × (D.given door.new ≡ D.given door.old + served) × (D.back door.new ≡ D.back door.old + served)) }
-    ensures closed { OnOk result (D.closed door.new ≡ true) }
-    ensures over { OnOk result (IfSome (D.links door.new) (λ links. links ≡ [])) }
-    ensures connects { Connects 0 (P.replies peer.old) (P.Source.faults peer.old) (P.replies peer.new) (P.Source.faults peer.new) }
+    requires { (D.state door.old).listening ≡ true }
+    ensures hands { IfOk result (λ served. ((D.state door.new).given ≡ (D.state door.old).given + served) × ((D.state door.new).back ≡ (D.state door.old).back + served)) }
+    ensures failed { OnErr result ((served : ℕ) × ((D.state door.new).given ≡ (D.state door.old).given + served) × ((D.state door.new).back ≡ (D.state door.old).back + served)) }
+    ensures closed { OnOk result ((D.state door.new).closed ≡ true) }
+    ensures over { OnOk result (IfSome (D.state door.new).links (λ links. links ≡ [])) }
+    ensures connects { Connects 0 (P.state peer.old).replies (P.Source.faults peer.old) (P.state peer.new).replies (P.Source.faults peer.new) }
     ensures cause { HasCause (D.faults door.old) (D.faults door.new) result }
 {
     for served in 0..u64::MAX {
@@ -121,15 +121,15 @@ fn serve_next<D: Door, P: Peer, R: Draws>(
     peer: &mut P,
     draws: &mut R,
 ) -> Result<Next, Failed>
-    requires { D.listening door.old ≡ true }
-    ensures given { IfOk result (λ next. D.given door.new ≡ D.given door.old + links_of next) }
-    ensures back { IfOk result (λ next. D.back door.new ≡ D.back door.old + links_of next) }
-    ensures kept_given { OnErr result (D.given door.new ≡ D.given door.old) }
-    ensures kept_back { OnErr result (D.back door.new ≡ D.back door.old) }
-    ensures closed { IfOk result (λ next. next ≡ Next.Closed → D.closed door.new ≡ true) }
-    ensures over { IfOk result (λ next. next ≡ Next.Closed → IfSome (D.links door.new) (λ links. links ≡ [])) }
-    ensures listens { D.listening door.new ≡ true }
-    ensures connects { Connects 0 (P.replies peer.old) (P.Source.faults peer.old) (P.replies peer.new) (P.Source.faults peer.new) }
+    requires { (D.state door.old).listening ≡ true }
+    ensures given { IfOk result (λ next. (D.state door.new).given ≡ (D.state door.old).given + links_of next) }
+    ensures back { IfOk result (λ next. (D.state door.new).back ≡ (D.state door.old).back + links_of next) }
+    ensures kept_given { OnErr result ((D.state door.new).given ≡ (D.state door.old).given) }
+    ensures kept_back { OnErr result ((D.state door.new).back ≡ (D.state door.old).back) }
+    ensures closed { IfOk result (λ next. next ≡ Next.Closed → (D.state door.new).closed ≡ true) }
+    ensures over { IfOk result (λ next. next ≡ Next.Closed → IfSome (D.state door.new).links (λ links. links ≡ [])) }
+    ensures listens { (D.state door.new).listening ≡ true }
+    ensures connects { Connects 0 (P.state peer.old).replies (P.Source.faults peer.old) (P.state peer.new).replies (P.Source.faults peer.new) }
     ensures cause { HasCause (D.faults door.old) (D.faults door.new) result }
 {
     match door.accept()? {
@@ -150,10 +150,10 @@ fn serve_link<D: Door, R: Draws>(
     door: &mut D,
     draws: &mut R,
 )
-    requires { D.back door.old < D.given door.old }
-    ensures same_listening { D.listening door.new ≡ D.listening door.old }
-    ensures same_given { D.given door.new ≡ D.given door.old }
-    ensures counted { D.back door.new ≡ D.back door.old + 1 }
+    requires { (D.state door.old).back < (D.state door.old).given }
+    ensures same_listening { (D.state door.new).listening ≡ (D.state door.old).listening }
+    ensures same_given { (D.state door.new).given ≡ (D.state door.old).given }
+    ensures counted { (D.state door.new).back ≡ (D.state door.old).back + 1 }
     ensures same_faults { D.faults door.new ≡ D.faults door.old }
 {
     replica.serve(alloc, &mut link, draws);

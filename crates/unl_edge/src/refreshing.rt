@@ -25,8 +25,8 @@ pub fn refresh_book<P: Peer>(
     ensures places { length desk.new.places ≡ length desk.old.places }
     ensures front { desk.new.front ≤ desk.old.front + 1 }
     ensures asks { desk.old.front < 2 ^ 64 - 1 → OnOk result (Connects 1
-        (P.replies peer.old) (P.Source.faults peer.old) (P.replies peer.new) (P.Source.faults peer.new)) }
-    ensures connects { Connects 0 (P.replies peer.old) (P.Source.faults peer.old) (P.replies peer.new) (P.Source.faults peer.new) }
+        (P.state peer.old).replies (P.Source.faults peer.old) (P.state peer.new).replies (P.Source.faults peer.new)) }
+    ensures connects { Connects 0 (P.state peer.old).replies (P.Source.faults peer.old) (P.state peer.new).replies (P.Source.faults peer.new) }
 {
     if desk.front() == u64::MAX {
         return Ok(());
@@ -47,8 +47,8 @@ pub fn refresh_slot<P: Peer>(
     ensures places { length desk.new.places ≡ length desk.old.places }
     ensures front { desk.new.front ≤ desk.old.front + 1 }
     ensures asks { desk.old.front < 2 ^ 64 - 1 → OnOk result (Connects 1
-        (P.replies peer.old) (P.Source.faults peer.old) (P.replies peer.new) (P.Source.faults peer.new)) }
-    ensures connects { Connects 0 (P.replies peer.old) (P.Source.faults peer.old) (P.replies peer.new) (P.Source.faults peer.new) }
+        (P.state peer.old).replies (P.Source.faults peer.old) (P.state peer.new).replies (P.Source.faults peer.new)) }
+    ensures connects { Connects 0 (P.state peer.old).replies (P.Source.faults peer.old) (P.state peer.new).replies (P.Source.faults peer.new) }
 {
     if desk.front() == u64::MAX {
         return Ok(());
@@ -64,7 +64,7 @@ pub fn tell_metrics<P: Peer>(
     feeder: &Feeder,
     peer: &mut P,
 ) -> Result<(), Memory>
-    ensures { Connects 0 (P.replies peer.old) (P.Source.faults peer.old) (P.replies peer.new) (P.Source.faults peer.new) }
+    ensures { Connects 0 (P.state peer.old).replies (P.Source.faults peer.old) (P.state peer.new).replies (P.Source.faults peer.new) }
 {
     let environment = feeder.environment.as_str();
     let (token, host) = (feeder.ask.token.as_str(), feeder.ask.host.as_str());
@@ -85,8 +85,8 @@ pub fn feed_slot<P: Peer>(
     ensures places { length desk.new.places ≡ length desk.old.places }
     ensures front { desk.new.front ≤ desk.old.front + 1 }
     ensures asks { desk.old.front < 2 ^ 64 - 1 → OnOk result (Connects 1
-        (P.replies peer.old) (P.Source.faults peer.old) (P.replies peer.new) (P.Source.faults peer.new)) }
-    ensures connects { Connects 0 (P.replies peer.old) (P.Source.faults peer.old) (P.replies peer.new) (P.Source.faults peer.new) }
+        (P.state peer.old).replies (P.Source.faults peer.old) (P.state peer.new).replies (P.Source.faults peer.new)) }
+    ensures connects { Connects 0 (P.state peer.old).replies (P.Source.faults peer.old) (P.state peer.new).replies (P.Source.faults peer.new) }
 {
     match refresh_slot(alloc, desk, slot, feeder, peer) {
         Ok(()) => tell_metrics(alloc, book, feeder, peer),
@@ -104,8 +104,8 @@ pub fn feed_slots<P: Peer>(
 ) -> Result<(), Memory>
     ensures asks { desk.old.front + length feeders.old < 2 ^ 64 - 1 → length feeders.old ≤ length desk.old.places
         → OnOk result (Connects (length feeders.old)
-        (P.replies peer.old) (P.Source.faults peer.old) (P.replies peer.new) (P.Source.faults peer.new)) }
-    ensures connects { Connects 0 (P.replies peer.old) (P.Source.faults peer.old) (P.replies peer.new) (P.Source.faults peer.new) }
+        (P.state peer.old).replies (P.Source.faults peer.old) (P.state peer.new).replies (P.Source.faults peer.new)) }
+    ensures connects { Connects 0 (P.state peer.old).replies (P.Source.faults peer.old) (P.state peer.new).replies (P.Source.faults peer.new) }
 {
     let count = desk.slots().min(feeders.len());
     for slot in 0..count {

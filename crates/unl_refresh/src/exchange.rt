@@ -9,7 +9,7 @@ ghost use Rattle.unl_refresh.specs.Exchange.{Asks, AsksAtMostOnce, HoldsEnough, 
 
 use crate::outcome::RefreshFault;
 use std::alloc::Global;
-use unl_base::{Failed, Peer};
+use unl_base::{Failed, Peer, write_all};
 use unl_documents::Memory;
 use unl_http_api::{BadReply, Got, ReplyReader};
 
@@ -26,41 +26,17 @@ pub(crate) fn exchange<P: Peer>(
     peer: &mut P,
     request: &[u8],
 ) -> Result<Result<Got, BadReply>, RefreshFault>
-    ensures read { IfOk result (IsRead (option_map next_of (P.replies peer.old))) }
+    ensures read { IfOk result (IsRead (option_map next_of (P.state peer.old).replies)) }
     ensures tag { IfOk result (λ reading. IfOk reading (λ got. IsTrue (fits_if_any got.tag))) }
     ensures named { IfOk result (λ reading. IfErr reading (λ e. e ≢ BadReply.Memory)) }
-    ensures asks { OnOk result (Asks request.now (P.replies peer.old) (P.Sink.sent peer.old) (P.replies peer.new) (P.Sink.sent peer.new)) }
-    ensures once { AsksAtMostOnce request.now (P.replies peer.old) (P.Sink.sent peer.old) (P.replies peer.new) (P.Sink.sent peer.new) }
+    ensures asks { OnOk result (Asks request.now (P.state peer.old).replies (P.Sink.sent peer.old) (P.state peer.new).replies (P.Sink.sent peer.new)) }
+    ensures once { AsksAtMostOnce request.now (P.state peer.old).replies (P.Sink.sent peer.old) (P.state peer.new).replies (P.Sink.sent peer.new) }
     ensures later { P.Source.faults peer.old ≤ P.Source.faults peer.new }
     ensures cause { result ≡ Err RefreshFault.PeerFault → Rose (P.Source.faults peer.old) (P.Source.faults peer.new) }
 {
     peer.connect()?;
-    send(peer, request)?;
+    write_all(peer, request)?;
     read_reply(alloc, peer)
-}
-
-/// Sends all of a request. After a fault the front of it was sent.
-fn send<P: Peer>(peer: &mut P, request: &[u8]) -> Result<(), Failed>
-    ensures ok { OnOk result (Sends (P.Sink.sent peer.old) request.now (P.Sink.sent peer.new)) }
-    ensures err { OnErr result (SendsFront (P.Sink.sent peer.old) request.now (P.Sink.sent peer.new)) }
-    ensures left { P.Source.left peer.new ≡ P.Source.left peer.old }
-    ensures replies { P.replies peer.new ≡ P.replies peer.old }
-    ensures cause { HasCause (P.Source.faults peer.old) (P.Source.faults peer.new) result }
-{
-    let mut rest = request;
-    while !rest.is_empty() {
-        let count = peer.write(rest)?;
-        rest = rest_of(rest, count);
-    }
-    Ok(())
-}
-
-/// The bytes of a text from a place on.
-fn rest_of(text: &[u8], count: usize) -> &[u8]
-    requires { count ≤ length text.now }
-    ensures { result.now ≡ drop count text.now }
-{
-    &text[count..]
 }
 
 /// Reads a reply, to its end or until the bytes that came decide how it is read.
@@ -68,8 +44,7 @@ fn read_reply<P: Peer>(alloc: Global, peer: &mut P) -> Result<Result<Got, BadRep
     ensures read { IfOk result (IsRead (P.Source.left peer.old)) }
     ensures tag { IfOk result (λ reading. IfOk reading (λ got. IsTrue (fits_if_any got.tag))) }
     ensures named { IfOk result (λ reading. IfErr reading (λ e. e ≢ BadReply.Memory)) }
-    ensures sent { P.Sink.sent peer.new ≡ P.Sink.sent peer.old }
-    ensures replies { P.replies peer.new ≡ P.replies peer.old }
+    ensures beside { P.Source.beside peer.new ≡ P.Source.beside peer.old }
     ensures later { P.Source.faults peer.old ≤ P.Source.faults peer.new }
     ensures cause { result ≡ Err RefreshFault.PeerFault → Rose (P.Source.faults peer.old) (P.Source.faults peer.new) }
 {
@@ -100,8 +75,7 @@ fn finished(alloc: Global, reader: ReplyReader) -> Result<Result<Got, BadReply>,
 fn receive<P: Peer>(peer: &mut P, reader: &mut ReplyReader) -> Result<(), RefreshFault>
     requires { reader.old ≡ [] }
     ensures held { OnOk result (HoldsEnough (P.Source.left peer.old) reader.new) }
-    ensures sent { P.Sink.sent peer.new ≡ P.Sink.sent peer.old }
-    ensures replies { P.replies peer.new ≡ P.replies peer.old }
+    ensures beside { P.Source.beside peer.new ≡ P.Source.beside peer.old }
     ensures later { P.Source.faults peer.old ≤ P.Source.faults peer.new }
     ensures cause { result ≡ Err RefreshFault.PeerFault → Rose (P.Source.faults peer.old) (P.Source.faults peer.new) }
 {
@@ -124,8 +98,7 @@ fn read_piece<P: Peer>(
 ) -> Result<bool, RefreshFault>
     requires { 0 < length room.old }
     ensures piece { IfOk result (λ some. TakesPiece some reader.old (P.Source.left peer.old) reader.new (P.Source.left peer.new)) }
-    ensures sent { P.Sink.sent peer.new ≡ P.Sink.sent peer.old }
-    ensures replies { P.replies peer.new ≡ P.replies peer.old }
+    ensures beside { P.Source.beside peer.new ≡ P.Source.beside peer.old }
     ensures later { P.Source.faults peer.old ≤ P.Source.faults peer.new }
     ensures cause { result ≡ Err RefreshFault.PeerFault → Rose (P.Source.faults peer.old) (P.Source.faults peer.new) }
 {

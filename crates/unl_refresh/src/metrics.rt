@@ -38,10 +38,10 @@ pub fn send_metrics<P: Peer>(
     requires token { IsTrue (fits_line token.now) }
 
     // Where there is something to send, a reply was read, and the outcome is what comes of it.
-    ensures sends { IfOk result (SendsBulk (bulk_of environment.now book.old) (option_map next_of (P.replies peer.old))) }
+    ensures sends { IfOk result (SendsBulk (bulk_of environment.now book.old) (option_map next_of (P.state peer.old).replies)) }
 
     // Where the peer tells its replies, this is so of the next one and in no other way.
-    ensures told { (list : List (List ℕ)) (reading : Result Got BadReply) → P.replies peer.old ≡ Some list → IsReply (next_of list) reading
+    ensures told { (list : List (List ℕ)) (reading : Result Got BadReply) → (P.state peer.old).replies ≡ Some list → IsReply (next_of list) reading
         → IfOk result (IsToldOf (bulk_of environment.now book.old) reading) }
 
     // Want of memory stands in no outcome.
@@ -53,9 +53,9 @@ pub fn send_metrics<P: Peer>(
 
     // Where there is something to send, one connect was made, and one request was sent on it.
     ensures asks { IfOk result (λ _. AsksBulk (bulk_of environment.now book.old) host.now token.now
-        (P.replies peer.old) (P.Sink.sent peer.old) (P.replies peer.new) (P.Sink.sent peer.new)) }
+        (P.state peer.old).replies (P.Sink.sent peer.old) (P.state peer.new).replies (P.Sink.sent peer.new)) }
     ensures once { AsksBulkAtMostOnce (bulk_of environment.now book.old) host.now token.now
-        (P.replies peer.old) (P.Sink.sent peer.old) (P.replies peer.new) (P.Sink.sent peer.new) }
+        (P.state peer.old).replies (P.Sink.sent peer.old) (P.state peer.new).replies (P.Sink.sent peer.new) }
     ensures silent { bulk_of environment.now book.old ≡ None → peer.new ≡ peer.old }
 
     // A fault is told only where the peer counted one.
@@ -76,14 +76,14 @@ fn send<P: Peer>(
 ) -> Result<MetricsOutcome, RefreshFault>
     requires host { IsTrue (fits_line host.now) }
     requires token { IsTrue (fits_line token.now) }
-    ensures sends { IfOk result (SendsBulk (bulk_of environment.now book.old) (option_map next_of (P.replies peer.old))) }
+    ensures sends { IfOk result (SendsBulk (bulk_of environment.now book.old) (option_map next_of (P.state peer.old).replies)) }
     ensures named { IfOk result IsNamedMetrics }
     ensures book { IfOk result (λ outcome. book.new ≡ book_after environment.now outcome book.old) }
     ensures fault { OnErr result (book.new ≡ book.old) }
     ensures asks { IfOk result (λ _. AsksBulk (bulk_of environment.now book.old) host.now token.now
-        (P.replies peer.old) (P.Sink.sent peer.old) (P.replies peer.new) (P.Sink.sent peer.new)) }
+        (P.state peer.old).replies (P.Sink.sent peer.old) (P.state peer.new).replies (P.Sink.sent peer.new)) }
     ensures once { AsksBulkAtMostOnce (bulk_of environment.now book.old) host.now token.now
-        (P.replies peer.old) (P.Sink.sent peer.old) (P.replies peer.new) (P.Sink.sent peer.new) }
+        (P.state peer.old).replies (P.Sink.sent peer.old) (P.state peer.new).replies (P.Sink.sent peer.new) }
     ensures silent { bulk_of environment.now book.old ≡ None → peer.new ≡ peer.old }
     ensures later { P.Source.faults peer.old ≤ P.Source.faults peer.new }
     ensures cause { result ≡ Err RefreshFault.PeerFault → Rose (P.Source.faults peer.old) (P.Source.faults peer.new) }
@@ -105,12 +105,12 @@ fn send_found<P: Peer>(
     requires host { IsTrue (fits_line host.now) }
     requires token { IsTrue (fits_line token.now) }
     requires whole { IfSome found (λ sent. has_float (view sent.0) ≡ false) }
-    ensures sends { IfOk result (SendsBulk (option_map (λ sent. (view sent.0, sent.1)) found) (option_map next_of (P.replies peer.old))) }
+    ensures sends { IfOk result (SendsBulk (option_map (λ sent. (view sent.0, sent.1)) found) (option_map next_of (P.state peer.old).replies)) }
     ensures named { IfOk result IsNamedMetrics }
     ensures asks { IfOk result (λ _. AsksBulk (option_map (λ sent. (view sent.0, sent.1)) found) host.now token.now
-        (P.replies peer.old) (P.Sink.sent peer.old) (P.replies peer.new) (P.Sink.sent peer.new)) }
+        (P.state peer.old).replies (P.Sink.sent peer.old) (P.state peer.new).replies (P.Sink.sent peer.new)) }
     ensures once { AsksBulkAtMostOnce (option_map (λ sent. (view sent.0, sent.1)) found) host.now token.now
-        (P.replies peer.old) (P.Sink.sent peer.old) (P.replies peer.new) (P.Sink.sent peer.new) }
+        (P.state peer.old).replies (P.Sink.sent peer.old) (P.state peer.new).replies (P.Sink.sent peer.new) }
     ensures silent { found ≡ None → peer.new ≡ peer.old }
     ensures later { P.Source.faults peer.old ≤ P.Source.faults peer.new }
     ensures cause { result ≡ Err RefreshFault.PeerFault → Rose (P.Source.faults peer.old) (P.Source.faults peer.new) }

@@ -45,16 +45,16 @@ pub fn refresh_once<I: Installer, P: Peer>(
     requires tag { IsTrue (fits_if_any ask.old.tag) }
 
     // A reply was read, and the outcome, what is installed and the tag are what comes of it.
-    ensures takes { IfOk result (λ outcome. Refreshes slot ask.old (I.installed to.old) (option_map next_of (P.replies peer.old))
+    ensures takes { IfOk result (λ outcome. Refreshes slot ask.old (I.installed to.old) (option_map next_of (P.state peer.old).replies)
         (record { outcome = outcome; installed = I.installed to.new; tag = ask.new.tag })) }
 
     // Where the peer tells its replies, this is so of the next one and in no other way.
-    ensures told { (list : List (List ℕ)) (reading : Result Got BadReply) → P.replies peer.old ≡ Some list → IsReply (next_of list) reading
+    ensures told { (list : List (List ℕ)) (reading : Result Got BadReply) → (P.state peer.old).replies ≡ Some list → IsReply (next_of list) reading
         → IfOk result (λ outcome. record { outcome = outcome; installed = I.installed to.new; tag = ask.new.tag }
         ≡ after_reading slot ask.old.delta ask.old.tag (I.installed to.old) reading) }
 
     // So a batch that applies there is published, where no call of the peer failed and memory was found.
-    ensures complete { (list : List (List ℕ)) (got : Got) (batch : Batch) → P.replies peer.old ≡ Some list → IsReply (next_of list) (Ok got)
+    ensures complete { (list : List (List ℕ)) (got : Got) (batch : Batch) → (P.state peer.old).replies ≡ Some list → IsReply (next_of list) (Ok got)
         → got.status ≡ 200 → batch_in ask.old.delta (number_held (place_of (I.installed to.old) slot)) got.body ≡ Ok batch
         → verdict_of (place_of (I.installed to.old) slot) batch ≡ Apply
         → ¬ (Rose (P.Source.faults peer.old) (P.Source.faults peer.new)) → result ≢ Err RefreshFault.Memory
@@ -73,13 +73,13 @@ pub fn refresh_once<I: Installer, P: Peer>(
 
     // One connect was made, and one request was sent on it.
     ensures asks { OnOk result (Asks (refresh_request ask.old.delta ask.old.host ask.old.token ask.old.tag)
-        (P.replies peer.old) (P.Sink.sent peer.old) (P.replies peer.new) (P.Sink.sent peer.new)) }
+        (P.state peer.old).replies (P.Sink.sent peer.old) (P.state peer.new).replies (P.Sink.sent peer.new)) }
     ensures once { AsksAtMostOnce (refresh_request ask.old.delta ask.old.host ask.old.token ask.old.tag)
-        (P.replies peer.old) (P.Sink.sent peer.old) (P.replies peer.new) (P.Sink.sent peer.new) }
+        (P.state peer.old).replies (P.Sink.sent peer.old) (P.state peer.new).replies (P.Sink.sent peer.new) }
 
     // Where no call of the peer failed and memory was found, one reply was taken.
     ensures one_reply { ¬ (Rose (P.Source.faults peer.old) (P.Source.faults peer.new)) → result ≢ Err RefreshFault.Memory
-        → P.replies peer.new ≡ option_map (λ list. drop 1 list) (P.replies peer.old) }
+        → (P.state peer.new).replies ≡ option_map (λ list. drop 1 list) (P.state peer.old).replies }
 
     // A fault is told only where the peer counted one.
     ensures later { P.Source.faults peer.old ≤ P.Source.faults peer.new }
@@ -101,7 +101,7 @@ fn refresh<I: Installer, P: Peer>(
     requires host { IsTrue (fits_line ask.old.host) }
     requires token { IsTrue (fits_line ask.old.token) }
     requires tag { IsTrue (fits_if_any ask.old.tag) }
-    ensures takes { IfOk result (λ outcome. Refreshes slot ask.old (I.installed to.old) (option_map next_of (P.replies peer.old))
+    ensures takes { IfOk result (λ outcome. Refreshes slot ask.old (I.installed to.old) (option_map next_of (P.state peer.old).replies)
         (record { outcome = outcome; installed = I.installed to.new; tag = ask.new.tag })) }
     ensures named { IfOk result IsNamedOutcome }
     ensures fault { OnErr result (I.installed to.new ≡ I.installed to.old) }
@@ -109,9 +109,9 @@ fn refresh<I: Installer, P: Peer>(
     ensures same_ask { ask.new ≡ with_tag ask.new.tag ask.old }
     ensures next_tag { IsTrue (fits_if_any ask.new.tag) }
     ensures asks { OnOk result (Asks (refresh_request ask.old.delta ask.old.host ask.old.token ask.old.tag)
-        (P.replies peer.old) (P.Sink.sent peer.old) (P.replies peer.new) (P.Sink.sent peer.new)) }
+        (P.state peer.old).replies (P.Sink.sent peer.old) (P.state peer.new).replies (P.Sink.sent peer.new)) }
     ensures once { AsksAtMostOnce (refresh_request ask.old.delta ask.old.host ask.old.token ask.old.tag)
-        (P.replies peer.old) (P.Sink.sent peer.old) (P.replies peer.new) (P.Sink.sent peer.new) }
+        (P.state peer.old).replies (P.Sink.sent peer.old) (P.state peer.new).replies (P.Sink.sent peer.new) }
     ensures later { P.Source.faults peer.old ≤ P.Source.faults peer.new }
     ensures cause { result ≡ Err RefreshFault.PeerFault → Rose (P.Source.faults peer.old) (P.Source.faults peer.new) }
 {

@@ -39,11 +39,11 @@ pub fn refresh_tokens<I: Installer, P: Peer>(
     requires host { IsTrue (fits_line host.now) }
 
     // A reply was read, and the outcome and what is installed are what comes of it.
-    ensures takes { IfOk result (λ outcome. RefreshesTokens texts.now (I.installed to.old) (option_map next_of (P.replies peer.old))
+    ensures takes { IfOk result (λ outcome. RefreshesTokens texts.now (I.installed to.old) (option_map next_of (P.state peer.old).replies)
         outcome (I.installed to.new)) }
 
     // Where the peer tells its replies, this is so of the next one and in no other way.
-    ensures told { (list : List (List ℕ)) (reading : Result Got BadReply) → P.replies peer.old ≡ Some list → IsReply (next_of list) reading
+    ensures told { (list : List (List ℕ)) (reading : Result Got BadReply) → (P.state peer.old).replies ≡ Some list → IsReply (next_of list) reading
         → IfOk result (λ outcome. Installs (book_in_reply texts.now reading) (I.installed to.old) outcome (I.installed to.new)) }
 
     // Want of memory stands in no outcome.
@@ -54,13 +54,13 @@ pub fn refresh_tokens<I: Installer, P: Peer>(
 
     // One connect was made, and one request was sent on it.
     ensures asks { OnOk result (Asks (tokens_request texts.now host.now)
-        (P.replies peer.old) (P.Sink.sent peer.old) (P.replies peer.new) (P.Sink.sent peer.new)) }
+        (P.state peer.old).replies (P.Sink.sent peer.old) (P.state peer.new).replies (P.Sink.sent peer.new)) }
     ensures once { AsksAtMostOnce (tokens_request texts.now host.now)
-        (P.replies peer.old) (P.Sink.sent peer.old) (P.replies peer.new) (P.Sink.sent peer.new) }
+        (P.state peer.old).replies (P.Sink.sent peer.old) (P.state peer.new).replies (P.Sink.sent peer.new) }
 
     // Where no call of the peer failed and memory was found, one reply was taken.
     ensures one_reply { ¬ (Rose (P.Source.faults peer.old) (P.Source.faults peer.new)) → result ≢ Err RefreshFault.Memory
-        → P.replies peer.new ≡ option_map (λ list. drop 1 list) (P.replies peer.old) }
+        → (P.state peer.new).replies ≡ option_map (λ list. drop 1 list) (P.state peer.old).replies }
 
     // A fault is told only where the peer counted one.
     ensures later { P.Source.faults peer.old ≤ P.Source.faults peer.new }
@@ -79,14 +79,14 @@ fn refresh<I: Installer, P: Peer>(
 ) -> Result<Outcome, RefreshFault>
     requires front { (I.installed to.old).front < 2 ^ 64 - 1 }
     requires host { IsTrue (fits_line host.now) }
-    ensures takes { IfOk result (λ outcome. RefreshesTokens texts.now (I.installed to.old) (option_map next_of (P.replies peer.old))
+    ensures takes { IfOk result (λ outcome. RefreshesTokens texts.now (I.installed to.old) (option_map next_of (P.state peer.old).replies)
         outcome (I.installed to.new)) }
     ensures named { IfOk result IsNamedOutcome }
     ensures fault { OnErr result (I.installed to.new ≡ I.installed to.old) }
     ensures asks { OnOk result (Asks (tokens_request texts.now host.now)
-        (P.replies peer.old) (P.Sink.sent peer.old) (P.replies peer.new) (P.Sink.sent peer.new)) }
+        (P.state peer.old).replies (P.Sink.sent peer.old) (P.state peer.new).replies (P.Sink.sent peer.new)) }
     ensures once { AsksAtMostOnce (tokens_request texts.now host.now)
-        (P.replies peer.old) (P.Sink.sent peer.old) (P.replies peer.new) (P.Sink.sent peer.new) }
+        (P.state peer.old).replies (P.Sink.sent peer.old) (P.state peer.new).replies (P.Sink.sent peer.new) }
     ensures later { P.Source.faults peer.old ≤ P.Source.faults peer.new }
     ensures cause { result ≡ Err RefreshFault.PeerFault → Rose (P.Source.faults peer.old) (P.Source.faults peer.new) }
 {

@@ -1,7 +1,7 @@
 -- Links that were served, one after another.
 use Rattle.std.proofs.Common.{◌≡◌, ℕ, ◌+◌, List, [], ◌∷◌, ◌++◌, length, Option, Some, None, refl, sym, ap, ◌∙◌, subst, arith, append_assoc, append-nil, length-append, ◌⊎◌, inl, inr}
 use Rattle.std.specs.Prelude.{drop, option_map, option_and_then, unwrap_or, IfSome, IsNone, ◌↔◌}
-use Rattle.unl_base.specs.Doors.{Returns, next_of}
+use Rattle.unl_base.specs.Doors.{and_one, next_of}
 use Rattle.unl_base.specs.Faults.{Rose}
 use Rattle.unl_exchange.specs.Conversation.{Concludes, GivesUp, Serves}
 use Rattle.unl_http_api.specs.declared.end.End.{End}
@@ -36,7 +36,7 @@ sent_told bytes before after ends.Memory left_after sent_after faults_after c me
 
 -- a door that tells what came back has one pair more
 returns_one : (returned : Option (List (List ℕ × ℕ))) (sent : Option (List ℕ)) (text : List ℕ) (faults : ℕ)
-    (returned_after : Option (List (List ℕ × ℕ))) → sent ≡ Some text → Returns returned sent faults returned_after
+    (returned_after : Option (List (List ℕ × ℕ))) → sent ≡ Some text → returned_after ≡ and_one sent faults returned
     → returned_after ≡ option_map (λ backs. backs ++ (text, faults) ∷ []) returned
 returns_one None sent text faults returned_after told returns = returns
 returns_one (Some backs) sent text faults returned_after told returns =
@@ -48,7 +48,7 @@ pub link_served : (up up_after : UpstreamState) (coming coming_after : Coming) (
     → Concludes Step bytes (Some []) (serving up 0 coming) end (serving up_after count coming_after) left_after sent_after
     → (end ≡ ends.Memory → GivesUp Step Lacks bytes (Some []) 0 (serving up 0 coming) (serving up_after count coming_after) sent_after faults_after)
     → Obeys up count up_after → (end ≡ ends.ReadFault → Rose 0 faults_after) → (end ≡ ends.WriteFault → Rose 0 faults_after)
-    → Returns returned sent_after faults_after returned_after
+    → returned_after ≡ and_one sent_after faults_after returned
     → ServesLink up coming bytes returned up_after coming_after returned_after
 link_served up up_after coming coming_after bytes count end left_after sent_after faults_after returned returned_after concludes memory obeyed read write returns =
     let told : (text : List ℕ) × (sent_after ≡ Some text) =
@@ -70,14 +70,6 @@ link_served up up_after coming coming_after bytes count end left_after sent_afte
         write_cause = write;
       };
     }
-
--- where a link is handed out, one was to come
-pub some_left : {A : Type 0} (found : Option A) (link : A) (links : Option (List (List ℕ))) (list : List (List ℕ)) → found ≡ Some link
-    → IfSome links (λ list. IsNone found ↔ (list ≡ [])) → links ≡ Some list → ¬ (list ≡ [])
-some_left None link links list is ends told empty = absurd (cc is)
-some_left (Some found) link None list is ends told empty = absurd (cc told)
-some_left (Some found) link (Some others) list is ends told empty =
-    let none : IsNone (Some found) = ends.1 (ap (λ (o : Option (List (List ℕ))). unwrap_or o []) told ∙ empty) in absurd (cc none)
 
 -- ---- links one after another
 

@@ -30,13 +30,13 @@ impl Upstream {
         door: &mut D,
         draws: &mut R,
     ) -> Result<u64, Failed>
-        requires { D.listening door.old ≡ true }
+        requires { (D.state door.old).listening ≡ true }
         ensures hosts { HostsAll result
-            (record { up = self.old; coming = R.coming draws.old; given = D.given door.old; back = D.back door.old; links = D.links door.old; returned = D.returned door.old })
-            (record { up = self.new; coming = R.coming draws.new; given = D.given door.new; back = D.back door.new; links = D.links door.new; returned = D.returned door.new }) }
-        ensures closed { OnOk result (D.closed door.new ≡ true) }
-        ensures over { OnOk result (IfSome (D.links door.new) (λ links. links ≡ [])) }
-        ensures listens { D.listening door.new ≡ true }
+            (record { up = self.old; coming = R.coming draws.old; given = (D.state door.old).given; back = (D.state door.old).back; links = (D.state door.old).links; returned = (D.state door.old).returned })
+            (record { up = self.new; coming = R.coming draws.new; given = (D.state door.new).given; back = (D.state door.new).back; links = (D.state door.new).links; returned = (D.state door.new).returned }) }
+        ensures closed { OnOk result ((D.state door.new).closed ≡ true) }
+        ensures over { OnOk result (IfSome (D.state door.new).links (λ links. links ≡ [])) }
+        ensures listens { (D.state door.new).listening ≡ true }
         ensures cause { HasCause (D.faults door.old) (D.faults door.new) result }
     {
         for served in 0..u64::MAX {
@@ -56,13 +56,13 @@ impl Upstream {
         door: &mut D,
         draws: &mut R,
     ) -> Result<Next, Failed>
-        requires { D.listening door.old ≡ true }
+        requires { (D.state door.old).listening ≡ true }
         ensures hosts { HostsOne result
-            (record { up = self.old; coming = R.coming draws.old; given = D.given door.old; back = D.back door.old; links = D.links door.old; returned = D.returned door.old })
-            (record { up = self.new; coming = R.coming draws.new; given = D.given door.new; back = D.back door.new; links = D.links door.new; returned = D.returned door.new }) }
-        ensures closed { IfOk result (λ next. next ≡ Next.Closed → D.closed door.new ≡ true) }
-        ensures over { IfOk result (λ next. next ≡ Next.Closed → IfSome (D.links door.new) (λ links. links ≡ [])) }
-        ensures listens { D.listening door.new ≡ true }
+            (record { up = self.old; coming = R.coming draws.old; given = (D.state door.old).given; back = (D.state door.old).back; links = (D.state door.old).links; returned = (D.state door.old).returned })
+            (record { up = self.new; coming = R.coming draws.new; given = (D.state door.new).given; back = (D.state door.new).back; links = (D.state door.new).links; returned = (D.state door.new).returned }) }
+        ensures closed { IfOk result (λ next. next ≡ Next.Closed → (D.state door.new).closed ≡ true) }
+        ensures over { IfOk result (λ next. next ≡ Next.Closed → IfSome (D.state door.new).links (λ links. links ≡ [])) }
+        ensures listens { (D.state door.new).listening ≡ true }
         ensures cause { HasCause (D.faults door.old) (D.faults door.new) result }
     {
         match door.accept()? {
@@ -82,14 +82,14 @@ impl Upstream {
         door: &mut D,
         draws: &mut R,
     )
-        requires { D.back door.old < D.given door.old }
+        requires { (D.state door.old).back < (D.state door.old).given }
         ensures served { (bytes : List ℕ) → D.L.Source.left link ≡ Some bytes → D.L.Sink.sent link ≡ Some [] → D.L.Source.faults link ≡ 0
-            → ServesLink self.old (R.coming draws.old) bytes (D.returned door.old) self.new (R.coming draws.new) (D.returned door.new) }
-        ensures untold { D.returned door.old ≡ None → D.returned door.new ≡ None }
-        ensures same_listening { D.listening door.new ≡ D.listening door.old }
-        ensures same_given { D.given door.new ≡ D.given door.old }
-        ensures counted { D.back door.new ≡ D.back door.old + 1 }
-        ensures same_links { D.links door.new ≡ D.links door.old }
+            → ServesLink self.old (R.coming draws.old) bytes (D.state door.old).returned self.new (R.coming draws.new) (D.state door.new).returned }
+        ensures untold { (D.state door.old).returned ≡ None → (D.state door.new).returned ≡ None }
+        ensures same_listening { (D.state door.new).listening ≡ (D.state door.old).listening }
+        ensures same_given { (D.state door.new).given ≡ (D.state door.old).given }
+        ensures counted { (D.state door.new).back ≡ (D.state door.old).back + 1 }
+        ensures same_links { (D.state door.new).links ≡ (D.state door.old).links }
         ensures same_faults { D.faults door.new ≡ D.faults door.old }
     {
         self.serve(alloc, &mut link, draws);

@@ -1,5 +1,6 @@
 ghost use Rattle.std.specs.Prelude.{◌≡◌, true};
 
+use super::{read_of, write_to};
 use crate::*;
 use std::io::{self, ErrorKind, Read, Write};
 use std::net::{Net, OpenListener, OpenStream, SocketAddr};
@@ -149,7 +150,7 @@ fn a_real_door_closes_after_its_bound(rt: HostRuntime) -> Result<(), Fail> {
 /// Connects to a peer, asks it in one byte, and tells how much it answers.
 fn ask<P: Peer>(peer: &mut P, room: &mut [u8; 8]) -> Result<usize, Failed> {
     peer.connect()?;
-    peer.write(b"?")?;
+    write_to(peer, b"?")?;
     peer.read(room)
 }
 
@@ -159,15 +160,15 @@ fn a_peer_gives_its_replies(rt: HostRuntime) -> Result<(), Fail> {
     let replies = vec![in alloc; b"ab".to_vec(alloc)?, b"cde".to_vec(alloc)?]?;
     let mut peer = MemoryPeer::new(alloc, replies, 1, vec![in alloc; 5u64, 6, 10]?)?;
     let mut room = [0u8; 8];
-    assert_eq!(rt; peer.read(&mut room), Ok(0));
-    assert_eq!(rt; peer.write(b"!"), Ok(1));
+    assert_eq!(rt; read_of(&mut peer, &mut room), Ok(0));
+    assert_eq!(rt; write_to(&mut peer, b"!"), Ok(1));
     for expected in [Ok(2), Err(Failed), Err(Failed), Ok(3), Err(Failed), Ok(0)] {
         assert!(rt; ask(&mut peer, &mut room) == expected);
         assert!(rt; peer.sent().len() <= 1);
     }
     assert_eq!(rt; &room[..3], b"cde".as_slice());
     assert_eq!(rt; peer.sent(), b"?".as_slice());
-    assert_eq!(rt; peer.write(b"?"), Err(Failed));
+    assert_eq!(rt; write_to(&mut peer, b"?"), Err(Failed));
     Ok(())
 }
 
@@ -175,12 +176,12 @@ fn a_peer_gives_its_replies(rt: HostRuntime) -> Result<(), Fail> {
 fn a_real_peer_connects_anew(rt: HostRuntime) -> Result<(), Fail> {
     let mut room = [0u8; 8];
     let mut peer = RealPeer::new(&Town, "127.0.0.1:7");
-    assert_eq!(rt; peer.write(b"abc"), Ok(3));
-    assert_eq!(rt; peer.read(&mut room), Ok(0));
+    assert_eq!(rt; write_to(&mut peer, b"abc"), Ok(3));
+    assert_eq!(rt; read_of(&mut peer, &mut room), Ok(0));
     for _ in 0..2 {
         assert!(rt; ask(&mut peer, &mut room) == Ok(3));
     }
-    assert_eq!(rt; peer.read(&mut room), Ok(0));
+    assert_eq!(rt; read_of(&mut peer, &mut room), Ok(0));
     let mut none = RealPeer::new(&Town, "127.0.0.1:1");
     assert_eq!(rt; none.connect(), Err(Failed));
     Ok(())

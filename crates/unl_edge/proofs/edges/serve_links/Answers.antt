@@ -1,4 +1,5 @@
 use Rattle.std.proofs.Common.{◌+◌, ◌∙◌, ℕ, ap, refl, sym}
+use Rattle.unl_base.specs.Doors.{DoorState}
 use Rattle.unl_edge.proofs.Closing.{said_ends_of}
 use Rattle.unl_edge.proofs.Connecting.{connects_still}
 use Rattle.unl_edge.proofs.edges.serve_links.Goals as goal
@@ -7,8 +8,8 @@ pub returns-in-Ok-host-clause-ends : goal.returns-in-Ok-host-clause-ends
 returns-in-Ok-host-clause-ends g c =
     said_ends_of _ c.in-Ok-host.served c.say_connections.result _ _ _ (sym c.world.view_is)
     (record {
-      given = c.in-Ok-host.ensures.hands.0 ∙ ap (λ (n : ℕ). n + c.in-Ok-host.served) c.listen.ensures.same_given;
-      back = c.in-Ok-host.ensures.hands.1 ∙ ap (λ (n : ℕ). n + c.in-Ok-host.served) c.listen.ensures.same_back;
+      given = c.in-Ok-host.ensures.hands.0 ∙ ap (λ (s : DoorState). s.given + c.in-Ok-host.served) c.listen.ensures.listens;
+      back = c.in-Ok-host.ensures.hands.1 ∙ ap (λ (s : DoorState). s.back + c.in-Ok-host.served) c.listen.ensures.listens;
       unread = refl;
     })
     (connects_still (c.in-Ok.ensures.first c.requires.front c.requires.slots c.requires.few) c.in-Ok-host.ensures.connects)

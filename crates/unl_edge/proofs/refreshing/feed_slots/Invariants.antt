@@ -9,6 +9,6 @@ invariant-loop-slot g l = record {
   front : l.desk.front ≤ l.initial.desk.front + l.slot;
   size : length l.feeders ≡ length l.initial.feeders;
   asks : l.initial.desk.front + length l.initial.feeders < 2 ^ 64 - 1
-      → Connects l.slot (g.P.Peer.replies l.initial.peer) (g.P.Source.faults l.initial.peer) (g.P.Peer.replies l.peer) (g.P.Source.faults l.peer);
-  connects : Connects 0 (g.P.Peer.replies l.initial.peer) (g.P.Source.faults l.initial.peer) (g.P.Peer.replies l.peer) (g.P.Source.faults l.peer);
+      → Connects l.slot (g.P.Peer.state l.initial.peer).replies (g.P.Source.faults l.initial.peer) (g.P.Peer.state l.peer).replies (g.P.Source.faults l.peer);
+  connects : Connects 0 (g.P.Peer.state l.initial.peer).replies (g.P.Source.faults l.initial.peer) (g.P.Peer.state l.peer).replies (g.P.Source.faults l.peer);
 }

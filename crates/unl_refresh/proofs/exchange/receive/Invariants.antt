@@ -6,8 +6,7 @@ use Rattle.unl_refresh.proofs.exchange.receive.Given as goal
 abbrev pub invariant-loop-room : goal.invariant-loop-room
 invariant-loop-room g l = record {
   taking : Taking (g.P.Source.left l.initial.peer) l.reader (g.P.Source.left l.peer);
-  sent : g.P.Sink.sent l.peer ≡ g.P.Sink.sent l.initial.peer;
-  replies : g.P.Peer.replies l.peer ≡ g.P.Peer.replies l.initial.peer;
+  beside : g.P.Source.beside l.peer ≡ g.P.Source.beside l.initial.peer;
   later : g.P.Source.faults l.initial.peer ≤ g.P.Source.faults l.peer;
 }
 

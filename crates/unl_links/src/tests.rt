@@ -1,0 +1,111 @@
+ghost use Rattle.std.specs.Prelude.{◌≡◌};
+
+use crate::{LinkQueue, LinkState, Popped};
+use std::sync::Wait;
+use std::test::Fail;
+use unl_base::{Job, RealSpawner, Spawner};
+
+/// The number that was taken, or what there is in its place.
+fn taken(state: &mut LinkState<u64>) -> u64 {
+    match state.pop() {
+        Popped::Taken(link) => link,
+        Popped::Closed => 1_000,
+        Popped::Empty => 2_000,
+    }
+}
+
+#[test]
+fn a_state_holds_64_links(rt: HostRuntime) -> Result<(), Fail> {
+    let mut state = LinkState::new(rt.alloc()).expect(&rt, "room");
+    assert_eq!(rt; taken(&mut state), 2_000);
+    for link in 0..64u64 {
+        assert_eq!(rt; state.push(link), None);
+    }
+    assert!(rt; state.is_full());
+    assert_eq!(rt; state.push(64), Some(64));
+    assert_eq!(rt; taken(&mut state), 0);
+    state.close();
+    assert!(rt; state.closed());
+    assert_eq!(rt; state.push(65), None);
+    for link in 1..64u64 {
+        assert_eq!(rt; taken(&mut state), link);
+    }
+    assert_eq!(rt; taken(&mut state), 65);
+    assert_eq!(rt; taken(&mut state), 1_000);
+    assert!(rt; !state.is_waiting());
+    Ok(())
+}
+
+/// Puts so many links, and then closes the queue.
+#[derive(Drop)]
+struct Putter<'a, W: Wait> {
+    queue: &'a LinkQueue<u64>,
+    rt: &'a W,
+    count: u64,
+}
+
+impl<W: Wait> Job for Putter<'_, W> {
+    ghost use Rattle.std.specs.Prelude.{⊤};
+
+    ghost worked = { λ before after. ⊤ };
+
+    ghost cancelled = { λ before after. ⊤ };
+
+    fn work(&mut self) {
+        for link in 0..self.count {
+            self.queue.put(self.rt, link);
+        }
+        self.queue.close(self.rt);
+    }
+
+    fn cancel(&mut self) {
+        self.queue.close(self.rt);
+    }
+}
+
+/// Takes links until none comes any more, and counts those that come in order.
+struct Taker<'a, W: Wait> {
+    queue: &'a LinkQueue<u64>,
+    rt: &'a W,
+    taken: u64,
+}
+
+impl<W: Wait> Job for Taker<'_, W> {
+    ghost use Rattle.std.specs.Prelude.{⊤};
+
+    ghost worked = { λ before after. ⊤ };
+
+    ghost cancelled = { λ before after. ⊤ };
+
+    fn work(&mut self) {
+        for _ in 0..1_000u64 {
+            match self.queue.take(self.rt) {
+                Some(link) if link == self.taken => self.taken = self.taken.saturating_add(1),
+                Some(_) => {}
+                None => return,
+            }
+        }
+    }
+
+    fn cancel(&mut self) {}
+}
+
+// Both threads wait for each other: no more than 64 links stand.
+#[test]
+fn a_queue_hands_links_on(rt: HostRuntime) -> Result<(), Fail> {
+    let alloc = rt.alloc();
+    let queue = LinkQueue::new(alloc).expect(&rt, "room");
+    let mut spawner = RealSpawner::new(&rt);
+    let putters = vec![in alloc; Putter { queue: &queue, rt: &rt, count: 300 }]?;
+    let taker = Taker {
+        queue: &queue,
+        rt: &rt,
+        taken: 0,
+    };
+    let (taker, done) = spawner.with(putters, taker);
+    let Taker { taken, .. } = taker;
+    assert!(rt; done.is_ok());
+    assert_eq!(rt; taken, 300);
+    assert!(rt; queue.closed(&rt));
+    Ok(())
+}
