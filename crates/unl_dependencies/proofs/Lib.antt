@@ -1,2 +1,3 @@
 mod Named
 mod Lawful
+mod Inlined

@@ -3,9 +3,9 @@ use Rattle.std.specs.Prelude.{◌≡◌, ◌≢◌, ◌↔◌, ℕ, List, All, l
 use Rattle.unl_documents.specs.declared.feature.Feature.{Feature}
 use Rattle.unl_documents.specs.declared.state.State.{State}
 use Rattle.unl_documents.specs.States.{IsValidState}
+use Rattle.unl_documents.specs.Inline.{inlined}
 use Rattle.unl_context.specs.Context.{Fields}
 use Rattle.unl_strategies.specs.Moment.{Moment}
-use Rattle.unl_dependencies.specs.declared.evaluation.Evaluation.{Evaluation}
 use Rattle.unl_dependencies.specs.Evaluation.{evaluation_where, feature_evaluation, evaluation_of}
 
 -- no feature of the state has the name
@@ -26,3 +26,8 @@ EachIsFound = (state : State) (place : ℕ) (f : Feature) (context : Fields) (mo
 abbrev pub ParentStandsAlone : Type 0
 ParentStandsAlone = (state : State) (parent : Feature) (context : Fields) (moment : Moment)
     → length parent.dependencies ≡ 0 → feature_evaluation state parent context moment ≡ evaluation_where true parent state.segments context moment
+
+-- writing the segments of a state out changes no evaluation
+abbrev pub InliningChangesNothing : Type 0
+InliningChangesNothing = (state : State) (name : List ℕ) (context : Fields) (moment : Moment)
+    → evaluation_of (inlined state) name context moment ≡ evaluation_of state name context moment

@@ -1,5 +1,5 @@
 //! What an evaluation is, said of the whole state.
-ghost use Rattle.unl_dependencies.specs.Laws.{NoneWhereLacking, EachIsFound, ParentStandsAlone};
+ghost use Rattle.unl_dependencies.specs.Laws.{NoneWhereLacking, EachIsFound, ParentStandsAlone, InliningChangesNothing};
 
 /// There is no evaluation exactly where no feature of the state has the name.
 pub fn none_where_lacking()
@@ -15,4 +15,9 @@ pub fn each_is_found()
 /// segments is looked at.
 pub fn parent_stands_alone()
     ensures { ParentStandsAlone }
+{}
+
+/// Whether segments are named or written out in the strategies, of any state, each feature is evaluated alike.
+pub fn inlining_changes_nothing()
+    ensures { InliningChangesNothing }
 {}

@@ -11,7 +11,9 @@ mod picking;
 pub use evaluating::{evaluate, evaluate_feature};
 pub use evaluation::{Evaluation, VariantAnswer};
 pub use finding::feature_named;
-pub use laws::{each_is_found, none_where_lacking, parent_stands_alone};
+pub use laws::{
+    each_is_found, inlining_changes_nothing, none_where_lacking, parent_stands_alone,
+};
 
 #[cfg(test)]
 mod tests;
