@@ -339,11 +339,14 @@ fn sending_told(alloc: Global, book: &mut MetricsBook, peer: &mut MemoryPeer) ->
     format!(in alloc; "{:?}", outcome).ok()
 }
 
-/// A book of one report.
+/// A book of one report, merged with another of the same.
 fn counted(alloc: Global) -> Option<MetricsBook> {
     let report = Report::read_single(alloc, REPORT.as_bytes()).ok()?;
     let mut book = MetricsBook::new(alloc);
+    let mut other = MetricsBook::new(alloc);
     book.add(alloc, &report, "dev").ok()?;
+    other.add(alloc, &report, "dev").ok()?;
+    book.merge(alloc, &mut other).ok()?;
     Some(book)
 }
 

@@ -10,6 +10,8 @@ mod replaying;
 mod step;
 
 pub use replaying::replay;
+/// Why a replay ended before its input did.
+pub use unl_lines::LinesFault as ReplayFault;
 
 #[cfg(test)]
 mod tests;

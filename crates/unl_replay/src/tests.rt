@@ -1,16 +1,15 @@
-use crate::replay;
+use crate::{ReplayFault, replay};
 use std::alloc::Global;
 use std::test::Fail;
 use unl_base::{MemorySink, MemorySource};
-use unl_lines::LinesFault;
 
 const ROOM: usize = 8192;
 
 /// An input, what it prints, and how the replay ends.
-type Case = (&'static str, &'static str, Result<(), LinesFault>);
+type Case = (&'static str, &'static str, Result<(), ReplayFault>);
 
 /// How the replay of an input ends, where it prints this text.
-fn end_of(alloc: Global, input: &str, printed: &str) -> Option<Result<(), LinesFault>> {
+fn end_of(alloc: Global, input: &str, printed: &str) -> Option<Result<(), ReplayFault>> {
     let bytes = input.as_bytes().to_vec(alloc).ok()?;
     let mut source = MemorySource::new(bytes, 97, Vec::new(alloc));
     let mut sink = MemorySink::new(alloc, ROOM, Vec::new(alloc)).ok()?;
@@ -24,8 +23,8 @@ fn end_of(alloc: Global, input: &str, printed: &str) -> Option<Result<(), LinesF
 
 const LINES: [Case; 3] = [
     ("", "", Ok(())),
-    ("{", "refused: line 1: NotJson\n", Err(LinesFault::Bad)),
-    ("{}\n", "refused: line 1: Missing op\n", Err(LinesFault::Bad)),
+    ("{", "refused: line 1: NotJson\n", Err(ReplayFault::Bad)),
+    ("{}\n", "refused: line 1: Missing op\n", Err(ReplayFault::Bad)),
 ];
 
 #[test]
@@ -129,7 +128,7 @@ fn refused_behind_eight(alloc: Global, cause: &str) -> Option<String> {
 }
 
 /// How the replay of a line behind eight environments ends, where it is refused so.
-fn ninth_end(alloc: Global, line: &str, cause: &str) -> Option<Result<(), LinesFault>> {
+fn ninth_end(alloc: Global, line: &str, cause: &str) -> Option<Result<(), ReplayFault>> {
     let input = with_eight(alloc, line)?;
     let printed = refused_behind_eight(alloc, cause)?;
     end_of(alloc, input.as_str(), printed.as_str())
@@ -138,7 +137,7 @@ fn ninth_end(alloc: Global, line: &str, cause: &str) -> Option<Result<(), LinesF
 #[test]
 fn a_ninth_environment(rt: HostRuntime) -> Result<(), Fail> {
     for (line, cause) in NINTH {
-        assert!(rt; ninth_end(rt.alloc(), line, cause) == Some(Err(LinesFault::Bad)), "{line}");
+        assert!(rt; ninth_end(rt.alloc(), line, cause) == Some(Err(ReplayFault::Bad)), "{line}");
     }
     Ok(())
 }

@@ -348,6 +348,16 @@ fn put_segment(alloc: Global, up: &mut Upstream, id: u64) -> Option<Result<u64, 
     Some(up.apply(alloc, &command))
 }
 
+/// A segment more than an environment may have, as a request.
+const ONE_MORE: Case = (
+    Method::Post,
+    "/commands",
+    Some(SECRET),
+    r#"{"command":"put-segment","environment":"dev","segment":{"id":1000}}"#,
+    409,
+    r#"{"error":"TooMany"}"#,
+);
+
 #[test]
 fn a_thousand_segments_and_one(rt: HostRuntime) -> Result<(), Fail> {
     let alloc = rt.alloc();
@@ -357,6 +367,11 @@ fn a_thousand_segments_and_one(rt: HostRuntime) -> Result<(), Fail> {
     }
     let full = Err(CommandRefusal::TooMany(1000));
     assert_eq!(rt; put_segment(alloc, &mut up, 1000), Some(full));
+    let request = request_of(alloc, &ONE_MORE).expect(&rt, "a request");
+    let reply = up
+        .answer(alloc, &request, &Draw { now: 0, word: 0 })
+        .expect(&rt, "a reply");
+    assert!(rt; reply.status == ONE_MORE.4 && reply.body.as_slice() == ONE_MORE.5.as_bytes());
     assert_eq!(rt; put_segment(alloc, &mut up, 999), Some(Ok(1001)));
     Ok(())
 }

@@ -1,0 +1,4 @@
+pub mod Rule
+pub mod Meaning
+pub mod Looking
+pub mod Seen

@@ -1,0 +1,81 @@
+//! How a writer and its readers begin.
+ghost use Rattle.std.specs.Prelude.{◌≡◌, ℕ, ◌^◌, ◌<◌, ◌≤◌, false, All, IfOk, None, length};
+ghost use Rattle.unl_published.specs.Rule.{knows_opening, told_by};
+ghost use Rattle.unl_published.specs.Seen.{IsFresh, is_closed, written};
+
+use crate::reader::Reader;
+use crate::rule::Rules;
+use crate::value::Counted;
+use crate::writer::{Writer, fresh_seat};
+use std::alloc::{AllocError, Global};
+use std::sync::Wait;
+
+/// A writer of two copies that mean the same, and so many readers, which know the opening value alone. There is room for `tells`
+/// readers more: so many that were told and not learned can be had at a time.
+///
+/// # Errors
+///
+/// Want of memory, or a reader that could not be made.
+pub fn begin<T: Counted<I> + Drop, I: Drop, P: Rules<T, I>, W: Wait>(
+    rt: &W,
+    alloc: Global,
+    first: T,
+    second: T,
+    readers: usize,
+    tells: usize,
+) -> Result<(Writer<T, I, P>, Vec<Reader<T, I, P>>), AllocError>
+    requires readers { (0 < readers) × (readers ≤ 16) × (tells ≤ 16) }
+    requires alike { T.state first ≡ T.state second }
+    requires begins { T.front_of (T.state first) ≡ 0 }
+    ensures writer { IfOk result (λ r. (table : ℕ) × (written r.0 ≡ knows_opening table (T.state first)) × (is_closed r.0 ≡ false)) }
+    ensures count { IfOk result (λ r. length r.1.items ≡ readers) }
+    ensures readers { IfOk result (λ r. All (IsFresh (written r.0)) r.1.items) }
+{
+    let mut writer = Writer::new(rt, alloc, first, second, readers + tells)?;
+    match new_readers(alloc, &mut writer, readers) {
+        Ok(all) => Ok((writer, all)),
+        Err(e) => {
+            writer.end(rt);
+            Err(e)
+        }
+    }
+}
+
+fn new_readers<T: Counted<I> + Drop, I: Drop, P: Rules<T, I>>(
+    alloc: Global,
+    writer: &mut Writer<T, I, P>,
+    count: usize,
+) -> Result<Vec<Reader<T, I, P>>, AllocError>
+    ensures same { written writer.new ≡ written writer.old }
+    ensures closed { is_closed writer.new ≡ is_closed writer.old }
+    ensures count { IfOk result (λ all. length all.items ≡ count) }
+    ensures readers { IfOk result (λ all. All (IsFresh (told_by (written writer.old))) all.items) }
+{
+    let mut all = Vec::new(alloc);
+    'made: while all.len() < count {
+        all.push(new_reader(writer)?)?;
+    }
+    Ok(all)
+}
+
+/// One more reader, which knows what the writer knows.
+///
+/// # Errors
+///
+/// There is no room for one more, or memory is wanting.
+pub fn new_reader<T: Counted<I> + Drop, I: Drop, P: Rules<T, I>>(
+    writer: &mut Writer<T, I, P>,
+) -> Result<Reader<T, I, P>, AllocError>
+    ensures same { written writer.new ≡ written writer.old }
+    ensures closed { is_closed writer.new ≡ is_closed writer.old }
+    ensures reader { IfOk result (IsFresh (told_by (written writer.old))) }
+{
+    let front = writer.sides.published().front();
+    let seat = fresh_seat(&mut writer.sides)?;
+    Ok(Reader {
+        seat,
+        past: None,
+        front,
+        least: 0,
+    })
+}

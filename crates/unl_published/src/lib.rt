@@ -1,0 +1,21 @@
+//! A value that one writer publishes to some readers, by one list of installs. A reader never waits: it looks at the copy that
+//! is shown, while the writer changes the other one (`left_right`).
+#![tactic(auto)]
+
+mod beginning;
+mod knowledge;
+mod publisher;
+mod reader;
+mod rule;
+#[cfg(test)]
+mod tests;
+mod value;
+mod writer;
+
+pub use beginning::{begin, new_reader};
+pub use knowledge::Knowledge;
+pub use publisher::Publisher;
+pub use reader::{Guard, Reader};
+pub use rule::{Ruled, Rules};
+pub use value::Counted;
+pub use writer::{Told, Writer};

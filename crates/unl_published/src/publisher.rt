@@ -1,0 +1,80 @@
+//! The writer as one value that changes in place.
+ghost use Rattle.std.specs.Prelude.{◌≡◌, true, [], ◌∷◌, length, Some, is_some, unwrap_or, option_map, IfSome, IsErr, MatchResult};
+ghost use Rattle.unl_published.specs.Meaning.{front_seen};
+ghost use Rattle.unl_published.specs.Rule.{knows_nothing, told_by, with_installs};
+
+use crate::rule::Rules;
+use crate::value::Counted;
+use crate::writer::{Told, Writer};
+use std::alloc::AllocError;
+use std::mem::replace;
+use std::sync::Wait;
+
+/// The writer, with what it waits by. It is not `Drop`: end it by `end`.
+pub struct Publisher<'a, W: Wait, T: Counted<I> + Drop, I: Drop, P: Rules<T, I>> {
+    rt: &'a W,
+    pub(crate) writer: Option<Writer<T, I, P>>,
+    ghost there: { is_some writer ≡ true },
+}
+
+impl<'a, W: Wait, T: Counted<I> + Drop, I: Drop, P: Rules<T, I>> Publisher<'a, W, T, I, P> {
+    ghost use Rattle.unl_published.specs.Seen.{is_closed, stays_closed, published, told_front, told_list, written};
+
+    /// A writer that changes in place. It waits by `rt`.
+    pub fn new(rt: &'a W, writer: Writer<T, I, P>) -> Publisher<'a, W, T, I, P>
+        ensures published { published result ≡ written writer }
+        ensures closed { stays_closed result ≡ is_closed writer }
+    {
+        Publisher {
+            rt,
+            writer: Some(writer),
+        }
+    }
+
+    /// Publishes an install, and answers how many were published. Waits for readers that still look at an older copy.
+    ///
+    /// # Errors
+    ///
+    /// Nothing is published: memory was wanting for the install or its copy. Where that was found once the install was noted, this
+    /// step is refused, and so is each later one.
+    pub fn publish(&mut self, what: I) -> Result<u64, AllocError>
+        ensures published { MatchResult result
+            (λ front. (published self.new ≡ with_installs (what ∷ []) (published self.old)) × (front ≡ front_seen (published self.new)))
+            (λ _. published self.new ≡ published self.old) }
+        ensures closed { stays_closed self.old ≡ true → (stays_closed self.new ≡ true) × IsErr result }
+    {
+        let Some(writer) = self.writer.take() else {
+            return Err(AllocError);
+        };
+        let (writer, published) = writer.publish(self.rt, what);
+        if let Some(other) = replace(&mut self.writer, Some(writer)) {
+            other.end(self.rt);
+        }
+        published
+    }
+
+    /// What the writer knows now, for one reader: its list where there is room for one more reader, and else its length alone.
+    pub fn tell(&mut self) -> Told<T, I, P>
+        ensures same { published self.new ≡ published self.old }
+        ensures closed { stays_closed self.new ≡ stays_closed self.old }
+        ensures front { told_front result ≡ front_seen (published self.old) }
+        ensures list { IfSome (told_list result) (λ list. list ≡ told_by (published self.old)) }
+    {
+        let Some(mut writer) = self.writer.take() else {
+            unreachable!()
+        };
+        let told = writer.tell();
+        if let Some(other) = replace(&mut self.writer, Some(writer)) {
+            other.end(self.rt);
+        }
+        told
+    }
+
+    /// Waits for the readers that still read, and ends the publications.
+    pub fn end(self) {
+        let Publisher { rt, writer } = self;
+        if let Some(writer) = writer {
+            writer.end(rt);
+        }
+    }
+}

@@ -1,0 +1,26 @@
+#!/bin/sh
+# Runs each example through the program and compares what it prints with the output that stands beside it. Run after `rt ci` or
+# `rt run`, which build the program.
+set -u
+cd "$(dirname "$0")/.."
+
+program=crates/unl_edge/out/unl_edge
+test -x "$program" || (cd crates/unl_edge && rt run -- replay </dev/null >/dev/null 2>&1)
+printed=$(mktemp)
+trap 'rm -f "$printed"' EXIT
+
+count=0
+for expected in examples/*.out; do
+    name=${expected%.out}
+    if test -f "$name.json"; then
+        "$program" check <"$name.json" >"$printed"
+    else
+        "$program" replay <"$name.jsonl" >"$printed"
+    fi
+    cmp "$printed" "$expected" || {
+        echo "examples: $name prints something else"
+        exit 1
+    }
+    count=$((count + 1))
+done
+echo "examples: $count passed"
