@@ -1,10 +1,13 @@
 -- How the program ends, from how its parts end.
-use Rattle.std.proofs.Common.{◌≡◌, ◌≢◌, ℕ, ◌==◌, List, Bool, true, false, cond, length, Option, Some, None, IfSome, Result, Ok, Err, refl, sym, subst, ap, ◌∙◌}
-use Rattle.unl_base.specs.Streams.{Sends, SendsFront}
+use Rattle.std.proofs.Common.{◌≡◌, ◌≢◌, ◌<◌, ℕ, ◌==◌, List, [], ◌++◌, Bool, true, false, cond, length, Option, Some, None, IfSome, unwrap_or, inl, inr, Result, Ok, Err, refl, sym, subst, ap, ◌∙◌, arith, append-nil, length-append}
+use Rattle.std.specs.Prelude.{◌⊎◌, codes}
+use Rattle.unl_base.specs.Streams.{HasEnded, Sends, SendsFront, Takes}
+use Rattle.unl_documents.specs.declared.fault.BadDocument.{BadDocument}
+use Rattle.unl_documents.specs.FaultText.{fault_text}
 use Rattle.unl_base.specs.declared.draws.Draw.{Draw}
 use Rattle.unl_documents.specs.Results.{Gives}
 use Rattle.unl_edge.specs.Edges.{EdgeEnds}
-use Rattle.unl_edge.specs.Ends.{CheckEnds, Ends, IsDecided, ReplayEnds, Said, SaysAll, said_of}
+use Rattle.unl_edge.specs.Ends.{CheckEnds, Ends, IsDecided, ReadsEnough, ReplayEnds, Said, SaysOfInput, refused_line, said_of}
 use Rattle.unl_edge.specs.OwnBook.{own_book}
 use Rattle.unl_edge.specs.Scene.{Scene}
 use Rattle.unl_edge.specs.Status.{SendsLine, code_of, ending_status, status_of}
@@ -12,9 +15,12 @@ use Rattle.unl_edge.proofs.Commands.{refused_is, upstream_decided}
 use Rattle.unl_edge.specs.declared.status.Status.{Status}
 use Rattle.unl_edge.specs.declared.status.Status.TheVariants.{Done, TestFailed, BadWords, Refused, ReadFault, WriteFault, OutOfMemory, DoorFault}
 use Rattle.unl_replay.specs.Replay.{replay_of}
-use Rattle.unl_spec_runner.specs.Check.{report_of, IsReported, IsBrokenOff}
+use Rattle.unl_spec_runner.proofs.Ends.{refused_as_too_large}
+use Rattle.unl_spec_runner.specs.Check.{report_of, BreaksOff, RefusesAll, RefusesTooMuch, ReportsAll}
+use Rattle.unl_spec_runner.specs.Input.{longest}
 use Rattle.unl_spec_runner.specs.Report.{Report}
 use Rattle.unl_spec_runner.specs.declared.fault.CheckFault.{CheckFault}
+use Rattle.unl_spec_runner.specs.declared.fault.CheckFault.TheVariants.{BadFile, TooLarge}
 use Rattle.unl_spec_runner.specs.declared.fault.Summary.{Summary}
 use Rattle.unl_words.specs.Words.{WordsReading}
 use Rattle.unl_words.specs.declared.refusal.WordsRefusal.TheVariants.{Bad, Memory}
@@ -36,48 +42,69 @@ ends_by (Ok x) words status before after gives ends none = subst (λ w. Ends w s
 ends_by (Err Bad) words status before after gives ends none = subst (λ w. Ends w status before after) (sym (gives (λ same. absurd (cc same)))) ends
 ends_by (Err Memory) words status before after gives ends none = subst (λ s. Ends words s before after) (sym (none refl)) (at_memory words before after)
 
--- an input that is refused
-pub refused_ends : (draw : Draw) (status : Status) (left old mid new : Option (List ℕ)) (line : List ℕ) (refusal : Result Report CheckFault)
-    → IfSome left (λ bytes. report_of draw bytes ≡ refusal) × (mid ≡ old) → said_of refusal ≡ record { text = line; status = Refused }
-    → SendsLine line Refused status mid new → CheckEnds draw status left old new
-refused_ends draw OutOfMemory left old mid new line refusal is said sends = tt
-refused_ends draw ReadFault left old mid new line refusal is said sends = let other = sends.0 in absurd (cc other)
-refused_ends draw WriteFault None old mid new line refusal is said sends = tt
-refused_ends draw WriteFault (Some bytes) old mid new line refusal is said sends =
-    subst (λ (s : Said). SendsFront old s.text new) (sym (ap said_of is.0 ∙ said)) (subst (λ m. SendsFront m line new) is.1 sends)
-refused_ends draw Done left old mid new line refusal is said sends = let other = sends.0 in absurd (cc other)
-refused_ends draw TestFailed left old mid new line refusal is said sends = let other = sends.0 in absurd (cc other)
-refused_ends draw BadWords left old mid new line refusal is said sends = let other = sends.0 in absurd (cc other)
-refused_ends draw DoorFault left old mid new line refusal is said sends = let other = sends.0 in absurd (cc other)
-refused_ends draw Refused None old mid new line refusal is said sends = tt
-refused_ends draw Refused (Some bytes) old mid new line refusal is said sends =
-    let told = ap said_of is.0 ∙ said in
-    (sym (ap (λ (s : Said). s.status) told), subst (λ (t : List ℕ). Sends old t new) (sym (ap (λ (s : Said). s.text) told)) (subst (λ m. Sends m line new) is.1 sends.1))
+-- what was said of an input that is refused, where so many of its bytes were read
+refused_so : (draw : Draw) (status : Status) (left left_after old mid new : Option (List ℕ)) (bytes line : List ℕ) (refusal : Result Report CheckFault)
+    → ReadsEnough left bytes left_after → report_of draw bytes ≡ refusal → mid ≡ old → said_of refusal ≡ record { text = line; status = Refused }
+    → SendsLine line Refused status mid new → CheckEnds draw status left left_after old new
+refused_so draw OutOfMemory left left_after old mid new bytes line refusal read is silent said sends = tt
+refused_so draw ReadFault left left_after old mid new bytes line refusal read is silent said sends = let other = sends.0 in absurd (cc other)
+refused_so draw WriteFault left left_after old mid new bytes line refusal read is silent said sends = record {
+  bytes = bytes;
+  read = read;
+  says = subst (λ (s : Said). SendsFront old s.text new) (sym (ap said_of is ∙ said)) (subst (λ m. SendsFront m line new) silent sends);
+}
+refused_so draw Done left left_after old mid new bytes line refusal read is silent said sends = let other = sends.0 in absurd (cc other)
+refused_so draw TestFailed left left_after old mid new bytes line refusal read is silent said sends = let other = sends.0 in absurd (cc other)
+refused_so draw BadWords left left_after old mid new bytes line refusal read is silent said sends = let other = sends.0 in absurd (cc other)
+refused_so draw DoorFault left left_after old mid new bytes line refusal read is silent said sends = let other = sends.0 in absurd (cc other)
+refused_so draw Refused left left_after old mid new bytes line refusal read is silent said sends =
+    let told = ap said_of is ∙ said in record {
+      bytes = bytes;
+      read = read;
+      says = (sym (ap (λ (s : Said). s.status) told), subst (λ (t : List ℕ). Sends old t new) (sym (ap (λ (s : Said). s.text) told)) (subst (λ m. Sends m line new) silent sends.1));
+    }
+
+-- an input with a fault
+pub file_refused : (draw : Draw) (fault : BadDocument) (status : Status) (left left_after old mid new : Option (List ℕ))
+    → RefusesAll draw fault left left_after old mid → SendsLine (refused_line (fault_text fault)) Refused status mid new
+    → CheckEnds draw status left left_after old new
+file_refused draw fault status left left_after old mid new refuses sends =
+    refused_so draw status left left_after old mid new refuses.bytes (refused_line (fault_text fault)) (Err (BadFile fault))
+    (record { took = refuses.read.took; enough = inl refuses.read.end }) refuses.is refuses.silent refl sends
+
+-- an input with too many bytes
+pub input_refused : (draw : Draw) (status : Status) (left left_after old mid new : Option (List ℕ))
+    → RefusesTooMuch left left_after old mid → SendsLine (codes "refused: TooLarge\n") Refused status mid new
+    → CheckEnds draw status left left_after old new
+input_refused draw status left left_after old mid new refuses sends =
+    refused_so draw status left left_after old mid new refuses.bytes (codes "refused: TooLarge\n") (Err TooLarge)
+    (record { took = refuses.took; enough = inr refuses.long }) (refused_as_too_large draw refuses.bytes refuses.long) refuses.silent refl sends
 
 -- an input whose report was sent
-pub reported_ends : (draw : Draw) (summary : Summary) (left old new : Option (List ℕ))
-    → IfSome left (λ bytes. IsReported draw bytes summary old new) → CheckEnds draw (status_of summary.failed) left old new
-reported_ends draw summary left old new reported = by_count (summary.failed == 0) (says left reported)
+pub reported_ends : (draw : Draw) (summary : Summary) (left left_after old new : Option (List ℕ))
+    → ReportsAll draw summary left left_after old new → CheckEnds draw (status_of summary.failed) left left_after old new
+reported_ends draw summary left left_after old new told = by_count (summary.failed == 0) (record {
+  bytes = told.bytes;
+  read = record { took = told.read.took; enough = inl told.read.end };
+  says = (
+    ap status_of told.reported.failed ∙ sym (ap (λ (s : Said). s.status) (ap said_of told.reported.is)),
+    subst (λ (t : List ℕ). Sends old t new) (sym (ap (λ (s : Said). s.text) (ap said_of told.reported.is))) told.reported.sent,
+  );
+})
   where
-    says : (left : Option (List ℕ)) → IfSome left (λ bytes. IsReported draw bytes summary old new)
-        → IfSome left (λ bytes. SaysAll (said_of (report_of draw bytes)) (status_of summary.failed) old new)
-    says None told = tt
-    says (Some bytes) told = (
-      ap status_of told.failed ∙ sym (ap (λ (s : Said). s.status) (ap said_of told.is)),
-      subst (λ (t : List ℕ). Sends old t new) (sym (ap (λ (s : Said). s.text) (ap said_of told.is))) told.sent,
-    )
-
-    by_count : (none : Bool) → IfSome left (λ bytes. SaysAll (said_of (report_of draw bytes)) (cond none Done TestFailed) old new)
-        → CheckEnds draw (cond none Done TestFailed) left old new
+    by_count : (none : Bool) → SaysOfInput draw (cond none Done TestFailed) left left_after old new
+        → CheckEnds draw (cond none Done TestFailed) left left_after old new
     by_count true told = told
     by_count false told = told
 
 -- an input of whose report a front was sent
-pub broken_ends : (draw : Draw) (left old new : Option (List ℕ))
-    → IfSome left (λ bytes. IsBrokenOff draw bytes old new) → CheckEnds draw WriteFault left old new
-broken_ends draw None old new told = tt
-broken_ends draw (Some bytes) old new told =
-    subst (λ (t : List ℕ). SendsFront old t new) (sym (ap (λ (s : Said). s.text) (ap said_of told.is))) told.sent
+pub broken_ends : (draw : Draw) (left left_after old new : Option (List ℕ))
+    → BreaksOff draw left left_after old new → CheckEnds draw WriteFault left left_after old new
+broken_ends draw left left_after old new told = record {
+  bytes = told.bytes;
+  read = record { took = told.read.took; enough = inl told.read.end };
+  says = subst (λ (t : List ℕ). SendsFront old t new) (sym (ap (λ (s : Said). s.text) (ap said_of told.broken.is))) told.broken.sent;
+}
 
 -- ---- what decides, where nothing fails and memory is found
 
@@ -128,19 +155,47 @@ replay_decided WriteFault (Some bytes) left_after old new ends read write memory
 replay_decided OutOfMemory (Some bytes) left_after old new ends read write memory = absurd (memory refl)
 replay_decided DoorFault (Some bytes) left_after old new ends read write memory = absurd ends
 
+-- all that were to come are those that were read and the rest
+all_is : (all bytes more : List ℕ) → Takes (Some all) bytes (Some more) → all ≡ bytes ++ more
+all_is all bytes more took = ap (λ (o : Option (List ℕ)). unwrap_or o []) took
+
+same_said : (draw : Draw) (all bytes : List ℕ) (rest : Option (List ℕ)) → Takes (Some all) bytes rest → HasEnded rest ⊎ (longest < length bytes)
+    → report_of draw all ≡ report_of draw bytes
+same_said draw all bytes None took enough = absurd (cc took)
+same_said draw all bytes (Some more) took (inl end) =
+    ap (report_of draw) (all_is all bytes more took ∙ ap (λ (m : List ℕ). bytes ++ m) end ∙ append-nil bytes)
+same_said draw all bytes (Some more) took (inr long) =
+    let longer : longest < length all = omega (arith, ap length (all_is all bytes more took), length-append bytes more, long) in
+    refused_as_too_large draw all longer ∙ sym (refused_as_too_large draw bytes long)
+
+-- what is said of the bytes that were read is said of all that were to come
+said_of_all : (draw : Draw) (left left_after : Option (List ℕ)) (bytes : List ℕ) → ReadsEnough left bytes left_after
+    → IfSome left (λ all. report_of draw all ≡ report_of draw bytes)
+said_of_all draw None left_after bytes read = tt
+said_of_all draw (Some all) left_after bytes read = same_said draw all bytes left_after read.took read.enough
+
+-- so is how it ends
+said_decides : (draw : Draw) (status : Status) (left left_after old new : Option (List ℕ)) → SaysOfInput draw status left left_after old new
+    → IfSome left (λ bytes. code_of status ≡ code_of (said_of (report_of draw bytes)).status)
+said_decides draw status left left_after old new told = at_each left (said_of_all draw left left_after told.bytes told.read)
+  where
+    at_each : (l : Option (List ℕ)) → IfSome l (λ all. report_of draw all ≡ report_of draw told.bytes)
+        → IfSome l (λ bytes. code_of status ≡ code_of (said_of (report_of draw bytes)).status)
+    at_each None same = tt
+    at_each (Some all) same = ap code_of (told.says.0 ∙ sym (ap (λ (r : Result Report CheckFault). (said_of r).status) same))
+
 -- the input decides how a check ends
-check_decided : (draw : Draw) (status : Status) (left old new : Option (List ℕ)) → CheckEnds draw status left old new
+check_decided : (draw : Draw) (status : Status) (left left_after old new : Option (List ℕ)) → CheckEnds draw status left left_after old new
     → status ≢ ReadFault → status ≢ WriteFault → status ≢ OutOfMemory
     → IfSome left (λ bytes. code_of status ≡ code_of (said_of (report_of draw bytes)).status)
-check_decided draw status None old new ends read write memory = tt
-check_decided draw Done (Some bytes) old new ends read write memory = ap code_of ends.0
-check_decided draw TestFailed (Some bytes) old new ends read write memory = ap code_of ends.0
-check_decided draw BadWords (Some bytes) old new ends read write memory = ap code_of ends.0
-check_decided draw Refused (Some bytes) old new ends read write memory = ap code_of ends.0
-check_decided draw ReadFault (Some bytes) old new ends read write memory = absurd (read refl)
-check_decided draw WriteFault (Some bytes) old new ends read write memory = absurd (write refl)
-check_decided draw OutOfMemory (Some bytes) old new ends read write memory = absurd (memory refl)
-check_decided draw DoorFault (Some bytes) old new ends read write memory = ap code_of ends.0
+check_decided draw Done left left_after old new ends read write memory = said_decides draw Done left left_after old new ends
+check_decided draw TestFailed left left_after old new ends read write memory = said_decides draw TestFailed left left_after old new ends
+check_decided draw Refused left left_after old new ends read write memory = said_decides draw Refused left left_after old new ends
+check_decided draw ReadFault left left_after old new ends read write memory = absurd (read refl)
+check_decided draw WriteFault left left_after old new ends read write memory = absurd (write refl)
+check_decided draw OutOfMemory left left_after old new ends read write memory = absurd (memory refl)
+check_decided draw BadWords left left_after old new ends read write memory = absurd ends
+check_decided draw DoorFault left left_after old new ends read write memory = absurd ends
 
 -- bad words decide by themselves
 bad_decided : (line : List ℕ) (status : Status) (old new : Option (List ℕ)) → SendsLine line BadWords status old new
@@ -172,7 +227,7 @@ by_words : (words : WordsReading) (status : Status) (before after : Scene) → E
 by_words (Ok Replay) status before after ends read write door memory =
     replay_decided status before.left after.left before.sent after.sent ends read write memory
 by_words (Ok (Check now word)) status before after ends read write door memory =
-    check_decided (record { now = now; word = word }) status before.left before.sent after.sent ends read write memory
+    check_decided (record { now = now; word = word }) status before.left after.left before.sent after.sent ends read write memory
 by_words (Ok (Edge port upstream upstream_tokens tokens host workers interval connections delta)) status before after ends read write door memory =
     edge_decided (length upstream_tokens) status before after ends write door memory
 by_words (Ok (Upstream port secret environments client_tokens frontend_tokens connections epoch)) status before after ends read write door memory =

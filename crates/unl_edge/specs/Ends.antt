@@ -1,6 +1,6 @@
 -- How each command ends, over the bytes to come and those sent, before and after.
-use Rattle.std.specs.Prelude.{◌≡◌, ⊤, ℕ, List, [], ◌++◌, length, codes, Option, IfSome, Result, Ok, Err}
-use Rattle.unl_base.specs.Streams.{Sends, SendsFront}
+use Rattle.std.specs.Prelude.{◌≡◌, ◌<◌, ◌⊎◌, ⊤, ℕ, List, [], ◌++◌, length, codes, Option, IfSome, Result, Ok, Err}
+use Rattle.unl_base.specs.Streams.{HasEnded, Sends, SendsFront, Takes}
 use Rattle.unl_base.specs.declared.draws.Draw.{Draw}
 use Rattle.unl_documents.specs.FaultText.{fault_text}
 use Rattle.unl_edge.specs.Edges.{EdgeEnds}
@@ -14,6 +14,7 @@ use Rattle.unl_lines.specs.Taken.{whole_text}
 use Rattle.unl_lines.specs.Whole.{AnswersRead, IsAnswered, IsRefusing}
 use Rattle.unl_replay.specs.Replay.{line_answer, opening, replay_of}
 use Rattle.unl_spec_runner.specs.Check.{report_of}
+use Rattle.unl_spec_runner.specs.Input.{longest}
 use Rattle.unl_spec_runner.specs.Report.{Report}
 use Rattle.unl_spec_runner.specs.declared.fault.CheckFault.{CheckFault}
 use Rattle.unl_spec_runner.specs.declared.fault.CheckFault.TheVariants as fault
@@ -58,12 +59,33 @@ said_of (Err fault.Memory) = record { text = []; status = OutOfMemory }
 abbrev pub SaysAll : Said → Status → Option (List ℕ) → Option (List ℕ) → Type 0
 SaysAll said status old new = (status ≡ said.status) × Sends old said.text new
 
--- How a check ends. Where the input failed, nothing was sent.
-abbrev pub CheckEnds : Draw → Status → Option (List ℕ) → Option (List ℕ) → Option (List ℕ) → Type 0
-CheckEnds draw OutOfMemory left old new = ⊤
-CheckEnds draw ReadFault left old new = new ≡ old
-CheckEnds draw WriteFault left old new = IfSome left (λ bytes. SendsFront old (said_of (report_of draw bytes)).text new)
-CheckEnds draw status left old new = IfSome left (λ bytes. SaysAll (said_of (report_of draw bytes)) status old new)
+-- These bytes of the input were read: all that were to come, or more than an input may have.
+pub record ReadsEnough (left : Option (List ℕ)) (bytes : List ℕ) (left_after : Option (List ℕ)) : Type 0 where
+  pub took : Takes left bytes left_after
+  pub enough : HasEnded left_after ⊎ (longest < length bytes)
+
+-- what is to be said of the bytes that were read was said whole
+pub record SaysOfInput (draw : Draw) (status : Status) (left left_after old new : Option (List ℕ)) : Type 0 where
+  pub bytes : List ℕ
+  pub read : ReadsEnough left bytes left_after
+  pub says : SaysAll (said_of (report_of draw bytes)) status old new
+
+-- a front of it was said
+pub record SaysFrontOfInput (draw : Draw) (left left_after old new : Option (List ℕ)) : Type 0 where
+  pub bytes : List ℕ
+  pub read : ReadsEnough left bytes left_after
+  pub says : SendsFront old (said_of (report_of draw bytes)).text new
+
+-- How a check ends, also where the input tells no bytes. Where the input failed, nothing was sent.
+abbrev pub CheckEnds : Draw → Status → Option (List ℕ) → Option (List ℕ) → Option (List ℕ) → Option (List ℕ) → Type 0
+CheckEnds draw Done left left_after old new = SaysOfInput draw Done left left_after old new
+CheckEnds draw TestFailed left left_after old new = SaysOfInput draw TestFailed left left_after old new
+CheckEnds draw Refused left left_after old new = SaysOfInput draw Refused left left_after old new
+CheckEnds draw ReadFault left left_after old new = new ≡ old
+CheckEnds draw WriteFault left left_after old new = SaysFrontOfInput draw left left_after old new
+CheckEnds draw OutOfMemory left left_after old new = ⊤
+CheckEnds draw BadWords left left_after old new = ⊥
+CheckEnds draw DoorFault left left_after old new = ⊥
 
 -- ---- the program
 
@@ -74,7 +96,7 @@ bad_words = codes "unl_edge: bad words\n"
 -- how the program ends, by what its words ask for
 abbrev pub Ends : WordsReading → Status → Scene → Scene → Type 0
 Ends (Ok Replay) status before after = ReplayEnds status before.left after.left before.sent after.sent
-Ends (Ok (Check now word)) status before after = CheckEnds (record { now = now; word = word }) status before.left before.sent after.sent
+Ends (Ok (Check now word)) status before after = CheckEnds (record { now = now; word = word }) status before.left after.left before.sent after.sent
 Ends (Ok (Edge port upstream upstream_tokens tokens host workers interval connections delta)) status before after =
     EdgeEnds (length upstream_tokens) status before after
 Ends (Ok (Upstream port secret environments client_tokens frontend_tokens connections epoch)) status before after =

@@ -1,5 +1,6 @@
 -- How a check ends.
-use Rattle.std.proofs.Common.{◌≡◌, ◌≤◌, ℕ, List, length, Option, refl, ap, false, arith, ltb}
+use Rattle.std.proofs.Common.{◌≡◌, ◌<◌, ◌≤◌, ℕ, List, length, Option, refl, ap, false, arith, ltb}
+use Rattle.std.proofs.lemmas.Bool.{lt-ltb}
 use Rattle.std.proofs.lemmas.Bool.Decides.{nat_tests}
 use Rattle.std.specs.Prelude.{Ok, Err}
 use Rattle.unl_base.specs.declared.draws.Draw.{Draw}
@@ -20,6 +21,11 @@ not_longer n short = grind (arith, nat_tests)
 within : (draw : Draw) (bytes : List ℕ) (reading : Reading Report) → length bytes ≤ longest → accepted draw bytes ≡ reading → report_of draw bytes ≡ or_bad_file reading
 unfolding report_of
 within draw bytes reading short is = rw (not_longer (length bytes) short) (ap or_bad_file is)
+
+-- an input that is too long is refused for that
+pub refused_as_too_large : (draw : Draw) (bytes : List ℕ) → longest < length bytes → report_of draw bytes ≡ Err TooLarge
+unfolding report_of
+refused_as_too_large draw bytes long = rw (lt-ltb 16777216 (length bytes) long) refl
 
 -- reading the input didn't come to an end
 pub ends_reading : (fault : CheckFault) (draw : Draw) (left left_after old : Option (List ℕ)) → HasRead (Err fault) left left_after → Checks (Err fault) draw left left_after old old

@@ -36,7 +36,8 @@ LatestAreGathered = (tokens : List Token) → gathered tokens ≡ latest tokens
 -- a book that is read from an answer holds the latest of the answer's tokens
 abbrev pub LatestAreRead : Type 0
 LatestAreRead = (value : Data) (entries : Items) (tokens book : List Token)
-    → option_and_then as_array (at field.Tokens value) ≡ Some entries → tokens_from 0 entries ≡ Ok tokens → book_of value ≡ Ok book → book ≡ latest tokens
+    → option_and_then as_array (at field.Tokens value) ≡ Some entries → tokens_from 0 entries ≡ Ok tokens
+    → book_of value ≡ Ok book → book ≡ latest tokens
 
 -- of the texts that are asked, each is answered once, where it comes first, by the book's token with that text
 abbrev pub KnownOnce : Type 0
