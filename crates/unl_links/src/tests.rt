@@ -96,7 +96,13 @@ fn a_queue_hands_links_on(rt: HostRuntime) -> Result<(), Fail> {
     let alloc = rt.alloc();
     let queue = LinkQueue::new(alloc).expect(&rt, "room");
     let mut spawner = RealSpawner::new(&rt);
-    let putters = vec![in alloc; Putter { queue: &queue, rt: &rt, count: 300 }]?;
+    let putters = vec![in alloc;
+        Putter {
+            queue: &queue,
+            rt: &rt,
+            count: 300
+        },
+    ]?;
     let taker = Taker {
         queue: &queue,
         rt: &rt,
