@@ -11,10 +11,11 @@ use Rattle.unl_delta.specs.Valid.{IsValidPlace, IsValidVersion}
 use Rattle.unl_core.specs.declared.board.Board.{Board}
 use Rattle.unl_core.specs.declared.board.Slot.{Slot}
 use Rattle.unl_core.specs.Board.{AreSlots, empty_slot, slot_of, taking, with_snapshot}
-use Rattle.unl_core.specs.Standing.{Standing, IsStanding, place_at, installed_by, with_hold, with_batch}
+use Rattle.unl_core.specs.Standing.{Standing, IsStanding, place_at, snapshot_at, installed_by, with_hold, with_batch}
 use Rattle.unl_delta.specs.declared.batch.Batch.{Batch}
 use Rattle.unl_delta.specs.Installing.{place_of}
-use Rattle.std.proofs.lemmas.Option.{slice_get-get_or}
+use Rattle.std.specs.Prelude.{option_and_then, option_map, slice_get}
+use Rattle.std.proofs.lemmas.Option.{slice_get-get_or, slice_get-map}
 use Rattle.unl_core.proofs.Slots.{slots_kept, slots_more}
 
 abbrev versions : List Place → List (Option EnvVersion)
@@ -56,6 +57,21 @@ standing_taking board places slot version place standing there valid =
           ∙ ap (λ vs. set vs slot (Some version)) standing.versions ∙ sym (snapshots_taking slot version board.slots);
       valid = All-set IsValidPlace places slot place sound standing.valid;
     }
+
+joined : {T V : Type 0} (f : T → Option V) (o : Option T) → unwrap_or (option_map f o) None ≡ option_and_then f o
+joined f None = refl
+joined f (Some x) = refl
+
+-- the version of a place is what stands at its slot
+pub stands_at : (board : Board) (places : List Place) (slot : ℕ) (p : Place) → IsStanding board places → slot < length places → p ≡ get_or places slot p
+    → p.version ≡ snapshot_at board.slots slot
+stands_at board places slot p standing low is =
+    ap (λ (q : Place). q.version) is
+    ∙ ap (λ (o : Option Place). unwrap_or (option_map (λ q. q.version) o) None) (sym (slice_get-get_or places slot p low))
+    ∙ ap (λ (o : Option (Option EnvVersion)). unwrap_or o None) (sym (slice_get-map (λ q. q.version) places slot))
+    ∙ ap (λ (vs : List (Option EnvVersion)). unwrap_or (slice_get vs slot) None) standing.versions
+    ∙ ap (λ (o : Option (Option EnvVersion)). unwrap_or o None) (slice_get-map (λ s. s.snapshot) board.slots slot)
+    ∙ joined (λ (s : Slot). s.snapshot) (slice_get board.slots slot)
 
 -- a place is held, or not, with the version that it has
 pub standing_held : (board : Board) (places : List Place) (slot : ℕ) (place : Place) (d : Place) → IsStanding board places → slot < length places

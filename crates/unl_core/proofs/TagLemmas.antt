@@ -63,7 +63,7 @@ whole_is n small =
 part_is : (front digits : List ℕ) (quote : ℕ) → number_part (length front) (front ++ (digits ++ quote ∷ [])) ≡ digits
 part_is front digits quote =
     let count : length (front ++ (digits ++ quote ∷ [])) - (length front + 1) ≡ length digits =
-        omega (arith, length-append front (digits ++ quote ∷ []), length-append digits (quote ∷ [])) in
+    omega (arith, length-append front (digits ++ quote ∷ []), length-append digits (quote ∷ [])) in
     ap (λ k. take k (drop (length front) (front ++ (digits ++ quote ∷ [])))) count
     ∙ ap (take (length digits)) (drop-append_seam front (digits ++ quote ∷ []))
     ∙ take-append_seam digits (quote ∷ [])

@@ -23,7 +23,9 @@ use unl_context::{BadContext, Context};
 use unl_delta::{DeltaAnswer, answer as delta_answer, view, write_batch};
 use unl_dependencies::feature_named;
 use unl_documents::json::read_object;
-use unl_documents::{Copied, FeedHead, InlineRefusal, List, Memory, State, Text, inline, write_feature, write_feed};
+use unl_documents::{
+    Copied, FeedHead, InlineRefusal, List, Memory, State, Text, inline, write_feature, write_feed,
+};
 use unl_http_api::{Reply, Request, Route, is_post, query_of};
 use unl_metrics::{BadReport, Report};
 use unl_strategies::Moment;
@@ -335,7 +337,11 @@ fn feed_state(alloc: Global, inlined: bool, ready: &Ready) -> Result<State, Inli
         &ready.snapshot.version().state,
         &ready.token.projects,
     )?;
-    if inlined { inline(alloc, &seen) } else { Ok(seen) }
+    if inlined {
+        inline(alloc, &seen)
+    } else {
+        Ok(seen)
+    }
 }
 
 /// The feed of a state with its tag.

@@ -1,2 +1,5 @@
 mod Named
 mod Lawful
+mod Inlined
+mod Places
+mod Sight

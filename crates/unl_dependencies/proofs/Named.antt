@@ -1,7 +1,6 @@
 -- The feature of a name is one of the list.
 use Rattle.std.proofs.Common.{◌≡◌, ℕ, Bool, true, false, cond, List, [], ◌∷◌, Option, Some, None, Bor, ap, sym, subst}
 use Rattle.std.specs.Prelude.{All, IfSome, option_map, unwrap_or}
-use Rattle.std.specs.List.{find}
 use Rattle.std.specs.Str.{bytes_eq}
 use Rattle.std.proofs.lemmas.List.Elements.{All-head, All-tail}
 use Rattle.unl_documents.specs.declared.feature.Feature.{Feature}

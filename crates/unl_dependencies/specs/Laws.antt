@@ -1,12 +1,16 @@
 -- What an evaluation is, said of the whole state.
-use Rattle.std.specs.Prelude.{◌≡◌, ◌≢◌, ◌↔◌, ℕ, List, All, length, true, Option, Some, None, slice_get}
+use Rattle.std.specs.Prelude.{◌≡◌, ◌≢◌, ◌<◌, ◌↔◌, ℕ, List, All, map, filter, length, Bool, true, false, Option, Some, None, option_and_then, slice_get, if◌then◌else◌}
+use Rattle.std.specs.Option.{option_map_or}
 use Rattle.unl_documents.specs.declared.feature.Feature.{Feature}
+use Rattle.unl_documents.specs.declared.segment.Segment.{Segment}
 use Rattle.unl_documents.specs.declared.state.State.{State}
-use Rattle.unl_documents.specs.States.{IsValidState}
+use Rattle.unl_documents.specs.Parameters.{AreRising}
+use Rattle.unl_documents.specs.States.{IsValidState, name_key}
+use Rattle.unl_documents.specs.Inline.{inlined}
 use Rattle.unl_context.specs.Context.{Fields}
 use Rattle.unl_strategies.specs.Moment.{Moment}
-use Rattle.unl_dependencies.specs.declared.evaluation.Evaluation.{Evaluation}
-use Rattle.unl_dependencies.specs.Evaluation.{evaluation_where, feature_evaluation, evaluation_of}
+use Rattle.unl_strategies.specs.Strategy.{is_active}
+use Rattle.unl_dependencies.specs.Evaluation.{first_active, evaluation_where, feature_named, feature_evaluation, evaluation_of}
 
 -- no feature of the state has the name
 abbrev pub Lacks : State → List ℕ → Type 0
@@ -26,3 +30,36 @@ EachIsFound = (state : State) (place : ℕ) (f : Feature) (context : Fields) (mo
 abbrev pub ParentStandsAlone : Type 0
 ParentStandsAlone = (state : State) (parent : Feature) (context : Fields) (moment : Moment)
     → length parent.dependencies ≡ 0 → feature_evaluation state parent context moment ≡ evaluation_where true parent state.segments context moment
+
+-- writing the segments of a state out changes no evaluation
+abbrev pub InliningChangesNothing : Type 0
+InliningChangesNothing = (state : State) (name : List ℕ) (context : Fields) (moment : Moment)
+    → evaluation_of (inlined state) name context moment ≡ evaluation_of state name context moment
+
+-- the feature has a strategy at the place, and it is active
+abbrev pub is_active_at : Feature → List Segment → Fields → Moment → ℕ → Bool
+is_active_at f segments context moment place = option_map_or (λ s. is_active s f.name place segments context moment) (slice_get f.strategies place) false
+
+-- the strategy at the place is active, and none before it is
+pub record IsFirstActive (f : Feature) (segments : List Segment) (context : Fields) (moment : Moment) (place : ℕ) : Type 0 where
+  pub active : is_active_at f segments context moment place ≡ true
+  pub first : (earlier : ℕ) → earlier < place → is_active_at f segments context moment earlier ≡ false
+
+-- the first place whose strategy is active is the least
+abbrev pub FirstIsLeast : Type 0
+FirstIsLeast = (f : Feature) (segments : List Segment) (context : Fields) (moment : Moment) (place : ℕ)
+    → (first_active f segments context moment ≡ Some place) ↔ IsFirstActive f segments context moment place
+
+-- there is none exactly where no strategy is active
+abbrev pub NoneIsActive : Type 0
+NoneIsActive = (f : Feature) (segments : List Segment) (context : Fields) (moment : Moment)
+    → (first_active f segments context moment ≡ None) ↔ ((place : ℕ) → is_active_at f segments context moment place ≡ false)
+
+-- the feature, where its project is seen
+abbrev pub if_seen : (List ℕ → Bool) → Feature → Option Feature
+if_seen sees f = if sees f.project then Some f else None
+
+-- of features of rising names, the one of a name among those that are seen is the one among all, where it is seen
+abbrev pub SeenAmongAll : Type 0
+SeenAmongAll = (sees : List ℕ → Bool) (name : List ℕ) (features : List Feature)
+    → AreRising (map name_key features) → feature_named name (filter (λ f. sees f.project) features) ≡ option_and_then (if_seen sees) (feature_named name features)

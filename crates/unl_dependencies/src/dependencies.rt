@@ -14,9 +14,10 @@ use unl_context::Context;
 use unl_documents::{Dependency, Feature, List, Memory, Segment, Shared, State, Text};
 use unl_strategies::Moment;
 
-/// Whether all dependencies are met.
+/// Whether all of the dependencies are met over a state whose documents are within their limits. The error is want of
+/// memory.
 #[tactic(auto, unfolding(crate::specs::Evaluation::dependencies_met))]
-pub(crate) fn all_met(
+pub fn all_met(
     alloc: Global,
     dependencies: &[Dependency],
     state: &State,
@@ -34,8 +35,10 @@ pub(crate) fn all_met(
     Ok(true)
 }
 
+/// Whether a dependency is met: the state, whose documents are within their limits, has the parent, which meets it. The
+/// error is want of memory.
 #[tactic(auto, unfolding(crate::specs::Evaluation::is_met))]
-fn is_met(
+pub fn is_met(
     alloc: Global,
     dependency: &Dependency,
     state: &State,
@@ -51,9 +54,10 @@ fn is_met(
     }
 }
 
-/// Whether a parent meets a dependency. One that has dependencies of its own meets none, so no parent's parent counts.
+/// Whether a parent within its limits meets a dependency. One that has dependencies of its own meets none, so no parent's
+/// parent counts. The error is want of memory.
 #[tactic(auto, unfolding(crate::specs::Evaluation::is_met_by))]
-fn is_met_by(
+pub fn is_met_by(
     alloc: Global,
     dependency: &Dependency,
     parent: &Feature,
@@ -71,8 +75,9 @@ fn is_met_by(
     Ok(agrees(dependency, &evaluation))
 }
 
-/// Whether a parent's evaluation is what a dependency asks for.
-fn agrees(dependency: &Dependency, parent: &Evaluation) -> bool
+/// Whether a parent's evaluation is what a dependency asks for: off; or on, and with one of its variants where it names
+/// some. `disabled` is a name as any other. It takes no memory.
+pub fn agrees(dependency: &Dependency, parent: &Evaluation) -> bool
     ensures { result ≡ agreeing dependency.now parent.now }
 {
     if !dependency.enabled {

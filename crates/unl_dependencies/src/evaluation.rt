@@ -25,8 +25,8 @@ pub struct VariantAnswer {
 }
 
 impl Evaluation {
-    /// The evaluation of a feature that is off, which has no variant.
-    pub(crate) fn off(alloc: Global) -> Result<Evaluation, Memory>
+    /// The evaluation of a feature that is off, which has no variant. The error is want of memory.
+    pub fn off(alloc: Global) -> Result<Evaluation, Memory>
         ensures { IfOk result (λ e. e ≡ off_evaluation) }
     {
         Ok(Evaluation {
@@ -35,8 +35,8 @@ impl Evaluation {
         })
     }
 
-    /// The evaluation of a feature that is on.
-    pub(crate) fn on_with(alloc: Global, variant: Option<&Variant>) -> Result<Evaluation, Memory>
+    /// The evaluation of a feature that is on, with this variant, if there is one. The error is want of memory.
+    pub fn on_with(alloc: Global, variant: Option<&Variant>) -> Result<Evaluation, Memory>
         ensures { IfOk result (λ e. e ≡ evaluation_on_with (option_map (λ v. v.now) variant.entry)) }
     {
         Ok(Evaluation {

@@ -8,10 +8,15 @@ mod finding;
 mod laws;
 mod picking;
 
+pub use dependencies::{agrees, all_met, is_met, is_met_by};
 pub use evaluating::{evaluate, evaluate_feature};
 pub use evaluation::{Evaluation, VariantAnswer};
 pub use finding::feature_named;
-pub use laws::{each_is_found, none_where_lacking, parent_stands_alone};
+pub use laws::{
+    each_is_found, first_is_least, inlining_changes_nothing, none_where_lacking,
+    parent_stands_alone, seen_among_all,
+};
+pub use picking::{evaluate_where, first_active, own_variant, strategy_variant, variant_of};
 
 #[cfg(test)]
 mod tests;

@@ -11,9 +11,10 @@ use unl_documents::{Feature, List, Memory, Segment, Shared, Strategy, Text, Vari
 use unl_strategies::{Mark, Moment, active, parameter_or, random_for, random_id};
 use unl_variants::choose;
 
-/// The evaluation of a feature, where it is known whether its dependencies are met.
+/// The evaluation of a feature within its limits, where it is known whether its dependencies are met. The error is want
+/// of memory.
 #[tactic(auto, unfolding(crate::specs::Evaluation::evaluation_where, crate::specs::Evaluation::is_on))]
-pub(crate) fn evaluate_where(
+pub fn evaluate_where(
     alloc: Global,
     met: bool,
     feature: &Feature,
@@ -34,9 +35,10 @@ pub(crate) fn evaluate_where(
     Evaluation::on_with(alloc, variant_of(feature, context, moment, first))
 }
 
-/// The place of the first strategy that is active.
+/// The place, from 0, of the first strategy that is active: the least such place, and none where no strategy is. The
+/// feature is within its limits. The error is want of memory.
 #[tactic(auto, unfolding(crate::specs::Evaluation::first_active))]
-fn first_active(
+pub fn first_active(
     alloc: Global,
     feature: &Feature,
     segments: &List<Shared<Segment>>,
@@ -71,9 +73,10 @@ fn first_among(
     Ok(None)
 }
 
-/// The variant of the first active strategy, or else the feature's own.
+/// The variant of a feature that is on, where it is known which strategy is the first that is active: that strategy's, or
+/// else the feature's own. The feature is within its limits. It takes no memory.
 #[tactic(auto, unfolding(crate::specs::Evaluation::variant_of))]
-fn variant_of<'a>(
+pub fn variant_of<'a>(
     feature: &'a Feature,
     context: &Context,
     moment: &Moment,
@@ -91,9 +94,10 @@ fn variant_of<'a>(
     }
 }
 
-/// The variant of the strategy at a place.
+/// The variant of the strategy at a place, from 0, of a feature within its limits: none where there is no such place, or
+/// none is chosen. Its group is the parameter `groupId`, or else the feature's name. It takes no memory.
 #[tactic(auto, unfolding(crate::specs::Evaluation::strategy_variant))]
-fn strategy_variant<'a>(
+pub fn strategy_variant<'a>(
     feature: &'a Feature,
     context: &Context,
     moment: &Moment,
@@ -108,9 +112,14 @@ fn strategy_variant<'a>(
     variant_in(group, &strategy.variants, context, random_id(random))
 }
 
-/// The feature's own variant.
+/// The variant that is chosen among the feature's own, in the group of its name, if one is. The feature is within its
+/// limits. It takes no memory.
 #[tactic(auto, unfolding(crate::specs::Evaluation::own_variant))]
-fn own_variant<'a>(feature: &'a Feature, context: &Context, moment: &Moment) -> Option<&'a Variant>
+pub fn own_variant<'a>(
+    feature: &'a Feature,
+    context: &Context,
+    moment: &Moment,
+) -> Option<&'a Variant>
     requires valid { IsValidFeature feature.now }
     ensures { option_map (λ v. v.now) result ≡ own_variant_of feature.now context.now moment.entry.now }
 {

@@ -1,8 +1,12 @@
-use crate::{Evaluation, evaluate};
+ghost use Rattle.unl_documents.specs.States.{IsValidState};
+
+use crate::{
+    Evaluation, all_met, evaluate, evaluate_where, feature_named, first_active, variant_of,
+};
 use std::alloc::Global;
 use std::test::Fail;
 use unl_context::Context;
-use unl_documents::{State, read_feed};
+use unl_documents::{Memory, State, read_feed};
 use unl_strategies::Moment;
 
 const FEED: &str = r#"{"features":[
@@ -120,5 +124,55 @@ fn payloads(rt: HostRuntime) -> Result<(), Fail> {
         .expect(&rt, "it is there");
     let payload = found.variant.payload.as_ref().expect(&rt, "it is there");
     assert!(rt; payload.kind.as_str() == "string" && payload.value.as_str() == "hello");
+    Ok(())
+}
+
+/// The place of a feature's first active strategy, whether a variant goes with it, whether the dependencies are met, and
+/// whether the feature is on then.
+type Parts = (Option<u32>, bool, bool, bool);
+
+fn parts_of(
+    alloc: Global,
+    state: &State,
+    name: &str,
+    context: &Context,
+) -> Result<Option<Parts>, Memory>
+    requires { IsValidState state.now }
+{
+    let moment = Moment {
+        now: 0,
+        word: 0,
+        host: "",
+    };
+    match feature_named(&state.features, name) {
+        None => Ok(None),
+        Some(feature) => {
+            let segments = &state.segments;
+            let first = first_active(alloc, feature, segments, context, &moment)?;
+            let has_variant = variant_of(feature, context, &moment, first).is_some();
+            let dependencies = feature.dependencies.as_slice();
+            let met = all_met(alloc, dependencies, state, context, &moment)?;
+            let evaluation = evaluate_where(alloc, met, feature, segments, context, &moment)?;
+            Ok(Some((first, has_variant, met, evaluation.on)))
+        }
+    }
+}
+
+#[test]
+fn parts(rt: HostRuntime) -> Result<(), Fail> {
+    let alloc = rt.alloc();
+    let feed = read_feed(alloc, FEED.as_bytes())?;
+    let context = Context::read_query(alloc, b"userId=7")?;
+    let table = [
+        ("second", Some((Some(1), true, true, true))),
+        ("inactive", Some((None, true, true, false))),
+        ("needs_off", Some((None, false, false, false))),
+        ("needs_off_off", Some((None, false, true, true))),
+        ("absent", None),
+    ];
+    for (name, expected) in table {
+        let found = parts_of(alloc, &feed.state, name, &context)?;
+        assert!(rt; found == expected, "{name}");
+    }
     Ok(())
 }

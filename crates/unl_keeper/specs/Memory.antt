@@ -47,7 +47,12 @@ opened_keeping keeping = record { opened = true; kept = rows_of keeping; past = 
 
 -- a keeper of one row more, past which nothing stands
 abbrev pub put_keeping : List ℕ → Keeping → Keeping
-put_keeping text keeping = record { opened = keeping.opened; kept = keeping.kept ++ text ∷ []; past = None; counting = after_call keeping.counting }
+put_keeping text keeping = record {
+  opened = keeping.opened;
+  kept = keeping.kept ++ text ∷ [];
+  past = None;
+  counting = after_call keeping.counting;
+}
 
 -- a keeper that counts one call more
 abbrev pub read_keeping : Keeping → Keeping

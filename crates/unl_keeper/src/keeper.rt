@@ -28,7 +28,8 @@ pub trait Keeper {
     /// `Fault`: the keeper failed and has counted it. The rows and their count are as before. `Memory`: all is as
     /// before.
     fn open(&mut self, alloc: Global) -> Result<u64, KeepRefusal>
-        ensures opens { IfOk result (λ n. (opened self.new ≡ true) × (n ≡ count self.new) × IfSome (rows self.new) (λ list. n ≡ length list)) }
+        ensures opens { IfOk result
+            (λ n. (opened self.new ≡ true) × (n ≡ count self.new) × IfSome (rows self.new) (λ list. n ≡ length list)) }
         ensures stays { opened self.old ≡ true → opened self.new ≡ true }
         ensures same_rows { rows self.new ≡ rows self.old }
         ensures refused { IfErr result (λ e. (count self.new ≡ count self.old) × IsSameAtMemory (opened self.old) (opened self.new) e) }
@@ -48,8 +49,10 @@ pub trait Keeper {
         requires opened { opened self.old ≡ true }
         requires room { count self.old < 10000000 }
         ensures stays { opened self.new ≡ true }
-        ensures written { OnOk result ((count self.new ≡ count self.old + 1) × (rows self.new ≡ with_row (count self.old) text.now (rows self.old))) }
-        ensures refused { IfErr result (λ e. (count self.new ≡ count self.old) × Leaves (count self.old) text.now (rows self.old) (rows self.new) e) }
+        ensures written { OnOk result
+            ((count self.new ≡ count self.old + 1) × (rows self.new ≡ with_row (count self.old) text.now (rows self.old))) }
+        ensures refused { IfErr result
+            (λ e. (count self.new ≡ count self.old) × Leaves (count self.old) text.now (rows self.old) (rows self.new) e) }
         ensures cause { HasCause (faults self.old) (faults self.new) result };
 
     /// The row in a place: none only where the rows are not told.

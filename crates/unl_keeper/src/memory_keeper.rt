@@ -180,7 +180,8 @@ impl Keeper for MemoryKeeper {
         ensures opens { IfOk result (λ n. (self.new.opened ≡ true) × (n ≡ length self.new.kept) × (n ≡ length (rows_of self.new))) }
         ensures stays { self.old.opened ≡ true → self.new.opened ≡ true }
         ensures same_rows { Some (rows_of self.new) ≡ Some (rows_of self.old) }
-        ensures refused { IfErr result (λ e. (length self.new.kept ≡ length self.old.kept) × IsSameAtMemory self.old.opened self.new.opened e) }
+        ensures refused { IfErr result
+            (λ e. (length self.new.kept ≡ length self.old.kept) × IsSameAtMemory self.old.opened self.new.opened e) }
         ensures cause { HasCause self.old.counting.faults self.new.counting.faults result }
         ensures exact { Does (opened_keeping self.old) (read_keeping self.old) self.old self.new result }
     {
@@ -203,8 +204,10 @@ impl Keeper for MemoryKeeper {
         requires opened { self.old.opened ≡ true }
         requires room { length self.old.kept < 10000000 }
         ensures stays { self.new.opened ≡ true }
-        ensures written { OnOk result ((length self.new.kept ≡ length self.old.kept + 1) × (Some (rows_of self.new) ≡ with_row (length self.old.kept) text.now (Some (rows_of self.old)))) }
-        ensures refused { IfErr result (λ e. (length self.new.kept ≡ length self.old.kept) × Leaves (length self.old.kept) text.now (Some (rows_of self.old)) (Some (rows_of self.new)) e) }
+        ensures written { OnOk result ((length self.new.kept ≡ length self.old.kept + 1)
+            × (Some (rows_of self.new) ≡ with_row (length self.old.kept) text.now (Some (rows_of self.old)))) }
+        ensures refused { IfErr result (λ e. (length self.new.kept ≡ length self.old.kept)
+            × Leaves (length self.old.kept) text.now (Some (rows_of self.old)) (Some (rows_of self.new)) e) }
         ensures cause { HasCause self.old.counting.faults self.new.counting.faults result }
         ensures exact { Does (put_keeping text.now self.old) (left_keeping text.now self.old) self.old self.new result }
     {

@@ -1,6 +1,7 @@
 ghost use Rattle.std.specs.Prelude.{◌≡◌, ◌≤◌, true};
 
 use crate::*;
+use sqlite::{Alter, Connection};
 use std::alloc::Global;
 use std::test::Fail;
 use unl_documents::{List, Text};
@@ -73,11 +74,12 @@ fn makes<M: KeepMaker>(alloc: Global, maker: &mut M) -> Result<bool, KeepRefusal
 }
 
 #[test]
-fn a_maker_makes_keepers(rt: HostRuntime) -> Result<(), Fail> {
+fn makers_make_keepers(rt: HostRuntime) -> Result<(), Fail> {
     let alloc = rt.alloc();
     let mut maker = MemoryMaker::new(alloc);
     assert!(rt; makes(alloc, &mut maker)?);
     assert!(rt; makes(alloc, &mut maker)?);
+    assert!(rt; makes(alloc, &mut SqliteMaker::new())?);
     Ok(())
 }
 
@@ -138,5 +140,41 @@ fn fails_by_turns(alloc: Global) -> Result<[Option<u64>; 4], KeepRefusal> {
 #[test]
 fn calls_fail_where_they_are_named(rt: HostRuntime) -> Result<(), Fail> {
     assert_eq!(rt; fails_by_turns(rt.alloc())?, [None, Some(0), None, Some(1)]);
+    Ok(())
+}
+
+/// What opening a keeper over a table answers that was made by these statements, and then what its row 2 is.
+fn over(alloc: Global, sql: &str) -> Result<(u64, Option<Text>), KeepRefusal> {
+    let mut connection = Connection::open_in_memory(alloc)?;
+    if fill(&mut connection, sql).is_err() {
+        return Ok((0, None));
+    }
+    let mut keeper = SqliteKeeper::new(connection);
+    let count = keeper.open(alloc)?;
+    if keeper.count() < 2 {
+        return Ok((count, None));
+    }
+    Ok((count, keeper.read(alloc, 2)?))
+}
+
+fn fill<D: Alter>(connection: &mut Connection<D>, sql: &str) -> Result<(), sqlite::Error> {
+    connection.execute_batch("CREATE TABLE kept (place INTEGER PRIMARY KEY, text TEXT NOT NULL)")?;
+    connection.execute_batch(sql)
+}
+
+#[test]
+fn tables_that_stand(rt: HostRuntime) -> Result<(), Fail> {
+    let alloc = rt.alloc();
+    let fault = Err(KeepRefusal::Fault);
+    assert_eq!(rt;
+        over(alloc, "INSERT INTO kept VALUES (1, 'a'), (3, 'c')"),
+        Ok((3, None))
+    );
+    assert_eq!(rt; over(alloc, "INSERT INTO kept VALUES (0, 'a')"), fault);
+    assert_eq!(rt; over(alloc, "INSERT INTO kept VALUES (2, x'61')"), fault);
+    assert_eq!(rt;
+        over(alloc, "DROP TABLE kept; CREATE TABLE kept (text TEXT)"),
+        fault
+    );
     Ok(())
 }

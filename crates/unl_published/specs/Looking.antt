@@ -35,7 +35,13 @@ module _ {S I : Type 0} where
 
   -- A list was taken, which begins with the one that the reader had or went on from. Its length goes behind the fronts.
   pub record Takes (installed : S → I → S) (past : Option (Knowledge S I)) (now new : Knowledge S I) : Type 0 where
-    pub same : new ≡ record { table = now.table; opening = now.opening; installs = new.installs; before = before_of installed past now; fronts = (known past now).fronts ++ length new.installs ∷ [] }
+    pub same : new ≡ record {
+      table = now.table;
+      opening = now.opening;
+      installs = new.installs;
+      before = before_of installed past now;
+      fronts = (known past now).fronts ++ length new.installs ∷ [];
+    }
     pub seen : StartsWith new.installs now.installs
 
   -- what was known still is, and is the same

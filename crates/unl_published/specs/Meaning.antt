@@ -26,7 +26,8 @@ module _ {S I : Type 0} where
 
   -- the value after the first so many installs, where so many were seen
   abbrev pub value_at : (S → I → S) → Knowledge S I → ℕ → Option S
-  value_at installed v k = where_true (leb k (length v.installs)) (at_or v.before k (option_map (λ opening. fold installed opening (take k v.installs)) v.opening))
+  value_at installed v k = where_true (leb k (length v.installs))
+      (at_or v.before k (option_map (λ opening. fold installed opening (take k v.installs)) v.opening))
 
   -- all values that are known
   abbrev pub values : (S → I → S) → Knowledge S I → List (Option S)

@@ -25,7 +25,13 @@ module _ {S I : Type 0} where
 
   -- so many installs more behind the list
   abbrev pub with_installs : List I → Knowledge S I → Knowledge S I
-  with_installs given v = record { table = v.table; opening = v.opening; installs = v.installs ++ given; before = v.before; fronts = v.fronts }
+  with_installs given v = record {
+    table = v.table;
+    opening = v.opening;
+    installs = v.installs ++ given;
+    before = v.before;
+    fronts = v.fronts;
+  }
 
   -- what goes out of what one knows: the opening value and the list
   abbrev pub told_by : Knowledge S I → Knowledge S I
@@ -51,7 +57,13 @@ module _ {S I : Type 0} where
 
   -- the writer is told whose it is, and the opening value
   abbrev pub Opens : ℕ → S → Knowledge S I → Knowledge S I → Type 0
-  Opens table value v w = w ≡ record { table = Some table; opening = Some value; installs = v.installs; before = v.before; fronts = v.fronts }
+  Opens table value v w = w ≡ record {
+    table = Some table;
+    opening = Some value;
+    installs = v.installs;
+    before = v.before;
+    fronts = v.fronts;
+  }
 
   -- so many installs were put behind the list
   abbrev pub Publishes : List I → Knowledge S I → Knowledge S I → Type 0
@@ -59,8 +71,15 @@ module _ {S I : Type 0} where
 
   -- A list was taken, which begins with the one before. What is shown is the opening value after it, and its length is the
   -- front, which goes behind the fronts before.
-  pub record Enters (installed : S → I → S) (front_of : S → ℕ) (before : List (Option S)) (fronts : List ℕ) (value : S) (v w : Knowledge S I) : Type 0 where
-    pub same : w ≡ record { table = v.table; opening = v.opening; installs = w.installs; before = before; fronts = fronts ++ length w.installs ∷ [] }
+  pub record Enters (installed : S → I → S) (front_of : S → ℕ) (before : List (Option S)) (fronts : List ℕ) (value : S)
+      (v w : Knowledge S I) : Type 0 where
+    pub same : w ≡ record {
+      table = v.table;
+      opening = v.opening;
+      installs = w.installs;
+      before = before;
+      fronts = fronts ++ length w.installs ∷ [];
+    }
     pub seen : StartsWith w.installs v.installs
     pub value_is : (o : S) → v.opening ≡ Some o → value ≡ fold installed o w.installs
     pub front_is : front_of value ≡ length w.installs

@@ -68,10 +68,16 @@ impl<T: Counted<I> + Drop, I: Drop, P: Rules<T, I>> Reader<T, I, P> {
     ///
     /// The reader as it is then: it did not look, for which `left_right` names no cause, or the list was shorter than it was told.
     pub fn enter(self) -> Result<Guard<T, I, P>, Reader<T, I, P>>
-        ensures least { MatchResult result (λ guard. (told_of self ≤ front_seen (taken guard)) × (was_told_of guard ≡ told_of self)) (λ reader. told_of reader ≡ told_of self) }
-        ensures origin { MatchResult result (λ guard. SameOrigin (taken guard) (next self)) (λ reader. SameOrigin (next reader) (next self)) }
+        ensures least { MatchResult result
+            (λ guard. (told_of self ≤ front_seen (taken guard)) × (was_told_of guard ≡ told_of self))
+            (λ reader. told_of reader ≡ told_of self) }
+        ensures origin { MatchResult result
+            (λ guard. SameOrigin (taken guard) (next self))
+            (λ reader. SameOrigin (next reader) (next self)) }
         ensures takes { IfOk result (λ guard. Takes T.applied (past self) (next self) (taken guard)) }
-        ensures follows { MatchResult result (λ guard. Follows T.applied (seen self) (taken guard)) (λ reader. Follows T.applied (seen self) (seen reader)) }
+        ensures follows { MatchResult result
+            (λ guard. Follows T.applied (seen self) (taken guard))
+            (λ reader. Follows T.applied (seen self) (seen reader)) }
         ensures refused { IfErr result (λ reader. LooksBelow (told_of self) (seen self) (seen reader)) }
     {
         let Reader {
@@ -125,7 +131,8 @@ fn enter_past<T: Counted<I> + Drop, I: Drop, P: Rules<T, I>, K: Past<T::State>>(
     requires rises { Rise 0 K.fronts (length (view seat.place).installs) }
     ensures { MatchResult result
         (λ r. Enters T.applied T.front_of (before_of T.applied (option_map (λ s. view s.value.place) past.now) (view seat.place))
-        (known (option_map (λ s. view s.value.place) past.now) (view seat.place)).fronts (T.state r.part.value) (view seat.place) (view r.place))
+        (known (option_map (λ s. view s.value.place) past.now) (view seat.place)).fronts
+        (T.state r.part.value) (view seat.place) (view r.place))
         (λ r. view r.place ≡ view seat.place) }
 {
     let _known = past;
@@ -144,8 +151,10 @@ impl<T: Counted<I> + Drop, I: Drop, P: Rules<T, I>> Guard<T, I, P> {
 
     /// The value: the opening value after the list that was taken.
     pub fn value(&self) -> &T
-        ensures list { (opening : T.State) → (taken self.now).opening ≡ Some opening → T.state result.now ≡ fold T.applied opening (taken self.now).installs }
-        ensures value { is_some (taken self.now).opening ≡ true → value_at T.applied (taken self.now) (front_seen (taken self.now)) ≡ Some (T.state result.now) }
+        ensures list { (opening : T.State) → (taken self.now).opening ≡ Some opening
+            → T.state result.now ≡ fold T.applied opening (taken self.now).installs }
+        ensures value { is_some (taken self.now).opening ≡ true
+            → value_at T.applied (taken self.now) (front_seen (taken self.now)) ≡ Some (T.state result.now) }
     {
         self.reading.get()
     }

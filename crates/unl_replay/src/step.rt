@@ -16,9 +16,9 @@ use serde_json::Value;
 use std::alloc::{AllocError, Global};
 use unl_core::OneDesk;
 use unl_delta::{Batch, Installer, Verdict, take_batch};
-use unl_documents::{Field, Text};
 use unl_documents::keys::required;
 use unl_documents::kind::Name;
+use unl_documents::{Field, Text};
 use unl_tokens::Book;
 
 /// The number at which an environment stands, where it has a state.

@@ -24,7 +24,11 @@ fn end_of(alloc: Global, input: &str, printed: &str) -> Option<Result<(), Replay
 const LINES: [Case; 3] = [
     ("", "", Ok(())),
     ("{", "refused: line 1: NotJson\n", Err(ReplayFault::Bad)),
-    ("{}\n", "refused: line 1: Missing op\n", Err(ReplayFault::Bad)),
+    (
+        "{}\n",
+        "refused: line 1: Missing op\n",
+        Err(ReplayFault::Bad),
+    ),
 ];
 
 #[test]
@@ -67,7 +71,8 @@ const EPOCHS_PRINT: &str = r#"1: tokens generation 1 front 1
 "#;
 
 /// A feed for clients that know segments, and for those that don't.
-const INLINED: &str = r#"{"op":"tokens","tokens":[{"token":"A:dev.c","type":"client","projects":["A"]}]}
+const INLINED: &str =
+    r#"{"op":"tokens","tokens":[{"token":"A:dev.c","type":"client","projects":["A"]}]}
 {"op":"batch","environment":"dev","batch":{"events":[{"type":"hydration","eventId":4,"features":[{"name":"f","project":"A","enabled":true,"strategies":[{"name":"default","segments":[7,8]}]}],"segments":[{"id":7,"constraints":[{"contextName":"userId","operator":"IN","values":["1"]}]}]}]}}
 {"op":"ask","target":"/api/client/features","token":"A:dev.c","spec":"4.1.9"}
 {"op":"ask","target":"/api/client/features","token":"A:dev.c","spec":"4.2.0-beta","tag":"\"0000000000000000-1-0-4\""}
@@ -100,7 +105,9 @@ fn epochs_and_inlined_segments(rt: HostRuntime) -> Result<(), Fail> {
 fn with_eight(alloc: Global, line: &str) -> Option<String> {
     let mut text = String::new(alloc);
     for number in 1..=8 {
-        let gap = format!(in alloc; "{{\"op\":\"batch\",\"environment\":\"e{number}\",\"batch\":{{\"after\":0,\"events\":[{{\"type\":\"segment-removed\",\"eventId\":1,\"segmentId\":7}}]}}}}\n").ok()?;
+        let gap = format!(in alloc;
+            "{{\"op\":\"batch\",\"environment\":\"e{number}\",\"batch\":{{\"after\":0,\"events\":[{{\"type\":\"segment-removed\",\"eventId\":1,\"segmentId\":7}}]}}}}\n"
+        ).ok()?;
         text.push_str(gap.as_str()).ok()?;
     }
     text.push_str(line).ok()?;
@@ -109,9 +116,18 @@ fn with_eight(alloc: Global, line: &str) -> Option<String> {
 
 /// Lines behind eight environments, and the cause for which each is refused.
 const NINTH: [(&str, &str); 4] = [
-    (r#"{"op":"batch","environment":"e9","batch":{}}"#, "TooManyEnvironments"),
-    (r#"{"op":"feed","environment":"e9","feed":{}}"#, "TooManyEnvironments"),
-    (r#"{"op":"batch","environment":"e8","batch":{}}"#, "BadBatch 1"),
+    (
+        r#"{"op":"batch","environment":"e9","batch":{}}"#,
+        "TooManyEnvironments",
+    ),
+    (
+        r#"{"op":"feed","environment":"e9","feed":{}}"#,
+        "TooManyEnvironments",
+    ),
+    (
+        r#"{"op":"batch","environment":"e8","batch":{}}"#,
+        "BadBatch 1",
+    ),
     (r#"{"op":"feed","environment":"e8","feed":{}}"#, "NoNumber"),
 ];
 
@@ -137,7 +153,10 @@ fn ninth_end(alloc: Global, line: &str, cause: &str) -> Option<Result<(), Replay
 #[test]
 fn a_ninth_environment(rt: HostRuntime) -> Result<(), Fail> {
     for (line, cause) in NINTH {
-        assert!(rt; ninth_end(rt.alloc(), line, cause) == Some(Err(ReplayFault::Bad)), "{line}");
+        assert!(rt;
+            ninth_end(rt.alloc(), line, cause) == Some(Err(ReplayFault::Bad)),
+            "{line}"
+        );
     }
     Ok(())
 }

@@ -127,11 +127,7 @@ impl Upstream {
 }
 
 /// A slot for each environment, with nothing in it.
-fn opening_slots(
-    alloc: Global,
-    environments: &[Text],
-    epoch: u64,
-) -> Result<Vec<Slot>, Memory>
+fn opening_slots(alloc: Global, environments: &[Text], epoch: u64) -> Result<Vec<Slot>, Memory>
     ensures { IfOk result (λ slots. slots.items ≡ map (opening_slot epoch) environments.now) }
 {
     let mut slots = Vec::new(alloc);

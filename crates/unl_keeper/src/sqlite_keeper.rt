@@ -1,0 +1,221 @@
+//! A keeper over a database.
+ghost use Rattle.std.specs.Prelude.{◌≡◌, ◌≤◌, ◌<◌, ◌↔◌, false, IfOk, OnOk};
+ghost use Rattle.unl_keeper.specs.Faults.{Blames};
+
+use crate::keeper::Keeper;
+use crate::refusal::KeepRefusal;
+use sqlite::{Alter, Connection, Error, ErrorCode, params};
+use std::alloc::Global;
+use std::marker::Model;
+use unl_documents::Text;
+
+/// A keeper whose rows are those of the table `kept(place INTEGER PRIMARY KEY, text TEXT NOT NULL)` of a database, which `open`
+/// makes where it isn't there. It doesn't tell them. Each put is one upsert behind the greatest place, so that it replaces what a
+/// failed one left; hand in a connection that is in no transaction, or a put commits nothing. Each statement that is refused for
+/// another cause than memory is counted as a fault, and so are a greatest place below 1 and a row that holds no text.
+pub struct SqliteKeeper<D: Alter> {
+    connection: Connection<D>,
+    opened: bool,
+    count: u64,
+    faults: u64,
+}
+
+impl<D: Alter + Drop> Drop for SqliteKeeper<D> {
+    fn drop(self) {
+        let SqliteKeeper {
+            connection: _,
+            opened: _,
+            count: _,
+            faults: _,
+        } = self;
+    }
+}
+
+impl<D: Alter> Model for SqliteKeeper<D> {
+    ghost use Rattle.unl_keeper.specs.Standing.{Standing};
+
+    ghost Value = { Standing };
+
+    ghost view = { λ k. record { opened = k.opened; count = k.count; faults = k.faults } };
+}
+
+/// Why a keeper refuses what the database refused.
+fn refusal(error: Error) -> KeepRefusal
+    ensures { (result ≡ KeepRefusal.Memory) ↔ (error ≡ Error.SqliteFailure ErrorCode.OutOfMemory) }
+{
+    match error {
+        Error::SqliteFailure(ErrorCode::OutOfMemory) => KeepRefusal::Memory,
+        _ => KeepRefusal::Fault,
+    }
+}
+
+// The four below have no clause, so that no proof carries the state of the database.
+
+/// Makes the table where it isn't there.
+fn create<D: Alter>(connection: &mut Connection<D>) -> Result<usize, Error> {
+    connection.execute(
+        "CREATE TABLE IF NOT EXISTS kept (place INTEGER PRIMARY KEY, text TEXT NOT NULL)",
+        &[],
+    )
+}
+
+/// The greatest place of a row.
+fn greatest<D: Alter>(connection: &mut Connection<D>) -> Result<Option<i64>, Error> {
+    connection
+        .query_row("SELECT max(place) FROM kept", &[])?
+        .get(0)
+}
+
+/// Writes a text in a place, over what stands there.
+fn write<D: Alter>(connection: &mut Connection<D>, place: i64, text: &str) -> Result<usize, Error> {
+    connection.execute(
+        "INSERT INTO kept (place, text) VALUES (?1, ?2) ON CONFLICT (place) DO UPDATE SET text = excluded.text",
+        params![place, text],
+    )
+}
+
+/// The text in a place.
+fn select<D: Alter>(connection: &mut Connection<D>, place: i64) -> Result<String, Error> {
+    connection
+        .query_row("SELECT text FROM kept WHERE place = ?1", params![place])?
+        .get(0)
+}
+
+/// How many rows there are: the greatest place.
+fn rows_of<D: Alter>(connection: &mut Connection<D>) -> Result<u64, KeepRefusal> {
+    if let Err(error) = create(connection) {
+        return Err(refusal(error));
+    }
+    match greatest(connection) {
+        Ok(None) => Ok(0),
+        Ok(Some(place)) if place >= 1 => Ok(place as u64),
+        Ok(Some(_)) => Err(KeepRefusal::Fault),
+        Err(error) => Err(refusal(error)),
+    }
+}
+
+/// Writes a text in a place.
+fn put_row<D: Alter>(
+    connection: &mut Connection<D>,
+    place: u64,
+    text: &Text,
+) -> Result<(), KeepRefusal> {
+    let Ok(place) = i64::try_from(place) else {
+        return Err(KeepRefusal::Fault);
+    };
+    match write(connection, place, text.as_str()) {
+        Ok(_) => Ok(()),
+        Err(error) => Err(refusal(error)),
+    }
+}
+
+/// The row in a place.
+fn row_at<D: Alter>(
+    connection: &mut Connection<D>,
+    place: u64,
+) -> Result<Option<Text>, KeepRefusal> {
+    let Ok(place) = i64::try_from(place) else {
+        return Ok(None);
+    };
+    match select(connection, place) {
+        Ok(text) => Ok(Some(Text::from(text))),
+        Err(Error::QueryReturnedNoRows) => Ok(None),
+        Err(error) => Err(refusal(error)),
+    }
+}
+
+impl<D: Alter> SqliteKeeper<D> {
+    /// A keeper over a connection. It isn't opened, and takes no memory.
+    pub fn new(connection: Connection<D>) -> SqliteKeeper<D>
+        ensures { result ≡ record { opened = false; count = 0; faults = 0 } }
+    {
+        SqliteKeeper {
+            connection,
+            opened: false,
+            count: 0,
+            faults: 0,
+        }
+    }
+
+    /// The connection, and how often a statement was refused.
+    pub(crate) fn into_connection(self) -> (Connection<D>, u64)
+        ensures { result.1 ≡ self.faults }
+    {
+        let SqliteKeeper {
+            connection,
+            opened: _,
+            count: _,
+            faults,
+        } = self;
+        (connection, faults)
+    }
+
+    /// Counts a refusal, where it is a fault.
+    fn refuse(&mut self, refusal: KeepRefusal)
+        ensures same { self.new ≡ record self.old { faults = self.new.faults } }
+        ensures cause { Blames self.old.faults self.new.faults refusal }
+        ensures later { self.old.faults ≤ self.new.faults }
+    {
+        match refusal {
+            KeepRefusal::Fault => self.faults = self.faults.saturating_add(1),
+            KeepRefusal::Memory => {}
+        }
+    }
+}
+
+impl<D: Alter> Keeper for SqliteKeeper<D> {
+    ghost use Rattle.std.specs.Prelude.{None};
+
+    ghost opened = { λ k. k.opened };
+
+    ghost faults = { λ k. k.faults };
+
+    ghost count = { λ k. k.count };
+
+    ghost rows = { λ _. None };
+
+    fn open(&mut self, _alloc: Global) -> Result<u64, KeepRefusal> {
+        match rows_of(&mut self.connection) {
+            Ok(count) => {
+                self.count = count;
+                self.opened = true;
+                Ok(count)
+            }
+            Err(refusal) => {
+                self.refuse(refusal);
+                Err(refusal)
+            }
+        }
+    }
+
+    fn count(&self) -> u64 {
+        self.count
+    }
+
+    fn put(&mut self, _alloc: Global, text: &Text) -> Result<(), KeepRefusal> {
+        match put_row(&mut self.connection, self.count + 1, text) {
+            Ok(()) => {
+                self.count += 1;
+                Ok(())
+            }
+            Err(refusal) => {
+                self.refuse(refusal);
+                Err(refusal)
+            }
+        }
+    }
+
+    fn read(&mut self, _alloc: Global, place: u64) -> Result<Option<Text>, KeepRefusal> {
+        match row_at(&mut self.connection, place) {
+            Ok(found) => Ok(found),
+            Err(refusal) => {
+                self.refuse(refusal);
+                Err(refusal)
+            }
+        }
+    }
+
+    ghost at_least = { λ _. tt };
+
+    ghost at_most = { λ _ _. tt };
+}

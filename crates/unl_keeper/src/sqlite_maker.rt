@@ -1,0 +1,57 @@
+//! Makes keepers over databases in memory.
+ghost use Rattle.std.specs.Prelude.{◌≡◌};
+
+use crate::maker::KeepMaker;
+use crate::refusal::KeepRefusal;
+use crate::sqlite_keeper::SqliteKeeper;
+use sqlite::{Connection, MemStore};
+use std::alloc::Global;
+use std::marker::Model;
+
+/// Makes keepers, each over a database of its own in memory. It doesn't tell what they kept. Contracts see how many keepers came
+/// back that had failed.
+#[derive(Debug, Drop)]
+pub struct SqliteMaker {
+    faults: u64,
+}
+
+impl Model for SqliteMaker {
+    ghost use Rattle.std.specs.Prelude.{ℕ};
+
+    ghost Value = { ℕ };
+
+    ghost view = { λ m. m.faults };
+}
+
+impl SqliteMaker {
+    /// A maker that counts no fault.
+    pub fn new() -> SqliteMaker
+        ensures { result ≡ 0 }
+    {
+        SqliteMaker { faults: 0 }
+    }
+}
+
+impl KeepMaker for SqliteMaker {
+    ghost use Rattle.std.specs.Prelude.{None};
+
+    type K = SqliteKeeper<MemStore>;
+
+    ghost faults = { λ m. m };
+
+    ghost held = { λ _. None };
+
+    fn make(&mut self, alloc: Global) -> Result<SqliteKeeper<MemStore>, KeepRefusal> {
+        match Connection::open_in_memory(alloc) {
+            Ok(connection) => Ok(SqliteKeeper::new(connection)),
+            Err(_) => Err(KeepRefusal::Memory),
+        }
+    }
+
+    fn back(&mut self, keeper: SqliteKeeper<MemStore>) {
+        let (_connection, faults) = keeper.into_connection();
+        if faults > 0 {
+            self.faults = self.faults.saturating_add(1);
+        }
+    }
+}
