@@ -64,6 +64,7 @@ impl<W: Wait> Job for Putter<'_, W> {
 }
 
 /// Takes links until none comes any more, and counts those that come in order.
+#[derive(Drop)]
 struct Taker<'a, W: Wait> {
     queue: &'a LinkQueue<u64>,
     rt: &'a W,
@@ -109,9 +110,8 @@ fn a_queue_hands_links_on(rt: HostRuntime) -> Result<(), Fail> {
         taken: 0,
     };
     let (taker, done) = spawner.with(putters, taker);
-    let Taker { taken, .. } = taker;
     assert!(rt; done.is_ok());
-    assert_eq!(rt; taken, 300);
+    assert_eq!(rt; taker.taken, 300);
     assert!(rt; queue.closed(&rt));
     Ok(())
 }

@@ -1,12 +1,12 @@
 -- Links that were served, one after another.
 use Rattle.std.proofs.Common.{◌≡◌, ℕ, ◌+◌, List, [], ◌∷◌, ◌++◌, length, Option, Some, None, refl, sym, ap, ◌∙◌, subst, arith, append_assoc, append-nil, length-append, ◌⊎◌, inl, inr}
-use Rattle.std.specs.Prelude.{drop, option_map, option_and_then, unwrap_or, IfSome, IsNone, ◌↔◌}
+use Rattle.std.specs.Prelude.{drop, option_map}
 use Rattle.unl_base.specs.Doors.{and_one, next_of}
 use Rattle.unl_base.specs.Faults.{Rose}
 use Rattle.unl_exchange.specs.Conversation.{Concludes, GivesUp, Serves}
 use Rattle.unl_http_api.specs.declared.end.End.{End}
 use Rattle.unl_http_api.specs.declared.end.End.TheVariants as ends
-use Rattle.unl_upstream.specs.Hosting.{Coming, Hosting, Hosts, LinkServed, Linked, ServesLink, ServesLinks}
+use Rattle.unl_upstream.specs.Hosting.{Coming, Hosting, Hosts, Linked, ServesLink, ServesLinks}
 use Rattle.unl_upstream.specs.Serving.{Lacks, Obeys, Serving, Step, serving}
 use Rattle.unl_upstream.specs.Upstream.{UpstreamState}
 

@@ -1,4 +1,4 @@
-use Rattle.std.proofs.Common.{arith, rules}
+use Rattle.std.proofs.Common.{arith}
 use Rattle.unl_upstream.proofs.Linking.{hosts_more, hosts_none}
 use Rattle.unl_upstream.proofs.upstream.Upstream.host.Goals as goal
 

@@ -1,4 +1,4 @@
-use Rattle.std.proofs.Common.{ℕ, ◌×◌, ◌+◌, List, [], Option, ap, ◌∙◌}
+use Rattle.std.proofs.Common.{ℕ, ◌+◌, List, [], Option, ap, ◌∙◌}
 use Rattle.std.specs.Prelude.{option_map}
 use Rattle.unl_base.specs.Doors.{DoorState, next_of}
 use Rattle.unl_upstream.proofs.Linking.{hosts_one}
