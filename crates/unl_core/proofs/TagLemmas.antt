@@ -9,6 +9,7 @@ use Rattle.std.specs.Option.{option_map}
 use Rattle.std.specs.Str.{bytes_eq}
 use Rattle.json.proofs.Printed.Decimals.{IsNumber-decimal}
 use Rattle.json.proofs.Printed.Tokens.{tokens-print}
+use Rattle.json.proofs.Printed.Trees.{value-json_tokens}
 use Rattle.json.specs.Json as json
 use Rattle.json.specs.Lex.{tokens}
 use Rattle.json.specs.Print.{print, print_from, ArePrintable}
@@ -52,7 +53,9 @@ tokens_are n small = ap tokens (sym (append-nil (decimal n))) ∙ tokens-print (
 
 read_is : (n : ℕ) → n < 2 ^ 64 → read (decimal n) ≡ Some (number (unsigned n))
 read_is n small =
+    let whole : json.value max_depth (Token.number (decimal n) ∷ []) ≡ Some (json.number (decimal n), []) = value-json_tokens (json.number (decimal n)) max_depth [] (omega arith) in
     ap (λ ts. option_and_then of_json (option_and_then (λ p. json.if_last p.0 p.1) (json.value max_depth ts))) (tokens_are n small)
+    ∙ ap (λ o. option_and_then of_json (option_and_then (λ p. json.if_last p.0 p.1) o)) whole
     ∙ ap (option_map number) (number_of-decimal n small)
 
 whole_is : (n : ℕ) → n < 2 ^ 64 → whole_in (decimal n) ≡ Some n

@@ -1,10 +1,10 @@
 -- What a request says of the client that sends it.
-use Rattle.std.specs.Prelude.{ℕ, List, [], Bool, true, false, Option, Some, None, option_and_then, if◌then◌else◌}
+use Rattle.std.specs.Prelude.{ℕ, List, [], Bool, false, Option, Some, None, option_and_then}
 use Rattle.std.specs.Ordering.{is_lt}
-use Rattle.std.specs.Str.{is_utf8}
 use Rattle.semver.specs.Parse.{Parts}
 use Rattle.unl_constraints.specs.Version.{version_of, precedence}
 use Rattle.unl_http_api.specs.declared.request.Request.{Request}
+use Rattle.unl_http_api.specs.Route.{if_utf8}
 
 -- the first version of the client specification whose clients know segments
 abbrev pub first_with_segments : Parts
@@ -12,7 +12,7 @@ first_with_segments = (4, 2, 0, [], [])
 
 -- the version that bytes spell, where they are a text that is a full version
 abbrev pub version_in : List ℕ → Option Parts
-version_in bytes = if is_utf8 bytes then version_of bytes else None
+version_in bytes = option_and_then version_of (if_utf8 bytes)
 
 -- there is a version, and it comes before the first with segments
 abbrev pub is_before_segments : Option Parts → Bool

@@ -1,13 +1,15 @@
 //! What a request says of the client that sends it.
 ghost use Rattle.std.specs.Prelude.{◌≡◌, IfOk};
-ghost use Rattle.unl_core.specs.Client.{is_before_segments, knows_no_segments, version_in};
+ghost use Rattle.std.specs.Ordering.{is_lt};
+ghost use Rattle.semver.specs.Identifiers.{parts_of};
+ghost use Rattle.unl_constraints.specs.Version.{precedence, version_of};
+ghost use Rattle.unl_core.specs.Client.{first_with_segments, is_before_segments, knows_no_segments, version_in};
 
 use semver::Version;
 use std::alloc::Global;
-use std::str;
 use unl_constraints::read_version;
 use unl_documents::Memory;
-use unl_http_api::Request;
+use unl_http_api::{Request, utf8_in};
 
 /// Whether the request names a version of the client specification whose clients know no segments: a full version of
 /// Semantic Versioning 2.0.0 with precedence below 4.2.0.
@@ -16,18 +18,31 @@ pub(crate) fn knows_no_segments(alloc: Global, request: &Request) -> Result<bool
 {
     match &request.spec {
         None => Ok(false),
-        Some(spec) => is_before_segments(alloc, spec.as_slice()),
+        Some(spec) => names_old_version(alloc, spec.as_slice()),
     }
 }
 
-fn is_before_segments(alloc: Global, bytes: &[u8]) -> Result<bool, Memory>
+fn names_old_version(alloc: Global, bytes: &[u8]) -> Result<bool, Memory>
     ensures { IfOk result (λ old. old ≡ is_before_segments (version_in bytes.now)) }
 {
-    let Ok(text) = str::from_utf8(bytes) else {
-        return Ok(false);
-    };
+    match utf8_in(bytes) {
+        None => Ok(false),
+        Some(text) => is_old_version(alloc, text),
+    }
+}
+
+fn is_old_version(alloc: Global, text: &str) -> Result<bool, Memory>
+    ensures { IfOk result (λ old. old ≡ is_before_segments (version_of text.now)) }
+{
     match read_version(alloc, text)? {
         None => Ok(false),
-        Some(version) => Ok(version.cmp_precedence(&Version::new(4, 2, 0)).is_lt()),
+        Some(version) => Ok(is_before_first(&version)),
     }
+}
+
+/// Whether a version comes before the first whose clients know segments.
+fn is_before_first(version: &Version) -> bool
+    ensures { result ≡ is_lt (precedence (parts_of version.now) first_with_segments) }
+{
+    version.cmp_precedence(&Version::new(4, 2, 0)).is_lt()
 }
