@@ -1,5 +1,5 @@
 -- An explanation's parts, taken together, are its evaluation.
-use Rattle.std.proofs.Common.{◌≡◌, ℕ, ◌+◌, suc, Bool, true, false, cond, List, [], ◌∷◌, length, map, Option, Some, None, refl, ap, sym, ◌∙◌}
+use Rattle.std.proofs.Common.{◌≡◌, ℕ, ◌+◌, suc, Bool, true, false, cond, List, [], ◌∷◌, length, map, Option, Some, None, refl, ap, ◌∙◌}
 use Rattle.std.specs.Prelude.{All, IfSome, ◌&&◌, ◌||◌, ◌==◌, is_some, option_map}
 use Rattle.std.specs.List.{list_all}
 use Rattle.std.specs.Option.{option_map_or}
@@ -16,14 +16,12 @@ use Rattle.unl_constraints.specs.Constraint.{constraint_holds, all_hold}
 use Rattle.unl_strategies.specs.Moment.{Moment}
 use Rattle.unl_strategies.specs.Strategy.{is_active, rule_holds}
 use Rattle.unl_strategies.specs.Strategy.{is_met as is_segment_met}
-use Rattle.unl_dependencies.specs.Evaluation.{dependencies_met, evaluation_where, feature_evaluation, feature_named, first_active, is_met, is_on, off, on_with, variant_of}
+use Rattle.unl_dependencies.specs.Evaluation.{dependencies_met, evaluation_of, evaluation_where, feature_evaluation, feature_named, first_active, is_met, is_on, off, on_with, variant_of}
 use Rattle.unl_dependencies.specs.declared.evaluation.Evaluation.{Evaluation}
 use Rattle.unl_explain.specs.declared.reason.ParentReason.{ParentReason}
-use Rattle.unl_explain.specs.declared.reason.Reason.{Reason}
-use Rattle.unl_explain.specs.declared.reason.SegmentReason.{SegmentReason}
 use Rattle.unl_explain.specs.declared.reason.StrategyReason.{StrategyReason}
-use Rattle.unl_explain.specs.Laws.{OnIsExplained, ActiveIsExplained, all_true, is_active_by_parts, is_on_by_parts, stands}
-use Rattle.unl_explain.specs.Reasons.{cause_in, found_reason, missing_reason, parent_reason, reason_of, reasons_from, reasons_of, segment_reason, strategy_reason, truths_of}
+use Rattle.unl_explain.specs.Laws.{OnIsExplained, ActiveIsExplained, EvaluationIsExplained, all_true, is_active_by_parts, is_on_by_parts, stands}
+use Rattle.unl_explain.specs.Reasons.{found_reason, missing_reason, parent_reason, reason_of, reasons_from, reasons_of, segment_reason, strategy_reason, truths_of}
 
 -- ---- lists
 
@@ -65,7 +63,7 @@ each_active : (place : ℕ) (ss : List Strategy) (feature : List ℕ) (segments 
 each_active place [] feature segments context moment = All-nil (λ (s : StrategyReason). s.active ≡ is_active_by_parts s)
 each_active place (s ∷ ss) feature segments context moment =
     All-cons (λ (s : StrategyReason). s.active ≡ is_active_by_parts s) (strategy_reason feature segments context moment place s) (reasons_from (place + 1) ss feature segments context moment)
-        (same_active feature segments context moment place s) (each_active (place + 1) ss feature segments context moment)
+    (same_active feature segments context moment place s) (each_active (place + 1) ss feature segments context moment)
 
 active_of : (state : State) (context : Fields) (moment : Moment) (found : Option Feature)
     → IfSome (option_map (reason_of state context moment) found) (λ r. All (λ s. s.active ≡ is_active_by_parts s) r.strategies)
@@ -105,8 +103,8 @@ on_of_feature state context moment f =
     let count = same_count 0 f.strategies f.name state.segments context moment in
     let first = first_active f state.segments context moment in
     let parts : (f.enabled && (dependencies_met f.dependencies state context moment && (length f.strategies == 0 || is_some first)))
-          ≡ (f.enabled && (list_all (λ (p : ParentReason). p.met) (map (parent_reason state context moment) f.dependencies) && (length (reasons_from 0 f.strategies f.name state.segments context moment) == 0 || is_some first)))
-        = λ i. f.enabled && (met i && (count i == 0 || is_some first)) in
+    ≡ (f.enabled && (list_all (λ (p : ParentReason). p.met) (map (parent_reason state context moment) f.dependencies) && (length (reasons_from 0 f.strategies f.name state.segments context moment) == 0 || is_some first)))
+    = λ i. f.enabled && (met i && (count i == 0 || is_some first)) in
     on_where (f.enabled && (dependencies_met f.dependencies state context moment && (length f.strategies == 0 || is_some first))) (on_with (variant_of f context moment first)) refl ∙ parts
 
 on_found : (state : State) (context : Fields) (moment : Moment) (found : Option Feature)
@@ -117,3 +115,15 @@ on_found state context moment (Some f) = on_of_feature state context moment f
 pub on_is_explained : OnIsExplained
 unfolding reasons_of
 on_is_explained state name context moment = on_found state context moment (feature_named name state.features)
+
+-- ---- the evaluation
+
+evaluation_found : (state : State) (context : Fields) (moment : Moment) (found : Option Feature)
+    → option_map (λ r. r.evaluation) (option_map (reason_of state context moment) found) ≡ option_map (λ f. feature_evaluation state f context moment) found
+unfolding reason_of
+evaluation_found state context moment None = refl
+evaluation_found state context moment (Some f) = refl
+
+pub evaluation_is_explained : EvaluationIsExplained
+unfolding reasons_of evaluation_of
+evaluation_is_explained state name context moment = evaluation_found state context moment (feature_named name state.features)

@@ -1,13 +1,19 @@
 -- What the parts of an explanation say of its evaluation.
-use Rattle.std.specs.Prelude.{◌≡◌, ℕ, List, All, IfSome, length, Bool, ◌&&◌, ◌||◌, ◌==◌, is_some}
+use Rattle.std.specs.Prelude.{◌≡◌, ℕ, List, All, IfSome, length, Bool, ◌&&◌, ◌||◌, ◌==◌, is_some, option_map}
 use Rattle.std.specs.List.{list_all}
 use Rattle.unl_documents.specs.declared.state.State.{State}
 use Rattle.unl_context.specs.Context.{Fields}
 use Rattle.unl_strategies.specs.Moment.{Moment}
+use Rattle.unl_dependencies.specs.Evaluation.{evaluation_of}
 use Rattle.unl_explain.specs.declared.reason.Reason.{Reason}
 use Rattle.unl_explain.specs.declared.reason.SegmentReason.{SegmentReason}
 use Rattle.unl_explain.specs.declared.reason.StrategyReason.{StrategyReason}
 use Rattle.unl_explain.specs.Reasons.{reasons_of}
+
+-- what is explained is the evaluation of the name, where there is one
+abbrev pub EvaluationIsExplained : Type 0
+EvaluationIsExplained = (state : State) (name : List ℕ) (context : Fields) (moment : Moment)
+    → option_map (λ r. r.evaluation) (reasons_of state name context moment) ≡ evaluation_of state name context moment
 
 -- each of them is true
 abbrev pub all_true : List Bool → Bool

@@ -1,5 +1,10 @@
 //! What the parts of an explanation say of its evaluation.
-ghost use Rattle.unl_explain.specs.Laws.{ActiveIsExplained, OnIsExplained};
+ghost use Rattle.unl_explain.specs.Laws.{ActiveIsExplained, EvaluationIsExplained, OnIsExplained};
+
+/// What is explained is the evaluation of the name, and there is an explanation exactly where there is an evaluation.
+pub fn evaluation_is_explained()
+    ensures { EvaluationIsExplained }
+{}
 
 /// In each explanation the feature is on exactly where it is enabled, each parent is met, and there are no strategies or
 /// there is a first one that is active.

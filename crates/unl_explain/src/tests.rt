@@ -93,7 +93,9 @@ fn parts(rt: HostRuntime) -> Result<(), Fail> {
     assert!(rt; a.parents.is_empty() && a.strategies.len() == 1);
     assert!(rt; strategy_at(&a, 0) == Some(("default", &none[..], true, false)));
     assert!(rt; segment_at(&a, 0) == Some((7, false, &none[..])));
-    let itself = reason_of(alloc, "itself").flatten().expect(&rt, "it is there");
+    let itself = reason_of(alloc, "itself")
+        .flatten()
+        .expect(&rt, "it is there");
     assert!(rt; parent_at(&itself, 0) == Some(("itself", "has-parents", "", false)));
     let off = reason_of(alloc, "off").flatten().expect(&rt, "it is there");
     assert!(rt; parent_at(&off, 0) == Some(("two", "on", "s", true)));
