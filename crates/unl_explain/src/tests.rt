@@ -2,7 +2,7 @@ use crate::{Origin, ParentCause, Reason, explain};
 use std::alloc::Global;
 use std::test::Fail;
 use unl_context::Context;
-use unl_documents::{List, read_feed};
+use unl_documents::read_feed;
 use unl_strategies::Moment;
 
 const FEED: &str = r#"{"features":[
@@ -17,7 +17,9 @@ const FEED: &str = r#"{"features":[
 
 /// Why a feature is on or off for the user 7.
 fn reason_of(alloc: Global, name: &str) -> Option<Option<Reason>> {
-    let feed = read_feed(alloc, FEED.as_bytes()).ok()?;
+    let Ok(feed) = read_feed(alloc, FEED.as_bytes()) else {
+        return None;
+    };
     let context = Context::read_query(alloc, b"userId=7").ok()?;
     let moment = Moment {
         now: 0,
