@@ -21,7 +21,7 @@ pub(crate) fn explain_strategies(
     moment: &Moment,
 ) -> Result<List<StrategyReason>, Memory>
     requires valid { IsValidFeature feature.now }
-    ensures { IfOk result (λ reasons. reasons ≡ reasons_from 0 feature.now.strategies feature.now.name segments.now context.now moment.entry.now) }
+    ensures { IfOk result (λ r. r ≡ reasons_from 0 feature.now.strategies feature.now.name segments.now context.now moment.entry.now) }
 {
     let strategies = feature.strategies.as_slice();
     explain_each(alloc, strategies, &feature.name, segments, context, moment)
@@ -36,7 +36,7 @@ fn explain_each(
     moment: &Moment,
 ) -> Result<List<StrategyReason>, Memory>
     requires few { length strategies.now ≤ 100 }
-    ensures { IfOk result (λ reasons. reasons ≡ reasons_from 0 strategies.now feature.now segments.now context.now moment.entry.now) }
+    ensures { IfOk result (λ r. r ≡ reasons_from 0 strategies.now feature.now segments.now context.now moment.entry.now) }
 {
     let mut reasons = List::new(alloc);
     let mut place = 0;
