@@ -10,6 +10,7 @@ const FEED: &str = r#"{"features":[
     {"name":"itself","enabled":true,"dependencies":[{"feature":"itself"}]},
     {"name":"two","enabled":true,"strategies":[{"name":"default","variants":[{"name":"s","weight":1}]},{"name":"default","variants":[{"name":"t","weight":1}]}],"variants":[{"name":"o","weight":1}]},
     {"name":"later","enabled":true,"strategies":[{"name":"default"},{"name":"default","variants":[{"name":"t","weight":1}]}],"variants":[{"name":"o","weight":1}]},
+    {"name":"idle","enabled":false,"strategies":[{"name":"default","variants":[{"name":"s","weight":1}]}]},
     {"name":"off","enabled":false,"strategies":[{"name":"none"},{"name":"userWithId","parameters":{"userIds":"7"},
         "constraints":[{"contextName":"userId","operator":"IN","values":["7"]},{"contextName":"userId","operator":"NOT_IN","values":["7"]}],"segments":[4]}],
         "variants":[{"name":"o","weight":1}],"dependencies":[{"feature":"two"},{"feature":"gone","enabled":false},{"feature":"a","enabled":false}]}],
@@ -78,6 +79,7 @@ fn reasons(rt: HostRuntime) -> Result<(), Fail> {
         ("itself", Some((false, true, None, Origin::NoVariant))),
         ("two", Some((true, true, Some(0), Origin::Strategy))),
         ("later", Some((true, true, Some(0), Origin::Own))),
+        ("idle", Some((false, false, Some(0), Origin::NoVariant))),
         ("off", Some((false, false, None, Origin::NoVariant))),
     ];
     for (name, expected) in table {
