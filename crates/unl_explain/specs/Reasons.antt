@@ -1,0 +1,109 @@
+-- Why a feature is on or off for a context at a moment: the truth of each part of its evaluation, in the words that define the evaluation.
+use Rattle.std.specs.Prelude.{ℕ, ◌+◌, List, [], ◌∷◌, map, length, Bool, true, false, ◌==◌, Option, is_some, option_map, option_and_then, if◌then◌else◌}
+use Rattle.std.specs.Option.{option_map_or}
+use Rattle.unl_documents.specs.declared.constraint.Constraint.{Constraint}
+use Rattle.unl_documents.specs.declared.dependency.Dependency.{Dependency}
+use Rattle.unl_documents.specs.declared.feature.Feature.{Feature}
+use Rattle.unl_documents.specs.declared.segment.Segment.{Segment}
+use Rattle.unl_documents.specs.declared.state.State.{State}
+use Rattle.unl_documents.specs.declared.strategy.Strategy.{Strategy}
+use Rattle.unl_documents.specs.Inline.{segment_of}
+use Rattle.unl_context.specs.Context.{Fields}
+use Rattle.unl_constraints.specs.Constraint.{constraint_holds}
+use Rattle.unl_strategies.specs.Moment.{Moment}
+use Rattle.unl_strategies.specs.Strategy.{is_active, rule_holds}
+use Rattle.unl_dependencies.specs.declared.evaluation.Evaluation.{Evaluation}
+use Rattle.unl_dependencies.specs.Evaluation.{evaluation_where, feature_evaluation, feature_named, first_active, is_met, own_variant, strategy_variant}
+use Rattle.unl_explain.specs.declared.reason.Origin.{Origin}
+use Rattle.unl_explain.specs.declared.reason.Origin.TheVariants as origin
+use Rattle.unl_explain.specs.declared.reason.ParentCause.{ParentCause}
+use Rattle.unl_explain.specs.declared.reason.ParentCause.TheVariants as cause
+use Rattle.unl_explain.specs.declared.reason.ParentReason.{ParentReason}
+use Rattle.unl_explain.specs.declared.reason.Reason.{Reason}
+use Rattle.unl_explain.specs.declared.reason.SegmentReason.{SegmentReason}
+use Rattle.unl_explain.specs.declared.reason.StrategyReason.{StrategyReason}
+
+-- ---- parents
+
+-- what an evaluation is to a feature that depends on it: off, or on with the name of its variant
+abbrev pub cause_by : Evaluation → ParentCause
+cause_by e = if e.on then cause.On e.variant.name else cause.Off
+
+-- what a parent that the state has is: one that has parents itself, or its evaluation
+unfoldable pub cause_of : List Segment → Fields → Moment → Feature → ParentCause
+cause_of segments context moment parent =
+    if length parent.dependencies == 0 then cause_by (evaluation_where true parent segments context moment) else cause.HasParents
+
+-- what the parent of a name is, which the state may lack
+unfoldable pub cause_in : State → Fields → Moment → List ℕ → ParentCause
+cause_in state context moment name = option_map_or (cause_of state.segments context moment) (feature_named name state.features) cause.Absent
+
+-- the parent that a dependency names: what it is, and whether it meets the dependency
+unfoldable pub parent_reason : State → Fields → Moment → Dependency → ParentReason
+parent_reason state context moment d = record {
+  feature = d.feature;
+  cause = cause_in state context moment d.feature;
+  met = is_met state context moment d;
+}
+
+-- ---- strategies
+
+-- whether each of the constraints holds, in their order
+unfoldable pub truths_of : List Constraint → Fields → ℕ → List Bool
+truths_of constraints context now = map (λ c. constraint_holds c context now) constraints
+
+-- a segment that there is: whether each of its constraints holds
+abbrev pub found_reason : Fields → ℕ → ℕ → Segment → SegmentReason
+found_reason context now id s = record { id = id; found = true; constraints = truths_of s.constraints context now }
+
+-- a segment that there is not
+abbrev pub missing_reason : ℕ → SegmentReason
+missing_reason id = record { id = id; found = false; constraints = [] }
+
+-- the segment of an id that a strategy names
+unfoldable pub segment_reason : List Segment → Fields → ℕ → ℕ → SegmentReason
+segment_reason segments context now id = option_map_or (found_reason context now id) (segment_of id segments) (missing_reason id)
+
+-- a strategy at its place in the feature of a name: its constraints, its segments, its own rule, and whether it is active
+unfoldable pub strategy_reason : List ℕ → List Segment → Fields → Moment → ℕ → Strategy → StrategyReason
+strategy_reason feature segments context moment place s = record {
+  name = s.name;
+  constraints = truths_of s.constraints context moment.now;
+  segments = map (segment_reason segments context moment.now) s.segments;
+  rule = rule_holds s feature place context moment;
+  active = is_active s feature place segments context moment;
+}
+
+-- the strategies in their order, the first of them at this place
+abbrev pub reasons_from : ℕ → List Strategy → List ℕ → List Segment → Fields → Moment → List StrategyReason
+reasons_from place [] feature segments context moment = []
+reasons_from place (s ∷ ss) feature segments context moment =
+    strategy_reason feature segments context moment place s ∷ reasons_from (place + 1) ss feature segments context moment
+
+-- ---- features
+
+-- where the variant of a feature that is on comes from: the first active strategy, or else the feature's own list, or neither
+abbrev pub origin_on : Feature → Fields → Moment → Option ℕ → Origin
+origin_on f context moment first =
+    if is_some (option_and_then (strategy_variant f context moment) first) then origin.Strategy else (
+    if is_some (own_variant f context moment) then origin.Own else
+    origin.NoVariant)
+
+-- where the variant comes from, which a feature that is off doesn't have
+unfoldable pub origin_of : Bool → Feature → Fields → Moment → Option ℕ → Origin
+origin_of on f context moment first = if on then origin_on f context moment first else origin.NoVariant
+
+-- a feature of the state: its evaluation with all its parts, also of a feature that is off
+unfoldable pub reason_of : State → Fields → Moment → Feature → Reason
+reason_of state context moment f = record {
+  evaluation = feature_evaluation state f context moment;
+  enabled = f.enabled;
+  parents = map (parent_reason state context moment) f.dependencies;
+  strategies = reasons_from 0 f.strategies f.name state.segments context moment;
+  first = first_active f state.segments context moment;
+  source = origin_of (feature_evaluation state f context moment).on f context moment (first_active f state.segments context moment);
+}
+
+-- the feature of a name, or none where the state lacks it
+unfoldable pub reasons_of : State → List ℕ → Fields → Moment → Option Reason
+reasons_of state name context moment = option_map (reason_of state context moment) (feature_named name state.features)

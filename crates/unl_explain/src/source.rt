@@ -1,0 +1,68 @@
+//! Where the variant of a feature comes from.
+ghost use Rattle.std.specs.Prelude.{◌≡◌, is_some, option_and_then};
+ghost use Rattle.unl_documents.specs.Valid.{IsValidFeature};
+ghost use Rattle.unl_dependencies.specs.Evaluation.{own_variant as own_variant_of, strategy_variant as variant_of_strategy};
+ghost use Rattle.unl_explain.specs.Reasons.{origin_of};
+
+use crate::reason::Origin;
+use unl_context::Context;
+use unl_dependencies::{own_variant, strategy_variant};
+use unl_documents::Feature;
+use unl_strategies::Moment;
+
+/// Where the variant of a feature within its limits comes from, where it is known whether it is on, and which strategy is
+/// the first that is active.
+#[tactic(auto, unfolding(crate::specs::Reasons::origin_of))]
+pub(crate) fn source_of(
+    on: bool,
+    feature: &Feature,
+    context: &Context,
+    moment: &Moment,
+    first: Option<u32>,
+) -> Origin
+    requires valid { IsValidFeature feature.now }
+    ensures { result ≡ origin_of on feature.now context.now moment.entry.now first }
+{
+    if !on {
+        return Origin::NoVariant;
+    }
+    if is_given_by_first(feature, context, moment, first) {
+        return Origin::Strategy;
+    }
+    if is_given_by_feature(feature, context, moment) {
+        return Origin::Own;
+    }
+    Origin::NoVariant
+}
+
+/// Whether a variant is chosen among those of the first active strategy.
+fn is_given_by_first(
+    feature: &Feature,
+    context: &Context,
+    moment: &Moment,
+    first: Option<u32>,
+) -> bool
+    requires valid { IsValidFeature feature.now }
+    ensures { result ≡ is_some (option_and_then (variant_of_strategy feature.now context.now moment.entry.now) first) }
+{
+    match first {
+        None => false,
+        Some(place) => is_given_at(feature, context, moment, place),
+    }
+}
+
+/// Whether a variant is chosen among those of the strategy at a place.
+fn is_given_at(feature: &Feature, context: &Context, moment: &Moment, place: u32) -> bool
+    requires valid { IsValidFeature feature.now }
+    ensures { result ≡ is_some (variant_of_strategy feature.now context.now moment.entry.now place) }
+{
+    strategy_variant(feature, context, moment, place).is_some()
+}
+
+/// Whether a variant is chosen among the feature's own.
+fn is_given_by_feature(feature: &Feature, context: &Context, moment: &Moment) -> bool
+    requires valid { IsValidFeature feature.now }
+    ensures { result ≡ is_some (own_variant_of feature.now context.now moment.entry.now) }
+{
+    own_variant(feature, context, moment).is_some()
+}
