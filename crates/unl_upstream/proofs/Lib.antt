@@ -6,3 +6,6 @@ pub mod Given
 pub mod Statuses
 pub mod Served
 pub mod Linking
+pub mod Spelled
+pub mod Asked
+pub mod Naming

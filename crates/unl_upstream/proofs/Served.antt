@@ -20,7 +20,7 @@ commands_secret [] up = refl
 commands_secret (command ∷ commands) up = commands_secret commands (after_command command up) ∙ secret_stays command up
 
 -- some commands after others
-after_both : (first second : List Command) (up : UpstreamState) → after_commands (first ++ second) up ≡ after_commands second (after_commands first up)
+pub after_both : (first second : List Command) (up : UpstreamState) → after_commands (first ++ second) up ≡ after_commands second (after_commands first up)
 after_both [] second up = refl
 after_both (command ∷ first) second up = after_both first second (after_command command up)
 

@@ -1,7 +1,6 @@
 -- Where an upstream stands after commands.
 use Rattle.std.proofs.Common.{◌≡◌, ℕ, List, [], ◌∷◌, ◌++◌, Bool, true, false, cond, Option, Some, None, Ok, Err, ap, refl, sym, subst, ◌∙◌, arith, append_assoc}
 use Rattle.std.specs.Prelude.{is_some, ok_or}
-use Rattle.std.specs.List.{list_any}
 use Rattle.std.proofs.lemmas.List.{append-nil}
 use Rattle.unl_core.specs.Board.{same_text, slot_of, snapshot_in}
 use Rattle.unl_core.proofs.Same.{text_same}
@@ -18,7 +17,7 @@ use Rattle.unl_upstream.specs.declared.refusal.CommandRefusal.{CommandRefusal}
 use Rattle.unl_upstream.specs.declared.refusal.CommandRefusal.TheVariants.{NoSuchEnvironment}
 use Rattle.unl_upstream.specs.Command.{environment_of}
 use Rattle.unl_upstream.specs.Upstream.{Obeyed, Obeying, UpstreamState, commanded, committed, event_of, opening, prepared, version_after}
-use Rattle.unl_upstream.specs.History.{IsHistoryOf, accepted, after_command, after_commands, for_environment, history_of, if_accepted, up_after}
+use Rattle.unl_upstream.specs.History.{accepted, after_command, after_commands, for_environment, history_of, if_accepted, up_after}
 use Rattle.unl_upstream.specs.Laws.{EnvironmentsStay, VersionsStand, VersionsStandInLines, line_of}
 use Rattle.unl_upstream.proofs.Events.{Follows, is_history, nothing_follows, one_follows}
 use Rattle.unl_upstream.proofs.Slots.{opened_empty, opened_names, taken_elsewhere, taken_here}

@@ -6,4 +6,5 @@ pub mod Lines
 pub mod Serving
 pub mod Requests
 pub mod Hosting
+pub mod Linked
 pub mod Laws

@@ -9,7 +9,7 @@ ghost use Rattle.unl_upstream.specs.Upstream.{UpstreamState, commanded};
 ghost use Rattle.unl_upstream.specs.Answer.{upstream_answer};
 ghost use Rattle.unl_upstream.specs.Requests.{command_given};
 ghost use Rattle.unl_upstream.specs.History.{accepted, after_command, after_commands, history_of};
-ghost use Rattle.unl_upstream.specs.Laws.{EnvironmentsStay, VersionsStand, VersionsStandInLines};
+ghost use Rattle.unl_upstream.specs.Laws.{EnvironmentsStay, LinesGiveCommands, LinksAddAccepted, LinksNameCommands, VersionsStand, VersionsStandInLines};
 
 /// After any commands each environment's version stands for the history of those that were accepted for it, its number is
 /// their count, and its epoch is the one that the upstream began with. So it stands in the line of that one history.
@@ -35,4 +35,17 @@ pub fn refused_changes_nothing()
 pub fn requests_give_commands()
     ensures one { (up : UpstreamState) (q : Request) (draw : Draw) → (upstream_answer up q draw).up ≡ after_commands (option_to_list (command_given up.secret q)) up }
     ensures secret { (command : Command) (up : UpstreamState) → (after_command command up).secret ≡ up.secret }
+{}
+
+/// Lines that end well spell a command each, all of which are accepted, and lead where these do.
+pub fn lines_give_commands()
+    ensures { LinesGiveCommands }
+{}
+
+/// Links that were served lead, from an upstream on, where the commands before them and then the accepted ones of
+/// their answered requests lead; a draw is gone for each request, and at want of memory perhaps one more. Where all
+/// commands before them were accepted, so are all after them.
+pub fn links_name_commands()
+    ensures names { LinksNameCommands }
+    ensures accepted { LinksAddAccepted }
 {}
