@@ -101,6 +101,48 @@ fn epochs_and_inlined_segments(rt: HostRuntime) -> Result<(), Fail> {
     Ok(())
 }
 
+/// So many constraints, with commas between them.
+fn constraints(alloc: Global, count: u32) -> Option<String> {
+    let mut text = String::new(alloc);
+    for number in 0..count {
+        if number > 0 {
+            text.push(',').ok()?;
+        }
+        text.push_str(r#"{"contextName":"userId","operator":"IN","values":["1"]}"#)
+            .ok()?;
+    }
+    Some(text)
+}
+
+/// A strategy of 60 constraints that names a segment of 41, asked for by clients of two versions.
+fn crowded(alloc: Global) -> Option<String> {
+    let (own, segments) = (constraints(alloc, 60)?, constraints(alloc, 41)?);
+    format!(in alloc;
+        r#"{{"op":"tokens","tokens":[{{"token":"A:dev.c","type":"client"}}]}}
+{{"op":"batch","environment":"dev","batch":{{"events":[{{"type":"hydration","eventId":4,"features":[{{"name":"f","project":"A","enabled":true,"strategies":[{{"name":"default","constraints":[{own}],"segments":[7]}}]}}],"segments":[{{"id":7,"constraints":[{segments}]}}]}}]}}}}
+{{"op":"ask","target":"/api/client/features","token":"A:dev.c","spec":"4.1.9"}}
+{{"op":"ask","target":"/api/client/features","token":"A:dev.c","spec":"5.0.0"}}
+"#
+    )
+    .ok()
+}
+
+const CROWDED_PRINTS: &[u8] = br#"1: tokens generation 1 front 1
+2: apply number 4 front 2
+3: front 2 status 503 tag - body {"error":"TooManyConstraints"}
+4: front 2 status 200 tag "0000000000000000-1-0-4" body {"features":["#;
+
+#[test]
+fn too_many_constraints(rt: HostRuntime) -> Result<(), Fail> {
+    let alloc = rt.alloc();
+    let input = crowded(alloc).expect(&rt, "an input");
+    let mut source = MemorySource::new(input.into_bytes(), 97, Vec::new(alloc));
+    let mut sink = MemorySink::new(alloc, 32_768, Vec::new(alloc))?;
+    assert_eq!(rt; replay(alloc, &mut source, &mut sink), Ok(()));
+    assert!(rt; sink.sent().starts_with(CROWDED_PRINTS));
+    Ok(())
+}
+
 /// Eight environments, of which the batches are gaps, and then a line.
 fn with_eight(alloc: Global, line: &str) -> Option<String> {
     let mut text = String::new(alloc);
