@@ -1,5 +1,5 @@
 -- How an upstream ends, from how its lines and its links end.
-use Rattle.std.proofs.Common.{◌≡◌, ◌≢◌, ◌∙◌, ◌⊎◌, inl, inr, ℕ, List, [], ◌++◌, Option, Some, None, IfSome, Ok, Err, refl, sym, ap, subst, append-nil, arith, ◌+◌, ◌∷◌, ◌&&◌, true}
+use Rattle.std.proofs.Common.{◌≡◌, ◌≢◌, ◌∙◌, inl, inr, ℕ, List, [], ◌++◌, Option, Some, None, IfSome, Ok, Err, refl, sym, ap, subst, append-nil, arith, ◌∷◌, ◌&&◌, true}
 use Rattle.std.specs.Prelude.{option_map, unwrap_or}
 use Rattle.std.specs.List.{list_all}
 use Rattle.clap.proofs.WalkLemmas.{both}

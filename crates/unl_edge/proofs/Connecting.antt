@@ -1,6 +1,6 @@
 -- How often a peer is connected to, and what a refresh leaves of what is installed.
-use Rattle.std.proofs.Common.{◌≡◌, ◌<◌, ◌≤◌, ◌+◌, ◌-◌, ◌^◌, ◌==◌, ◌∙◌, ℕ, Bool, true, false, cond, not, List, [], ◌∷◌, drop, length, Option, Some, None, Result, Ok, Err, refl, sym, ap, subst, arith, min, inl, inr}
-use Rattle.std.specs.Prelude.{◌≢◌, option_map, slice_set, IfOk, OnErr, OnOk}
+use Rattle.std.proofs.Common.{◌≡◌, ◌≤◌, ◌+◌, ◌==◌, ◌∙◌, ℕ, Bool, true, false, cond, not, List, drop, length, Option, Some, None, Result, Ok, Err, refl, sym, ap, subst, arith, inl, inr}
+use Rattle.std.specs.Prelude.{◌≢◌, option_map, IfOk, OnErr, OnOk}
 use Rattle.std.proofs.lemmas.List.{drop-drop, length-set}
 use Rattle.serde_json.specs.Data.{Data}
 use Rattle.unl_base.specs.Faults.{Rose}
@@ -8,7 +8,7 @@ use Rattle.unl_delta.specs.declared.batch.Batch.{Batch as TheBatch}
 use Rattle.unl_delta.specs.declared.batch.Verdict.{Verdict}
 use Rattle.unl_delta.specs.declared.batch.Verdict.TheVariants as verdict
 use Rattle.unl_delta.specs.Batch.{verdict_of}
-use Rattle.unl_delta.specs.Installing.{Installed, IsBookInstalled, place_of}
+use Rattle.unl_delta.specs.Installing.{Installed, place_of}
 use Rattle.unl_documents.specs.declared.memory.Memory.{Memory}
 use Rattle.unl_edge.specs.Edges.{Connects}
 use Rattle.unl_http_api.specs.declared.got.BadReply.{BadReply}
@@ -21,7 +21,7 @@ use Rattle.unl_refresh.specs.declared.outcome.RefreshFault.{RefreshFault}
 use Rattle.unl_refresh.specs.declared.outcome.RefreshFault.TheVariants.{PeerFault as peer_fault, Memory as want}
 use Rattle.unl_refresh.specs.Exchange.{Asks, AsksAtMostOnce}
 use Rattle.unl_refresh.specs.Metrics.{AsksBulkAtMostOnce}
-use Rattle.unl_refresh.specs.Refresh.{Refreshed, Refreshes, after_batch, after_reading, after_reply, after_verdict, batch_in, number_held}
+use Rattle.unl_refresh.specs.Refresh.{Refreshed, Refreshes, after_batch, after_reading, after_verdict, batch_in, number_held}
 use Rattle.unl_refresh.specs.Tokens.{Installs, RefreshesTokens, book_in_reply}
 use Rattle.unl_tokens.specs.declared.token.Token.{Token}
 

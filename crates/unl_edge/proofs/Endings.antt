@@ -1,6 +1,6 @@
 -- How the program ends, from how its parts end.
 use Rattle.std.proofs.Common.{◌≡◌, ◌≢◌, ◌<◌, ℕ, ◌==◌, List, [], ◌++◌, Bool, true, false, cond, length, Option, Some, None, IfSome, unwrap_or, inl, inr, Result, Ok, Err, refl, sym, subst, ap, ◌∙◌, arith, append-nil, length-append}
-use Rattle.std.specs.Prelude.{◌⊎◌, codes}
+use Rattle.std.specs.Prelude.{◌⊎◌}
 use Rattle.unl_base.specs.Streams.{HasEnded, Sends, SendsFront, Takes}
 use Rattle.unl_documents.specs.declared.fault.BadDocument.{BadDocument}
 use Rattle.unl_documents.specs.FaultText.{fault_text}
@@ -73,12 +73,12 @@ file_refused draw fault status left left_after old mid new refuses sends =
     (record { took = refuses.read.took; enough = inl refuses.read.end }) refuses.is refuses.silent refl sends
 
 -- an input with too many bytes
-pub input_refused : (draw : Draw) (status : Status) (left left_after old mid new : Option (List ℕ))
-    → RefusesTooMuch left left_after old mid → SendsLine (codes "refused: TooLarge\n") Refused status mid new
+pub input_refused : (draw : Draw) (status : Status) (left left_after old mid new : Option (List ℕ)) (line : List ℕ)
+    → said_of (Err TooLarge) ≡ record { text = line; status = Refused } → RefusesTooMuch left left_after old mid → SendsLine line Refused status mid new
     → CheckEnds draw status left left_after old new
-input_refused draw status left left_after old mid new refuses sends =
-    refused_so draw status left left_after old mid new refuses.bytes (codes "refused: TooLarge\n") (Err TooLarge)
-    (record { took = refuses.took; enough = inr refuses.long }) (refused_as_too_large draw refuses.bytes refuses.long) refuses.silent refl sends
+input_refused draw status left left_after old mid new line said refuses sends =
+    refused_so draw status left left_after old mid new refuses.bytes line (Err TooLarge)
+    (record { took = refuses.took; enough = inr refuses.long }) (refused_as_too_large draw refuses.bytes refuses.long) refuses.silent said sends
 
 -- an input whose report was sent
 pub reported_ends : (draw : Draw) (summary : Summary) (left left_after old new : Option (List ℕ))

@@ -1,6 +1,6 @@
 -- What is known of words in their ranges: their texts can stand in a line, and their environments differ.
-use Rattle.std.proofs.Common.{◌≡◌, ◌<◌, ◌≤◌, ◌+◌, ◌==◌, ◌&&◌, ◌||◌, ◌∙◌, ℕ, zero, suc, Bool, true, false, cond, not, List, [], ◌∷◌, drop, take, length, map, All, Option, Some, None, Result, Ok, Err, refl, sym, ap, subst, arith, nat_le, nat_lt, true≢false}
-use Rattle.std.specs.Prelude.{⊤, IsTrue, is_ok, option_map, slice_index, unwrap_or}
+use Rattle.std.proofs.Common.{◌≡◌, ◌<◌, ◌≤◌, ◌+◌, ◌==◌, ◌&&◌, ◌||◌, ◌∙◌, ℕ, zero, suc, Bool, true, false, cond, not, List, [], ◌∷◌, drop, take, length, map, Option, Some, None, Err, refl, ap, subst, arith, nat_le, nat_lt}
+use Rattle.std.specs.Prelude.{IsTrue, is_ok, option_map, slice_index, unwrap_or}
 use Rattle.std.specs.Char.{is_ascii_digit}
 use Rattle.std.specs.List.{list_all}
 use Rattle.std.specs.Option.{option_map_or}

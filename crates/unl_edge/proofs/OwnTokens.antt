@@ -1,7 +1,7 @@
 -- The tokens of an upstream's words make a book.
-use Rattle.std.proofs.Common.{◌≡◌, ◌≢◌, ◌≤◌, ◌+◌, ◌&&◌, ◌||◌, ◌∙◌, ℕ, Bool, true, false, not, ltb, List, [], ◌∷◌, ◌++◌, length, map, All, Option, Some, None, Result, Ok, Err, refl, sym, ap, subst, arith, nat_le, length-append, true≢false}
-use Rattle.std.specs.Prelude.{codes, option_to_list, ⊤}
-use Rattle.std.specs.List.{AllPairs, list_all}
+use Rattle.std.proofs.Common.{◌≡◌, ◌≢◌, ◌≤◌, ◌+◌, ◌&&◌, ◌||◌, ◌∙◌, ℕ, Bool, true, false, not, ltb, List, [], ◌∷◌, ◌++◌, length, map, All, Some, Result, Ok, Err, refl, sym, ap, arith, nat_le, length-append, true≢false}
+use Rattle.std.specs.Prelude.{codes, ⊤}
+use Rattle.std.specs.List.{list_all}
 use Rattle.std.proofs.lemmas.Bool.{le-ltb}
 use Rattle.std.proofs.lemmas.Bool.Decides.{nat_tests}
 use Rattle.std.proofs.lemmas.List.Elements.{All-cons, All-nil, All-head, All-tail}
@@ -12,7 +12,6 @@ use Rattle.serde_json.specs.Data.{Data, string}
 use Rattle.serde_json.specs.View.{items_of}
 use Rattle.unl_documents.specs.declared.field.Field.TheVariants as field
 use Rattle.unl_documents.specs.Kinds.{any_text, text, at}
-use Rattle.unl_documents.specs.Limits.{IsUpTo}
 use Rattle.unl_documents.specs.Texts.{is_name}
 use Rattle.unl_documents.proofs.RoundTrip.{any_text_back, optional_none, required_back, text_back}
 use Rattle.unl_tokens.proofs.Different.{gathered_same}

@@ -1,5 +1,5 @@
 -- How an upstream ends: it takes the commands of its input's lines, and then serves the links of its door.
-use Rattle.std.specs.Prelude.{◌≡◌, ⊤, ◌⊎◌, ℕ, List, [], ◌++◌, codes, decimal, Option, IfSome}
+use Rattle.std.specs.Prelude.{◌≡◌, ⊤, ◌⊎◌, ℕ, List, [], ◌++◌, codes, decimal, IfSome}
 use Rattle.unl_base.specs.Draws.{TakesDraw}
 use Rattle.unl_base.specs.Streams.{HasEnded, Sends, SendsFront, Takes}
 use Rattle.unl_base.specs.declared.draws.Draw.{Draw}
@@ -8,7 +8,7 @@ use Rattle.unl_edge.specs.declared.status.Status.{Status}
 use Rattle.unl_edge.specs.declared.status.Status.TheVariants.{Done, TestFailed, BadWords, Refused, ReadFault, WriteFault, OutOfMemory, DoorFault}
 use Rattle.unl_edge.specs.Status.{code_of, ending_status}
 use Rattle.unl_lines.specs.Taken.{Taking, done, outcome_of, whole_text}
-use Rattle.unl_lines.specs.Whole.{AnswersAll, AnswersRead, IsRefusing}
+use Rattle.unl_lines.specs.Whole.{AnswersRead, IsRefusing}
 use Rattle.unl_tokens.specs.declared.token.Token.{Token}
 use Rattle.unl_upstream.specs.Hosting.{Coming, Hosting, Hosts}
 use Rattle.unl_upstream.specs.Lines.{obeyed_line}

@@ -1,4 +1,4 @@
-use Rattle.std.proofs.Common.{◌+◌, ◌∙◌, ℕ, ap, refl, sym}
+use Rattle.std.proofs.Common.{◌+◌, ◌∙◌, ap, refl, sym}
 use Rattle.unl_base.specs.Doors.{DoorState}
 use Rattle.unl_edge.proofs.Closing.{said_ends_of}
 use Rattle.unl_edge.proofs.Connecting.{connects_still}
