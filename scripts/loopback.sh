@@ -5,52 +5,11 @@
 set -u
 cd "$(dirname "$0")/.."
 
-if ! command -v curl >/dev/null 2>&1; then
-    echo "loopback: skipped, since curl is not there"
-    exit 0
-fi
+. scripts/servers.sh
+need curl
 
-work=$(mktemp -d)
 upstream_port=${UPSTREAM_PORT:-14242}
 edge_port=${EDGE_PORT:-13063}
-upstream=
-edge=
-trap 'kill $upstream $edge 2>/dev/null; rm -rf "$work"' EXIT
-
-fail() {
-    echo "loopback: $1"
-    exit 1
-}
-
-# compares what a step gave with what it is to give
-same() {
-    test "$2" = "$3" || fail "$1: expected $2, got $3"
-}
-
-# `rt ci` and `rt run` leave the program here
-program=crates/unl_edge/out/unl_edge
-test -x "$program" || (cd crates/unl_edge && rt run -- replay </dev/null >/dev/null 2>&1)
-test -x "$program" || fail "the program isn't built"
-
-# asks at a port: the port, the token, the path, and then what else curl takes
-ask() {
-    port=$1
-    token=$2
-    path=$3
-    shift 3
-    curl --silent --max-time 5 --header "Authorization: $token" "$@" "http://127.0.0.1:$port$path"
-}
-
-# waits until a server listens at a port
-wait_for() {
-    tries=0
-    until ask "$1" - /internal-backstage/health >"$work/health" 2>/dev/null; do
-        tries=$((tries + 1))
-        test "$tries" -lt 50 || fail "$2 doesn't listen"
-        sleep 0.1
-    done
-    same "$2's health" '{"status":"OK"}' "$(cat "$work/health")"
-}
 
 put() {
     ask "$upstream_port" s /commands --data "{\"command\":\"put-feature\",\"environment\":\"dev\",\"feature\":{\"name\":\"$1\",\"enabled\":true,\"strategies\":[{\"name\":\"default\"}]}}"
@@ -61,9 +20,9 @@ toggle() {
 }
 
 # ---- an upstream alone, whose door closes after seven links; one command is taken from the input
-timeout 30 "$program" upstream --port "$upstream_port" --secret s --environments dev \
-    --client-tokens '*:dev.client' --frontend-tokens '*:dev.front' --connections 7 <examples/commands.jsonl >"$work/printed" &
-upstream=$!
+start "$program" upstream --port "$upstream_port" --secret s --environments dev \
+    --client-tokens '*:dev.client' --frontend-tokens '*:dev.front' --connections 7 <examples/commands.jsonl >"$work/printed"
+upstream=$last
 wait_for "$upstream_port" "the upstream"
 
 same "a command" '{"number":2}' "$(put b)"
@@ -81,13 +40,12 @@ same "the status" 0 "$?"
 same "what is printed" "connections 7" "$(cat "$work/printed")"
 
 # ---- an upstream and an edge
-timeout 60 "$program" upstream --port "$upstream_port" --secret s --environments dev \
-    --client-tokens '*:dev.client' --frontend-tokens '*:dev.front' <examples/commands.jsonl >/dev/null &
-upstream=$!
+start "$program" upstream --port "$upstream_port" --secret s --environments dev \
+    --client-tokens '*:dev.client' --frontend-tokens '*:dev.front' <examples/commands.jsonl >/dev/null
+upstream=$last
 wait_for "$upstream_port" "the second upstream"
-timeout 60 "$program" edge --port "$edge_port" --upstream "127.0.0.1:$upstream_port" --upstream-tokens '*:dev.client' \
-    --tokens '*:dev.client,*:dev.front' >/dev/null &
-edge=$!
+start "$program" edge --port "$edge_port" --upstream "127.0.0.1:$upstream_port" --upstream-tokens '*:dev.client' \
+    --tokens '*:dev.client,*:dev.front' >/dev/null
 wait_for "$edge_port" "the edge"
 
 same "another command" '{"number":2}' "$(put b)"
@@ -130,9 +88,9 @@ alike /api/nothing '*:dev.front'
 begin_again() {
     kill "$upstream"
     wait "$upstream" 2>/dev/null
-    timeout 60 "$program" upstream --port "$upstream_port" --secret s --environments dev \
-        --client-tokens '*:dev.client' --frontend-tokens '*:dev.front' "$@" <examples/commands.jsonl >/dev/null &
-    upstream=$!
+    start "$program" upstream --port "$upstream_port" --secret s --environments dev \
+        --client-tokens '*:dev.client' --frontend-tokens '*:dev.front' "$@" <examples/commands.jsonl >/dev/null
+    upstream=$last
     wait_for "$upstream_port" "the upstream that began again"
 }
 

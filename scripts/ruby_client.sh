@@ -1,0 +1,38 @@
+#!/bin/sh
+# A test with the Unleash client for Ruby, an older one that knows no segments: over a feed of the upstream and of the edge it
+# decides on features as they decide for a browser, it isn't sent again what it knows, and what it counted comes to the upstream.
+# Run after `rt ci` or `rt run`. Skipped where ruby, its package `unleash` or curl is not there.
+set -u
+cd "$(dirname "$0")/.."
+
+. scripts/servers.sh
+need curl
+need ruby
+ruby -e 'require "unleash"' 2>/dev/null || {
+    echo "${0##*/}: skipped, since ruby has no package unleash"
+    exit 0
+}
+
+upstream_port=${UPSTREAM_PORT:-14342}
+relay_port=${RELAY_PORT:-14343}
+edge_port=${EDGE_PORT:-13163}
+
+start "$program" upstream --port "$upstream_port" --secret s --environments dev \
+    --client-tokens '*:dev.client' --frontend-tokens '*:dev.front' <examples/shop.jsonl >/dev/null
+wait_for "$upstream_port" "the upstream"
+start ruby scripts/ruby/relay.rb "$relay_port" "$upstream_port" >"$work/relayed" </dev/null
+wait_for "$relay_port" "the relay"
+start "$program" edge --port "$edge_port" --upstream "127.0.0.1:$relay_port" --upstream-tokens '*:dev.client' \
+    --tokens '*:dev.client,*:dev.front' </dev/null >/dev/null
+wait_for "$edge_port" "the edge"
+
+for port in "$upstream_port" "$edge_port"; do
+    ruby scripts/ruby/application.rb "http://127.0.0.1:$port" '*:dev.client' '*:dev.front' >"$work/printed" 2>"$work/faults"
+    same "the application at $port" 'a feed that is known: 304' "$(cat "$work/printed")"
+done
+
+# the edge sends what was counted before it takes the next link
+ask "$edge_port" - /internal-backstage/health >/dev/null
+grep -q '"featureName":"open","no":0,"timestamp":"[^"]*","variants":{},"yes":20}' "$work/relayed" || fail "the upstream wasn't told what was counted"
+grep -q '"featureName":"closed","no":20,"timestamp":"[^"]*","variants":{},"yes":0}' "$work/relayed" || fail "the upstream wasn't told what was off"
+echo "${0##*/}: passed"
