@@ -1,0 +1,46 @@
+#!/bin/sh
+# A test with hostile bytes: deep documents, long numbers, heads in many pieces, many requests at once, links that are reset or
+# half closed. Each gets its status, memory stays where it was, and the next link is served. Run after `rt ci` or `rt run`.
+# Skipped where python3 or curl is not there.
+set -u
+cd "$(dirname "$0")/.."
+
+. scripts/servers.sh
+need curl
+need python3
+
+upstream_port=${UPSTREAM_PORT:-14542}
+edge_port=${EDGE_PORT:-13363}
+
+start "$program" upstream --port "$upstream_port" --secret s --environments dev \
+    --client-tokens '*:dev.client' --frontend-tokens '*:dev.front' <examples/shop.jsonl >/dev/null
+upstream=$last
+wait_for "$upstream_port" "the upstream"
+start "$program" edge --port "$edge_port" --upstream "127.0.0.1:$upstream_port" --upstream-tokens '*:dev.client' \
+    --tokens '*:dev.client,*:dev.front' </dev/null >/dev/null
+edge=$last
+wait_for "$edge_port" "the edge"
+
+same "hostile bytes" "" "$(python3 scripts/python/hostile.py "$upstream_port" "$upstream" "$edge_port" "$edge" 2>&1)"
+
+# lines and test files, over the input
+deep() {
+    head -c 100000 /dev/zero | tr '\0' '['
+    head -c 100000 /dev/zero | tr '\0' ']'
+}
+digits() {
+    head -c "$1" /dev/zero | tr '\0' 1
+}
+
+# what a command prints, and its status
+ending() {
+    printed=$("$program" "$1")
+    echo "$printed $?"
+}
+
+same "a line of brackets" "refused: line 1: NotJson 3" "$(deep | ending replay)"
+same "a line with brackets" "refused: line 1: NotJson 3" "$( (printf '{"op":"ask","target":"/","more":' && deep && echo '}') | ending replay)"
+same "a line with a long number" "refused: line 1: NotWhole now 3" "$( (printf '{"op":"ask","target":"/","now":' && digits 300 && echo '}') | ending replay)"
+same "a line with a number past all" "refused: line 1: NotJson 3" "$( (printf '{"op":"ask","target":"/","now":' && digits 1000 && echo '}') | ending replay)"
+same "a test file of brackets" "refused: NotJson 3" "$(deep | ending check)"
+echo "${0##*/}: passed"
