@@ -1,5 +1,6 @@
 -- What a door hands out and is handed back. What is not told is none.
-use Rattle.std.specs.Prelude.{◌≡◌, ◌+◌, ◌||◌, Bool, true, false, List, [], ◌∷◌, ◌++◌, Option, Some, None, ℕ, drop, option_map, option_and_then, IfSome}
+use Rattle.std.specs.Prelude.{◌≡◌, ◌+◌, ◌||◌, Bool, true, false, List, [], ◌∷◌, ◌++◌, Option, Some, None, ℕ, drop, option_map}
+use Rattle.std.specs.Prelude.{option_and_then, IfSome}
 
 -- Whether a door listens and is closed; how many links it handed out and was handed back; what each link to come gives to
 -- read; what each that came back had sent, and how often it had failed.

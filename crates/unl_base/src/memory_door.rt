@@ -1,5 +1,6 @@
 //! A door whose links are kept in memory.
-ghost use Rattle.std.specs.Prelude.{◌≡◌, ◌<◌, ◌+◌, ◌-◌, ◌∷◌, ◌++◌, ◌||◌, [], Some, All, drop, false, is_ok, true, length, map, option_map, slice_get, IfOk, IfSome, IsNone, OnErr, ◌↔◌};
+ghost use Rattle.std.specs.Prelude.{◌≡◌, ◌<◌, ◌+◌, ◌-◌, ◌∷◌, ◌++◌, ◌||◌, [], Some, All, drop, false, is_ok, true, length, map};
+ghost use Rattle.std.specs.Prelude.{option_map, slice_get, IfOk, IfSome, IsNone, OnErr, ◌↔◌};
 ghost use Rattle.unl_base.specs.Doors.{Accepts, count_of};
 ghost use Rattle.unl_base.specs.Memory.{Answers, IsNew, IsNext, brought, calls_of, door_of, to_come};
 
@@ -23,7 +24,11 @@ impl Model for Stock {
 
     ghost Value = { Stock };
 
-    ghost view = { λ stock. record { links = map to_come (drop stock.given stock.links.items); out = stock.given - stock.back; returned = map brought (take stock.back stock.links.items) } };
+    ghost view = { λ stock. record {
+      links = map to_come (drop stock.given stock.links.items);
+      out = stock.given - stock.back;
+      returned = map brought (take stock.back stock.links.items);
+    } };
 
     ghost invariant = { λ stock. (stock.given ≤ vec_len stock.links) × IsStocked stock.links.items stock.given stock.back };
 }
@@ -44,7 +49,8 @@ impl Stock {
     fn take(&mut self) -> Option<MemoryLink>
         ensures ends { IsNone result ↔ (self.old.links ≡ []) }
         ensures comes { IfSome result (λ link. IsNext self.old.links link) }
-        ensures rest { self.new ≡ record { links = drop 1 self.old.links; out = self.old.out + count_of result; returned = self.old.returned } }
+        ensures rest { self.new
+            ≡ record { links = drop 1 self.old.links; out = self.old.out + count_of result; returned = self.old.returned } }
     {
         if self.given == self.links.len() {
             return None;
@@ -57,7 +63,12 @@ impl Stock {
     /// Takes back a link.
     fn put(&mut self, link: MemoryLink)
         requires { 0 < self.old.out }
-        ensures { self.new ≡ record { links = self.old.links; out = self.old.out - 1; returned = self.old.returned ++ brought (Some link) ∷ [] } }
+        ensures { self.new ≡ record {
+          links = self.old.links;
+          out = self.old.out - 1;
+          returned = self.old.returned
+              ++ brought (Some link) ∷ [];
+        } }
     {
         self.links[self.back] = Some(link);
         self.back += 1;
@@ -95,7 +106,11 @@ impl MemoryDoor {
     /// The calls of `listen` and `accept` whose numbers, from 0, are in `failing` fail.
     pub fn new(links: Vec<Option<MemoryLink>>, failing: Vec<u64>) -> Self
         requires { All IsNew links.items }
-        ensures { result ≡ record { listening = false; stock = record { links = map to_come links.items; out = 0; returned = [] }; calls = calls_of failing.items } }
+        ensures { result ≡ record {
+          listening = false;
+          stock = record { links = map to_come links.items; out = 0; returned = [] };
+          calls = calls_of failing.items;
+        } }
     {
         MemoryDoor {
             listening: false,

@@ -62,7 +62,14 @@ impl<N: Net + Drop> Door for RealDoor<N> {
 
     type L = RealLink<N::Stream>;
 
-    ghost state = { λ door. record { listening = is_some door.listener; closed = nat_le door.bound door.given; given = door.given; back = door.back; links = None; returned = None } };
+    ghost state = { λ door. record {
+      listening = is_some door.listener;
+      closed = nat_le door.bound door.given;
+      given = door.given;
+      back = door.back;
+      links = None;
+      returned = None;
+    } };
 
     ghost faults = { λ door. door.faults };
 

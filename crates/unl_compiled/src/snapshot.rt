@@ -86,7 +86,8 @@ impl Snapshot {
         context: &Context,
         moment: &Moment,
     ) -> Result<Option<Evaluation>, Memory>
-        ensures { IfOk result (λ found. found ≡ evaluation_of (view_of (sees projects.now) self.now.state) name.now context.now moment.entry.now) }
+        ensures { IfOk result (λ found. found
+            ≡ evaluation_of (view_of (sees projects.now) self.now.state) name.now context.now moment.entry.now) }
     {
         let seen = self.seen(alloc, projects)?;
         evaluate(alloc, &seen, name, context, moment)
@@ -102,7 +103,8 @@ impl Snapshot {
         context: &Context,
         moment: &Moment,
     ) -> Result<Value, Memory>
-        ensures toggles { IfOk result (λ v. view v ≡ toggles_data (view_of (sees projects.now) self.now.state) all context.now moment.entry.now) }
+        ensures toggles { IfOk result (λ v. view v
+            ≡ toggles_data (view_of (sees projects.now) self.now.state) all context.now moment.entry.now) }
         ensures no_float { IfOk result (λ v. has_float (view v) ≡ false) }
     {
         let seen = self.seen(alloc, projects)?;

@@ -58,7 +58,8 @@ fn push_toggle(
     feature: &Feature,
     evaluation: &Evaluation,
 ) -> Result<(), Memory>
-    ensures { OnOk result (map view toggles.new.items ≡ map view toggles.old.items ++ option_to_list (toggle_if all feature.now evaluation.now)) }
+    ensures { OnOk result (map view toggles.new.items ≡ map view toggles.old.items
+        ++ option_to_list (toggle_if all feature.now evaluation.now)) }
 {
     if all || evaluation.on {
         toggles.push(write_toggle(alloc, feature, evaluation)?)?;

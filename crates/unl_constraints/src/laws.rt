@@ -1,7 +1,8 @@
 //! What follows from the table of operators, and from the order of numbers.
 ghost use Rattle.std.specs.Cmp.{IsTotalOrder};
 ghost use Rattle.unl_constraints.specs.Decimal.{number_cmp};
-ghost use Rattle.unl_constraints.specs.Laws.{InvertedNegates, NotInIsContraryOfIn, NumbersCompare, NumGteIsContraryOfNumLt, NumLteIsContraryOfNumGt};
+ghost use Rattle.unl_constraints.specs.Laws.{InvertedNegates, NotInIsContraryOfIn, NumbersCompare, NumGteIsContraryOfNumLt};
+ghost use Rattle.unl_constraints.specs.Laws.{NumLteIsContraryOfNumGt};
 
 /// Inverting a constraint with a known operator negates it.
 pub fn inverted_negates()

@@ -1,7 +1,8 @@
 -- The tag of an answer: in double quotes the board's boot number, its generation, the token's place in the book, the epoch and
 -- a point where the epoch isn't 0, the number of what is answered, and the letter i where a feed has its segments inlined.
 -- Chosen by this project.
-use Rattle.std.specs.Prelude.{ℕ, ◌-◌, ◌+◌, ◌^◌, ◌==◌, List, [], ◌++◌, codes, decimal, length, take, drop, false, Option, Some, None, option_and_then, if◌then◌else◌}
+use Rattle.std.specs.Prelude.{ℕ, ◌-◌, ◌+◌, ◌^◌, ◌==◌, List, [], ◌++◌, codes, decimal, length, take, drop, false, Option, Some, None}
+use Rattle.std.specs.Prelude.{option_and_then, if◌then◌else◌}
 use Rattle.std.specs.Fmt.{digits, format_spec, padded_integral}
 use Rattle.std.specs.Str.{bytes_eq}
 use Rattle.serde_json.specs.Find.{as_number, as_u64}
@@ -20,7 +21,8 @@ with_epoch epoch rest = if epoch == 0 then rest else decimal epoch ++ (codes "."
 -- what stands before the number in each tag for the token at a place, of what is answered in an epoch
 abbrev pub tag_front : Board → ℕ → ℕ → List ℕ
 tag_front board place epoch =
-    codes "\"" ++ (hex_16 board.boot ++ (codes "-" ++ (decimal board.generation ++ (codes "-" ++ (decimal place ++ (codes "-" ++ with_epoch epoch []))))))
+    codes "\"" ++ (hex_16 board.boot ++ (codes "-" ++ (decimal board.generation ++
+    (codes "-" ++ (decimal place ++ (codes "-" ++ with_epoch epoch []))))))
 
 -- the tag for the token at a place, of what stands at a revision, in a form that has this mark
 abbrev pub marked_tag : List ℕ → Board → ℕ → Revision → List ℕ

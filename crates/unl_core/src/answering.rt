@@ -1,6 +1,9 @@
 //! The answer to one request.
 ghost use Rattle.std.specs.Prelude.{◌≡◌, ◌≢◌, ◌∷◌, [], codes, IfOk, IfSome, Err, Ok, Some};
-ghost use Rattle.unl_core.specs.Answer.{answer_of, asked_context, at_route, delta_reply, document_reply, feature_reply, feed_for, feed_reply, feed_state, feed_tag, feed_with, has_tag, listed, news_since, one_text, plain, registered, reply, reported, reported_by, seen, still_at, tag_at, toggles_for, toggles_reply, validated};
+ghost use Rattle.unl_core.specs.Answer.{answer_of, asked_context, at_route, delta_reply, document_reply, feature_reply, feed_for};
+ghost use Rattle.unl_core.specs.Answer.{feed_reply, feed_state, feed_tag, feed_with, has_tag, listed, news_since, one_text, plain};
+ghost use Rattle.unl_core.specs.Answer.{registered, reply, reported, reported_by, seen, still_at, tag_at, toggles_for, toggles_reply};
+ghost use Rattle.unl_core.specs.Answer.{validated};
 ghost use Rattle.unl_core.specs.Board.{AreSlots};
 ghost use Rattle.unl_core.specs.Shown.{ready_by, shown_by};
 ghost use Rattle.unl_dependencies.specs.Evaluation.{feature_named};

@@ -27,7 +27,8 @@ published now = record { places = now.places; front = now.front + 1; book = now.
 
 -- a batch is published at a slot, which is not held then
 abbrev pub after_install : ℕ → Batch → Installed → Installed
-after_install slot batch now = published (with_place slot (record { version = Some (next_version (place_of now slot) batch); held = false }) now)
+after_install slot batch now =
+    published (with_place slot (record { version = Some (next_version (place_of now slot) batch); held = false }) now)
 
 -- a slot is held from now on; nothing is published
 abbrev pub after_hold : ℕ → Installed → Installed
@@ -52,4 +53,5 @@ ByVerdict Held installs holds stays = stays
 -- the book that stands is published no second time; any other one is
 abbrev pub IsBookInstalled : List Token → Installed → Option ℕ → Installed → Type 0
 IsBookInstalled book old None new = (book ≡ old.book) × (new ≡ old)
-IsBookInstalled book old (Some front) new = (book ≢ old.book) × (front ≡ new.front) × (new ≡ record { places = old.places; front = old.front + 1; book = book })
+IsBookInstalled book old (Some front) new =
+    (book ≢ old.book) × (front ≡ new.front) × (new ≡ record { places = old.places; front = old.front + 1; book = book })

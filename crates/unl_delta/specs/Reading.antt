@@ -1,5 +1,6 @@
 -- What the events and batches of a delta are read as: their keys in order, each with its kind. The forms are chosen by this project.
-use Rattle.std.specs.Prelude.{ℕ, ◌+◌, List, [], ◌∷◌, codes, length, ◌&&◌, not, nat_lt, Option, option_and_then, option_map, Result, Ok, Err, ok_or, if◌then◌else◌, None}
+use Rattle.std.specs.Prelude.{ℕ, ◌+◌, List, [], ◌∷◌, codes, length, ◌&&◌, not, nat_lt, Option, option_and_then, option_map, Result, Ok}
+use Rattle.std.specs.Prelude.{Err, ok_or, if◌then◌else◌, None}
 use Rattle.std.specs.Option.{option_or}
 use Rattle.std.specs.Str.{bytes_eq}
 use Rattle.serde_json.specs.Data.{Data, Items, no_items, item}
@@ -86,7 +87,9 @@ at_place place (Err e) = Err (BadEvent place)
 
 -- a hydration stands at the first place alone, and no number is below the one before it
 unfoldable pub in_order : ℕ → ℕ → Event → Result Event BadBatch
-in_order place before event = if nat_lt 0 place && not (is_change event) then Err (HydrationNotFirst place) else (if nat_lt (number_of event) before then Err (NotRising place) else Ok event)
+in_order place before event =
+    if nat_lt 0 place && not (is_change event) then Err (HydrationNotFirst place)
+    else (if nat_lt (number_of event) before then Err (NotRising place) else Ok event)
 
 -- the event of a place, behind one of that number
 unfoldable pub event_at : ℕ → ℕ → Data → Result Event BadBatch
@@ -107,7 +110,8 @@ abbrev pub or_not_json : {T : Type 0} → Reading T → Result T BadBatch
 or_not_json (Ok x) = Ok x
 or_not_json (Err e) = Err NotJson
 
--- the batch of one who has what is numbered up to `held`, where the document doesn't say after which number it comes; where it tells no epoch, of the epoch 0
+-- the batch of one who has what is numbered up to `held`, where the document doesn't say after which number it comes;
+-- where it tells no epoch, of the epoch 0
 unfoldable pub batch_of : Option ℕ → Data → BatchReading
 batch_of held value = do
   items ← ok_or (option_and_then as_array (at field.Events value)) NotJson
@@ -126,4 +130,5 @@ batch_of_bytes held bytes = if nat_lt longest_batch (length bytes) then Err NotJ
 
 -- a feed with a number is one hydration
 abbrev pub batch_of_feed : Feed → Option Batch
-batch_of_feed feed = option_map (λ number. record { epoch = feed.epoch; after = None; events = Hydration number feed.state ∷ [] }) feed.number
+batch_of_feed feed =
+    option_map (λ number. record { epoch = feed.epoch; after = None; events = Hydration number feed.state ∷ [] }) feed.number

@@ -8,7 +8,10 @@ ghost use Rattle.unl_documents.specs.Reading.{Gives as Reads};
 ghost use Rattle.unl_documents.specs.Results.{Gives};
 ghost use Rattle.unl_documents.specs.States.{IsValidState};
 ghost use Rattle.unl_delta.specs.declared.fault.BadBatch.TheVariants.{Memory as memory};
-ghost use Rattle.unl_delta.specs.Reading.{hydration_of, feature_updated_of, feature_removed_of, segment_updated_of, segment_removed_of, event_of_type, event_of as event_read, at_place, in_order as ordered, event_at as event_read_at, events_from, batch_of as batch_read, batch_of_bytes, batch_of_feed, or_not_json};
+ghost use Rattle.unl_delta.specs.Reading.{hydration_of, feature_updated_of, feature_removed_of, segment_updated_of, segment_removed_of};
+ghost use Rattle.unl_delta.specs.Reading.{event_of_type, event_of as event_read, at_place, in_order as ordered};
+ghost use Rattle.unl_delta.specs.Reading.{event_at as event_read_at, events_from, batch_of as batch_read, batch_of_bytes, batch_of_feed};
+ghost use Rattle.unl_delta.specs.Reading.{or_not_json};
 ghost use Rattle.unl_delta.specs.Valid.{IsValidEvent, IsValidBatch};
 
 use crate::batch::Batch;

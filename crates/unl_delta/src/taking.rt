@@ -27,7 +27,8 @@ pub fn take_batch<I: Installer>(
     requires batch { IsValidBatch batch.now }
     ensures verdict { IfOk result (λ v. v ≡ verdict_of (place_of (I.installed to.old) slot) batch.now) }
     ensures taken { IfOk result (λ v. I.installed to.new ≡ after_batch v slot batch.now (I.installed to.old)) }
-    ensures whole { IfOk result (λ v. ByVerdict v (I.installs slot batch.now to.old to.new) (I.holds slot to.old to.new) (to.new ≡ to.old)) }
+    ensures whole { IfOk result (λ v. ByVerdict v (I.installs slot batch.now to.old to.new) (I.holds slot to.old to.new) (to.new
+        ≡ to.old)) }
     ensures memory { OnErr result (I.installed to.new ≡ I.installed to.old) }
 {
     let verdict = verdict(to.place(slot), batch);

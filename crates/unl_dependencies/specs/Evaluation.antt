@@ -1,5 +1,7 @@
--- What a feature is for a context at a moment: whether it is on, and its variant, as the Unleash references on strategies, variants and dependencies say it.
-use Rattle.std.specs.Prelude.{ℕ, ◌+◌, List, [], ◌∷◌, codes, length, Bool, true, false, not, ◌&&◌, ◌||◌, ◌==◌, Option, Some, None, is_some, option_map, option_and_then, slice_get, if◌then◌else◌}
+-- What a feature is for a context at a moment: whether it is on, and its variant, as the Unleash references on strategies,
+-- variants and dependencies say it.
+use Rattle.std.specs.Prelude.{ℕ, ◌+◌, List, [], ◌∷◌, codes, length, Bool, true, false, not, ◌&&◌, ◌||◌, ◌==◌, Option, Some, None, is_some}
+use Rattle.std.specs.Prelude.{option_map, option_and_then, slice_get, if◌then◌else◌}
 use Rattle.std.specs.List.{list_all, find}
 use Rattle.std.specs.Option.{option_or, option_map_or}
 use Rattle.std.specs.Str.{bytes_eq}
@@ -50,7 +52,8 @@ group_of f s = parameter_or f.name (codes "groupId") s.parameters
 -- the variant of the strategy at a place
 unfoldable pub strategy_variant : Feature → Fields → Moment → ℕ → Option Variant
 strategy_variant f context moment place =
-    option_and_then (λ s. variant_in (group_of f s) s.variants context (random_of f (mark.Strategy place) moment)) (slice_get f.strategies place)
+    option_and_then (λ s. variant_in (group_of f s) s.variants context (random_of f (mark.Strategy place) moment))
+    (slice_get f.strategies place)
 
 -- the feature's own variant
 unfoldable pub own_variant : Feature → Fields → Moment → Option Variant

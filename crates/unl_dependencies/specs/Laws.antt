@@ -1,5 +1,6 @@
 -- What an evaluation is, said of the whole state.
-use Rattle.std.specs.Prelude.{◌≡◌, ◌≢◌, ◌<◌, ◌↔◌, ℕ, List, All, map, filter, length, Bool, true, false, Option, Some, None, option_and_then, slice_get, if◌then◌else◌}
+use Rattle.std.specs.Prelude.{◌≡◌, ◌≢◌, ◌<◌, ◌↔◌, ℕ, List, All, map, filter, length, Bool, true, false, Option, Some, None}
+use Rattle.std.specs.Prelude.{option_and_then, slice_get, if◌then◌else◌}
 use Rattle.std.specs.Option.{option_map_or}
 use Rattle.unl_documents.specs.declared.feature.Feature.{Feature}
 use Rattle.unl_documents.specs.declared.segment.Segment.{Segment}
@@ -24,12 +25,14 @@ NoneWhereLacking = (state : State) (name : List ℕ) (context : Fields) (moment 
 -- each feature of a valid state is found by its name
 abbrev pub EachIsFound : Type 0
 EachIsFound = (state : State) (place : ℕ) (f : Feature) (context : Fields) (moment : Moment)
-    → IsValidState state → slice_get state.features place ≡ Some f → evaluation_of state f.name context moment ≡ Some (feature_evaluation state f context moment)
+    → IsValidState state → slice_get state.features place ≡ Some f → evaluation_of state f.name context moment
+    ≡ Some (feature_evaluation state f context moment)
 
 -- a parent that counts, since it has no dependencies, is evaluated as if it stood alone
 abbrev pub ParentStandsAlone : Type 0
 ParentStandsAlone = (state : State) (parent : Feature) (context : Fields) (moment : Moment)
-    → length parent.dependencies ≡ 0 → feature_evaluation state parent context moment ≡ evaluation_where true parent state.segments context moment
+    → length parent.dependencies ≡ 0 → feature_evaluation state parent context moment
+    ≡ evaluation_where true parent state.segments context moment
 
 -- writing the segments of a state out changes no evaluation
 abbrev pub InliningChangesNothing : Type 0
@@ -38,7 +41,8 @@ InliningChangesNothing = (state : State) (name : List ℕ) (context : Fields) (m
 
 -- the feature has a strategy at the place, and it is active
 abbrev pub is_active_at : Feature → List Segment → Fields → Moment → ℕ → Bool
-is_active_at f segments context moment place = option_map_or (λ s. is_active s f.name place segments context moment) (slice_get f.strategies place) false
+is_active_at f segments context moment place =
+    option_map_or (λ s. is_active s f.name place segments context moment) (slice_get f.strategies place) false
 
 -- the strategy at the place is active, and none before it is
 pub record IsFirstActive (f : Feature) (segments : List Segment) (context : Fields) (moment : Moment) (place : ℕ) : Type 0 where
@@ -62,4 +66,5 @@ if_seen sees f = if sees f.project then Some f else None
 -- of features of rising names, the one of a name among those that are seen is the one among all, where it is seen
 abbrev pub SeenAmongAll : Type 0
 SeenAmongAll = (sees : List ℕ → Bool) (name : List ℕ) (features : List Feature)
-    → AreRising (map name_key features) → feature_named name (filter (λ f. sees f.project) features) ≡ option_and_then (if_seen sees) (feature_named name features)
+    → AreRising (map name_key features) → feature_named name (filter (λ f. sees f.project) features)
+    ≡ option_and_then (if_seen sees) (feature_named name features)

@@ -1,5 +1,6 @@
 //! What an evaluation is, said of the whole state.
-ghost use Rattle.unl_dependencies.specs.Laws.{NoneWhereLacking, EachIsFound, ParentStandsAlone, InliningChangesNothing, FirstIsLeast, NoneIsActive, SeenAmongAll};
+ghost use Rattle.unl_dependencies.specs.Laws.{NoneWhereLacking, EachIsFound, ParentStandsAlone, InliningChangesNothing, FirstIsLeast};
+ghost use Rattle.unl_dependencies.specs.Laws.{NoneIsActive, SeenAmongAll};
 
 /// There is no evaluation exactly where no feature of the state has the name.
 pub fn none_where_lacking()

@@ -2,7 +2,10 @@
 ghost use Rattle.std.specs.Prelude.{◌≡◌, ◌≤◌, length, IfOk, option_map};
 ghost use Rattle.unl_documents.specs.Valid.{IsValidFeature};
 ghost use Rattle.unl_variants.specs.Variant.{AreWithinLimits};
-ghost use Rattle.unl_dependencies.specs.Evaluation.{first_active as first_active_of, active_from, strategy_variant as variant_of_strategy, own_variant as own_variant_of, variant_of as variant_of_feature, variant_in as variant_chosen_in, evaluation_where, on_with};
+ghost use Rattle.unl_dependencies.specs.Evaluation.{first_active as first_active_of, active_from};
+ghost use Rattle.unl_dependencies.specs.Evaluation.{strategy_variant as variant_of_strategy, own_variant as own_variant_of};
+ghost use Rattle.unl_dependencies.specs.Evaluation.{variant_of as variant_of_feature, variant_in as variant_chosen_in, evaluation_where};
+ghost use Rattle.unl_dependencies.specs.Evaluation.{on_with};
 
 use crate::evaluation::Evaluation;
 use std::alloc::Global;

@@ -3,7 +3,8 @@ use Rattle.std.specs.Prelude.{ℕ, List, [], ◌++◌, codes, decimal}
 use Rattle.serde_json.specs.Data.{string}
 use Rattle.serde_json.specs.Written.{compact_text}
 use Rattle.unl_documents.specs.declared.fault.BadDocument.{BadDocument}
-use Rattle.unl_documents.specs.declared.fault.BadDocument.TheVariants.{NotJson, Missing, WrongKind, TooLarge, DuplicateName, NotWhole, Memory}
+use Rattle.unl_documents.specs.declared.fault.BadDocument.TheVariants.{NotJson, Missing, WrongKind, TooLarge, DuplicateName, NotWhole}
+use Rattle.unl_documents.specs.declared.fault.BadDocument.TheVariants.{Memory}
 use Rattle.unl_documents.specs.Key.{key_of}
 
 -- The cause, the key, and what was found there: a number, or a name as a JSON string. Want of memory is no fault of a document.

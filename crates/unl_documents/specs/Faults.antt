@@ -5,8 +5,10 @@ use Rattle.serde_json.specs.Data.{Data}
 use Rattle.unl_documents.specs.declared.fault.BadDocument.{BadDocument}
 use Rattle.unl_documents.specs.declared.fault.BadDocument.TheVariants.{NotJson}
 use Rattle.unl_documents.specs.declared.field.Field.TheVariants as field
-use Rattle.unl_documents.specs.Documents.{override_of, dependency_of, payload_of, variant_of, constraint_of, segment_of, strategy_of, feature_of}
-use Rattle.unl_documents.specs.Kinds.{name, any_text, text, truth, any_whole, whole, text_or_whole, required, defaulted, optional, objects, names, texts, numbers, object_of, is_object}
+use Rattle.unl_documents.specs.Documents.{override_of, dependency_of, payload_of, variant_of, constraint_of, segment_of, strategy_of}
+use Rattle.unl_documents.specs.Documents.{feature_of}
+use Rattle.unl_documents.specs.Kinds.{name, any_text, text, truth, any_whole, whole, text_or_whole, required, defaulted, optional}
+use Rattle.unl_documents.specs.Kinds.{objects, names, texts, numbers, object_of, is_object}
 use Rattle.unl_documents.specs.Operators.{operator}
 use Rattle.unl_documents.specs.Parameters.{parameters}
 use Rattle.unl_documents.specs.Reading.{Reading, ◌>>=◌}

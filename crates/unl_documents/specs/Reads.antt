@@ -1,6 +1,7 @@
 -- When a JSON value reads as a document: key by key and in no order, limits apart.
 use Rattle.std.specs.Prelude.{◌≡◌, ℕ, List, [], ◌∷◌, codes, Bool, true, false, Option, None, Some, MatchOption}
-use Rattle.serde_json.specs.Data.{Data, unsigned, null, boolean, number, string, array, object, Items, no_items, item, Members, no_members, member}
+use Rattle.serde_json.specs.Data.{Data, unsigned, null, boolean, number, string, array, object, Items, no_items, item, Members}
+use Rattle.serde_json.specs.Data.{no_members, member}
 use Rattle.serde_json.specs.Find.{is_float}
 use Rattle.serde_json.specs.Written.{compact_text}
 use Rattle.unl_documents.specs.declared.field.Field.{Field}
@@ -68,7 +69,9 @@ IsObject Reads value x = (is_object value ≡ true) × Reads value x
 -- a pair for each member but those that are null, of its key and what its value stands for
 abbrev pub ArePairs : Members → List Pair → Type 0
 ArePairs no_members pairs = pairs ≡ []
-ArePairs (member name value inside) pairs = MatchOption (present value) (ArePairs inside pairs) (λ found. (text : List ℕ) × (others : List Pair) × (pairs ≡ record { key = name; value = text } ∷ others) × IsTextOrWhole found text × ArePairs inside others)
+ArePairs (member name value inside) pairs =
+    MatchOption (present value) (ArePairs inside pairs) (λ found. (text : List ℕ) × (others : List Pair)
+    × (pairs ≡ record { key = name; value = text } ∷ others) × IsTextOrWhole found text × ArePairs inside others)
 
 -- the value is an object, whose members stand for these pairs
 abbrev pub IsParameters : Data → List Pair → Type 0

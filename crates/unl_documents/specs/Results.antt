@@ -41,4 +41,5 @@ pub record IsJson (bytes : List ℕ) (value : Data) : Type 0 where
 
 -- The bytes are JSON and are read as its value is, or they are none.
 abbrev pub Parsed : {T E : Type 0} → E → (Data → Result T E) → List ℕ → Result T E → Type 0
-Parsed none reads bytes reading = ((value : Data) × IsJson bytes value × (reading ≡ reads value)) ⊎ (((value : Data) → IsJson bytes value → ⊥) × (reading ≡ Err none))
+Parsed none reads bytes reading =
+    ((value : Data) × IsJson bytes value × (reading ≡ reads value)) ⊎ (((value : Data) → IsJson bytes value → ⊥) × (reading ≡ Err none))

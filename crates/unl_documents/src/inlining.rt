@@ -1,7 +1,9 @@
 //! Segments written out in the strategies that name them, for those who don't know segments.
 ghost use Rattle.std.specs.Prelude.{◌≡◌, ◌==◌, ◌++◌, IfOk, OnOk, length, map};
 ghost use Rattle.std.specs.List.{list_all};
-ghost use Rattle.unl_documents.specs.Inline.{all_constraints as constraints_of, constraints_for, holds_for_nobody as nobody_meets, inlined as inlined_state, inlined_feature as feature_inlined, inlined_strategy as strategy_inlined, inlining_of};
+ghost use Rattle.unl_documents.specs.Inline.{all_constraints as constraints_of, constraints_for, holds_for_nobody as nobody_meets};
+ghost use Rattle.unl_documents.specs.Inline.{inlined as inlined_state, inlined_feature as feature_inlined};
+ghost use Rattle.unl_documents.specs.Inline.{inlined_strategy as strategy_inlined, inlining_of};
 ghost use Rattle.unl_documents.specs.Results.{Gives};
 ghost use Rattle.unl_documents.specs.States.{IsValidState};
 ghost use Rattle.unl_documents.specs.declared.inlining.InlineRefusal.TheVariants.{Memory as memory};

@@ -9,10 +9,13 @@ ghost use Rattle.unl_documents.specs.declared.state.State.{State};
 ghost use Rattle.unl_documents.specs.declared.feed.Feed.{Feed};
 ghost use Rattle.unl_documents.specs.declared.feed.FeedHead.{FeedHead};
 ghost use Rattle.unl_documents.specs.declared.field.Field.{Field};
-ghost use Rattle.unl_documents.specs.Documents.{feature_of, segment_of, override_of, dependency_of, payload_of, variant_of, constraint_of, strategy_of};
+ghost use Rattle.unl_documents.specs.Documents.{feature_of, segment_of, override_of, dependency_of, payload_of, variant_of};
+ghost use Rattle.unl_documents.specs.Documents.{constraint_of, strategy_of};
 ghost use Rattle.unl_documents.specs.Kinds.{document};
 ghost use Rattle.unl_documents.specs.Reads.{ReadsFeature, ReadsSegment, ReadsState, ReadsFeed};
-ghost use Rattle.unl_documents.specs.Faults.{fault_of, first, first_fault_of_feature, first_fault_of_segment, first_fault_of_state, first_fault_of_feed, faults_of_override, faults_of_dependency, faults_of_payload, faults_of_variant, faults_of_constraint, faults_of_strategy};
+ghost use Rattle.unl_documents.specs.Faults.{fault_of, first, first_fault_of_feature, first_fault_of_segment, first_fault_of_state};
+ghost use Rattle.unl_documents.specs.Faults.{first_fault_of_feed, faults_of_override, faults_of_dependency, faults_of_payload};
+ghost use Rattle.unl_documents.specs.Faults.{faults_of_variant, faults_of_constraint, faults_of_strategy};
 ghost use Rattle.unl_documents.specs.Results.{json_of, IsJson};
 ghost use Rattle.unl_documents.specs.Sorting.{IsSorting, IsLeastTwice, in_order};
 ghost use Rattle.unl_documents.specs.States.{state_of, feed_of, IsValidState};
@@ -22,19 +25,22 @@ ghost use Rattle.unl_documents.specs.Writing.{feature_data, segment_data, feed_d
 /// A value is read as a feature exactly where it reads as it, key by key, and has no fault; else the first fault of its keys
 /// is named, in the order of their table.
 pub fn features_are_read()
-    ensures read { (value : Data) (f : Feature) → (document feature_of value ≡ Ok f) ↔ (ReadsFeature value f × (first_fault_of_feature value ≡ None)) }
+    ensures read { (value : Data) (f : Feature)
+        → (document feature_of value ≡ Ok f) ↔ (ReadsFeature value f × (first_fault_of_feature value ≡ None)) }
     ensures fault { (value : Data) (e : BadDocument) → (document feature_of value ≡ Err e) ↔ (first_fault_of_feature value ≡ Some e) }
 {}
 
 /// The same of segments.
 pub fn segments_are_read()
-    ensures read { (value : Data) (s : Segment) → (document segment_of value ≡ Ok s) ↔ (ReadsSegment value s × (first_fault_of_segment value ≡ None)) }
+    ensures read { (value : Data) (s : Segment)
+        → (document segment_of value ≡ Ok s) ↔ (ReadsSegment value s × (first_fault_of_segment value ≡ None)) }
     ensures fault { (value : Data) (e : BadDocument) → (document segment_of value ≡ Err e) ↔ (first_fault_of_segment value ≡ Some e) }
 {}
 
 /// The same of states.
 pub fn states_are_read()
-    ensures read { (value : Data) (s : State) → (document state_of value ≡ Ok s) ↔ (ReadsState value s × (first_fault_of_state value ≡ None)) }
+    ensures read { (value : Data) (s : State)
+        → (document state_of value ≡ Ok s) ↔ (ReadsState value s × (first_fault_of_state value ≡ None)) }
     ensures fault { (value : Data) (e : BadDocument) → (document state_of value ≡ Err e) ↔ (first_fault_of_state value ≡ Some e) }
 {}
 
@@ -58,13 +64,17 @@ pub fn objects_have_their_first_fault()
 pub fn what_is_written_is_read()
     ensures feature { (f : Feature) → IsValidFeature f → document feature_of (feature_data f) ≡ Ok f }
     ensures segment { (s : Segment) → IsValidSegment s → document segment_of (segment_data s) ≡ Ok s }
-    ensures feed { (head : FeedHead) (s : State) → IsValidState s → length s.features ≤ 10000 → length s.segments ≤ 1000 → document feed_of (feed_data head s) ≡ Ok (record { epoch = head.epoch; state = s; number = Some head.number }) }
+    ensures feed { (head : FeedHead) (s : State) → IsValidState s → length s.features ≤ 10000 → length s.segments ≤ 1000
+        → document feed_of (feed_data head s) ≡ Ok (record { epoch = head.epoch; state = s; number = Some head.number }) }
 {}
 
-/// The order of a list's items is the one sorting by their keys; where a key stands twice there is none, and the fault names the least such key.
+/// The order of a list's items is the one sorting by their keys; where a key stands twice there is none, and the fault
+/// names the least such key.
 pub fn order_is_the_sorting<T>()
-    ensures sorting { (key : T → List ℕ) (spelled : List ℕ → List ℕ) (field : Field) (xs ys : List T) → (in_order key spelled field xs ≡ Ok ys) ↔ IsSorting key xs ys }
-    ensures twice { (key : T → List ℕ) (spelled : List ℕ → List ℕ) (field : Field) (xs : List T) (e : BadDocument) → (in_order key spelled field xs ≡ Err e) ↔ ((k : List ℕ) × IsLeastTwice k (map key xs) × (e ≡ DuplicateName field (spelled k))) }
+    ensures sorting { (key : T → List ℕ) (spelled : List ℕ → List ℕ) (field : Field) (xs ys : List T)
+        → (in_order key spelled field xs ≡ Ok ys) ↔ IsSorting key xs ys }
+    ensures twice { (key : T → List ℕ) (spelled : List ℕ → List ℕ) (field : Field) (xs : List T) (e : BadDocument)
+        → (in_order key spelled field xs ≡ Err e) ↔ ((k : List ℕ) × IsLeastTwice k (map key xs) × (e ≡ DuplicateName field (spelled k))) }
 {}
 
 /// The value that bytes spell is the one whose text in JSON they are.

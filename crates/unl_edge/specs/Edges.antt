@@ -7,7 +7,8 @@ use Rattle.unl_edge.specs.Upstreams.{connections_line}
 use Rattle.unl_edge.specs.declared.edges.Next.{Next}
 use Rattle.unl_edge.specs.declared.edges.Next.TheVariants.{Served, Closed}
 use Rattle.unl_edge.specs.declared.status.Status.{Status}
-use Rattle.unl_edge.specs.declared.status.Status.TheVariants.{Done, TestFailed, BadWords, Refused, ReadFault, WriteFault, OutOfMemory, DoorFault}
+use Rattle.unl_edge.specs.declared.status.Status.TheVariants.{Done, TestFailed, BadWords, Refused, ReadFault, WriteFault, OutOfMemory}
+use Rattle.unl_edge.specs.declared.status.Status.TheVariants.{DoorFault}
 
 -- A peer was connected to at least so often, each time for one of the replies that it has to come, unless it failed.
 pub record Connects
@@ -29,9 +30,11 @@ pub record HandsBack (served : ℕ) (before after : Scene) : Type 0 where
 -- nothing was sent. Before the door is closed, the upstream was asked for the book and for each slot at least once.
 abbrev pub EdgeEnds : ℕ → Status → Scene → Scene → Type 0
 EdgeEnds slots Done before after =
-    (served : ℕ) × HandsBack served before after × AsksPeer (slots + 1) before after × Sends before.sent (connections_line served) after.sent × IsClosed after
+    (served : ℕ) × HandsBack served before after × AsksPeer (slots + 1) before after
+    × Sends before.sent (connections_line served) after.sent × IsClosed after
 EdgeEnds slots WriteFault before after =
-    (served : ℕ) × HandsBack served before after × AsksPeer (slots + 1) before after × SendsFront before.sent (connections_line served) after.sent × IsClosed after
+    (served : ℕ) × HandsBack served before after × AsksPeer (slots + 1) before after
+    × SendsFront before.sent (connections_line served) after.sent × IsClosed after
 EdgeEnds slots DoorFault before after = (served : ℕ) × HandsBack served before after × (after.sent ≡ before.sent)
 EdgeEnds slots OutOfMemory before after = ⊤
 EdgeEnds slots TestFailed before after = ⊥

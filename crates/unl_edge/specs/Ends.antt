@@ -9,7 +9,8 @@ use Rattle.unl_edge.specs.Scene.{Scene}
 use Rattle.unl_edge.specs.Status.{SendsLine, code_of, ending_status, status_of}
 use Rattle.unl_edge.specs.Upstreams.{IsDecidedByLines, UpstreamRuns}
 use Rattle.unl_edge.specs.declared.status.Status.{Status}
-use Rattle.unl_edge.specs.declared.status.Status.TheVariants.{Done, TestFailed, BadWords, Refused, ReadFault, WriteFault, OutOfMemory, DoorFault}
+use Rattle.unl_edge.specs.declared.status.Status.TheVariants.{Done, TestFailed, BadWords, Refused, ReadFault, WriteFault, OutOfMemory}
+use Rattle.unl_edge.specs.declared.status.Status.TheVariants.{DoorFault}
 use Rattle.unl_lines.specs.Taken.{whole_text}
 use Rattle.unl_lines.specs.Whole.{AnswersRead, IsAnswered, IsRefusing}
 use Rattle.unl_replay.specs.Replay.{line_answer, opening, replay_of}
@@ -96,7 +97,8 @@ bad_words = codes "unl_edge: bad words\n"
 -- how the program ends, by what its words ask for
 abbrev pub Ends : WordsReading → Status → Scene → Scene → Type 0
 Ends (Ok Replay) status before after = ReplayEnds status before.left after.left before.sent after.sent
-Ends (Ok (Check now word)) status before after = CheckEnds (record { now = now; word = word }) status before.left after.left before.sent after.sent
+Ends (Ok (Check now word)) status before after =
+    CheckEnds (record { now = now; word = word }) status before.left after.left before.sent after.sent
 Ends (Ok (Edge port upstream upstream_tokens tokens host workers interval connections delta)) status before after =
     EdgeEnds (length upstream_tokens) status before after
 Ends (Ok (Upstream port secret environments client_tokens frontend_tokens connections epoch)) status before after =

@@ -5,7 +5,8 @@ use Rattle.unl_base.specs.Streams.{HasEnded, Sends, SendsFront, Takes}
 use Rattle.unl_base.specs.declared.draws.Draw.{Draw}
 use Rattle.unl_edge.specs.Scene.{IsClosed, Scene}
 use Rattle.unl_edge.specs.declared.status.Status.{Status}
-use Rattle.unl_edge.specs.declared.status.Status.TheVariants.{Done, TestFailed, BadWords, Refused, ReadFault, WriteFault, OutOfMemory, DoorFault}
+use Rattle.unl_edge.specs.declared.status.Status.TheVariants.{Done, TestFailed, BadWords, Refused, ReadFault, WriteFault, OutOfMemory}
+use Rattle.unl_edge.specs.declared.status.Status.TheVariants.{DoorFault}
 use Rattle.unl_edge.specs.Status.{code_of, ending_status}
 use Rattle.unl_lines.specs.Taken.{Taking, done, outcome_of, whole_text}
 use Rattle.unl_lines.specs.Whole.{AnswersRead, IsRefusing}
@@ -23,14 +24,16 @@ abbrev pub connections_line : ℕ → List ℕ
 connections_line served = codes "connections " ++ (decimal served ++ codes "\n")
 
 -- an upstream begins, and takes a draw for its boot number
-pub record Begins (secret : List ℕ) (environments : List (List ℕ)) (book : List Token) (epoch : ℕ) (coming : Coming) (start : UpstreamState) (coming_after : Coming) : Type 0 where
+pub record Begins
+    (secret : List ℕ) (environments : List (List ℕ)) (book : List Token) (epoch : ℕ) (coming : Coming) (start : UpstreamState) (coming_after : Coming) : Type 0 where
   pub draw : Draw
   pub taken : TakesDraw coming draw coming_after
   pub opens : start ≡ opening draw.word secret environments book epoch
 
 -- the upstream, the draws to come and the links, as they stand while links are served
 abbrev pub hosting : UpstreamState → Coming → Scene → Hosting
-hosting up coming scene = record { up = up; coming = coming; given = scene.given; back = scene.back; links = scene.links; returned = scene.returned }
+hosting up coming scene =
+    record { up = up; coming = coming; given = scene.given; back = scene.back; links = scene.links; returned = scene.returned }
 
 -- no link was handed out
 pub record IsUnserved (before after : Scene) : Type 0 where
@@ -42,9 +45,11 @@ pub record IsUnserved (before after : Scene) : Type 0 where
 -- how the links of a door were served: until it was closed, and then the last line was sent, or its front; or until it failed
 abbrev pub LinksEnd : UpstreamState → UpstreamState → Status → Scene → Scene → Type 0
 LinksEnd up last Done before after =
-    (served : ℕ) × Hosts (hosting up before.coming before) (hosting last after.coming after) served × Sends before.sent (connections_line served) after.sent × IsClosed after
+    (served : ℕ) × Hosts (hosting up before.coming before) (hosting last after.coming after) served
+    × Sends before.sent (connections_line served) after.sent × IsClosed after
 LinksEnd up last WriteFault before after =
-    (served : ℕ) × Hosts (hosting up before.coming before) (hosting last after.coming after) served × SendsFront before.sent (connections_line served) after.sent × IsClosed after
+    (served : ℕ) × Hosts (hosting up before.coming before) (hosting last after.coming after) served
+    × SendsFront before.sent (connections_line served) after.sent × IsClosed after
 LinksEnd up last DoorFault before after =
     (served : ℕ) × Hosts (hosting up before.coming before) (hosting last after.coming after) served × (after.sent ≡ before.sent)
 LinksEnd up last OutOfMemory before after = ⊤
@@ -72,12 +77,14 @@ BreaksInRefusal start before after =
 -- all links were served, and the last line was sent in part
 abbrev pub BreaksInLast : UpstreamState → Coming → Scene → Scene → Type 0
 BreaksInLast start coming before after =
-    (served : ℕ) × ServesAfterLines start coming before after served × SendsFront before.sent (connections_line served) after.sent × IsClosed after
+    (served : ℕ) × ServesAfterLines start coming before after served × SendsFront before.sent (connections_line served) after.sent
+    × IsClosed after
 
 -- how an upstream ends, from what it begins with
 abbrev pub UpstreamEnds : UpstreamState → Coming → Status → Scene → Scene → Type 0
 UpstreamEnds start coming Done before after =
-    (served : ℕ) × ServesAfterLines start coming before after served × Sends before.sent (connections_line served) after.sent × IsClosed after
+    (served : ℕ) × ServesAfterLines start coming before after served × Sends before.sent (connections_line served) after.sent
+    × IsClosed after
 UpstreamEnds start coming Refused before after =
     IfSome before.left (λ bytes. IsRefusing (outcome_of obeying start bytes) before.sent after.sent) × IsUnserved before after
 UpstreamEnds start coming ReadFault before after =
@@ -90,7 +97,8 @@ UpstreamEnds start coming TestFailed before after = ⊥
 UpstreamEnds start coming BadWords before after = ⊥
 
 -- an upstream of these words began, and ended so
-pub record RunsUpstream (secret : List ℕ) (environments : List (List ℕ)) (book : List Token) (epoch : ℕ) (status : Status) (before after : Scene) : Type 0 where
+pub record RunsUpstream
+    (secret : List ℕ) (environments : List (List ℕ)) (book : List Token) (epoch : ℕ) (status : Status) (before after : Scene) : Type 0 where
   pub start : UpstreamState
   pub coming : Coming
   pub begins : Begins secret environments book epoch before.coming start coming
@@ -102,7 +110,8 @@ UpstreamRuns secret environments book epoch OutOfMemory before after = ⊤
 UpstreamRuns secret environments book epoch status before after = RunsUpstream secret environments book epoch status before after
 
 -- the number is that of how the lines end, from what an upstream of these words begins with
-pub record IsDecidedByLines (secret : List ℕ) (environments : List (List ℕ)) (book : List Token) (epoch : ℕ) (code : ℕ) (before : Scene) : Type 0 where
+pub record IsDecidedByLines
+    (secret : List ℕ) (environments : List (List ℕ)) (book : List Token) (epoch : ℕ) (code : ℕ) (before : Scene) : Type 0 where
   pub start : UpstreamState
   pub coming : Coming
   pub begins : Begins secret environments book epoch before.coming start coming

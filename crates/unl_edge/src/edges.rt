@@ -95,8 +95,10 @@ fn host<D: Door, P: Peer, R: Draws, W: Wait>(
     draws: &mut R,
 ) -> Result<u64, Failed>
     requires { (D.state door.old).listening ≡ true }
-    ensures hands { IfOk result (λ served. ((D.state door.new).given ≡ (D.state door.old).given + served) × ((D.state door.new).back ≡ (D.state door.old).back + served)) }
-    ensures failed { OnErr result ((served : ℕ) × ((D.state door.new).given ≡ (D.state door.old).given + served) × ((D.state door.new).back ≡ (D.state door.old).back + served)) }
+    ensures hands { IfOk result (λ served. ((D.state door.new).given ≡ (D.state door.old).given + served)
+        × ((D.state door.new).back ≡ (D.state door.old).back + served)) }
+    ensures failed { OnErr result ((served : ℕ) × ((D.state door.new).given ≡ (D.state door.old).given + served)
+        × ((D.state door.new).back ≡ (D.state door.old).back + served)) }
     ensures closed { OnOk result ((D.state door.new).closed ≡ true) }
     ensures over { OnOk result (IfSome (D.state door.new).links (λ links. links ≡ [])) }
     ensures connects { Connects 0 (P.state peer.old).replies (P.Source.faults peer.old) (P.state peer.new).replies (P.Source.faults peer.new) }

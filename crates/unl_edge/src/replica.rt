@@ -69,7 +69,8 @@ impl Replica {
     /// # Errors
     /// Want of memory, with which the turn ends.
     pub fn turn<P: Peer>(&mut self, alloc: Global, peer: &mut P) -> Result<(), Memory>
-        ensures first { self.old.desk.front ≡ 0 → length self.old.feeders.items ≤ length self.old.desk.places → length self.old.feeders.items ≤ 8
+        ensures first { self.old.desk.front ≡ 0 → length self.old.feeders.items ≤ length self.old.desk.places
+            → length self.old.feeders.items ≤ 8
             → OnOk result (Connects (length self.old.feeders.items + 1)
             (P.state peer.old).replies (P.Source.faults peer.old) (P.state peer.new).replies (P.Source.faults peer.new)) }
         ensures connects { Connects 0 (P.state peer.old).replies (P.Source.faults peer.old) (P.state peer.new).replies (P.Source.faults peer.new) }

@@ -1,5 +1,6 @@
 -- Why a feature is on or off for a context at a moment: the truth of each part of its evaluation, in the words that define the evaluation.
-use Rattle.std.specs.Prelude.{ℕ, ◌+◌, List, [], ◌∷◌, map, length, Bool, true, false, ◌==◌, Option, is_some, option_map, option_and_then, if◌then◌else◌}
+use Rattle.std.specs.Prelude.{ℕ, ◌+◌, List, [], ◌∷◌, map, length, Bool, true, false, ◌==◌, Option, is_some, option_map, option_and_then}
+use Rattle.std.specs.Prelude.{if◌then◌else◌}
 use Rattle.std.specs.Option.{option_map_or}
 use Rattle.unl_documents.specs.declared.constraint.Constraint.{Constraint}
 use Rattle.unl_documents.specs.declared.dependency.Dependency.{Dependency}
@@ -13,7 +14,8 @@ use Rattle.unl_constraints.specs.Constraint.{constraint_holds}
 use Rattle.unl_strategies.specs.Moment.{Moment}
 use Rattle.unl_strategies.specs.Strategy.{is_active, rule_holds}
 use Rattle.unl_dependencies.specs.declared.evaluation.Evaluation.{Evaluation}
-use Rattle.unl_dependencies.specs.Evaluation.{evaluation_where, feature_evaluation, feature_named, first_active, is_met, own_variant, strategy_variant}
+use Rattle.unl_dependencies.specs.Evaluation.{evaluation_where, feature_evaluation, feature_named, first_active, is_met, own_variant}
+use Rattle.unl_dependencies.specs.Evaluation.{strategy_variant}
 use Rattle.unl_explain.specs.declared.reason.Origin.{Origin}
 use Rattle.unl_explain.specs.declared.reason.Origin.TheVariants as origin
 use Rattle.unl_explain.specs.declared.reason.ParentCause.{ParentCause}

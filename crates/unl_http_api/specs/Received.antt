@@ -1,5 +1,6 @@
 -- The reply that bytes are: a head by the grammar of httparse, and the body after it.
-use Rattle.std.specs.Prelude.{◌≡◌, ℕ, ◌≤◌, ◌⊎◌, ◌==◌, nat_lt, ◌||◌, if◌then◌else◌, List, length, take, map, Option, Some, None, is_none, option_and_then, Result, Ok, Err, codes}
+use Rattle.std.specs.Prelude.{◌≡◌, ℕ, ◌≤◌, ◌⊎◌, ◌==◌, nat_lt, ◌||◌, if◌then◌else◌, List, length, take, map, Option, Some, None, is_none}
+use Rattle.std.specs.Prelude.{option_and_then, Result, Ok, Err, codes}
 use Rattle.httparse.specs.Grammar.{ResponseHead, print_response, ReadsResponse, status_code}
 use Rattle.httparse.specs.Spans.{name_and_value}
 use Rattle.unl_documents.specs.Results.{◌>>=◌}

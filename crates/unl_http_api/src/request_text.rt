@@ -3,7 +3,8 @@ ghost use Rattle.std.specs.Prelude.{◌≡◌, ◌≢◌, ◌++◌, [], IfOk, On
 ghost use Rattle.std.specs.Option.{option_map_or};
 ghost use Rattle.unl_http_api.specs.declared.request.Method.{Method};
 ghost use Rattle.unl_http_api.specs.Reply.{header};
-ghost use Rattle.unl_http_api.specs.RequestText.{fits_line, fits_if_any, method_name, request_line, json_headers, body_headers, request_text};
+ghost use Rattle.unl_http_api.specs.RequestText.{fits_line, fits_if_any, method_name, request_line, json_headers, body_headers};
+ghost use Rattle.unl_http_api.specs.RequestText.{request_text};
 
 use crate::header::{push_header, push_length};
 use crate::request::{Bytes, Method};

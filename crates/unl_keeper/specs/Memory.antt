@@ -1,5 +1,6 @@
 -- What contracts see of a keeper and of a maker in memory.
-use Rattle.std.specs.Prelude.{◌≡◌, Result, Ok, Err, None, Some, IsSome, true, false, [], ◌∷◌, ℕ, ◌+◌, ◌-◌, ◌^◌, ◌==◌, min, Bool, List, Option, option_map, unwrap_or, is_some, find, if◌then◌else◌, ◌++◌, option_to_list}
+use Rattle.std.specs.Prelude.{◌≡◌, Result, Ok, Err, None, Some, IsSome, true, false, [], ◌∷◌, ℕ, ◌+◌, ◌-◌, ◌^◌, ◌==◌, min, Bool, List}
+use Rattle.std.specs.Prelude.{Option, option_map, unwrap_or, is_some, find, if◌then◌else◌, ◌++◌, option_to_list}
 use Rattle.unl_keeper.specs.declared.refusal.KeepRefusal.{KeepRefusal}
 use Rattle.unl_keeper.specs.declared.refusal.KeepRefusal.TheVariants.{Fault, Memory}
 use Rattle.unl_keeper.specs.declared.memory_keeper.KeepFail.{KeepFail}

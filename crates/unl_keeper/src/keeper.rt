@@ -1,5 +1,6 @@
 //! What writes texts down, one in each place.
-ghost use Rattle.std.specs.Prelude.{◌≡◌, ◌<◌, ◌≤◌, ◌+◌, ◌-◌, ℕ, Bool, true, List, Option, None, Some, length, slice_get, IfOk, IfErr, IfSome, OnOk};
+ghost use Rattle.std.specs.Prelude.{◌≡◌, ◌<◌, ◌≤◌, ◌+◌, ◌-◌, ℕ, Bool, true, List, Option, None, Some, length, slice_get, IfOk, IfErr};
+ghost use Rattle.std.specs.Prelude.{IfSome, OnOk};
 ghost use Rattle.unl_keeper.specs.Faults.{HasCause};
 ghost use Rattle.unl_keeper.specs.Rows.{with_row, Leaves, IsSameAtMemory};
 

@@ -1,8 +1,10 @@
 //! A keeper in memory, which fails at the calls that it is told to.
-ghost use Rattle.std.specs.Prelude.{◌<◌, true, ◌+◌, ◌≡◌, [], ◌∷◌, ◌++◌, ◌-◌, ◌≤◌, None, Some, false, length, slice_get, IfOk, IfErr, OnOk, is_some, if◌then◌else◌};
+ghost use Rattle.std.specs.Prelude.{◌<◌, true, ◌+◌, ◌≡◌, [], ◌∷◌, ◌++◌, ◌-◌, ◌≤◌, None, Some, false, length, slice_get, IfOk, IfErr};
+ghost use Rattle.std.specs.Prelude.{OnOk, is_some, if◌then◌else◌};
 ghost use Rattle.unl_keeper.specs.Faults.{HasCause, HasRisen};
 ghost use Rattle.unl_keeper.specs.Rows.{IsSameAtMemory, Leaves, with_row};
-ghost use Rattle.unl_keeper.specs.Memory.{Does, after_call, left_keeping, named, new_keeping, opened_keeping, put_keeping, read_keeping, rows_of};
+ghost use Rattle.unl_keeper.specs.Memory.{Does, after_call, left_keeping, named, new_keeping, opened_keeping, put_keeping, read_keeping};
+ghost use Rattle.unl_keeper.specs.Memory.{rows_of};
 ghost use Rattle.std.proofs.Common.{rules, length-append};
 
 use crate::keeper::Keeper;

@@ -30,7 +30,8 @@ pub record IsLine (line : List ℕ) : Type 0 where
 -- what stood next was taken
 abbrev pub TakesNext : Next → List ℕ → Option (List ℕ) → List ℕ → Option (List ℕ) → Type 0
 TakesNext (Line line) held left held_after left_after = IsLine line.items × Gets held left (line.items ++ 10 ∷ []) held_after left_after
-TakesNext (Last line) held left held_after left_after = IsLine line.items × (line.items ≢ []) × Gets held left line.items held_after left_after × IsAtEnd held_after left_after
+TakesNext (Last line) held left held_after left_after =
+    IsLine line.items × (line.items ≢ []) × Gets held left line.items held_after left_after × IsAtEnd held_after left_after
 TakesNext End held left held_after left_after = Gets held left [] held_after left_after × IsAtEnd held_after left_after
 
 -- a line was begun with these bytes

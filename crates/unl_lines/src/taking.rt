@@ -162,7 +162,8 @@ pub fn take_lines<A: LineTaking, S: Source, K: Sink>(
     ensures lines { TakesLines A.taken desk.old result (S.left source.old) (S.left source.new) (K.sent sink.old) (K.sent sink.new) }
 
     // Where all were taken the input has ended, and what stands is what they leave.
-    ensures all { OnOk result (AnswersAll A.taken desk.old desk.new (S.left source.old) (S.left source.new) (K.sent sink.old) (K.sent sink.new)) }
+    ensures all { OnOk result (AnswersAll A.taken desk.old desk.new
+        (S.left source.old) (S.left source.new) (K.sent sink.old) (K.sent sink.new)) }
     ensures leaves { OnOk result (IfSome (S.left source.old) (λ bytes. (outcome_of A.taken desk.old bytes).desk ≡ desk.new)) }
 
     // There is room for a line more.

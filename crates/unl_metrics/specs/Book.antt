@@ -1,5 +1,6 @@
 -- A book of metrics: a finite map from keys to what was counted at each. It is the list of its entries, with keys rising.
-use Rattle.std.specs.Prelude.{◌≡◌, ◌<◌, ◌+◌, ◌-◌, ◌^◌, ℕ, zero, suc, min, List, [], ◌∷◌, map, length, fold, All, Bool, true, ◌&&◌, nat_le, Option, Some, None, T, Result, Ok, Err, if◌then◌else◌}
+use Rattle.std.specs.Prelude.{◌≡◌, ◌<◌, ◌+◌, ◌-◌, ◌^◌, ℕ, zero, suc, min, List, [], ◌∷◌, map, length, fold, All, Bool, true, ◌&&◌, nat_le}
+use Rattle.std.specs.Prelude.{Option, Some, None, T, Result, Ok, Err, if◌then◌else◌}
 use Rattle.std.specs.Cmp.Lexicographic.{slice_cmp}
 use Rattle.std.specs.FinMap.Entries.{put, find, is_sorted, where_key}
 use Rattle.std.specs.List.{list_all, prefix_len}
@@ -165,4 +166,5 @@ counted_in environment book = where_key key_cmp (is_of environment) book
 unfoldable pub acknowledge : List ℕ → ℕ → Book → Book
 acknowledge environment zero book = book
 acknowledge environment (suc count) [] = []
-acknowledge environment (suc count) (e ∷ book) = if is_of environment e.0 then acknowledge environment count book else e ∷ acknowledge environment (suc count) book
+acknowledge environment (suc count) (e ∷ book) =
+    if is_of environment e.0 then acknowledge environment count book else e ∷ acknowledge environment (suc count) book

@@ -1,5 +1,6 @@
 -- Hours since 1970, and how they are written.
-use Rattle.std.specs.Prelude.{ℕ, zero, suc, ◌+◌, ◌-◌, ◌/◌, ◌%◌, List, ◌∷◌, [], ◌++◌, codes, nat_lt, if◌then◌else◌, ℤ, pos, negsuc, Option, Some, None}
+use Rattle.std.specs.Prelude.{ℕ, zero, suc, ◌+◌, ◌-◌, ◌/◌, ◌%◌, List, ◌∷◌, [], ◌++◌, codes, nat_lt, if◌then◌else◌, ℤ, pos, negsuc, Option}
+use Rattle.std.specs.Prelude.{Some, None}
 use Rattle.jiff.specs.Words.{days_in_year, days_in_month}
 
 -- how many hours the years 1970 to 9999 have
@@ -20,12 +21,15 @@ hour_of (negsuc n) = None
 -- The year and how many of its days have passed, once so many days have passed since a year began. At most so many years are gone through.
 unfoldable pub year_and_days : ℕ → ℕ → ℕ → ℕ × ℕ
 year_and_days zero year days = (year, days)
-year_and_days (suc years) year days = if nat_lt days (days_in_year (pos year)) then (year, days) else year_and_days years (year + 1) (days - days_in_year (pos year))
+year_and_days (suc years) year days =
+    if nat_lt days (days_in_year (pos year)) then (year, days) else year_and_days years (year + 1) (days - days_in_year (pos year))
 
 -- The month of a year and how many of its days have passed, once so many days have passed since a month began.
 unfoldable pub month_and_days : ℕ → ℕ → ℕ → ℕ → ℕ × ℕ
 month_and_days year zero month days = (month, days)
-month_and_days year (suc months) month days = if nat_lt days (days_in_month (pos year) month) then (month, days) else month_and_days year months (month + 1) (days - days_in_month (pos year) month)
+month_and_days year (suc months) month days =
+    if nat_lt days (days_in_month (pos year) month) then (month, days)
+    else month_and_days year months (month + 1) (days - days_in_month (pos year) month)
 
 -- a number below 100 in two digits
 abbrev pub two_digits : ℕ → List ℕ

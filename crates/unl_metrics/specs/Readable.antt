@@ -39,7 +39,8 @@ named v = record { name = v.0; count = v.1 }
 
 -- the entry that stands for a key and its tally
 abbrev pub entry_at : Key × Tally → MetricEntry
-entry_at (key, tally) = record { app = key.app; feature = key.feature; hour = key.hour; yes = tally.yes; no = tally.no; variants = map named tally.variants }
+entry_at (key, tally) =
+    record { app = key.app; feature = key.feature; hour = key.hour; yes = tally.yes; no = tally.no; variants = map named tally.variants }
 
 -- the entries that stand for the keys and their tallies
 abbrev pub entries_at : Book → List MetricEntry

@@ -1,5 +1,6 @@
 //! The book of metrics.
-ghost use Rattle.std.specs.Prelude.{◌≡◌, ◌≢◌, ◌≤◌, ◌==◌, [], length, take, drop, not, All, position, Ok, Err, false, IfOk, IfErr, IfSome, OnOk, OnErr, option_map};
+ghost use Rattle.std.specs.Prelude.{◌≡◌, ◌≢◌, ◌≤◌, ◌==◌, [], length, take, drop, not, All, position, Ok, Err, false, IfOk, IfErr, IfSome};
+ghost use Rattle.std.specs.Prelude.{OnOk, OnErr, option_map};
 ghost use Rattle.std.specs.List.{prefix_len, remove_range};
 ghost use Rattle.serde_json.specs.View.{view};
 ghost use Rattle.serde_json.specs.Written.{has_float};
@@ -110,7 +111,8 @@ impl MetricsBook {
     /// [`Report::read_bulk`] as what was counted at these keys.
     pub fn bulk(&self, alloc: Global, environment: &str) -> Result<Option<(Value, usize)>, Memory>
         ensures report { IfOk result (λ found. option_map (λ sent. (view sent.0, sent.1)) found ≡ bulk_of environment.now self.now) }
-        ensures reads_back { All IsSendable self.now → IfOk result (λ found. IfSome found (λ sent. IsReadAs (view sent.0) (entries_at (take sent.1 (counted_in environment.now self.now))))) }
+        ensures reads_back { All IsSendable self.now → IfOk result (λ found. IfSome found (λ sent.
+            IsReadAs (view sent.0) (entries_at (take sent.1 (counted_in environment.now self.now))))) }
         ensures no_float { IfOk result (λ found. IfSome found (λ sent. has_float (view sent.0) ≡ false)) }
     {
         bulk(alloc, self.rows.as_slice(), environment)

@@ -5,7 +5,8 @@ ghost use Rattle.std.specs.FinMap.Entries.{is_sorted};
 ghost use Rattle.std.specs.Ordering.{nat_cmp};
 ghost use Rattle.serde_json.specs.Data.{depth};
 ghost use Rattle.unl_metrics.specs.declared.report.MetricEntry.{MetricEntry};
-ghost use Rattle.unl_metrics.specs.Book.{Book, Key, Tally, sum, sum_of, tally_sum, tally_at, tallies_at, count_at, and_more, both, counted, counted_in, acknowledge, IsCounted, IsInOrder, IsBook};
+ghost use Rattle.unl_metrics.specs.Book.{Book, Key, Tally, sum, sum_of, tally_sum, tally_at, tallies_at, count_at, and_more, both};
+ghost use Rattle.unl_metrics.specs.Book.{counted, counted_in, acknowledge, IsCounted, IsInOrder, IsBook};
 ghost use Rattle.unl_metrics.specs.Bulk.{bulk, bulk_data, bulk_length, longest_bulk, room_for};
 ghost use Rattle.unl_metrics.specs.Readable.{AreReadable, IsReadAs, IsSendable, entries_at};
 
@@ -16,16 +17,21 @@ pub fn books_are_maps()
 
 /// At each key the sum has the sum of what both have there; and so has a sum of tallies at each variant.
 pub fn sums_are_sums_at_each_key()
-    ensures entries { (book others : Book) (key : Key) → tally_at key (sum_of book others) ≡ fold (and_more tally_sum) (tally_at key book) (tallies_at key others) }
-    ensures books { (book other : Book) (key : Key) → IsInOrder other → tally_at key (sum_of book other) ≡ both tally_sum (tally_at key book) (tally_at key other) }
-    ensures variants { (s t : Tally) (name : List ℕ) → T (is_sorted (slice_cmp nat_cmp) t.variants) → count_at name (tally_sum s t).variants ≡ both sum (count_at name s.variants) (count_at name t.variants) }
+    ensures entries { (book others : Book) (key : Key) → tally_at key (sum_of book others)
+        ≡ fold (and_more tally_sum) (tally_at key book) (tallies_at key others) }
+    ensures books { (book other : Book) (key : Key) → IsInOrder other → tally_at key (sum_of book other)
+        ≡ both tally_sum (tally_at key book) (tally_at key other) }
+    ensures variants { (s t : Tally) (name : List ℕ) → T (is_sorted (slice_cmp nat_cmp) t.variants)
+        → count_at name (tally_sum s t).variants ≡ both sum (count_at name s.variants) (count_at name t.variants) }
     ensures order { (book others : Book) → IsInOrder book → All IsCounted others → IsInOrder (sum_of book others) }
 {}
 
 /// Of the environment the first keys go, and of others none.
 pub fn acknowledged_keys_go()
-    ensures these { (environment : List ℕ) (count : ℕ) (book : Book) → counted_in environment (acknowledge environment count book) ≡ drop count (counted_in environment book) }
-    ensures others { (environment other : List ℕ) (count : ℕ) (book : Book) → environment ≢ other → counted_in other (acknowledge environment count book) ≡ counted_in other book }
+    ensures these { (environment : List ℕ) (count : ℕ) (book : Book) → counted_in environment (acknowledge environment count book)
+        ≡ drop count (counted_in environment book) }
+    ensures others { (environment other : List ℕ) (count : ℕ) (book : Book) → environment ≢ other
+        → counted_in other (acknowledge environment count book) ≡ counted_in other book }
 {}
 
 /// None is sent exactly where there is no key; else as many keys as the text has room for, and no longer front of them has room.
@@ -37,15 +43,20 @@ pub fn the_longest_front_is_sent()
 
 /// What a book counts in an environment is the entries of a report, and the bulk report that is sent of these is read as that report.
 pub fn what_is_sent_is_read()
-    ensures entries { (environment : List ℕ) (book : Book) → map (counted environment) (entries_at (counted_in environment book)) ≡ counted_in environment book }
-    ensures report { (environment : List ℕ) (entries : List MetricEntry) → AreReadable entries → IsReadAs (bulk_data (map (counted environment) entries)) entries }
-    ensures book { (environment : List ℕ) (book : Book) (n : ℕ) → IsBook book → All IsSendable book → IsReadAs (bulk_data (take n (counted_in environment book))) (entries_at (take n (counted_in environment book))) }
+    ensures entries { (environment : List ℕ) (book : Book) → map (counted environment) (entries_at (counted_in environment book))
+        ≡ counted_in environment book }
+    ensures report { (environment : List ℕ) (entries : List MetricEntry) → AreReadable entries
+        → IsReadAs (bulk_data (map (counted environment) entries)) entries }
+    ensures book { (environment : List ℕ) (book : Book) (n : ℕ) → IsBook book → All IsSendable book
+        → IsReadAs (bulk_data (take n (counted_in environment book))) (entries_at (take n (counted_in environment book))) }
     ensures depth { (book : Book) → depth (bulk_data book) ≤ 4 }
 {}
 
 /// What is read may be sent, and so may sums of it and what is left of it.
 pub fn what_is_read_may_be_sent()
-    ensures entries { (environment : List ℕ) (entries : List MetricEntry) → AreReadable entries → All IsSendable (map (counted environment) entries) }
+    ensures entries { (environment : List ℕ) (entries : List MetricEntry) → AreReadable entries
+        → All IsSendable (map (counted environment) entries) }
     ensures sums { (book others : Book) → All IsSendable book → All IsSendable others → All IsSendable (sum_of book others) }
-    ensures rest { (environment : List ℕ) (count : ℕ) (book : Book) → All IsSendable book → All IsSendable (acknowledge environment count book) }
+    ensures rest { (environment : List ℕ) (count : ℕ) (book : Book) → All IsSendable book
+        → All IsSendable (acknowledge environment count book) }
 {}

@@ -7,7 +7,8 @@ ghost use Rattle.unl_documents.specs.Limits.{IsName};
 ghost use Rattle.unl_documents.specs.Parameters.{AreRising};
 ghost use Rattle.unl_documents.specs.Reading.{Gives};
 ghost use Rattle.unl_metrics.specs.Readable.{last_hour, IsNamed, AreVariants, IsReadable, AreReadable};
-ghost use Rattle.unl_metrics.specs.Reports.{variant_count, each_member, members as members_at, entry_of, toggle_of, bucket_of, single_of, bulk_of};
+ghost use Rattle.unl_metrics.specs.Reports.{variant_count, each_member, members as members_at, entry_of, toggle_of, bucket_of, single_of};
+ghost use Rattle.unl_metrics.specs.Reports.{bulk_of};
 
 use crate::hours::Hour;
 use crate::report::{MetricEntry, Report, VariantCount};

@@ -7,7 +7,8 @@ ghost use Rattle.std.specs.Ordering.{nat_cmp, is_eq};
 ghost use Rattle.serde_json.specs.Data.{no_members};
 ghost use Rattle.serde_json.specs.View.{view, members_view};
 ghost use Rattle.unl_metrics.specs.Bulk.{variants_data, with_counts, counted_data};
-ghost use Rattle.unl_metrics.specs.Book.{counted, key_cmp, is_of, has_few_variants, tally_sum, sum, with_variant, pair, key_of, tally_of, place, IsCounted};
+ghost use Rattle.unl_metrics.specs.Book.{counted, key_cmp, is_of, has_few_variants, tally_sum, sum, with_variant, pair, key_of, tally_of};
+ghost use Rattle.unl_metrics.specs.Book.{place, IsCounted};
 
 use crate::hours::hour_text;
 use crate::report::{MetricEntry, VariantCount};

@@ -1,5 +1,6 @@
 //! One who looks at the value.
-ghost use Rattle.std.specs.Prelude.{max, ◌≡◌, ◌≤◌, ◌<◌, true, IfOk, IfErr, IfSome, MatchResult, Some, None, is_some, option_map, fold, length};
+ghost use Rattle.std.specs.Prelude.{max, ◌≡◌, ◌≤◌, ◌<◌, true, IfOk, IfErr, IfSome, MatchResult, Some, None, is_some, option_map, fold};
+ghost use Rattle.std.specs.Prelude.{length};
 ghost use Rattle.left_right.specs.Sides.{view};
 ghost use Rattle.unl_published.specs.Rule.{Rise, Enters};
 ghost use Rattle.unl_published.specs.Meaning.{known, before_of, front_seen, value_at};

@@ -1,5 +1,6 @@
 //! The one who publishes.
-ghost use Rattle.std.specs.Prelude.{◌≡◌, ◌^◌, ◌<◌, ◌≤◌, false, [], ◌∷◌, ◌++◌, ℕ, length, drop, fold, IfOk, IfSome, IsErr, MatchResult, true};
+ghost use Rattle.std.specs.Prelude.{◌≡◌, ◌^◌, ◌<◌, ◌≤◌, false, [], ◌∷◌, ◌++◌, ℕ, length, drop, fold, IfOk, IfSome, IsErr, MatchResult};
+ghost use Rattle.std.specs.Prelude.{true};
 ghost use Rattle.left_right.specs.Sides.{view};
 ghost use Rattle.unl_published.specs.Rule.{Opens, knows_opening, told_by, with_installs};
 ghost use Rattle.unl_published.specs.Looking.{Shows};

@@ -1,5 +1,6 @@
 -- One exchange with a peer: a connect, a request, and the reply to it.
-use Rattle.std.specs.Prelude.{◌≡◌, ℕ, ◌<◌, ◌≤◌, ◌⊎◌, Bool, true, false, List, [], ◌++◌, drop, length, Option, Some, None, option_map, Result, ⊤}
+use Rattle.std.specs.Prelude.{◌≡◌, ℕ, ◌<◌, ◌≤◌, ◌⊎◌, Bool, true, false, List, [], ◌++◌, drop, length, Option, Some, None, option_map}
+use Rattle.std.specs.Prelude.{Result, ⊤}
 use Rattle.unl_base.specs.Streams.{Takes, HasEnded, SendsFront}
 use Rattle.unl_http_api.specs.declared.got.Got.{Got}
 use Rattle.unl_http_api.specs.declared.got.BadReply.{BadReply}

@@ -1,5 +1,6 @@
 -- What comes of what a server replied.
-use Rattle.std.specs.Prelude.{◌≡◌, ℕ, ◌==◌, Bool, not, List, [], Option, Some, None, option_map, Result, Ok, Err, ok_or, codes, if◌then◌else◌}
+use Rattle.std.specs.Prelude.{◌≡◌, ℕ, ◌==◌, Bool, not, List, [], Option, Some, None, option_map, Result, Ok, Err, ok_or, codes}
+use Rattle.std.specs.Prelude.{if◌then◌else◌}
 use Rattle.unl_delta.specs.declared.batch.Batch.{Batch as TheBatch}
 use Rattle.unl_delta.specs.declared.batch.Verdict.{Verdict}
 use Rattle.unl_delta.specs.declared.batch.Verdict.TheVariants as verdict

@@ -29,8 +29,10 @@ pub(crate) fn exchange<P: Peer>(
     ensures read { IfOk result (IsRead (option_map next_of (P.state peer.old).replies)) }
     ensures tag { IfOk result (λ reading. IfOk reading (λ got. IsTrue (fits_if_any got.tag))) }
     ensures named { IfOk result (λ reading. IfErr reading (λ e. e ≢ BadReply.Memory)) }
-    ensures asks { OnOk result (Asks request.now (P.state peer.old).replies (P.Sink.sent peer.old) (P.state peer.new).replies (P.Sink.sent peer.new)) }
-    ensures once { AsksAtMostOnce request.now (P.state peer.old).replies (P.Sink.sent peer.old) (P.state peer.new).replies (P.Sink.sent peer.new) }
+    ensures asks { OnOk result (Asks request.now
+        (P.state peer.old).replies (P.Sink.sent peer.old) (P.state peer.new).replies (P.Sink.sent peer.new)) }
+    ensures once { AsksAtMostOnce request.now
+        (P.state peer.old).replies (P.Sink.sent peer.old) (P.state peer.new).replies (P.Sink.sent peer.new) }
     ensures later { P.Source.faults peer.old ≤ P.Source.faults peer.new }
     ensures cause { result ≡ Err RefreshFault.PeerFault → Rose (P.Source.faults peer.old) (P.Source.faults peer.new) }
 {

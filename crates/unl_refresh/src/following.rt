@@ -35,7 +35,8 @@ pub(crate) fn follow<I: Installer>(
     requires tag { IsTrue (fits_if_any tag) }
     requires next_tag { IfOk reading (λ got. IsTrue (fits_if_any got.tag)) }
     requires named { IfErr reading (λ e. e ≢ BadReply.Memory) }
-    ensures after { IfOk result (λ taken. record { outcome = taken.outcome; installed = I.installed to.new; tag = taken.tag } ≡ after_reading slot delta tag (I.installed to.old) reading) }
+    ensures after { IfOk result (λ taken. record { outcome = taken.outcome; installed = I.installed to.new; tag = taken.tag }
+        ≡ after_reading slot delta tag (I.installed to.old) reading) }
     ensures named { IfOk result (λ taken. IsNamedOutcome taken.outcome) }
     ensures fits { IfOk result (λ taken. IsTrue (fits_if_any taken.tag)) }
     ensures memory { OnErr result (I.installed to.new ≡ I.installed to.old) }
@@ -69,7 +70,8 @@ fn follow_reply<I: Installer>(
     requires front { (I.installed to.old).front < 2 ^ 64 - 1 }
     requires tag { IsTrue (fits_if_any tag) }
     requires next_tag { IsTrue (fits_if_any got.tag) }
-    ensures after { IfOk result (λ taken. record { outcome = taken.outcome; installed = I.installed to.new; tag = taken.tag } ≡ after_reply slot delta tag (I.installed to.old) got) }
+    ensures after { IfOk result (λ taken. record { outcome = taken.outcome; installed = I.installed to.new; tag = taken.tag }
+        ≡ after_reply slot delta tag (I.installed to.old) got) }
     ensures named { IfOk result (λ taken. IsNamedOutcome taken.outcome) }
     ensures fits { IfOk result (λ taken. IsTrue (fits_if_any taken.tag)) }
     ensures memory { OnErr result (I.installed to.new ≡ I.installed to.old) }

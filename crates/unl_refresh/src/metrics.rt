@@ -1,5 +1,6 @@
 //! Sending what was counted.
-ghost use Rattle.std.specs.Prelude.{◌≡◌, ◌≢◌, ◌≤◌, List, ℕ, Some, None, Err, Result, Option, IfOk, IfErr, IfSome, OnErr, IsTrue, option_map, false};
+ghost use Rattle.std.specs.Prelude.{◌≡◌, ◌≢◌, ◌≤◌, List, ℕ, Some, None, Err, Result, Option, IfOk, IfErr, IfSome, OnErr, IsTrue};
+ghost use Rattle.std.specs.Prelude.{option_map, false};
 ghost use Rattle.serde_json.specs.View.{view};
 ghost use Rattle.serde_json.specs.Written.{has_float};
 ghost use Rattle.unl_base.specs.Doors.{next_of};
@@ -9,7 +10,8 @@ ghost use Rattle.unl_http_api.specs.declared.got.Got.{Got};
 ghost use Rattle.unl_http_api.specs.Received.{IsReply};
 ghost use Rattle.unl_http_api.specs.RequestText.{fits_line};
 ghost use Rattle.unl_metrics.specs.Bulk.{bulk as bulk_of};
-ghost use Rattle.unl_refresh.specs.Metrics.{AsksBulk, AsksBulkAtMostOnce, IsNamedMetrics, IsToldOf, SendsBulk, book_after, metrics_request, sent_by};
+ghost use Rattle.unl_refresh.specs.Metrics.{AsksBulk, AsksBulkAtMostOnce, IsNamedMetrics, IsToldOf, SendsBulk, book_after};
+ghost use Rattle.unl_refresh.specs.Metrics.{metrics_request, sent_by};
 
 use crate::exchange::exchange;
 use crate::outcome::{MetricsOutcome, RefreshFault};
@@ -41,7 +43,8 @@ pub fn send_metrics<P: Peer>(
     ensures sends { IfOk result (SendsBulk (bulk_of environment.now book.old) (option_map next_of (P.state peer.old).replies)) }
 
     // Where the peer tells its replies, this is so of the next one and in no other way.
-    ensures told { (list : List (List ℕ)) (reading : Result Got BadReply) → (P.state peer.old).replies ≡ Some list → IsReply (next_of list) reading
+    ensures told { (list : List (List ℕ)) (reading : Result Got BadReply) → (P.state peer.old).replies ≡ Some list
+        → IsReply (next_of list) reading
         → IfOk result (IsToldOf (bulk_of environment.now book.old) reading) }
 
     // Want of memory stands in no outcome.
@@ -105,7 +108,8 @@ fn send_found<P: Peer>(
     requires host { IsTrue (fits_line host.now) }
     requires token { IsTrue (fits_line token.now) }
     requires whole { IfSome found (λ sent. has_float (view sent.0) ≡ false) }
-    ensures sends { IfOk result (SendsBulk (option_map (λ sent. (view sent.0, sent.1)) found) (option_map next_of (P.state peer.old).replies)) }
+    ensures sends { IfOk result (SendsBulk (option_map (λ sent. (view sent.0, sent.1)) found)
+        (option_map next_of (P.state peer.old).replies)) }
     ensures named { IfOk result IsNamedMetrics }
     ensures asks { IfOk result (λ _. AsksBulk (option_map (λ sent. (view sent.0, sent.1)) found) host.now token.now
         (P.state peer.old).replies (P.Sink.sent peer.old) (P.state peer.new).replies (P.Sink.sent peer.new)) }

@@ -1,5 +1,6 @@
 //! Taking what is new for a slot.
-ghost use Rattle.std.specs.Prelude.{◌≡◌, ◌≢◌, ◌<◌, ◌≤◌, ◌+◌, ◌-◌, ◌^◌, List, ℕ, Some, None, Ok, Err, Result, IfOk, OnOk, OnErr, IsTrue, drop, length, option_map};
+ghost use Rattle.std.specs.Prelude.{◌≡◌, ◌≢◌, ◌<◌, ◌≤◌, ◌+◌, ◌-◌, ◌^◌, List, ℕ, Some, None, Ok, Err, Result, IfOk, OnOk, OnErr, IsTrue};
+ghost use Rattle.std.specs.Prelude.{drop, length, option_map};
 ghost use Rattle.unl_base.specs.Doors.{next_of};
 ghost use Rattle.unl_base.specs.Faults.{Rose};
 ghost use Rattle.unl_delta.specs.declared.batch.Batch.{Batch};
@@ -49,16 +50,19 @@ pub fn refresh_once<I: Installer, P: Peer>(
         (record { outcome = outcome; installed = I.installed to.new; tag = ask.new.tag })) }
 
     // Where the peer tells its replies, this is so of the next one and in no other way.
-    ensures told { (list : List (List ℕ)) (reading : Result Got BadReply) → (P.state peer.old).replies ≡ Some list → IsReply (next_of list) reading
+    ensures told { (list : List (List ℕ)) (reading : Result Got BadReply) → (P.state peer.old).replies ≡ Some list
+        → IsReply (next_of list) reading
         → IfOk result (λ outcome. record { outcome = outcome; installed = I.installed to.new; tag = ask.new.tag }
         ≡ after_reading slot ask.old.delta ask.old.tag (I.installed to.old) reading) }
 
     // So a batch that applies there is published, where no call of the peer failed and memory was found.
-    ensures complete { (list : List (List ℕ)) (got : Got) (batch : Batch) → (P.state peer.old).replies ≡ Some list → IsReply (next_of list) (Ok got)
+    ensures complete { (list : List (List ℕ)) (got : Got) (batch : Batch) → (P.state peer.old).replies ≡ Some list
+        → IsReply (next_of list) (Ok got)
         → got.status ≡ 200 → batch_in ask.old.delta (number_held (place_of (I.installed to.old) slot)) got.body ≡ Ok batch
         → verdict_of (place_of (I.installed to.old) slot) batch ≡ Apply
         → ¬ (Rose (P.Source.faults peer.old) (P.Source.faults peer.new)) → result ≢ Err RefreshFault.Memory
-        → (result ≡ Ok (Outcome.Published ((I.installed to.old).front + 1))) × (I.installed to.new ≡ after_install slot batch (I.installed to.old)) }
+        → (result ≡ Ok (Outcome.Published ((I.installed to.old).front + 1)))
+        × (I.installed to.new ≡ after_install slot batch (I.installed to.old)) }
 
     // Want of memory stands in no outcome.
     ensures named { IfOk result IsNamedOutcome }

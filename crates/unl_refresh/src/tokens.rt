@@ -1,5 +1,6 @@
 //! Taking the book of tokens that a server knows.
-ghost use Rattle.std.specs.Prelude.{◌≡◌, ◌≢◌, ◌<◌, ◌≤◌, ◌-◌, ◌^◌, List, ℕ, Some, Err, Result, IfOk, IfErr, OnOk, OnErr, IsTrue, drop, option_map, string_bytes, false};
+ghost use Rattle.std.specs.Prelude.{◌≡◌, ◌≢◌, ◌<◌, ◌≤◌, ◌-◌, ◌^◌, List, ℕ, Some, Err, Result, IfOk, IfErr, OnOk, OnErr, IsTrue, drop};
+ghost use Rattle.std.specs.Prelude.{option_map, string_bytes, false};
 ghost use Rattle.serde_json.specs.View.{view};
 ghost use Rattle.serde_json.specs.Written.{compact_text, has_float};
 ghost use Rattle.unl_base.specs.Doors.{next_of};
@@ -43,7 +44,8 @@ pub fn refresh_tokens<I: Installer, P: Peer>(
         outcome (I.installed to.new)) }
 
     // Where the peer tells its replies, this is so of the next one and in no other way.
-    ensures told { (list : List (List ℕ)) (reading : Result Got BadReply) → (P.state peer.old).replies ≡ Some list → IsReply (next_of list) reading
+    ensures told { (list : List (List ℕ)) (reading : Result Got BadReply) → (P.state peer.old).replies ≡ Some list
+        → IsReply (next_of list) reading
         → IfOk result (λ outcome. Installs (book_in_reply texts.now reading) (I.installed to.old) outcome (I.installed to.new)) }
 
     // Want of memory stands in no outcome.
@@ -124,7 +126,8 @@ fn take_book<I: Installer>(
 ) -> Result<Outcome, Memory>
     requires front { (I.installed to.old).front < 2 ^ 64 - 1 }
     requires named { IfErr reading (λ e. e ≢ BadReply.Memory) }
-    ensures installs { IfOk result (λ outcome. Installs (book_in_reply texts.now reading) (I.installed to.old) outcome (I.installed to.new)) }
+    ensures installs { IfOk result (λ outcome.
+        Installs (book_in_reply texts.now reading) (I.installed to.old) outcome (I.installed to.new)) }
     ensures named { IfOk result IsNamedOutcome }
     ensures memory { OnErr result (I.installed to.new ≡ I.installed to.old) }
 {

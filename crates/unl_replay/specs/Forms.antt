@@ -40,7 +40,8 @@ feed_in line = and_then (documented (required (object_of feed_of) field.Feed lin
 
 -- the method of that name
 abbrev pub method_by : Field → List ℕ → Reading Method
-method_by field word = if bytes_eq word (codes "GET") then Ok Get else (if bytes_eq word (codes "POST") then Ok Post else Err (WrongKind field))
+method_by field word =
+    if bytes_eq word (codes "GET") then Ok Get else (if bytes_eq word (codes "POST") then Ok Post else Err (WrongKind field))
 
 -- the method that a value names
 unfoldable pub method : Field → Data → Reading Method

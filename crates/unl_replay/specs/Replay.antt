@@ -41,7 +41,8 @@ same_line k = decimal k ++ codes ": same\n"
 
 -- the line for a book that is published
 abbrev pub tokens_line : ℕ → ℕ → ℕ → List ℕ
-tokens_line k generation front = decimal k ++ (codes ": tokens generation " ++ (decimal generation ++ (codes " front " ++ (decimal front ++ codes "\n"))))
+tokens_line k generation front =
+    decimal k ++ (codes ": tokens generation " ++ (decimal generation ++ (codes " front " ++ (decimal front ++ codes "\n"))))
 
 -- the number of a revision, after its epoch and a point where the epoch isn't 0
 abbrev pub revision_text : Option Revision → List ℕ
@@ -50,7 +51,8 @@ revision_text (Some now) = with_epoch now.epoch (decimal now.number)
 
 -- the word of a verdict, and where the environment stands then
 abbrev pub verdict_line : ℕ → List ℕ → List ℕ → ℕ → List ℕ
-verdict_line k word revision front = decimal k ++ (codes ": " ++ (word ++ (codes " number " ++ (revision ++ (codes " front " ++ (decimal front ++ codes "\n"))))))
+verdict_line k word revision front =
+    decimal k ++ (codes ": " ++ (word ++ (codes " number " ++ (revision ++ (codes " front " ++ (decimal front ++ codes "\n"))))))
 
 -- a tag, where there is one
 abbrev pub tag_or_dash : Option (List ℕ) → List ℕ
@@ -59,7 +61,9 @@ tag_or_dash (Some tag) = tag
 
 -- the line for an ask, up to its body
 abbrev pub ask_start : ℕ → ℕ → ℕ → List ℕ → List ℕ
-ask_start k front status tag = decimal k ++ (codes ": front " ++ (decimal front ++ (codes " status " ++ (decimal status ++ (codes " tag " ++ (tag ++ codes " body "))))))
+ask_start k front status tag =
+    decimal k ++ (codes ": front "
+    ++ (decimal front ++ (codes " status " ++ (decimal status ++ (codes " tag " ++ (tag ++ codes " body "))))))
 
 -- the line for an ask
 abbrev pub ask_line : ℕ → ℕ → Reply → List ℕ
@@ -180,7 +184,8 @@ put_metrics k environment book = sent_bulk k environment book (bulk environment 
 
 -- the answer to a line that asks for metrics
 abbrev pub metrics_of_line : ℕ → Bench → Data → LineReading Turned
-metrics_of_line k b line = and_then (documented (required name field.Environment line)) (λ environment. Ok (at_desk b.desk (put_metrics k environment b.book)))
+metrics_of_line k b line =
+    and_then (documented (required name field.Environment line)) (λ environment. Ok (at_desk b.desk (put_metrics k environment b.book)))
 
 -- an object is answered by its op
 abbrev pub answer_op : ℕ → Bench → Data → List ℕ → LineReading Turned

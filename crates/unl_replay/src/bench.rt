@@ -2,7 +2,8 @@
 ghost use Rattle.std.specs.Prelude.{◌≡◌, ◌+◌, ◌-◌, ◌^◌, ◌<◌, ◌≤◌, Ok, IfOk, IfSome, string_bytes};
 ghost use Rattle.serde_json.specs.View.{view};
 ghost use Rattle.unl_metrics.specs.Reports.{IsReport};
-ghost use Rattle.unl_replay.specs.Replay.{answer_object, answer_op, answer_read, ask_line, ask_of_line, ask_start, metrics_line, metrics_of_line, put_ask, put_metrics, settled, tag_or_dash};
+ghost use Rattle.unl_replay.specs.Replay.{answer_object, answer_op, answer_read, ask_line, ask_of_line, ask_start, metrics_line};
+ghost use Rattle.unl_replay.specs.Replay.{metrics_of_line, put_ask, put_metrics, settled, tag_or_dash};
 ghost use Rattle.unl_replay.specs.Steps.{Steps};
 
 use crate::ask::{Ask, ask_of};

@@ -6,7 +6,9 @@ ghost use Rattle.unl_core.specs.Tag.{with_epoch};
 ghost use Rattle.unl_delta.specs.Batch.{verdict_of};
 ghost use Rattle.unl_delta.specs.Installing.{place_of};
 ghost use Rattle.unl_delta.specs.Valid.{IsValidBatch};
-ghost use Rattle.unl_replay.specs.Replay.{batch_of_line, environment_in, feed_of_line, judged, judged_as, number_in, put_batch, revision_at, revision_text, put_tokens, same_line, tokens_line, tokens_of_line, verdict_line, word_of};
+ghost use Rattle.unl_replay.specs.Replay.{batch_of_line, environment_in, feed_of_line, judged, judged_as, number_in, put_batch};
+ghost use Rattle.unl_replay.specs.Replay.{revision_at, revision_text, put_tokens, same_line, tokens_line, tokens_of_line, verdict_line};
+ghost use Rattle.unl_replay.specs.Replay.{word_of};
 ghost use Rattle.unl_replay.specs.Refusals.{Gives};
 ghost use Rattle.unl_replay.specs.Steps.{Steps};
 
@@ -126,7 +128,8 @@ fn judge(
     requires room { desk.old.front < 2 ^ 64 - 1 }
     requires slot { slot < length desk.old.places }
     requires batch { IsValidBatch batch.now }
-    ensures given { Steps result desk.new (Ok (judged number slot batch.now desk.old (verdict_of (place_of (installed_by desk.old) slot) batch.now))) }
+    ensures given { Steps result desk.new
+        (Ok (judged number slot batch.now desk.old (verdict_of (place_of (installed_by desk.old) slot) batch.now))) }
     ensures front { desk.new.front ≤ desk.old.front + 1 }
 {
     let verdict = take_batch(alloc, desk, slot, batch)?;

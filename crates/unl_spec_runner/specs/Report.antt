@@ -55,7 +55,8 @@ pass_line number description = codes "pass " ++ (decimal number ++ (codes " " ++
 -- the line of a test that failed
 unfoldable pub fail_line : ℕ → List ℕ → List ℕ → List ℕ → List ℕ
 fail_line number description expected given =
-    codes "fail " ++ (decimal number ++ (codes " " ++ (description ++ (codes " expected " ++ (expected ++ (codes " given " ++ (given ++ codes "\n")))))))
+    codes "fail " ++ (decimal number
+    ++ (codes " " ++ (description ++ (codes " expected " ++ (expected ++ (codes " given " ++ (given ++ codes "\n")))))))
 
 -- the line of a test that was given this
 unfoldable pub line_of : ℕ → Test → Expected → List ℕ

@@ -8,7 +8,9 @@ ghost use Rattle.unl_documents.specs.Limits.{Anything};
 ghost use Rattle.unl_context.specs.Json.{json_context};
 ghost use Rattle.unl_documents.specs.Reading.{Gives};
 ghost use Rattle.unl_spec_runner.specs.declared.expected.Expected.{Expected};
-ghost use Rattle.unl_spec_runner.specs.TestFile.{IsValidFile, at_context, context_fault, context_in, expected_result, expected_variant, expected_variant_of, feature_enabled_in, file_alone, file_of, files_in, files_of, test_of};
+ghost use Rattle.unl_spec_runner.specs.TestFile.{IsValidFile, at_context, context_fault, context_in, expected_result, expected_variant};
+ghost use Rattle.unl_spec_runner.specs.TestFile.{expected_variant_of, feature_enabled_in, file_alone, file_of, files_in, files_of};
+ghost use Rattle.unl_spec_runner.specs.TestFile.{test_of};
 
 use crate::expected::{Expected, ExpectedVariant};
 use serde_json::{Map, Value};

@@ -2,7 +2,8 @@
 ghost use Rattle.std.specs.Prelude.{◌≡◌, false, IfOk, string_bytes, option_map};
 ghost use Rattle.serde_json.specs.View.{view};
 ghost use Rattle.serde_json.specs.Written.{compact_text, has_float};
-ghost use Rattle.unl_spec_runner.specs.Expected.{given_as, variant_given, agrees, variants_agree, payloads_agree, options_agree, variant_data, expected_data, expected_text};
+ghost use Rattle.unl_spec_runner.specs.Expected.{given_as, variant_given, agrees, variants_agree, payloads_agree, options_agree};
+ghost use Rattle.unl_spec_runner.specs.Expected.{variant_data, expected_data, expected_text};
 
 use serde_json::{Map, Value};
 use std::alloc::Global;

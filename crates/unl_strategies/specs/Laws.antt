@@ -4,7 +4,8 @@ use Rattle.unl_strategies.specs.Rollout.{is_rolled_out}
 
 -- whom a percentage takes in, each greater one takes in too
 abbrev pub RolloutsGrow : Type 0
-RolloutsGrow = (percent more : ℕ) (group id : List ℕ) → percent ≤ more → is_rolled_out percent group id ≡ true → is_rolled_out more group id ≡ true
+RolloutsGrow =
+    (percent more : ℕ) (group id : List ℕ) → percent ≤ more → is_rolled_out percent group id ≡ true → is_rolled_out more group id ≡ true
 
 -- a percentage of 100 or more takes in everybody
 abbrev pub FullRolloutsTakeAll : Type 0

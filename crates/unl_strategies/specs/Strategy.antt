@@ -82,8 +82,10 @@ rule_holds s feature index context moment =
     if bytes_eq s.name (codes "gradualRolloutSessionId") then is_field_rolled_out (codes "sessionId") s.parameters context else (
     if bytes_eq s.name (codes "gradualRolloutRandom") then is_randomly_rolled_out s.parameters (random_at feature index moment) else (
     if bytes_eq s.name (codes "remoteAddress") then is_address_listed s.parameters context else (
-    if bytes_eq s.name (codes "applicationHostname") then is_host_listed (parameter_or [] (codes "hostNames") s.parameters) moment.host else (
-    if bytes_eq s.name (codes "flexibleRollout") then is_flexibly_rolled_out s.parameters feature (random_at feature index moment) context else
+    if bytes_eq s.name (codes "applicationHostname") then is_host_listed (parameter_or [] (codes "hostNames") s.parameters) moment.host
+    else (
+    if bytes_eq s.name (codes "flexibleRollout")
+    then is_flexibly_rolled_out s.parameters feature (random_at feature index moment) context else
     false)))))))
 
 -- there is a segment of the id, and all its constraints hold

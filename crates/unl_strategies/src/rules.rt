@@ -3,7 +3,10 @@ ghost use Rattle.std.specs.Prelude.{◌≡◌, IfOk, []};
 ghost use Rattle.std.specs.Fmt.{decimal};
 ghost use Rattle.unl_strategies.specs.Percent.{percent_of as percent_in};
 ghost use Rattle.unl_strategies.specs.Random.{random_id as id_number};
-ghost use Rattle.unl_strategies.specs.Strategy.{parameter_or as value_or, random_at as number_at, is_user_listed as user_listed, is_address_listed as address_listed, is_field_rolled_out as field_rolled_out, is_randomly_rolled_out as randomly_rolled_out, is_flexibly_rolled_out as flexibly_rolled_out, rule_holds};
+ghost use Rattle.unl_strategies.specs.Strategy.{parameter_or as value_or, random_at as number_at, is_user_listed as user_listed};
+ghost use Rattle.unl_strategies.specs.Strategy.{is_address_listed as address_listed, is_field_rolled_out as field_rolled_out};
+ghost use Rattle.unl_strategies.specs.Strategy.{is_randomly_rolled_out as randomly_rolled_out};
+ghost use Rattle.unl_strategies.specs.Strategy.{is_flexibly_rolled_out as flexibly_rolled_out, rule_holds};
 
 use crate::ids::id_by;
 use crate::lists::{is_host_listed, is_in_nets, is_listed};

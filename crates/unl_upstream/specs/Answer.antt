@@ -54,7 +54,8 @@ by_body up (Err fault) = unchanged up (refusal 400 (codes "BadBody"))
 -- a command may be given by who shows the secret
 abbrev pub by_token : UpstreamState → Request → Option (List ℕ) → Answered
 by_token up q None = unchanged up (refusal 401 (codes "NoToken"))
-by_token up q (Some token) = if bytes_eq token up.secret then by_body up (command_in q.body) else unchanged up (refusal 403 (codes "UnknownToken"))
+by_token up q (Some token) =
+    if bytes_eq token up.secret then by_body up (command_in q.body) else unchanged up (refusal 403 (codes "UnknownToken"))
 
 -- a request at the route of commands
 abbrev pub by_command : UpstreamState → Request → Answered

@@ -32,7 +32,8 @@ impl Upstream {
     /// Want of memory. The upstream is then as before.
     #[tactic(auto, unfolding(crate::specs::Answer::upstream_answer))]
     pub fn answer(&mut self, alloc: Global, request: &Request, draw: &Draw) -> Result<Reply, Memory>
-        ensures answer { IfOk result (λ reply. upstream_answer self.old request.now draw.entry.now ≡ record { reply = reply; up = self.new }) }
+        ensures answer { IfOk result (λ reply. upstream_answer self.old request.now draw.entry.now
+            ≡ record { reply = reply; up = self.new }) }
         ensures same { OnErr result (self.new ≡ self.old) }
     {
         if names_commands(alloc, request.target.as_slice())? {

@@ -6,7 +6,8 @@ ghost use Rattle.unl_documents.specs.Results.{Gives};
 ghost use Rattle.unl_documents.specs.Valid.{IsValidFeature, IsValidSegment};
 ghost use Rattle.unl_upstream.specs.declared.refusal.CommandRefusal.TheVariants.{Memory as memory};
 ghost use Rattle.unl_upstream.specs.Command.{IsValidCommand};
-ghost use Rattle.unl_upstream.specs.Upstream.{IsNext, event_of, feature_put, feature_removed, has_feature, has_segment, is_named, number_after, segment_put, segment_removed};
+ghost use Rattle.unl_upstream.specs.Upstream.{IsNext, event_of, feature_put, feature_removed, has_feature, has_segment, is_named};
+ghost use Rattle.unl_upstream.specs.Upstream.{number_after, segment_put, segment_removed};
 
 use crate::command::Command;
 use crate::refusal::CommandRefusal;

@@ -1,5 +1,6 @@
 //! Links that a door hands out, served one after another.
-ghost use Rattle.std.specs.Prelude.{◌≡◌, ◌<◌, ◌≤◌, ◌+◌, [], Some, ℕ, List, true, IfOk, IfSome, OnOk, IsErrOf, Option, drop, option_map, is_none};
+ghost use Rattle.std.specs.Prelude.{◌≡◌, ◌<◌, ◌≤◌, ◌+◌, [], Some, ℕ, List, true, IfOk, IfSome, OnOk, IsErrOf, Option, drop, option_map};
+ghost use Rattle.std.specs.Prelude.{is_none};
 ghost use Rattle.unl_base.specs.Faults.{HasCause};
 ghost use Rattle.unl_upstream.specs.Hosting.{Hosts, HostsAll, HostsOne, LinkServed, ServesLink};
 
@@ -32,8 +33,22 @@ impl Upstream {
     ) -> Result<u64, Failed>
         requires { (D.state door.old).listening ≡ true }
         ensures hosts { HostsAll result
-            (record { up = self.old; coming = R.coming draws.old; given = (D.state door.old).given; back = (D.state door.old).back; links = (D.state door.old).links; returned = (D.state door.old).returned })
-            (record { up = self.new; coming = R.coming draws.new; given = (D.state door.new).given; back = (D.state door.new).back; links = (D.state door.new).links; returned = (D.state door.new).returned }) }
+            (record {
+              up = self.old;
+              coming = R.coming draws.old;
+              given = (D.state door.old).given;
+              back = (D.state door.old).back;
+              links = (D.state door.old).links;
+              returned = (D.state door.old).returned;
+            })
+            (record {
+              up = self.new;
+              coming = R.coming draws.new;
+              given = (D.state door.new).given;
+              back = (D.state door.new).back;
+              links = (D.state door.new).links;
+              returned = (D.state door.new).returned;
+            }) }
         ensures closed { OnOk result ((D.state door.new).closed ≡ true) }
         ensures over { OnOk result (IfSome (D.state door.new).links (λ links. links ≡ [])) }
         ensures listens { (D.state door.new).listening ≡ true }
@@ -58,8 +73,22 @@ impl Upstream {
     ) -> Result<Next, Failed>
         requires { (D.state door.old).listening ≡ true }
         ensures hosts { HostsOne result
-            (record { up = self.old; coming = R.coming draws.old; given = (D.state door.old).given; back = (D.state door.old).back; links = (D.state door.old).links; returned = (D.state door.old).returned })
-            (record { up = self.new; coming = R.coming draws.new; given = (D.state door.new).given; back = (D.state door.new).back; links = (D.state door.new).links; returned = (D.state door.new).returned }) }
+            (record {
+              up = self.old;
+              coming = R.coming draws.old;
+              given = (D.state door.old).given;
+              back = (D.state door.old).back;
+              links = (D.state door.old).links;
+              returned = (D.state door.old).returned;
+            })
+            (record {
+              up = self.new;
+              coming = R.coming draws.new;
+              given = (D.state door.new).given;
+              back = (D.state door.new).back;
+              links = (D.state door.new).links;
+              returned = (D.state door.new).returned;
+            }) }
         ensures closed { IfOk result (λ next. next ≡ Next.Closed → (D.state door.new).closed ≡ true) }
         ensures over { IfOk result (λ next. next ≡ Next.Closed → IfSome (D.state door.new).links (λ links. links ≡ [])) }
         ensures listens { (D.state door.new).listening ≡ true }
@@ -84,7 +113,8 @@ impl Upstream {
     )
         requires { (D.state door.old).back < (D.state door.old).given }
         ensures served { (bytes : List ℕ) → D.L.Source.left link ≡ Some bytes → D.L.Sink.sent link ≡ Some [] → D.L.Source.faults link ≡ 0
-            → ServesLink self.old (R.coming draws.old) bytes (D.state door.old).returned self.new (R.coming draws.new) (D.state door.new).returned }
+            → ServesLink self.old (R.coming draws.old) bytes (D.state door.old).returned
+            self.new (R.coming draws.new) (D.state door.new).returned }
         ensures untold { (D.state door.old).returned ≡ None → (D.state door.new).returned ≡ None }
         ensures same_listening { (D.state door.new).listening ≡ (D.state door.old).listening }
         ensures same_given { (D.state door.new).given ≡ (D.state door.old).given }

@@ -9,7 +9,8 @@ ghost use Rattle.unl_upstream.specs.Upstream.{UpstreamState, commanded};
 ghost use Rattle.unl_upstream.specs.Answer.{upstream_answer};
 ghost use Rattle.unl_upstream.specs.Requests.{command_given};
 ghost use Rattle.unl_upstream.specs.History.{accepted, after_command, after_commands, history_of};
-ghost use Rattle.unl_upstream.specs.Laws.{EnvironmentsStay, LinesGiveCommands, LinksAddAccepted, LinksNameCommands, VersionsStand, VersionsStandInLines};
+ghost use Rattle.unl_upstream.specs.Laws.{EnvironmentsStay, LinesGiveCommands, LinksAddAccepted, LinksNameCommands, VersionsStand};
+ghost use Rattle.unl_upstream.specs.Laws.{VersionsStandInLines};
 
 /// After any commands each environment's version stands for the history of those that were accepted for it, its number is
 /// their count, and its epoch is the one that the upstream began with. So it stands in the line of that one history.
@@ -26,14 +27,17 @@ pub fn environments_stay()
 
 /// A refused command changes nothing, so the accepted ones alone lead to the same, and are accepted.
 pub fn refused_changes_nothing()
-    ensures one { (command : Command) (up : UpstreamState) (refusal : CommandRefusal) → commanded command up ≡ Err refusal → after_command command up ≡ up }
-    ensures others { (commands : List Command) (up : UpstreamState) → after_commands (accepted commands up) up ≡ after_commands commands up }
+    ensures one { (command : Command) (up : UpstreamState) (refusal : CommandRefusal) → commanded command up ≡ Err refusal
+        → after_command command up ≡ up }
+    ensures others { (commands : List Command) (up : UpstreamState) → after_commands (accepted commands up) up
+        ≡ after_commands commands up }
     ensures again { (commands : List Command) (up : UpstreamState) → accepted (accepted commands up) up ≡ accepted commands up }
 {}
 
 /// An answer leads where the command that the request gives does, if it gives one, and no command changes the secret.
 pub fn requests_give_commands()
-    ensures one { (up : UpstreamState) (q : Request) (draw : Draw) → (upstream_answer up q draw).up ≡ after_commands (option_to_list (command_given up.secret q)) up }
+    ensures one { (up : UpstreamState) (q : Request) (draw : Draw) → (upstream_answer up q draw).up
+        ≡ after_commands (option_to_list (command_given up.secret q)) up }
     ensures secret { (command : Command) (up : UpstreamState) → (after_command command up).secret ≡ up.secret }
 {}
 

@@ -3,7 +3,8 @@ ghost use Rattle.std.specs.Prelude.{◌≡◌, IfOk};
 ghost use Rattle.serde_json.specs.View.{view};
 ghost use Rattle.unl_documents.specs.Kinds.{document};
 ghost use Rattle.unl_documents.specs.Reading.{Gives};
-ghost use Rattle.unl_upstream.specs.Command.{IsValidCommand, command_by, command_in, command_of, put_feature_of, put_segment_of, remove_feature_of, remove_segment_of};
+ghost use Rattle.unl_upstream.specs.Command.{IsValidCommand, command_by, command_in, command_of, put_feature_of, put_segment_of};
+ghost use Rattle.unl_upstream.specs.Command.{remove_feature_of, remove_segment_of};
 
 use crate::command::Command;
 use serde_json::Value;

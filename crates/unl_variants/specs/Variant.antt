@@ -1,5 +1,7 @@
--- Which of a list of variants is chosen, as the Unleash reference on variants says it. The seed, and that the first variant's stickiness tells the id, are this project's choice.
-use Rattle.std.specs.Prelude.{◌≡◌, ℕ, ◌+◌, ◌<◌, ◌≤◌, List, [], ◌∷◌, codes, length, take, All, Bool, true, false, ◌||◌, ◌==◌, nat_le, position, MatchBool, Option, Some, None, unwrap_or, decimal, if◌then◌else◌}
+-- Which of a list of variants is chosen, as the Unleash reference on variants says it. The seed, and that the first
+-- variant's stickiness tells the id, are this project's choice.
+use Rattle.std.specs.Prelude.{◌≡◌, ℕ, ◌+◌, ◌<◌, ◌≤◌, List, [], ◌∷◌, codes, length, take, All, Bool, true, false, ◌||◌, ◌==◌, nat_le}
+use Rattle.std.specs.Prelude.{position, MatchBool, Option, Some, None, unwrap_or, decimal, if◌then◌else◌}
 use Rattle.std.specs.List.{sum_by, list_any, HoldsAt, AllWithin}
 use Rattle.std.specs.Option.{option_or, option_map_or}
 use Rattle.std.specs.Str.{bytes_eq}

@@ -33,5 +33,7 @@ pub record IsUpstream (port : ℕ) (secret : Text) (environments client_tokens f
 abbrev pub IsInRange : Words → Type 0
 IsInRange Replay = ⊤
 IsInRange (Check now word) = now ≤ 100000000000000
-IsInRange (Edge port upstream upstream_tokens tokens host workers interval connections delta) = IsEdge port upstream upstream_tokens tokens host workers interval
-IsInRange (Upstream port secret environments client_tokens frontend_tokens connections epoch) = IsUpstream port secret environments client_tokens frontend_tokens
+IsInRange (Edge port upstream upstream_tokens tokens host workers interval connections delta) =
+    IsEdge port upstream upstream_tokens tokens host workers interval
+IsInRange (Upstream port secret environments client_tokens frontend_tokens connections epoch) =
+    IsUpstream port secret environments client_tokens frontend_tokens

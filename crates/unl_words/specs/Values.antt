@@ -1,5 +1,6 @@
 -- What the values of options are read as: numbers and texts.
-use Rattle.std.specs.Prelude.{◌&&◌, ◌==◌, not, is_ok, ℕ, Bool, true, false, length, nat_le, nat_lt, codes, if◌then◌else◌, Option, Result, Ok, Err, unwrap_or}
+use Rattle.std.specs.Prelude.{◌&&◌, ◌==◌, not, is_ok, ℕ, Bool, true, false, length, nat_le, nat_lt, codes, if◌then◌else◌, Option, Result}
+use Rattle.std.specs.Prelude.{Ok, Err, unwrap_or}
 use Rattle.std.specs.List.{list_all}
 use Rattle.std.specs.Option.{option_map_or}
 use Rattle.std.specs.Char.{is_ascii_digit}

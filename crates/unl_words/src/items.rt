@@ -3,7 +3,8 @@ ghost use Rattle.std.specs.Prelude.{◌≡◌, ◌++◌, true, IfOk, option_copi
 ghost use Rattle.std.specs.List.{list_any};
 ghost use Rattle.std.specs.Str.{bytes_eq};
 ghost use Rattle.unl_documents.specs.Results.{Gives};
-ghost use Rattle.unl_words.specs.Lists.{are_apart, are_different, are_environments, are_own_tokens, are_tokens, are_upstream_tokens, fit_one_book, has_count, items_of};
+ghost use Rattle.unl_words.specs.Lists.{are_apart, are_different, are_environments, are_own_tokens, are_tokens, are_upstream_tokens};
+ghost use Rattle.unl_words.specs.Lists.{fit_one_book, has_count, items_of};
 ghost use Rattle.unl_words.specs.Values.{or_empty, passed, required};
 ghost use Rattle.unl_words.specs.declared.refusal.WordsRefusal.TheVariants.{Memory as memory};
 

@@ -4,7 +4,8 @@ ghost use Rattle.clap.specs.Words.{found_of, rows_of};
 ghost use Rattle.unl_documents.specs.Results.{Gives};
 ghost use Rattle.unl_words.specs.Ranges.{IsInRange};
 ghost use Rattle.unl_words.specs.Words.{AnswersTaken, Command, asked_of, asks_check, asks_edge, asks_upstream, command_of, words_of};
-ghost use Rattle.unl_words.specs.Words.{check as check_command, edge as edge_command, replay as replay_command, upstream as upstream_command};
+ghost use Rattle.unl_words.specs.Words.{check as check_command, edge as edge_command, replay as replay_command};
+ghost use Rattle.unl_words.specs.Words.{upstream as upstream_command};
 ghost use Rattle.unl_words.specs.declared.refusal.WordsRefusal.TheVariants.{Memory};
 
 use crate::number::number_or;

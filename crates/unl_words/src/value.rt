@@ -4,7 +4,8 @@ ghost use Rattle.std.specs.List.{list_all};
 ghost use Rattle.std.specs.Path.{rsplit_once};
 ghost use Rattle.clap.specs.Words.{first_of, found_of, rows_of};
 ghost use Rattle.unl_documents.specs.Results.{Gives};
-ghost use Rattle.unl_words.specs.Values.{address_of, goes_on, is_address, is_line, is_secret, line_of, mode_or_delta, mode_of, or_empty, passed, required, secret_of};
+ghost use Rattle.unl_words.specs.Values.{address_of, goes_on, is_address, is_line, is_secret, line_of, mode_or_delta, mode_of, or_empty};
+ghost use Rattle.unl_words.specs.Values.{passed, required, secret_of};
 ghost use Rattle.unl_words.specs.declared.refusal.WordsRefusal.TheVariants.{Memory};
 
 use crate::WordsRefusal;
