@@ -53,19 +53,15 @@ fn verdict_at(alloc: Global, number: Option<u64>, held: bool, text: &str) -> Opt
 #[test]
 fn a_place_takes_what_is_next(rt: HostRuntime) {
     let alloc = rt.alloc();
-    let nothing = "{\"after\":3,\"events\":[]}";
-    let all_at_2 = "{\"events\":[{\"type\":\"hydration\",\"eventId\":2}]}";
-    let all_at_3 = "{\"events\":[{\"type\":\"hydration\",\"eventId\":3}]}";
+    let nothing = r#"{"after":3,"events":[]}"#;
+    let all_at_2 = r#"{"events":[{"type":"hydration","eventId":2}]}"#;
+    let all_at_3 = r#"{"events":[{"type":"hydration","eventId":3}]}"#;
     let all_at_2_and_4 =
-        "{\"events\":[{\"type\":\"hydration\",\"eventId\":2},{\"type\":\"segment-removed\",\"eventId\":4,\"segmentId\":1}]}";
-    let told_3 =
-        "{\"after\":1,\"events\":[{\"type\":\"segment-removed\",\"eventId\":3,\"segmentId\":1}]}";
-    let next_4 =
-        "{\"after\":3,\"events\":[{\"type\":\"segment-removed\",\"eventId\":4,\"segmentId\":1}]}";
-    let next_7 =
-        "{\"after\":5,\"events\":[{\"type\":\"segment-removed\",\"eventId\":7,\"segmentId\":1}]}";
-    let after_nothing =
-        "{\"events\":[{\"type\":\"segment-removed\",\"eventId\":4,\"segmentId\":1}]}";
+        r#"{"events":[{"type":"hydration","eventId":2},{"type":"segment-removed","eventId":4,"segmentId":1}]}"#;
+    let told_3 = r#"{"after":1,"events":[{"type":"segment-removed","eventId":3,"segmentId":1}]}"#;
+    let next_4 = r#"{"after":3,"events":[{"type":"segment-removed","eventId":4,"segmentId":1}]}"#;
+    let next_7 = r#"{"after":5,"events":[{"type":"segment-removed","eventId":7,"segmentId":1}]}"#;
+    let after_nothing = r#"{"events":[{"type":"segment-removed","eventId":4,"segmentId":1}]}"#;
     let table = [
         (Some(3), true, nothing, Verdict::Repeat),
         (None, false, all_at_2, Verdict::Apply),
@@ -97,31 +93,35 @@ fn bad_batches_are_named(rt: HostRuntime) {
     let table = [
         ("{", BadBatch::NotJson),
         ("[]", BadBatch::NotJson),
-        ("{\"events\":null}", BadBatch::NotJson),
-        ("{\"after\":-1,\"events\":[7]}", BadBatch::NotJson),
-        ("{\"after\":1.5,\"events\":[]}", BadBatch::NotJson),
-        ("{\"epoch\":-1,\"events\":[7]}", BadBatch::NotJson),
-        ("{\"epoch\":1.5,\"events\":[]}", BadBatch::NotJson),
-        ("{\"epoch\":\"1\",\"events\":[]}", BadBatch::NotJson),
-        ("{\"events\":[7]}", BadBatch::BadEvent(0)),
+        (r#"{"events":null}"#, BadBatch::NotJson),
+        (r#"{"after":-1,"events":[7]}"#, BadBatch::NotJson),
+        (r#"{"after":1.5,"events":[]}"#, BadBatch::NotJson),
+        (r#"{"epoch":-1,"events":[7]}"#, BadBatch::NotJson),
+        (r#"{"epoch":1.5,"events":[]}"#, BadBatch::NotJson),
+        (r#"{"epoch":"1","events":[]}"#, BadBatch::NotJson),
+        (r#"{"events":[7]}"#, BadBatch::BadEvent(0)),
         (
-            "{\"events\":[{\"type\":\"feature-moved\",\"eventId\":1}]}",
+            r#"{"events":[{"type":"feature-moved","eventId":1}]}"#,
             BadBatch::BadEvent(0),
         ),
         (
-            "{\"events\":[{\"type\":\"segment-removed\",\"eventId\":1,\"segmentId\":1},{\"type\":\"segment-removed\",\"eventId\":2}]}",
+            r#"{"events":[{"type":"segment-removed","eventId":1,"segmentId":1},{"type":"segment-removed","eventId":2}]}"#,
             BadBatch::BadEvent(1),
         ),
         (
-            "{\"events\":[{\"type\":\"hydration\",\"eventId\":1},{\"type\":\"hydration\",\"eventId\":0,\"segments\":[{}]}]}",
+            r#"{"events":[{"type":"hydration","eventId":1},{"type":"hydration","eventId":0,"segments":[{}]}]}"#,
             BadBatch::BadEvent(1),
         ),
         (
-            "{\"events\":[{\"type\":\"hydration\",\"eventId\":1},{\"type\":\"hydration\",\"eventId\":0}]}",
+            r#"{"events":[{"type":"hydration","eventId":1},{"type":"hydration","eventId":0}]}"#,
             BadBatch::HydrationNotFirst(1),
         ),
         (
-            "{\"after\":7,\"events\":[{\"type\":\"segment-removed\",\"eventId\":8,\"segmentId\":1},{\"type\":\"segment-removed\",\"eventId\":9,\"segmentId\":1},{\"type\":\"segment-removed\",\"eventId\":8,\"segmentId\":1},{}]}",
+            concat!(
+                r#"{"after":7,"events":[{"type":"segment-removed","eventId":8,"segmentId":1},"#,
+                r#"{"type":"segment-removed","eventId":9,"segmentId":1},{"type":"segment-removed","eventId":8,"#,
+                r#""segmentId":1},{}]}"#,
+            ),
             BadBatch::NotRising(2),
         ),
     ];
@@ -147,21 +147,23 @@ fn answered(alloc: Global, place: &Place, since: Option<u64>, project: &str) -> 
     }
 }
 
-const AT_6: &str = "{\"events\":[{\"type\":\"hydration\",\"eventId\":6}]}";
+const AT_6: &str = r#"{"events":[{"type":"hydration","eventId":6}]}"#;
 
-const AT_9: &str =
-    "{\"after\":6,\"events\":[{\"type\":\"segment-removed\",\"eventId\":7,\"segmentId\":1},{\"type\":\"segment-removed\",\"eventId\":9,\"segmentId\":2}]}";
+const AT_9: &str = concat!(
+    r#"{"after":6,"events":[{"type":"segment-removed","eventId":7,"segmentId":1},{"type":"segment-removed","#,
+    r#""eventId":9,"segmentId":2}]}"#,
+);
 
 #[test]
 fn what_is_new_is_answered(rt: HostRuntime) {
     let alloc = rt.alloc();
     let place = place_after(alloc, &[AT_6, AT_9]).expect(&rt, "both apply");
-    let all =
-        "{\"events\":[{\"eventId\":9,\"features\":[],\"segments\":[],\"type\":\"hydration\"}]}";
-    let both =
-        "{\"after\":6,\"events\":[{\"eventId\":7,\"segmentId\":1,\"type\":\"segment-removed\"},{\"eventId\":9,\"segmentId\":2,\"type\":\"segment-removed\"}]}";
-    let second =
-        "{\"after\":8,\"events\":[{\"eventId\":9,\"segmentId\":2,\"type\":\"segment-removed\"}]}";
+    let all = r#"{"events":[{"eventId":9,"features":[],"segments":[],"type":"hydration"}]}"#;
+    let both = concat!(
+        r#"{"after":6,"events":[{"eventId":7,"segmentId":1,"type":"segment-removed"},{"eventId":9,"#,
+        r#""segmentId":2,"type":"segment-removed"}]}"#,
+    );
+    let second = r#"{"after":8,"events":[{"eventId":9,"segmentId":2,"type":"segment-removed"}]}"#;
     let table = [
         (Some(5), all),
         (Some(10), all),
@@ -177,10 +179,10 @@ fn what_is_new_is_answered(rt: HostRuntime) {
 }
 
 const M_IN_A: &str =
-    "{\"events\":[{\"type\":\"hydration\",\"eventId\":1,\"features\":[{\"name\":\"m\",\"project\":\"A\",\"enabled\":true}]}]}";
+    r#"{"events":[{"type":"hydration","eventId":1,"features":[{"name":"m","project":"A","enabled":true}]}]}"#;
 
 const M_IN_B: &str =
-    "{\"after\":1,\"events\":[{\"type\":\"feature-updated\",\"eventId\":2,\"feature\":{\"name\":\"m\",\"project\":\"B\",\"enabled\":true}}]}";
+    r#"{"after":1,"events":[{"type":"feature-updated","eventId":2,"feature":{"name":"m","project":"B","enabled":true}}]}"#;
 
 #[test]
 fn a_moved_feature_is_shown(rt: HostRuntime) {
@@ -189,11 +191,15 @@ fn a_moved_feature_is_shown(rt: HostRuntime) {
     let table = [
         (
             "A",
-            "{\"after\":1,\"events\":[{\"eventId\":2,\"featureName\":\"m\",\"project\":\"A\",\"type\":\"feature-removed\"}]}",
+            r#"{"after":1,"events":[{"eventId":2,"featureName":"m","project":"A","type":"feature-removed"}]}"#,
         ),
         (
             "B",
-            "{\"after\":1,\"events\":[{\"eventId\":2,\"feature\":{\"dependencies\":[],\"enabled\":true,\"impressionData\":false,\"name\":\"m\",\"project\":\"B\",\"stale\":false,\"strategies\":[],\"type\":\"release\",\"variants\":[]},\"type\":\"feature-updated\"}]}",
+            concat!(
+                r#"{"after":1,"events":[{"eventId":2,"feature":{"dependencies":[],"enabled":true,"#,
+                r#""impressionData":false,"name":"m","project":"B","stale":false,"strategies":[],"type":"release","#,
+                r#""variants":[]},"type":"feature-updated"}]}"#,
+            ),
         ),
         ("C", "same"),
     ];
@@ -230,13 +236,12 @@ fn revision(place: &Place) -> Option<(u64, u64)> {
 fn a_newer_epoch_comes_by_a_hydration(rt: HostRuntime) {
     let alloc = rt.alloc();
     let next_10 =
-        "{\"epoch\":1,\"after\":9,\"events\":[{\"type\":\"segment-removed\",\"eventId\":10,\"segmentId\":1}]}";
-    let all_at_2 = "{\"epoch\":1,\"events\":[{\"type\":\"hydration\",\"eventId\":2}]}";
-    let old_all_at_12 = "{\"events\":[{\"type\":\"hydration\",\"eventId\":12}]}";
-    let old_3 =
-        "{\"after\":2,\"events\":[{\"type\":\"segment-removed\",\"eventId\":3,\"segmentId\":1}]}";
+        r#"{"epoch":1,"after":9,"events":[{"type":"segment-removed","eventId":10,"segmentId":1}]}"#;
+    let all_at_2 = r#"{"epoch":1,"events":[{"type":"hydration","eventId":2}]}"#;
+    let old_all_at_12 = r#"{"events":[{"type":"hydration","eventId":12}]}"#;
+    let old_3 = r#"{"after":2,"events":[{"type":"segment-removed","eventId":3,"segmentId":1}]}"#;
     let next_9 =
-        "{\"epoch\":1,\"after\":2,\"events\":[{\"type\":\"segment-removed\",\"eventId\":9,\"segmentId\":1}]}";
+        r#"{"epoch":1,"after":2,"events":[{"type":"segment-removed","eventId":9,"segmentId":1}]}"#;
     let table = [
         (next_10, Verdict::Gap, true, (0, 9)),
         (next_10, Verdict::Held, true, (0, 9)),
@@ -254,7 +259,7 @@ fn a_newer_epoch_comes_by_a_hydration(rt: HostRuntime) {
         place = after;
     }
     let news =
-        "{\"after\":2,\"epoch\":1,\"events\":[{\"eventId\":9,\"segmentId\":1,\"type\":\"segment-removed\"}]}";
+        r#"{"after":2,"epoch":1,"events":[{"eventId":9,"segmentId":1,"type":"segment-removed"}]}"#;
     let given = answered(alloc, &place, Some(2), "A").expect(&rt, "there is memory");
     assert!(rt; given.as_str() == news);
 }

@@ -25,11 +25,11 @@ const BODIES: [(&str, Result<Seen, BadReply>); 11] = [
     ("HTTP/1.0 404\n\nabc", Ok((404, None, "abc"))),
     (
         "\r\nHTTP/1.1 200 OK\r\nETag: \"a\"\r\netag: \"b\"\r\n\r\n",
-        Ok((200, Some("\"a\""), "")),
+        Ok((200, Some(r#""a""#), "")),
     ),
     (
         "HTTP/1.1 200 OK\r\nX: y\r\neTAG:  W/\"a b\" \r\n\r\nabc",
-        Ok((200, Some("W/\"a b\""), "abc")),
+        Ok((200, Some(r#"W/"a b""#), "abc")),
     ),
     ("HTTP/1.1 200 OK\r\nETag:\r\n\r\n", Ok((200, Some(""), ""))),
     (
@@ -243,12 +243,14 @@ fn requests(rt: HostRuntime) -> Result<(), Fail> {
         "/api/client/features",
         "edge",
         Some("*:dev.secret"),
-        Some(b"\"1\""),
+        Some(br#""1""#),
         b"",
     )?;
     assert_eq!(rt;
         text.as_slice(),
-        b"GET /api/client/features HTTP/1.0\r\nHost: edge\r\nAuthorization: *:dev.secret\r\nIf-None-Match: \"1\"\r\nConnection: close\r\n\r\n".as_slice()
+        b"GET /api/client/features HTTP/1.0\r\nHost: edge\r\nAuthorization: *:dev.secret\r\n\
+If-None-Match: \"1\"\r\nConnection: close\r\n\r\n"
+            .as_slice()
     );
     let text = write_request(
         alloc,
@@ -257,11 +259,13 @@ fn requests(rt: HostRuntime) -> Result<(), Fail> {
         "edge",
         None,
         None,
-        b"{\"tokens\":[]}",
+        br#"{"tokens":[]}"#,
     )?;
     assert_eq!(rt;
         text.as_slice(),
-        b"POST /edge/validate HTTP/1.0\r\nHost: edge\r\nContent-Type: application/json\r\nContent-Length: 13\r\nConnection: close\r\n\r\n{\"tokens\":[]}".as_slice()
+        b"POST /edge/validate HTTP/1.0\r\nHost: edge\r\nContent-Type: application/json\r\nContent-Length: 13\r\n\
+Connection: close\r\n\r\n{\"tokens\":[]}"
+            .as_slice()
     );
     Ok(())
 }

@@ -3,14 +3,20 @@ use std::alloc::Global;
 use std::test::Fail;
 use unl_documents::Field;
 
-const POSTED: &str =
-    "{\"appName\":\"shop\",\"bucket\":{\"start\":\"2024-01-01T10:05:00Z\",\"stop\":\"2024-01-01T10:06:00Z\",\"toggles\":{\"a\":{\"yes\":2,\"no\":1,\"variants\":{\"red\":2}}}}}";
+const POSTED: &str = concat!(
+    r#"{"appName":"shop","bucket":{"start":"2024-01-01T10:05:00Z","stop":"2024-01-01T10:06:00Z","#,
+    r#""toggles":{"a":{"yes":2,"no":1,"variants":{"red":2}}}}}"#,
+);
 
-const SENT: &str =
-    "{\"applications\":[],\"metrics\":[{\"appName\":\"shop\",\"environment\":\"dev\",\"featureName\":\"a\",\"no\":1,\"timestamp\":\"2024-01-01T10:00:00Z\",\"variants\":{\"red\":2},\"yes\":2}]}";
+const SENT: &str = concat!(
+    r#"{"applications":[],"metrics":[{"appName":"shop","environment":"dev","featureName":"a","no":1,"#,
+    r#""timestamp":"2024-01-01T10:00:00Z","variants":{"red":2},"yes":2}]}"#,
+);
 
-const TWICE: &str =
-    "{\"applications\":[],\"metrics\":[{\"appName\":\"shop\",\"environment\":\"dev\",\"featureName\":\"a\",\"no\":2,\"timestamp\":\"2024-01-01T10:00:00Z\",\"variants\":{\"red\":4},\"yes\":4}]}";
+const TWICE: &str = concat!(
+    r#"{"applications":[],"metrics":[{"appName":"shop","environment":"dev","featureName":"a","no":2,"#,
+    r#""timestamp":"2024-01-01T10:00:00Z","variants":{"red":4},"yes":4}]}"#,
+);
 
 /// The text of the bulk report of an environment, and how many keys it has.
 fn bulk_text(alloc: Global, book: &MetricsBook, environment: &str) -> Option<(String, usize)> {
@@ -59,19 +65,19 @@ fn faults_of_an_app_are_named(rt: HostRuntime) {
     let table = [
         ("{", BadReport::NotJson),
         ("[]", BadReport::NotJson),
-        ("{\"bucket\":7}", BadReport::Missing(Field::AppName)),
-        ("{\"appName\":\"\"}", BadReport::Missing(Field::AppName)),
-        ("{\"appName\":7}", BadReport::WrongKind(Field::AppName)),
+        (r#"{"bucket":7}"#, BadReport::Missing(Field::AppName)),
+        (r#"{"appName":""}"#, BadReport::Missing(Field::AppName)),
+        (r#"{"appName":7}"#, BadReport::WrongKind(Field::AppName)),
         (
-            "{\"appName\":\"a\",\"bucket\":null}",
+            r#"{"appName":"a","bucket":null}"#,
             BadReport::Missing(Field::Bucket),
         ),
         (
-            "{\"appName\":\"a\",\"bucket\":[]}",
+            r#"{"appName":"a","bucket":[]}"#,
             BadReport::WrongKind(Field::Bucket),
         ),
         (
-            "{\"appName\":\"a\",\"bucket\":{\"toggles\":7}}",
+            r#"{"appName":"a","bucket":{"toggles":7}}"#,
             BadReport::Missing(Field::Start),
         ),
     ];
@@ -82,9 +88,7 @@ fn faults_of_an_app_are_named(rt: HostRuntime) {
 
 /// What is wrong with a report of one app in a bucket with these keys behind its start.
 fn fault_in_bucket(alloc: Global, start: &str, rest: &str) -> Option<BadReport> {
-    let text = format!(in alloc;
-        "{{\"appName\":\"a\",\"bucket\":{{\"start\":{start}{rest}}}}}"
-    ).ok()?;
+    let text = format!(in alloc; r#"{{"appName":"a","bucket":{{"start":{start}{rest}}}}}"#).ok()?;
     fault_of(alloc, text.as_str())
 }
 
@@ -93,17 +97,17 @@ fn faults_of_a_bucket_are_named(rt: HostRuntime) {
     let alloc = rt.alloc();
     let starts = [
         ("7", Some(BadReport::WrongKind(Field::Start))),
-        ("\"2024-01-01\"", Some(BadReport::WrongKind(Field::Start))),
+        (r#""2024-01-01""#, Some(BadReport::WrongKind(Field::Start))),
         (
-            "\"2024-01-01T10:00:00\"",
+            r#""2024-01-01T10:00:00""#,
             Some(BadReport::WrongKind(Field::Start)),
         ),
         (
-            "\"1969-12-31T23:59:59.999Z\"",
+            r#""1969-12-31T23:59:59.999Z""#,
             Some(BadReport::WrongKind(Field::Start)),
         ),
-        ("\"1970-01-01T00:00:00Z\"", None),
-        ("\"9999-12-30T22:00:00Z\"", None),
+        (r#""1970-01-01T00:00:00Z""#, None),
+        (r#""9999-12-30T22:00:00Z""#, None),
     ];
     for (start, fault) in starts {
         assert!(rt; fault_in_bucket(alloc, start, "") == fault, "{start}");
@@ -115,41 +119,41 @@ fn faults_of_toggles_are_named(rt: HostRuntime) {
     let alloc = rt.alloc();
     let toggles = [
         ("[]", BadReport::WrongKind(Field::Toggles)),
-        ("{\"a\":null}", BadReport::WrongKind(Field::Toggles)),
-        ("{\"a\":7}", BadReport::WrongKind(Field::Toggles)),
-        ("{\"\":7}", BadReport::Missing(Field::Toggles)),
+        (r#"{"a":null}"#, BadReport::WrongKind(Field::Toggles)),
+        (r#"{"a":7}"#, BadReport::WrongKind(Field::Toggles)),
+        (r#"{"":7}"#, BadReport::Missing(Field::Toggles)),
         (
-            "{\"b\":7,\"a\":{\"yes\":-1}}",
+            r#"{"b":7,"a":{"yes":-1}}"#,
             BadReport::WrongKind(Field::Yes),
         ),
         (
-            "{\"a\":{\"no\":1.0,\"yes\":true}}",
+            r#"{"a":{"no":1.0,"yes":true}}"#,
             BadReport::WrongKind(Field::Yes),
         ),
         (
-            "{\"a\":{\"no\":1e2,\"variants\":7}}",
+            r#"{"a":{"no":1e2,"variants":7}}"#,
             BadReport::WrongKind(Field::No),
         ),
         (
-            "{\"a\":{\"variants\":{\"v\":null}}}",
+            r#"{"a":{"variants":{"v":null}}}"#,
             BadReport::WrongKind(Field::Variants),
         ),
         (
-            "{\"a\":{\"variants\":{\"v\":\"1\"}}}",
+            r#"{"a":{"variants":{"v":"1"}}}"#,
             BadReport::WrongKind(Field::Variants),
         ),
         (
-            "{\"a\":{\"variants\":{\"\":null}}}",
+            r#"{"a":{"variants":{"":null}}}"#,
             BadReport::Missing(Field::Variants),
         ),
         (
-            "{\"a\":{\"variants\":[]}}",
+            r#"{"a":{"variants":[]}}"#,
             BadReport::WrongKind(Field::Variants),
         ),
     ];
     for (value, fault) in toggles {
-        let named = match format!(in alloc; ",\"toggles\":{value}") {
-            Ok(rest) => fault_in_bucket(alloc, "\"2024-01-01T10:05:00Z\"", rest.as_str()),
+        let named = match format!(in alloc; r#","toggles":{value}"#) {
+            Ok(rest) => fault_in_bucket(alloc, r#""2024-01-01T10:05:00Z""#, rest.as_str()),
             Err(_) => None,
         };
         assert!(rt; named == Some(fault), "{value}");
@@ -166,47 +170,51 @@ fn faults_of_bulk_reports_are_named(rt: HostRuntime) {
     let alloc = rt.alloc();
     let table = [
         ("7", BadReport::NotJson),
-        ("{\"applications\":7}", BadReport::Missing(Field::Metrics)),
-        ("{\"metrics\":{}}", BadReport::WrongKind(Field::Metrics)),
-        ("{\"metrics\":[{},7]}", BadReport::WrongKind(Field::Metrics)),
+        (r#"{"applications":7}"#, BadReport::Missing(Field::Metrics)),
+        (r#"{"metrics":{}}"#, BadReport::WrongKind(Field::Metrics)),
         (
-            "{\"metrics\":[{\"appName\":7}]}",
+            r#"{"metrics":[{},7]}"#,
+            BadReport::WrongKind(Field::Metrics),
+        ),
+        (
+            r#"{"metrics":[{"appName":7}]}"#,
             BadReport::Missing(Field::FeatureName),
         ),
         (
-            "{\"metrics\":[{\"featureName\":\"f\"}]}",
+            r#"{"metrics":[{"featureName":"f"}]}"#,
             BadReport::Missing(Field::AppName),
         ),
         (
-            "{\"metrics\":[{\"featureName\":\"f\",\"appName\":\"a\"}]}",
+            r#"{"metrics":[{"featureName":"f","appName":"a"}]}"#,
             BadReport::Missing(Field::Timestamp),
         ),
         (
-            "{\"metrics\":[{\"featureName\":\"f\",\"appName\":\"a\",\"timestamp\":\"x\"}]}",
+            r#"{"metrics":[{"featureName":"f","appName":"a","timestamp":"x"}]}"#,
             BadReport::WrongKind(Field::Timestamp),
         ),
         (
-            "{\"metrics\":[{\"featureName\":\"f\",\"appName\":\"a\",\"timestamp\":\"2024-01-01T10:05:00Z\",\"no\":-1}]}",
+            r#"{"metrics":[{"featureName":"f","appName":"a","timestamp":"2024-01-01T10:05:00Z","no":-1}]}"#,
             BadReport::WrongKind(Field::No),
         ),
     ];
     for (text, fault) in table {
         assert!(rt; bulk_fault_of(alloc, text) == Some(fault), "{text}");
     }
-    assert!(rt; bulk_fault_of(alloc, "{\"metrics\":[]}").is_none());
+    assert!(rt; bulk_fault_of(alloc, r#"{"metrics":[]}"#).is_none());
 }
 
 /// A bulk report of one entry, for a feature in the hour of an instant.
 fn entry_text(alloc: Global, feature: &str, timestamp: &str, counts: &str) -> Result<String, Fail> {
     Ok(format!(in alloc;
-        "{{\"metrics\":[{{\"featureName\":\"{feature}\",\"appName\":\"a\",\"timestamp\":\"{timestamp}\"{counts}}}]}}"
+        r#"{{"metrics":[{{"featureName":"{feature}","appName":"a","timestamp":"{timestamp}"{counts}}}]}}"#
     )?)
 }
 
 /// The bulk report of a book of one entry without counts.
 fn hour_sent(alloc: Global, timestamp: &str) -> Result<String, Fail> {
     Ok(format!(in alloc;
-        "{{\"applications\":[],\"metrics\":[{{\"appName\":\"a\",\"environment\":\"dev\",\"featureName\":\"f\",\"no\":0,\"timestamp\":\"{timestamp}\",\"variants\":{{}},\"yes\":0}}]}}"
+        "{{\"applications\":[],\"metrics\":[{{\"appName\":\"a\",\"environment\":\"dev\",\"featureName\":\"f\",\
+\"no\":0,\"timestamp\":\"{timestamp}\",\"variants\":{{}},\"yes\":0}}]}}"
     )?)
 }
 
@@ -238,20 +246,23 @@ fn hours_are_rounded_down(rt: HostRuntime) -> Result<(), Fail> {
 fn sums_end_at_the_greatest_number(rt: HostRuntime) -> Result<(), Fail> {
     let alloc = rt.alloc();
     let counts =
-        ",\"yes\":18446744073709551615,\"no\":18446744073709551614,\"variants\":{\"v\":9223372036854775808,\"w\":1}";
+        r#","yes":18446744073709551615,"no":18446744073709551614,"variants":{"v":9223372036854775808,"w":1}"#;
     let text = entry_text(alloc, "f", "2024-01-01T10:05:00Z", counts)?;
     let report = Report::read_bulk(alloc, text.as_bytes()).expect(&rt, "it is read");
     let mut book = MetricsBook::new(alloc);
     assert!(rt; book.add(alloc, &report, "dev").is_ok());
     assert!(rt; book.add(alloc, &report, "dev").is_ok());
-    let sent =
-        "{\"applications\":[],\"metrics\":[{\"appName\":\"a\",\"environment\":\"dev\",\"featureName\":\"f\",\"no\":18446744073709551615,\"timestamp\":\"2024-01-01T10:00:00Z\",\"variants\":{\"v\":18446744073709551615,\"w\":2},\"yes\":18446744073709551615}]}";
+    let sent = concat!(
+        r#"{"applications":[],"metrics":[{"appName":"a","environment":"dev","featureName":"f","#,
+        r#""no":18446744073709551615,"timestamp":"2024-01-01T10:00:00Z","variants":{"v":18446744073709551615,"#,
+        r#""w":2},"yes":18446744073709551615}]}"#,
+    );
     assert!(rt; sends(alloc, &book, "dev", sent, 1));
     Ok(())
 }
 
 /// The start of a bulk report's text up to its entries.
-const FRONT: &str = "{\"applications\":[],\"metrics\":[";
+const FRONT: &str = r#"{"applications":[],"metrics":["#;
 
 /// Adds an entry of a feature to the text of a bulk report.
 fn push_entry(
@@ -265,7 +276,8 @@ fn push_entry(
         text.push(',')?;
     }
     let entry = format!(in alloc;
-        "{{\"appName\":\"{app}\",\"environment\":\"dev\",\"featureName\":\"{feature}\",\"no\":0,\"timestamp\":\"2024-01-01T1{hour}:00:00Z\",\"variants\":{{}},\"yes\":1}}"
+        "{{\"appName\":\"{app}\",\"environment\":\"dev\",\"featureName\":\"{feature}\",\"no\":0,\
+\"timestamp\":\"2024-01-01T1{hour}:00:00Z\",\"variants\":{{}},\"yes\":1}}"
     )?;
     text.push_str(entry.as_str())?;
     Ok(())
@@ -326,13 +338,13 @@ fn keys_stand_in_their_order(rt: HostRuntime) -> Result<(), Fail> {
 fn with_toggles(alloc: Global, letter: &str, count: u32) -> Result<String, Fail> {
     let mut text = String::from_str(
         alloc,
-        "{\"appName\":\"a\",\"bucket\":{\"start\":\"2024-01-01T10:05:00Z\",\"toggles\":{",
+        r#"{"appName":"a","bucket":{"start":"2024-01-01T10:05:00Z","toggles":{"#,
     )?;
     for n in 0..count {
         if n > 0 {
             text.push(',')?;
         }
-        let toggle = format!(in alloc; "\"{letter}{n}\":{{}}")?;
+        let toggle = format!(in alloc; r#""{letter}{n}":{{}}"#)?;
         text.push_str(toggle.as_str())?;
     }
     text.push_str("}}}")?;
@@ -368,12 +380,12 @@ fn a_book_has_10_000_keys(rt: HostRuntime) -> Result<(), Fail> {
 
 /// The text of a bulk report of one entry with so many variants, whose names begin with a letter.
 fn with_variants(alloc: Global, letter: &str, count: u32) -> Result<String, Fail> {
-    let mut text = String::from_str(alloc, ",\"variants\":{")?;
+    let mut text = String::from_str(alloc, r#","variants":{"#)?;
     for n in 0..count {
         if n > 0 {
             text.push(',')?;
         }
-        let variant = format!(in alloc; "\"{letter}{n}\":1")?;
+        let variant = format!(in alloc; r#""{letter}{n}":1"#)?;
         text.push_str(variant.as_str())?;
     }
     text.push('}')?;

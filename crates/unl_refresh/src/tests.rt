@@ -40,13 +40,16 @@ const NO_FEED: &[u8] = b"HTTP/1.1 200 OK\r\n\r\n[]";
 const BOOK: &[u8] =
     b"HTTP/1.1 200 OK\r\n\r\n{\"tokens\":[{\"token\":\"A:dev.c\",\"type\":\"client\",\"projects\":[\"A\"]}]}";
 
-const WIDER_BOOK: &[u8] =
-    b"HTTP/1.1 200 OK\r\n\r\n{\"tokens\":[{\"token\":\"A:dev.c\",\"type\":\"client\",\"projects\":[\"A\",\"B\"]},{\"token\":\"A:dev.d\",\"type\":\"client\",\"projects\":[\"A\"]}]}";
+const WIDER_BOOK: &[u8] = b"HTTP/1.1 200 OK\r\n\r\n\
+{\"tokens\":[{\"token\":\"A:dev.c\",\"type\":\"client\",\"projects\":[\"A\",\"B\"]},{\"token\":\"A:dev.d\",\
+\"type\":\"client\",\"projects\":[\"A\"]}]}";
 
 const TAKEN: &[u8] = b"HTTP/1.1 202 Accepted\r\nContent-Length: 0\r\n\r\n";
 
-const REPORT: &str =
-    "{\"appName\":\"shop\",\"bucket\":{\"start\":\"2024-01-01T10:05:00Z\",\"stop\":\"2024-01-01T10:06:00Z\",\"toggles\":{\"a\":{\"yes\":2,\"no\":1,\"variants\":{\"red\":2}}}}}";
+const REPORT: &str = concat!(
+    r#"{"appName":"shop","bucket":{"start":"2024-01-01T10:05:00Z","stop":"2024-01-01T10:06:00Z","#,
+    r#""toggles":{"a":{"yes":2,"no":1,"variants":{"red":2}}}}}"#,
+);
 
 /// A peer with these replies, whose calls of these numbers fail.
 fn peer(alloc: Global, replies: &[&[u8]], failing: &[u64]) -> Option<MemoryPeer> {
@@ -160,7 +163,7 @@ const STEPS: [(&[u8], bool, &str, (Option<u64>, bool), u64, &[u8]); 14] = [
         "Ok(Published(1))",
         (Some(5), false),
         1,
-        b"\"five\"",
+        br#""five""#,
     ),
     (
         SAME,
@@ -168,7 +171,7 @@ const STEPS: [(&[u8], bool, &str, (Option<u64>, bool), u64, &[u8]); 14] = [
         "Ok(Unchanged)",
         (Some(5), false),
         1,
-        b"\"five\"",
+        br#""five""#,
     ),
     (
         BUSY,
@@ -176,9 +179,9 @@ const STEPS: [(&[u8], bool, &str, (Option<u64>, bool), u64, &[u8]); 14] = [
         "Ok(Refused(503))",
         (Some(5), false),
         1,
-        b"\"five\"",
+        br#""five""#,
     ),
-    (AT_5, true, "Ok(Repeat)", (Some(5), false), 1, b"\"five\""),
+    (AT_5, true, "Ok(Repeat)", (Some(5), false), 1, br#""five""#),
     (
         CUT,
         true,
@@ -300,7 +303,8 @@ fn texts(alloc: Global) -> Option<List<Text>> {
 }
 
 const TEXTS_ASKED: &[u8] =
-    b"POST /edge/validate HTTP/1.0\r\nHost: up:4242\r\nContent-Type: application/json\r\nContent-Length: 22\r\nConnection: close\r\n\r\n{\"tokens\":[\"A:dev.c\"]}";
+    b"POST /edge/validate HTTP/1.0\r\nHost: up:4242\r\nContent-Type: application/json\r\nContent-Length: 22\r\n\
+Connection: close\r\n\r\n{\"tokens\":[\"A:dev.c\"]}";
 
 /// What comes of each reply, how often something was published, and how many tokens the book has.
 const BOOKS: [(&str, u64, usize); 7] = [

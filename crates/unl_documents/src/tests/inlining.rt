@@ -17,18 +17,40 @@ fn inlined_text(alloc: Global, text: &str) -> Result<Result<String, InlineRefusa
 }
 
 /// A feature that names a segment which is there and one which isn't.
-const ABSENT: &str =
-    "{\"features\":[{\"name\":\"f\",\"project\":\"A\",\"enabled\":true,\"strategies\":[{\"name\":\"default\",\"segments\":[7,8]}]}],\"segments\":[{\"id\":7,\"constraints\":[{\"contextName\":\"userId\",\"operator\":\"IN\",\"values\":[\"1\"]}]}]}";
+const ABSENT: &str = concat!(
+    r#"{"features":[{"name":"f","project":"A","enabled":true,"strategies":[{"name":"default","segments":[7,"#,
+    r#"8]}]}],"segments":[{"id":7,"constraints":[{"contextName":"userId","operator":"IN","values":["1"]}]}]}"#,
+);
 
-const ABSENT_WRITTEN: &str =
-    "{\"features\":[{\"dependencies\":[],\"enabled\":true,\"impressionData\":false,\"name\":\"f\",\"project\":\"A\",\"stale\":false,\"strategies\":[{\"constraints\":[{\"caseInsensitive\":false,\"contextName\":\"userId\",\"inverted\":false,\"operator\":\"IN\",\"values\":[\"1\"]},{\"caseInsensitive\":false,\"contextName\":\"userId\",\"inverted\":false,\"operator\":\"IN\",\"values\":[]}],\"name\":\"default\",\"parameters\":{},\"segments\":[],\"variants\":[]}],\"type\":\"release\",\"variants\":[]}],\"meta\":{\"etag\":\"t\",\"revisionId\":9},\"query\":{\"environment\":\"dev\",\"projects\":[\"*\"]},\"segments\":[],\"version\":2}";
+const ABSENT_WRITTEN: &str = concat!(
+    r#"{"features":[{"dependencies":[],"enabled":true,"impressionData":false,"name":"f","project":"A","#,
+    r#""stale":false,"strategies":[{"constraints":[{"caseInsensitive":false,"contextName":"userId","#,
+    r#""inverted":false,"operator":"IN","values":["1"]},{"caseInsensitive":false,"contextName":"userId","#,
+    r#""inverted":false,"operator":"IN","values":[]}],"name":"default","parameters":{},"segments":[],"#,
+    r#""variants":[]}],"type":"release","variants":[]}],"meta":{"etag":"t","revisionId":9},"#,
+    r#""query":{"environment":"dev","projects":["*"]},"segments":[],"version":2}"#,
+);
 
 /// A strategy with a constraint of its own that names a segment twice, beside a feature that names none.
-const TWICE: &str =
-    "{\"features\":[{\"name\":\"f\",\"enabled\":true,\"strategies\":[{\"name\":\"s\",\"constraints\":[{\"contextName\":\"own\",\"operator\":\"IN\"}],\"segments\":[7,9,7]}]},{\"name\":\"g\",\"enabled\":false,\"strategies\":[{\"name\":\"s\"}]}],\"segments\":[{\"id\":9,\"constraints\":[{\"contextName\":\"nine\",\"operator\":\"IN\"}]},{\"id\":7,\"constraints\":[{\"contextName\":\"seven\",\"operator\":\"IN\"}]}]}";
+const TWICE: &str = concat!(
+    r#"{"features":[{"name":"f","enabled":true,"strategies":[{"name":"s","constraints":[{"contextName":"own","#,
+    r#""operator":"IN"}],"segments":[7,9,7]}]},{"name":"g","enabled":false,"strategies":[{"name":"s"}]}],"#,
+    r#""segments":[{"id":9,"constraints":[{"contextName":"nine","operator":"IN"}]},{"id":7,"#,
+    r#""constraints":[{"contextName":"seven","operator":"IN"}]}]}"#,
+);
 
-const TWICE_WRITTEN: &str =
-    "{\"features\":[{\"dependencies\":[],\"enabled\":true,\"impressionData\":false,\"name\":\"f\",\"project\":\"default\",\"stale\":false,\"strategies\":[{\"constraints\":[{\"caseInsensitive\":false,\"contextName\":\"own\",\"inverted\":false,\"operator\":\"IN\",\"values\":[]},{\"caseInsensitive\":false,\"contextName\":\"seven\",\"inverted\":false,\"operator\":\"IN\",\"values\":[]},{\"caseInsensitive\":false,\"contextName\":\"nine\",\"inverted\":false,\"operator\":\"IN\",\"values\":[]},{\"caseInsensitive\":false,\"contextName\":\"seven\",\"inverted\":false,\"operator\":\"IN\",\"values\":[]}],\"name\":\"s\",\"parameters\":{},\"segments\":[],\"variants\":[]}],\"type\":\"release\",\"variants\":[]},{\"dependencies\":[],\"enabled\":false,\"impressionData\":false,\"name\":\"g\",\"project\":\"default\",\"stale\":false,\"strategies\":[{\"constraints\":[],\"name\":\"s\",\"parameters\":{},\"segments\":[],\"variants\":[]}],\"type\":\"release\",\"variants\":[]}],\"meta\":{\"etag\":\"t\",\"revisionId\":9},\"query\":{\"environment\":\"dev\",\"projects\":[\"*\"]},\"segments\":[],\"version\":2}";
+const TWICE_WRITTEN: &str = concat!(
+    r#"{"features":[{"dependencies":[],"enabled":true,"impressionData":false,"name":"f","project":"default","#,
+    r#""stale":false,"strategies":[{"constraints":[{"caseInsensitive":false,"contextName":"own","#,
+    r#""inverted":false,"operator":"IN","values":[]},{"caseInsensitive":false,"contextName":"seven","#,
+    r#""inverted":false,"operator":"IN","values":[]},{"caseInsensitive":false,"contextName":"nine","#,
+    r#""inverted":false,"operator":"IN","values":[]},{"caseInsensitive":false,"contextName":"seven","#,
+    r#""inverted":false,"operator":"IN","values":[]}],"name":"s","parameters":{},"segments":[],"variants":[]}],"#,
+    r#""type":"release","variants":[]},{"dependencies":[],"enabled":false,"impressionData":false,"name":"g","#,
+    r#""project":"default","stale":false,"strategies":[{"constraints":[],"name":"s","parameters":{},"#,
+    r#""segments":[],"variants":[]}],"type":"release","variants":[]}],"meta":{"etag":"t","revisionId":9},"#,
+    r#""query":{"environment":"dev","projects":["*"]},"segments":[],"version":2}"#,
+);
 
 /// So many constraints, in a JSON list.
 fn constraints(alloc: Global, count: u64) -> Option<String> {
@@ -37,7 +59,7 @@ fn constraints(alloc: Global, count: u64) -> Option<String> {
         if number > 0 {
             text.push_str(",").ok()?;
         }
-        text.push_str("{\"contextName\":\"c\",\"operator\":\"IN\"}")
+        text.push_str(r#"{"contextName":"c","operator":"IN"}"#)
             .ok()?;
     }
     text.push_str("]").ok()?;
@@ -51,8 +73,12 @@ fn refusal(alloc: Global, own: [(u64, &str); 2], shared: u64) -> Option<Option<I
     let (first, second) = (constraints(alloc, first)?, constraints(alloc, second)?);
     let shared = constraints(alloc, shared)?;
     let text = format!(in alloc;
-        "{{\"features\":[{{\"name\":\"b\",\"enabled\":true,\"strategies\":[{{\"name\":\"s\",\"constraints\":{second},\"segments\":[{more_ids}]}}]}},{{\"name\":\"a\",\"enabled\":true,\"strategies\":[{{\"name\":\"s\"}},{{\"name\":\"s\",\"constraints\":{first},\"segments\":[{ids}]}}]}}],\"segments\":[{{\"id\":7,\"constraints\":{shared}}}]}}"
-    ).ok()?;
+        "{{\"features\":[{{\"name\":\"b\",\"enabled\":true,\"strategies\":[{{\"name\":\"s\",\
+\"constraints\":{second},\"segments\":[{more_ids}]}}]}},{{\"name\":\"a\",\"enabled\":true,\
+\"strategies\":[{{\"name\":\"s\"}},{{\"name\":\"s\",\"constraints\":{first},\"segments\":[{ids}]}}]}}],\
+\"segments\":[{{\"id\":7,\"constraints\":{shared}}}]}}"
+    )
+    .ok()?;
     Some(inlined_text(alloc, text.as_str()).ok()?.err())
 }
 

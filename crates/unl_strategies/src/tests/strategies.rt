@@ -15,7 +15,8 @@ const MOMENT: Moment = Moment {
     host: "Web.local",
 };
 
-// The numbers are those of another MurmurHash3, in Python: `gr1:123` is 73 of 100, `groupX:999` 25, `flag:123` 48, `gr1:s1` 15, `:123` 93, `:s1` 56,
+// The numbers are those of another MurmurHash3, in Python: `gr1:123` is
+// 73 of 100, `groupX:999` 25, `flag:123` 48, `gr1:s1` 15, `:123` 93, `:s1` 56,
 // `gr1:blue` 12, `gr1:9574` 72, where 9574 is the random id, and the random number itself is 74.
 const USERS: [Case; 9] = [
     ("default", &[], "", true),
