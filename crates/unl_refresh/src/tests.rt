@@ -1,6 +1,7 @@
 ghost use Rattle.std.specs.Prelude.{IsTrue};
 ghost use Rattle.unl_http_api.specs.RequestText.{fits_if_any};
 
+mod cuts;
 mod desk;
 
 use crate::tests::desk::OnePlace;

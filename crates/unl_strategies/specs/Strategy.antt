@@ -66,11 +66,16 @@ is_field_rolled_out name parameters context =
 unfoldable pub is_randomly_rolled_out : List Pair → ℕ → Bool
 is_randomly_rolled_out parameters random = is_drawn (percent_of (parameter_or [] (codes "percentage") parameters)) random
 
--- the percentage takes in the id of the stickiness, in a group that is the feature where none is named
+-- the percentage takes in the id, in a group that is the feature where none is named
+abbrev pub is_id_rolled_out : List Pair → List ℕ → List ℕ → Bool
+is_id_rolled_out parameters feature id =
+    is_rolled_out (percent_of (parameter_or [] (codes "rollout") parameters)) (parameter_or feature (codes "groupId") parameters) id
+
+-- the percentage takes in the id of the stickiness
 unfoldable pub is_flexibly_rolled_out : List Pair → List ℕ → ℕ → Fields → Bool
 is_flexibly_rolled_out parameters feature random context =
     option_map_or
-    (λ id. is_rolled_out (percent_of (parameter_or [] (codes "rollout") parameters)) (parameter_or feature (codes "groupId") parameters) id)
+    (is_id_rolled_out parameters feature)
     (id_by (parameter_or (codes "default") (codes "stickiness") parameters) context (decimal (random_id random))) false
 
 -- the strategy's own rule, by its name

@@ -6,9 +6,10 @@ ghost use Rattle.unl_strategies.specs.Random.{random_id as id_number};
 ghost use Rattle.unl_strategies.specs.Strategy.{parameter_or as value_or, random_at as number_at, is_user_listed as user_listed};
 ghost use Rattle.unl_strategies.specs.Strategy.{is_address_listed as address_listed, is_field_rolled_out as field_rolled_out};
 ghost use Rattle.unl_strategies.specs.Strategy.{is_randomly_rolled_out as randomly_rolled_out};
-ghost use Rattle.unl_strategies.specs.Strategy.{is_flexibly_rolled_out as flexibly_rolled_out, rule_holds};
+ghost use Rattle.unl_strategies.specs.Strategy.{is_flexibly_rolled_out as flexibly_rolled_out, is_id_rolled_out as id_rolled_out};
+ghost use Rattle.unl_strategies.specs.Strategy.{rule_holds};
 
-use crate::ids::id_by;
+use crate::ids::{RolloutId, id_by};
 use crate::lists::{is_host_listed, is_in_nets, is_listed};
 use crate::moment::{Mark, Moment};
 use crate::parameters::parameter_or;
@@ -49,8 +50,7 @@ pub fn rule(
             Ok(is_host_listed(hosts, moment.host))
         }
         "flexibleRollout" => {
-            let random = random_at(feature, index, moment);
-            is_flexibly_rolled_out(alloc, parameters, feature, random, context)
+            is_flexibly_rolled_out(alloc, parameters, feature, index, context, moment)
         }
         _ => Ok(false),
     }
@@ -121,20 +121,29 @@ fn is_flexibly_rolled_out(
     alloc: Global,
     parameters: &List<Pair>,
     feature: &Text,
-    random: u32,
+    index: u32,
     context: &Context,
+    moment: &Moment,
 ) -> Result<bool, Memory>
-    ensures { IfOk result (λ b. b ≡ flexibly_rolled_out parameters.now feature.now random context.now) }
+    ensures { IfOk result (λ b. b
+        ≡ flexibly_rolled_out parameters.now feature.now (number_at feature.now index moment.entry.now) context.now) }
 {
-    let random = random_text(alloc, random)?;
-    let stickiness = parameter_or(parameters, "stickiness", "default");
-    match id_by(stickiness, context, random.as_str()) {
-        None => Ok(false),
-        Some(id) => {
-            let group = parameter_or(parameters, "groupId", feature.as_str());
-            Ok(is_rolled_out(percent_at(parameters, "rollout"), group, id))
+    match id_by(parameter_or(parameters, "stickiness", "default"), context) {
+        RolloutId::Field(id) => Ok(is_id_rolled_out(parameters, feature, id)),
+        RolloutId::Random => {
+            let id = random_text(alloc, random_at(feature, index, moment))?;
+            Ok(is_id_rolled_out(parameters, feature, id.as_str()))
         }
+        RolloutId::Absent => Ok(false),
     }
+}
+
+/// Whether the percentage takes in an id, in the parameter's group or the feature's.
+fn is_id_rolled_out(parameters: &List<Pair>, feature: &Text, id: &str) -> bool
+    ensures { result ≡ id_rolled_out parameters.now feature.now id.now }
+{
+    let group = parameter_or(parameters, "groupId", feature.as_str());
+    is_rolled_out(percent_at(parameters, "rollout"), group, id)
 }
 
 /// The random id in decimal.
