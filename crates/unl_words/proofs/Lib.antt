@@ -1,3 +1,4 @@
+mod Contexts
 mod Differences
 mod Faults
 pub mod Known

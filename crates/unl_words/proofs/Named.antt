@@ -16,12 +16,21 @@ apart a b not = go (bytes_eq a b) refl
 -- another first word names none
 pub unnamed : {X : Type 0} (text : X → Text) (words : List X) (first : X) (name : Text) → Some first ≡ slice_get words 0 → name ≡ text first
     → (name ≡ codes "replay" → ⊥) → (name ≡ codes "check" → ⊥) → (name ≡ codes "edge" → ⊥) → (name ≡ codes "upstream" → ⊥)
+    → (name ≡ codes "follow" → ⊥) → (name ≡ codes "explain" → ⊥)
     → command_of (map text words) ≡ None
 unfolding command_of
-unnamed text [] first name is named replay check edge upstream = refl
-unnamed text (word ∷ words) first name is named replay check edge upstream =
+unnamed text [] first name is named replay check edge upstream follow explain = refl
+unnamed text (word ∷ words) first name is named replay check edge upstream follow explain =
     let same : name ≡ text word = cc in
-    rw (← same, apart name (codes "replay") replay, apart name (codes "check") check, apart name (codes "edge") edge, apart name (codes "upstream") upstream) refl
+    rw (
+      ← same,
+      apart name (codes "replay") replay,
+      apart name (codes "check") check,
+      apart name (codes "edge") edge,
+      apart name (codes "upstream") upstream,
+      apart name (codes "follow") follow,
+      apart name (codes "explain") explain,
+    ) refl
 
 -- what is none is no command
 pub none_named : (found : Option Command) (command : Command) → found ≡ None → found ≡ Some command → ⊥

@@ -1,7 +1,7 @@
 -- The commands are simple, and no option of theirs has a rule on another.
 use Rattle.std.proofs.Common.{◌≡◌, true, refl}
 use Rattle.clap.specs.Words.{is_simple_and_free}
-use Rattle.unl_words.specs.Words.{check_app, edge_app, replay_app, upstream_app}
+use Rattle.unl_words.specs.Words.{check_app, edge_app, explain_app, follow_app, replay_app, upstream_app}
 
 pub replay_simple : is_simple_and_free replay_app ≡ true
 unfolding replay_app
@@ -18,3 +18,11 @@ edge_simple = refl
 pub upstream_simple : is_simple_and_free upstream_app ≡ true
 unfolding upstream_app
 upstream_simple = refl
+
+pub follow_simple : is_simple_and_free follow_app ≡ true
+unfolding follow_app
+follow_simple = refl
+
+pub explain_simple : is_simple_and_free explain_app ≡ true
+unfolding explain_app
+explain_simple = refl

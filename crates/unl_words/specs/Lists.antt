@@ -33,6 +33,10 @@ is_named may_be_open (Err e) = false
 abbrev pub is_token : Bool → Text → Bool
 is_token may_be_open text = nat_le (length text) 512 && (is_line text && is_named may_be_open (scope_of text))
 
+-- a text that is a token's, and may leave its projects to the server
+abbrev pub token_of : Text → Value Text
+token_of text = passed (is_token true text) text
+
 -- the environment that a token's text names
 abbrev pub environment_in : Result Scope BadToken → Text
 environment_in (Ok scope) = scope.environment

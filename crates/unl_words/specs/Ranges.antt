@@ -2,8 +2,11 @@
 use Rattle.std.specs.Prelude.{◌≡◌, ◌≤◌, ℕ, true, List, ⊤}
 use Rattle.clap.specs.Words.{Text}
 use Rattle.unl_words.specs.declared.words.Words.{Words}
-use Rattle.unl_words.specs.declared.words.Words.TheVariants.{Replay, Check, Edge, Upstream}
-use Rattle.unl_words.specs.Lists.{are_environments, are_own_tokens, are_tokens, are_upstream_tokens, fit_one_book}
+use Rattle.unl_context.specs.Context.{Fields}
+use Rattle.unl_context.specs.Limits.{is_within_limits}
+use Rattle.unl_documents.specs.Texts.{is_name}
+use Rattle.unl_words.specs.declared.words.Words.TheVariants.{Replay, Check, Edge, Upstream, Follow, Explain}
+use Rattle.unl_words.specs.Lists.{are_environments, are_own_tokens, are_tokens, are_upstream_tokens, fit_one_book, is_token}
 use Rattle.unl_words.specs.Values.{is_address, is_line, is_secret}
 
 -- the number lies between these
@@ -29,6 +32,15 @@ pub record IsUpstream (port : ℕ) (secret : Text) (environments client_tokens f
   pub frontends : are_own_tokens frontend_tokens ≡ true
   pub one_book : fit_one_book client_tokens frontend_tokens ≡ true
 
+-- the values of `follow` are in their ranges
+pub record IsFollow (upstream token feature : Text) (context : Fields) (turns interval : ℕ) : Type 0 where
+  pub asks : is_address upstream ≡ true
+  pub shows : is_token true token ≡ true
+  pub named : is_name feature ≡ true
+  pub within : is_within_limits context ≡ true
+  pub ends : IsWithin 1 1000000 turns
+  pub seconds : IsWithin 1 3600 interval
+
 -- the values are in their ranges
 abbrev pub IsInRange : Words → Type 0
 IsInRange Replay = ⊤
@@ -37,3 +49,5 @@ IsInRange (Edge port upstream upstream_tokens tokens host workers interval conne
     IsEdge port upstream upstream_tokens tokens host workers interval
 IsInRange (Upstream port secret environments client_tokens frontend_tokens connections epoch) =
     IsUpstream port secret environments client_tokens frontend_tokens
+IsInRange (Follow upstream token feature context delta turns interval) = IsFollow upstream token feature context turns interval
+IsInRange Explain = ⊤

@@ -1,4 +1,4 @@
--- What the values of options are read as: numbers and texts.
+-- What the values of options are read as: numbers, texts and a context.
 use Rattle.std.specs.Prelude.{◌&&◌, ◌==◌, not, is_ok, ℕ, Bool, true, false, length, nat_le, nat_lt, codes, if◌then◌else◌, Option, Result}
 use Rattle.std.specs.Prelude.{Ok, Err, unwrap_or}
 use Rattle.std.specs.List.{list_all}
@@ -8,7 +8,11 @@ use Rattle.std.specs.Path.{rsplit_once}
 use Rattle.std.specs.Str.{bytes_eq}
 use Rattle.std.specs.Str.Parse.{digits_value}
 use Rattle.clap.specs.Words.{Text}
-use Rattle.unl_documents.specs.Texts.{has_bytes}
+use Rattle.unl_context.specs.Context.{Fields}
+use Rattle.unl_context.specs.Query.{query_context}
+use Rattle.unl_context.specs.Reading.{Reading}
+use Rattle.unl_documents.specs.Texts.{has_bytes, is_name}
+use Rattle.unl_words.specs.Refusals.{refusal_by}
 use Rattle.unl_words.specs.declared.refusal.WordsRefusal.{WordsRefusal}
 use Rattle.unl_words.specs.declared.refusal.WordsRefusal.TheVariants.{Bad}
 
@@ -87,3 +91,18 @@ mode_of text = if bytes_eq text (codes "delta") then Ok true else passed (bytes_
 -- changes are asked for where nothing else is given
 abbrev pub mode_or_delta : Option Text → Value Bool
 mode_or_delta given = option_map_or mode_of given (Ok true)
+
+-- a text that is a name
+abbrev pub name_of : Text → Value Text
+name_of text = passed (is_name text) text
+
+-- ---- contexts
+
+-- the context that was read, or that it is outside its limits
+abbrev pub context_in : Reading Fields → Value Fields
+context_in (Ok context) = Ok context
+context_in (Err fault) = Err (refusal_by fault)
+
+-- the context that a query sets
+abbrev pub context_by : Text → Value Fields
+context_by query = context_in (query_context query)

@@ -5,12 +5,12 @@ use Rattle.std.specs.Str.{bytes_eq}
 use Rattle.clap.specs.Words.{App, Kinds, Row, Rule, Text, fault_of, first_of, matches_of, new_app, new_rule, takes, with_rule}
 use Rattle.clap.specs.declared.builder.action.ArgAction.TheVariants.{Set}
 use Rattle.unl_documents.specs.Results.{◌>>=◌, Gives}
-use Rattle.unl_words.specs.Lists.{are_environments, are_own_tokens, are_tokens, are_upstream_tokens, fit_one_book, items_of}
-use Rattle.unl_words.specs.Values.{address_of, line_of, mode_or_delta, number_or, or_empty, passed, required, secret_of}
+use Rattle.unl_words.specs.Lists.{are_environments, are_own_tokens, are_tokens, are_upstream_tokens, fit_one_book, items_of, token_of}
+use Rattle.unl_words.specs.Values.{address_of, context_by, line_of, mode_or_delta, name_of, number_or, or_empty, passed, required, secret_of}
 use Rattle.unl_words.specs.declared.refusal.WordsRefusal.{WordsRefusal}
 use Rattle.unl_words.specs.declared.refusal.WordsRefusal.TheVariants.{Bad, Memory}
 use Rattle.unl_words.specs.declared.words.Words.{Words}
-use Rattle.unl_words.specs.declared.words.Words.TheVariants.{Replay, Check, Edge, Upstream}
+use Rattle.unl_words.specs.declared.words.Words.TheVariants.{Replay, Check, Edge, Upstream, Follow, Explain}
 
 -- what the words ask for, or why they can't be taken
 abbrev pub WordsReading : Type 0
@@ -130,6 +130,40 @@ asks_upstream rows = do
 abbrev pub upstream : Command
 upstream = record { app = upstream_app; asks = asks_upstream }
 
+-- ---- follow
+
+-- `follow` must be told its upstream, its token and its feature
+unfoldable pub follow_app : App
+follow_app = with_options (codes "follow") (required_named (codes "upstream") ∷ required_named (codes "token")
+    ∷ required_named (codes "feature") ∷ option_named (codes "context") ∷ option_named (codes "mode")
+    ∷ option_named (codes "turns") ∷ option_named (codes "interval") ∷ [])
+
+-- what `follow` is to do
+unfoldable pub asks_follow : List Row → WordsReading
+asks_follow rows = do
+  upstream ← required address_of (first_of (codes "upstream") rows)
+  token ← required token_of (first_of (codes "token") rows)
+  feature ← required name_of (first_of (codes "feature") rows)
+  context ← or_empty context_by (first_of (codes "context") rows)
+  delta ← mode_or_delta (first_of (codes "mode") rows)
+  turns ← number_or 1 1 1000000 (first_of (codes "turns") rows)
+  interval ← number_or 15 1 3600 (first_of (codes "interval") rows)
+  Ok (Follow upstream token feature context delta turns interval)
+
+-- follows an upstream, and tells at each turn whether one feature is on
+abbrev pub follow : Command
+follow = record { app = follow_app; asks = asks_follow }
+
+-- ---- explain
+
+-- `explain` has no options
+unfoldable pub explain_app : App
+explain_app = new_app (codes "explain")
+
+-- tells why a feature is on or off
+abbrev pub explain : Command
+explain = record { app = explain_app; asks = λ rows. Ok Explain }
+
 -- ---- the first word
 
 -- the command that the first word names
@@ -139,7 +173,9 @@ command_of (name ∷ words) =
     if bytes_eq name (codes "replay") then Some replay
     else (if bytes_eq name (codes "check") then Some check
     else (if bytes_eq name (codes "edge") then Some edge
-    else (if bytes_eq name (codes "upstream") then Some upstream else None)))
+    else (if bytes_eq name (codes "upstream") then Some upstream
+    else (if bytes_eq name (codes "follow") then Some follow
+    else (if bytes_eq name (codes "explain") then Some explain else None)))))
 
 -- ---- readings
 

@@ -1,7 +1,8 @@
 //! The commands, as clap takes them: one table of options a command.
 ghost use Rattle.std.specs.Prelude.{◌≡◌, ◌≢◌, true, false, map, IfOk, IfErr, Ok, Err, string_bytes};
 ghost use Rattle.clap.specs.Words.{app_of, found_of, is_simple_and_free, matches_of, rows_of, rule_of, takes};
-ghost use Rattle.unl_words.specs.Words.{check_app, edge_app, matched, option_named, replay_app, upstream_app, with_option, with_required};
+ghost use Rattle.unl_words.specs.Words.{check_app, edge_app, explain_app, follow_app, matched, option_named, replay_app, upstream_app};
+ghost use Rattle.unl_words.specs.Words.{with_option, with_required};
 ghost use Rattle.unl_words.specs.declared.refusal.WordsRefusal.TheVariants.{Memory};
 
 use crate::WordsRefusal;
@@ -53,6 +54,28 @@ pub(crate) fn upstream<'a>(alloc: Global) -> Result<Command<'a>, AllocError>
     let command = with_option(alloc, command, "frontend-tokens")?;
     let command = with_option(alloc, command, "connections")?;
     with_option(alloc, command, "epoch")
+}
+
+/// `follow` must be told its upstream, its token and its feature.
+#[tactic(auto, unfolding(crate::specs::Words::follow_app))]
+pub(crate) fn follow<'a>(alloc: Global) -> Result<Command<'a>, AllocError>
+    ensures { IfOk result (λ command. app_of command ≡ follow_app) }
+{
+    let command = with_required(alloc, Command::new(alloc, "follow"), "upstream")?;
+    let command = with_required(alloc, command, "token")?;
+    let command = with_required(alloc, command, "feature")?;
+    let command = with_option(alloc, command, "context")?;
+    let command = with_option(alloc, command, "mode")?;
+    let command = with_option(alloc, command, "turns")?;
+    with_option(alloc, command, "interval")
+}
+
+/// `explain` has no options.
+#[tactic(auto, unfolding(crate::specs::Words::explain_app))]
+pub(crate) fn explain<'a>(alloc: Global) -> Command<'a>
+    ensures { app_of result ≡ explain_app }
+{
+    Command::new(alloc, "explain")
 }
 
 /// The command with one more option, which takes one value behind its long name.

@@ -12,7 +12,7 @@ mod words;
 
 pub use read::read_words;
 pub use refusal::WordsRefusal;
-pub use token::token_environments;
+pub use token::{token_environment, token_environments};
 pub use words::Words;
 
 #[cfg(test)]

@@ -3,9 +3,9 @@ ghost use Rattle.std.specs.Prelude.{◌≡◌, Some, IfOk, map, string_bytes};
 ghost use Rattle.clap.specs.Words.{found_of, rows_of};
 ghost use Rattle.unl_documents.specs.Results.{Gives};
 ghost use Rattle.unl_words.specs.Ranges.{IsInRange};
-ghost use Rattle.unl_words.specs.Words.{AnswersTaken, Command, asked_of, asks_check, asks_edge, asks_upstream, command_of, words_of};
-ghost use Rattle.unl_words.specs.Words.{check as check_command, edge as edge_command, replay as replay_command};
-ghost use Rattle.unl_words.specs.Words.{upstream as upstream_command};
+ghost use Rattle.unl_words.specs.Words.{AnswersTaken, Command, asked_of, asks_check, asks_edge, asks_follow, asks_upstream, command_of};
+ghost use Rattle.unl_words.specs.Words.{check as check_command, edge as edge_command, explain as explain_command};
+ghost use Rattle.unl_words.specs.Words.{follow as follow_command, replay as replay_command, upstream as upstream_command, words_of};
 ghost use Rattle.unl_words.specs.declared.refusal.WordsRefusal.TheVariants.{Memory};
 
 use crate::number::number_or;
@@ -32,6 +32,10 @@ const LAST_MOMENT: u64 = 100_000_000_000_000;
 ///   `--client-tokens` and `--frontend-tokens` (empty), in all at most 1,024 of different texts, each with one project or
 ///   all, `--connections` (0), and `--epoch`, an unsigned number of 64 bits (0). The secret and the environments must be
 ///   given.
+/// - `follow` takes `--upstream` `HOST:PORT`, `--token`, `--feature`, a name, `--context`, a query that
+///   `Context::read_query` takes (empty), `--mode` as `edge`, `--turns`, 1 to 1,000,000 (1), and `--interval` as `edge`.
+///   The first three must be given.
+/// - `explain` takes no options.
 ///
 /// A port is 1 to 65535. A token's text has at most 512 bytes, is read by `Scope::read`, and its environment and project
 /// are names. No carriage return, line feed or NUL stands in a host, a secret or a token.
@@ -59,6 +63,8 @@ pub fn read_words(alloc: Global, words: &[String]) -> Result<Words, WordsRefusal
         "check" => read_check(alloc, words),
         "edge" => read_edge(alloc, words),
         "upstream" => read_upstream(alloc, words),
+        "follow" => read_follow(alloc, words),
+        "explain" => read_explain(alloc, words),
         _ => Err(WordsRefusal::Bad),
     }
 }
@@ -101,6 +107,26 @@ fn read_upstream(alloc: Global, words: &[String]) -> Result<Words, WordsRefusal>
 {
     let matches = command::matched(command::upstream(alloc)?, words)?;
     asked_upstream(alloc, &matches)
+}
+
+/// Reads the words of `follow`.
+fn read_follow(alloc: Global, words: &[String]) -> Result<Words, WordsRefusal>
+    ensures exact { Gives Memory result (asked_of follow_command (map string_bytes words.now)) }
+    ensures taken { AnswersTaken follow_command (map string_bytes words.now) result }
+    ensures valid { IfOk result IsInRange }
+{
+    let matches = command::matched(command::follow(alloc)?, words)?;
+    asked_follow(alloc, &matches)
+}
+
+/// Reads the words of `explain`.
+fn read_explain(alloc: Global, words: &[String]) -> Result<Words, WordsRefusal>
+    ensures exact { Gives Memory result (asked_of explain_command (map string_bytes words.now)) }
+    ensures taken { AnswersTaken explain_command (map string_bytes words.now) result }
+    ensures valid { IfOk result IsInRange }
+{
+    command::matched(command::explain(alloc), words)?;
+    Ok(Words::Explain)
 }
 
 /// What `check` is to do, by the values that were found.
@@ -166,5 +192,29 @@ fn asked_upstream(alloc: Global, matches: &ArgMatches<'_>) -> Result<Words, Word
         frontend_tokens,
         connections,
         epoch,
+    })
+}
+
+/// What `follow` is to do, by the values that were found.
+#[tactic(auto, unfolding(crate::specs::Words::asks_follow))]
+fn asked_follow(alloc: Global, matches: &ArgMatches<'_>) -> Result<Words, WordsRefusal>
+    ensures gives { Gives Memory result (asks_follow (rows_of (found_of matches.now))) }
+    ensures valid { IfOk result IsInRange }
+{
+    let upstream = value::address(alloc, given(matches, "upstream"))?;
+    let token = value::token(alloc, given(matches, "token"))?;
+    let feature = value::name(alloc, given(matches, "feature"))?;
+    let context = value::context_or_none(alloc, given(matches, "context"))?;
+    let delta = value::mode_or_delta(given(matches, "mode"))?;
+    let turns = number_or(given(matches, "turns"), 1, 1, 1_000_000)?;
+    let interval = number_or(given(matches, "interval"), 15, 1, 3600)?;
+    Ok(Words::Follow {
+        upstream,
+        token,
+        feature,
+        context,
+        delta,
+        turns: turns as u32,
+        interval: interval as u32,
     })
 }

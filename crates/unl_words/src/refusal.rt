@@ -1,12 +1,13 @@
 //! Why words are refused.
 ghost use Rattle.std.specs.Prelude.{◌≡◌};
 ghost use Rattle.clap.specs.Words.{kind_of};
-ghost use Rattle.unl_words.specs.Refusals.{refusal_of};
+ghost use Rattle.unl_words.specs.Refusals.{refusal_of, refusal_by};
 ghost use Rattle.unl_words.specs.declared.refusal.WordsRefusal.TheVariants.{Memory};
 
 use clap::Error;
 use clap::error::ErrorKind;
 use std::alloc::AllocError;
+use unl_context::BadContext;
 use unl_documents as documents;
 
 /// Why words name no command with values that it takes.
@@ -31,6 +32,17 @@ impl From<documents::Memory> for WordsRefusal {
 
     fn from(_: documents::Memory) -> WordsRefusal {
         WordsRefusal::Memory
+    }
+}
+
+impl From<BadContext> for WordsRefusal {
+    ghost from_gives = { λ fault refusal. refusal ≡ refusal_by fault };
+
+    fn from(fault: BadContext) -> WordsRefusal {
+        match fault {
+            BadContext::Memory => WordsRefusal::Memory,
+            _ => WordsRefusal::Bad,
+        }
     }
 }
 

@@ -1,6 +1,7 @@
 use crate::{Words, WordsRefusal, read_words, token_environments};
 use std::alloc::Global;
 use std::test::Fail;
+use unl_context::Context;
 use unl_documents::{List, Memory, Text};
 
 /// What comes of these words, which stand with single spaces between them.
@@ -12,6 +13,19 @@ fn read(alloc: Global, line: &str) -> Option<Result<Words, WordsRefusal>> {
     Some(read_words(alloc, &words))
 }
 
+/// Whether these words are read so, by how both are printed.
+fn reads(alloc: Global, line: &str, expected: &Result<Words, WordsRefusal>) -> Option<bool> {
+    let found = read(alloc, line)?;
+    let found = format!(in alloc; "{found:?}").ok()?;
+    let expected = format!(in alloc; "{expected:?}").ok()?;
+    Some(found == expected)
+}
+
+/// Whether these words are refused.
+fn refuses(alloc: Global, line: &str) -> bool {
+    matches!(read(alloc, line), Some(Err(WordsRefusal::Bad)))
+}
+
 /// `check` with these values.
 fn check(now: u64, word: u64) -> Result<Words, WordsRefusal> {
     Ok(Words::Check { now, word })
@@ -21,6 +35,7 @@ fn check(now: u64, word: u64) -> Result<Words, WordsRefusal> {
 fn words_good_and_bad(rt: HostRuntime) {
     let table = [
         ("replay", Ok(Words::Replay)),
+        ("explain", Ok(Words::Explain)),
         ("check", check(0, 0)),
         ("check --now 5", check(5, 0)),
         ("check --word 7", check(0, 7)),
@@ -38,6 +53,9 @@ fn words_good_and_bad(rt: HostRuntime) {
         ("replay x", Err(WordsRefusal::Bad)),
         ("replay --now 1", Err(WordsRefusal::Bad)),
         ("replay --help", Err(WordsRefusal::Bad)),
+        ("explain x", Err(WordsRefusal::Bad)),
+        ("explain --now 1", Err(WordsRefusal::Bad)),
+        ("follow", Err(WordsRefusal::Bad)),
         ("check --version", Err(WordsRefusal::Bad)),
         ("check -h", Err(WordsRefusal::Bad)),
         ("check x", Err(WordsRefusal::Bad)),
@@ -52,7 +70,7 @@ fn words_good_and_bad(rt: HostRuntime) {
         ("check --words 1", Err(WordsRefusal::Bad)),
     ];
     for (line, expected) in table {
-        assert!(rt; read(rt.alloc(), line) == Some(expected));
+        assert!(rt; reads(rt.alloc(), line, &expected) == Some(true), "{line}");
     }
 }
 
@@ -80,7 +98,7 @@ fn edge_words(rt: HostRuntime) -> Result<(), Fail> {
         delta: true,
     };
     let line = "edge --upstream up:4242 --upstream-tokens *:dev.s --tokens []:dev.t";
-    assert!(rt; read(alloc, line) == Some(Ok(defaults)));
+    assert!(rt; reads(alloc, line, &Ok(defaults)) == Some(true));
     let all = Words::Edge {
         port: 1,
         upstream: Text::new(alloc, "::1:065535")?,
@@ -95,7 +113,7 @@ fn edge_words(rt: HostRuntime) -> Result<(), Fail> {
     let line = "edge --mode feed --connections 18446744073709551615 --interval 3600 --workers=16 \
         --host h --tokens ,a:b:c.d,,a:b:c.d\t --upstream-tokens \t*:dev.s\t,a:qa.s.s \
         --upstream=::1:065535 --port 1";
-    assert!(rt; read(alloc, line) == Some(Ok(all)));
+    assert!(rt; reads(alloc, line, &Ok(all)) == Some(true));
     Ok(())
 }
 
@@ -104,8 +122,7 @@ fn refuses_edge(alloc: Global, upstream: &str, shown: &str, tokens: &str, more: 
     let line = format!(in alloc;
         "edge --upstream={upstream} --upstream-tokens={shown} --tokens={tokens} {more}"
     );
-    let words = line.ok().and_then(|line| read(alloc, line.as_str()));
-    words == Some(Err(WordsRefusal::Bad))
+    line.is_ok_and(|line| refuses(alloc, line.as_str()))
 }
 
 #[test]
@@ -160,7 +177,7 @@ fn upstream_words(rt: HostRuntime) -> Result<(), Fail> {
         epoch: 0,
     };
     let line = "upstream --environments dev --secret s";
-    assert!(rt; read(alloc, line) == Some(Ok(defaults)));
+    assert!(rt; reads(alloc, line, &Ok(defaults)) == Some(true));
     let all = Words::Upstream {
         port: 65535,
         secret: Text::new(alloc, "-s")?,
@@ -172,7 +189,7 @@ fn upstream_words(rt: HostRuntime) -> Result<(), Fail> {
     };
     let line = "upstream --secret=-s --environments dev,qa --client-tokens *:dev.s,a:dev.s \
         --frontend-tokens a:qa.s, --port 65535 --connections 7 --epoch 18446744073709551615";
-    assert!(rt; read(alloc, line) == Some(Ok(all)));
+    assert!(rt; reads(alloc, line, &Ok(all)) == Some(true));
     Ok(())
 }
 
@@ -187,8 +204,7 @@ fn refuses_upstream(
     let line = format!(in alloc;
         "upstream --secret={secret} --environments={environments} --client-tokens={client} --frontend-tokens={frontend}"
     );
-    let words = line.ok().and_then(|line| read(alloc, line.as_str()));
-    words == Some(Err(WordsRefusal::Bad))
+    line.is_ok_and(|line| refuses(alloc, line.as_str()))
 }
 
 #[test]
@@ -216,8 +232,78 @@ fn upstream_words_out_of_range(rt: HostRuntime) {
         "edge --upstream=u:1 --tokens=a:d.s",
         "edge --upstream-tokens=a:d.s --tokens=a:d.s",
     ] {
-        assert!(rt; read(rt.alloc(), line) == Some(Err(WordsRefusal::Bad)));
+        assert!(rt; refuses(rt.alloc(), line), "{line}");
     }
+}
+
+/// `follow` by these values, which are in their ranges.
+fn follow(
+    alloc: Global,
+    token: &str,
+    query: &str,
+    delta: bool,
+    turns: u32,
+    interval: u32,
+) -> Result<Words, Fail> {
+    Ok(Words::Follow {
+        upstream: Text::new(alloc, "up:1")?,
+        token: Text::new(alloc, token)?,
+        feature: Text::new(alloc, "f")?,
+        context: Context::read_query(alloc, query.as_bytes())?,
+        delta,
+        turns,
+        interval,
+    })
+}
+
+#[test]
+fn follow_words(rt: HostRuntime) -> Result<(), Fail> {
+    let alloc = rt.alloc();
+    let defaults = follow(alloc, "*:dev.s", "", true, 1, 15)?;
+    let line = "follow --upstream up:1 --token *:dev.s --feature f";
+    assert!(rt; reads(alloc, line, &Ok(defaults)) == Some(true));
+    let all = follow(
+        alloc,
+        "[]:dev.s",
+        "userId=7&plan=a+b",
+        false,
+        1_000_000,
+        3600,
+    )?;
+    let line =
+        "follow --interval 3600 --turns=1000000 --mode feed --context userId=7&plan=a+b         --feature f --token=[]:dev.s --upstream up:1";
+    assert!(rt; reads(alloc, line, &Ok(all)) == Some(true));
+    let (up, token, feature) = ("--upstream=up:1", "--token=*:dev.s", "--feature=f");
+    let table = [
+        ("", token, feature, ""),
+        (up, "", feature, ""),
+        (up, token, "", ""),
+        ("--upstream=up", token, feature, ""),
+        (up, "--token=dev.s", feature, ""),
+        (up, "--token=*:dev.s\n", feature, ""),
+        (up, token, "--feature=", ""),
+        (up, token, feature, "--mode=deltas"),
+        (up, token, feature, "--turns=0"),
+        (up, token, feature, "--turns=1000001"),
+        (up, token, feature, "--interval=0"),
+        (up, token, feature, "--interval=3601"),
+        (up, token, feature, "--feature=g"),
+    ];
+    for (upstream, token, feature, more) in table {
+        let line = format!(in alloc; "follow {upstream} {token} {feature} {more}")?;
+        assert!(rt; refuses(alloc, line.as_str()), "{line}");
+    }
+    Ok(())
+}
+
+/// The words of `follow` with a context of a text of so many bytes, and whether they are taken.
+fn takes_context(alloc: Global, count: usize) -> Option<bool> {
+    let front = "follow --upstream u:1 --token a:d.s --feature f --context userId=";
+    let mut line = String::from_str(alloc, front).ok()?;
+    for _ in 0..count {
+        line.push('x').ok()?;
+    }
+    Some(read(alloc, line.as_str())?.is_ok())
 }
 
 /// The words of `upstream` with an environment of so many bytes, and whether they are taken.
@@ -247,6 +333,8 @@ fn limits(rt: HostRuntime) -> Result<(), Fail> {
     assert_eq!(rt; takes_name(alloc, 256), Some(false));
     assert_eq!(rt; takes_token(alloc, 512), Some(true));
     assert_eq!(rt; takes_token(alloc, 513), Some(false));
+    assert_eq!(rt; takes_context(alloc, 4096), Some(true));
+    assert_eq!(rt; takes_context(alloc, 4097), Some(false));
     let tokens = texts(alloc, &["*:dev.s", "a:qa.s", "x"])?;
     assert!(rt; token_environments(alloc, &tokens)? == texts(alloc, &["dev", "qa", ""])?);
     Ok(())

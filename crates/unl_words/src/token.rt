@@ -23,12 +23,13 @@ fn environments(alloc: Global, tokens: &[Text]) -> Result<List<Text>, Memory>
 {
     let mut environments = List::new(alloc);
     for token in tokens {
-        environments.push(environment(alloc, token.as_str())?)?;
+        environments.push(token_environment(alloc, token.as_str())?)?;
     }
     Ok(environments)
 }
 
-fn environment(alloc: Global, token: &str) -> Result<Text, Memory>
+/// The environment of a token: no bytes for a text that is no token's.
+pub fn token_environment(alloc: Global, token: &str) -> Result<Text, Memory>
     ensures { IfOk result (λ environment. environment ≡ environment_of token.now) }
 {
     match Scope::read(alloc, token) {
@@ -51,7 +52,7 @@ pub(crate) fn all_tokens(alloc: Global, texts: &[Text], may_be_open: bool) -> Re
 }
 
 /// Whether a text of at most 512 bytes may stand in a line and has a project and an environment with names.
-fn is_token(alloc: Global, text: &str, may_be_open: bool) -> Result<bool, Memory>
+pub(crate) fn is_token(alloc: Global, text: &str, may_be_open: bool) -> Result<bool, Memory>
     ensures { IfOk result (λ is. is ≡ is_token may_be_open text.now) }
 {
     if text.len() > 512 || !is_line(text) {

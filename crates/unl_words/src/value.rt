@@ -3,16 +3,22 @@ ghost use Rattle.std.specs.Prelude.{◌≡◌, ◌<◌, true, IfOk, option_copie
 ghost use Rattle.std.specs.List.{list_all};
 ghost use Rattle.std.specs.Path.{rsplit_once};
 ghost use Rattle.clap.specs.Words.{first_of, found_of, rows_of};
+ghost use Rattle.unl_context.specs.Limits.{is_within_limits};
 ghost use Rattle.unl_documents.specs.Results.{Gives};
-ghost use Rattle.unl_words.specs.Values.{address_of, goes_on, is_address, is_line, is_secret, line_of, mode_or_delta, mode_of, or_empty};
-ghost use Rattle.unl_words.specs.Values.{passed, required, secret_of};
+ghost use Rattle.unl_documents.specs.Texts.{is_name};
+ghost use Rattle.unl_words.specs.Lists.{is_token, token_of};
+ghost use Rattle.unl_words.specs.Values.{address_of, context_by, goes_on, is_address, is_line, is_secret, line_of, mode_or_delta, mode_of};
+ghost use Rattle.unl_words.specs.Values.{name_of, or_empty, passed, required, secret_of};
 ghost use Rattle.unl_words.specs.declared.refusal.WordsRefusal.TheVariants.{Memory};
 
 use crate::WordsRefusal;
 use crate::number::is_port;
+use crate::token::is_token;
 use clap::ArgMatches;
 use std::alloc::Global;
+use unl_context::Context;
 use unl_documents::Text;
+use unl_documents::texts::is_name;
 
 /// The value of an option, where it is given.
 pub(crate) fn given<'a>(matches: &ArgMatches<'a>, name: &str) -> Option<&'a str>
@@ -28,6 +34,37 @@ pub(crate) fn line_or_empty(alloc: Global, given: Option<&str>) -> Result<Text, 
 {
     let text = given.unwrap_or("");
     accepted(alloc, text, is_line(text))
+}
+
+/// The context that a query sets; one that says nothing where it isn't given.
+pub(crate) fn context_or_none(alloc: Global, given: Option<&str>) -> Result<Context, WordsRefusal>
+    ensures gives { Gives Memory result (or_empty context_by (option_copied given.entry)) }
+    ensures valid { IfOk result (λ context. is_within_limits context ≡ true) }
+{
+    Ok(Context::read_query(alloc, given.unwrap_or("").as_bytes())?)
+}
+
+/// The name of a feature.
+pub(crate) fn name(alloc: Global, given: Option<&str>) -> Result<Text, WordsRefusal>
+    ensures gives { Gives Memory result (required name_of (option_copied given.entry)) }
+    ensures valid { IfOk result (λ text. is_name text ≡ true) }
+{
+    match given {
+        Some(text) => accepted(alloc, text, is_name(text)),
+        None => Err(WordsRefusal::Bad),
+    }
+}
+
+/// A token that is shown to an upstream.
+pub(crate) fn token(alloc: Global, given: Option<&str>) -> Result<Text, WordsRefusal>
+    ensures gives { Gives Memory result (required token_of (option_copied given.entry)) }
+    ensures valid { IfOk result (λ text. is_token true text ≡ true) }
+{
+    let Some(text) = given else {
+        return Err(WordsRefusal::Bad);
+    };
+    let passes = is_token(alloc, text, true)?;
+    accepted(alloc, text, passes)
 }
 
 /// A secret: a text that may stand in a line and isn't empty.

@@ -1,8 +1,9 @@
 //! What the words ask for.
+use unl_context::Context;
 use unl_documents::{List, Text};
 
 /// A command of the program, with the values of its options.
-#[derive(Debug, Drop, PartialEq)]
+#[derive(Debug, Drop)]
 pub enum Words {
     /// Reads lines and prints one line for each.
     Replay,
@@ -51,4 +52,23 @@ pub enum Words {
         /// The epoch in which each environment begins.
         epoch: u64,
     },
+    /// Follows an upstream, and tells at each turn whether one feature is on.
+    Follow {
+        /// The upstream's `HOST:PORT`.
+        upstream: Text,
+        /// The token that is shown to it.
+        token: Text,
+        /// The name of the feature.
+        feature: Text,
+        /// The context that the feature is evaluated in, as the query says it.
+        context: Context,
+        /// Whether the upstream is asked for changes, or for whole feeds.
+        delta: bool,
+        /// How many turns there are: 1 to 1,000,000.
+        turns: u32,
+        /// How many seconds stand between two turns: 1 to 3,600.
+        interval: u32,
+    },
+    /// Tells why a feature is on or off.
+    Explain,
 }

@@ -1,0 +1,4 @@
+pub mod Input
+pub mod Refusal
+pub mod Answer
+pub mod Contexts

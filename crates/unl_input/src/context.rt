@@ -1,0 +1,46 @@
+//! The context that stands at its key.
+ghost use Rattle.std.specs.Prelude.{◌≡◌};
+ghost use Rattle.serde_json.specs.View.{view};
+ghost use Rattle.unl_context.specs.Json.{json_context};
+ghost use Rattle.unl_documents.specs.Reading.{Gives};
+ghost use Rattle.unl_input.specs.Contexts.{at_context, context_fault, context_in};
+
+use serde_json::{Map, Value};
+use std::alloc::Global;
+use unl_context::{BadContext, Context};
+use unl_documents::keys::value_at;
+use unl_documents::{BadDocument, Field};
+
+/// The context at the key `context` of an object, which says nothing where the key is absent or null.
+///
+/// # Errors
+/// `WrongKind` and `TooLarge` at the key, whatever part of the context they are of; or want of memory.
+#[tactic(auto, unfolding(crate::specs::Contexts::context_in))]
+pub fn context_in(alloc: Global, value: &Value) -> Result<Context, BadDocument>
+    ensures { Gives result (context_in (view value.now)) }
+{
+    match value_at(Field::Context, value) {
+        Some(found) => context_of(alloc, found),
+        None => context_of(alloc, &Value::Object(Map::new(alloc))),
+    }
+}
+
+fn context_of(alloc: Global, value: &Value) -> Result<Context, BadDocument>
+    ensures { Gives result (at_context (json_context (view value.now))) }
+{
+    match Context::read_json(alloc, value) {
+        Ok(context) => Ok(context),
+        Err(fault) => Err(context_fault(fault)),
+    }
+}
+
+/// The fault of a context, which is named at its key alone.
+fn context_fault(fault: BadContext) -> BadDocument
+    ensures { result ≡ context_fault fault }
+{
+    match fault {
+        BadContext::NotObject | BadContext::WrongKind(_) => BadDocument::WrongKind(Field::Context),
+        BadContext::TooLarge => BadDocument::TooLarge(Field::Context, 0),
+        BadContext::Memory => BadDocument::Memory,
+    }
+}

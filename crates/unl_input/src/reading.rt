@@ -1,0 +1,99 @@
+//! Reading a whole input.
+ghost use Rattle.std.specs.Prelude.{◌≡◌, ◌<◌, ◌≤◌, ◌++◌, length, take, IfOk, IsErrOf, OnOk};
+ghost use Rattle.unl_base.specs.Faults.{Rose};
+ghost use Rattle.unl_input.specs.Input.{HasRead};
+
+use std::alloc::{AllocError, Global};
+use unl_base::Source;
+use unl_documents::{List, Memory};
+
+/// How many bytes are read at once.
+const ROOM: usize = 65_536;
+
+/// The most bytes that an input may have.
+const LONGEST: usize = 16_777_216;
+
+/// Why an input isn't read whole.
+#[derive(Clone, Copy, Debug, PartialEq, Eq)]
+pub enum InputFault {
+    /// It has more than 16,777,216 bytes.
+    TooLarge,
+    /// The source failed.
+    ReadFault,
+    /// Memory ran out.
+    Memory,
+}
+
+impl From<AllocError> for InputFault {
+    ghost use Rattle.std.specs.Prelude.{◌≡◌};
+    ghost use Rattle.unl_input.specs.declared.reading.InputFault.TheVariants.{Memory as memory};
+
+    ghost from_gives = { λ _ e. e ≡ memory };
+
+    fn from(_: AllocError) -> Self {
+        InputFault::Memory
+    }
+}
+
+impl From<Memory> for InputFault {
+    ghost use Rattle.std.specs.Prelude.{◌≡◌};
+    ghost use Rattle.unl_input.specs.declared.reading.InputFault.TheVariants.{Memory as memory};
+
+    ghost from_gives = { λ _ e. e ≡ memory };
+
+    fn from(_: Memory) -> Self {
+        InputFault::Memory
+    }
+}
+
+/// All bytes to come, where they are at most 16,777,216.
+///
+/// # Errors
+/// `TooLarge` exactly where more bytes come, of which not all are read; `ReadFault` where the source failed; `Memory` where
+/// memory ran out.
+pub fn read_input<S: Source>(alloc: Global, source: &mut S) -> Result<List<u8>, InputFault>
+    ensures read { HasRead result (S.left source.old) (S.left source.new) }
+    ensures failed { IsErrOf result InputFault.ReadFault → Rose (S.faults source.old) (S.faults source.new) }
+    ensures later { S.faults source.old ≤ S.faults source.new }
+{
+    let mut room = new_room(alloc)?;
+    read_to_end(alloc, source, &mut room)
+}
+
+/// All bytes to come, which are read through a room.
+fn read_to_end<S: Source>(
+    alloc: Global,
+    source: &mut S,
+    room: &mut [u8],
+) -> Result<List<u8>, InputFault>
+    requires { 0 < length room.old }
+    ensures read { HasRead result (S.left source.old) (S.left source.new) }
+    ensures failed { IsErrOf result InputFault.ReadFault → Rose (S.faults source.old) (S.faults source.new) }
+    ensures later { S.faults source.old ≤ S.faults source.new }
+{
+    let mut bytes = Vec::new(alloc);
+    'reads: while bytes.len() <= LONGEST {
+        match source.read(room) {
+            Ok(0) => return Ok(List::from_vec(bytes)),
+            Ok(count) => take_front(&mut bytes, room, count)?,
+            Err(_) => return Err(InputFault::ReadFault),
+        }
+    }
+    Err(InputFault::TooLarge)
+}
+
+/// Room for the bytes that are read at once.
+fn new_room(alloc: Global) -> Result<Vec<u8>, AllocError>
+    ensures { IfOk result (λ room. 0 < length room.items) }
+{
+    vec![in alloc; 0u8; ROOM]
+}
+
+/// Adds the first bytes of a room.
+fn take_front(bytes: &mut Vec<u8>, room: &[u8], count: usize) -> Result<(), Memory>
+    requires { count ≤ length room.now }
+    ensures { OnOk result (bytes.new.items ≡ bytes.old.items ++ take count room.now) }
+{
+    bytes.extend_from_slice(&room[..count])?;
+    Ok(())
+}

@@ -1,0 +1,69 @@
+//! Why an input is refused, and the line that says so.
+ghost use Rattle.std.specs.Prelude.{◌≡◌, ◌≤◌, ◌++◌, codes, IfOk, IsErrOf, OnOk, string_bytes};
+ghost use Rattle.unl_base.specs.Faults.{Rose};
+ghost use Rattle.unl_base.specs.Streams.{Sends, SendsFront};
+ghost use Rattle.unl_input.specs.Refusal.{refusal_line};
+
+use std::alloc::{AllocError, Global};
+use unl_base::{Sink, write_all};
+use unl_documents::{BadDocument, Memory, fault_text};
+
+/// Why an input is refused.
+#[derive(Debug, Drop, PartialEq)]
+pub enum InputRefusal {
+    /// Its first fault. It is never want of memory.
+    BadInput(BadDocument),
+    /// It has more than 16,777,216 bytes.
+    TooLarge,
+}
+
+/// Why a line isn't said.
+#[derive(Clone, Copy, Debug, PartialEq, Eq)]
+pub enum SayFault {
+    /// The sink failed. A front of the line was sent.
+    WriteFault,
+    /// Memory ran out. Nothing was sent.
+    Memory,
+}
+
+/// Says why an input is refused: the line `refused: <cause>`.
+///
+/// # Errors
+/// `WriteFault` where the sink failed, and a front of the line was sent; `Memory` where memory ran out.
+pub fn say_refusal<K: Sink>(
+    alloc: Global,
+    sink: &mut K,
+    refusal: &InputRefusal,
+) -> Result<(), SayFault>
+    ensures said { OnOk result (Sends (K.sent sink.old) (refusal_line refusal.now) (K.sent sink.new)) }
+    ensures broken { IsErrOf result SayFault.WriteFault → SendsFront (K.sent sink.old) (refusal_line refusal.now) (K.sent sink.new) }
+    ensures write { IsErrOf result SayFault.WriteFault → Rose (K.faults sink.old) (K.faults sink.new) }
+    ensures later { K.faults sink.old ≤ K.faults sink.new }
+{
+    let Ok(line) = line_of(alloc, refusal) else {
+        return Err(SayFault::Memory);
+    };
+    match write_all(sink, line.as_bytes()) {
+        Ok(()) => Ok(()),
+        Err(_) => Err(SayFault::WriteFault),
+    }
+}
+
+/// The line that says why an input is refused.
+fn line_of(alloc: Global, refusal: &InputRefusal) -> Result<String, Memory>
+    ensures { IfOk result (λ line. string_bytes line ≡ refusal_line refusal.now) }
+{
+    match refusal {
+        InputRefusal::BadInput(fault) => {
+            let cause = fault_text(alloc, fault)?;
+            Ok(refused(alloc, cause.as_str())?)
+        }
+        InputRefusal::TooLarge => Ok(refused(alloc, "TooLarge")?),
+    }
+}
+
+fn refused(alloc: Global, cause: &str) -> Result<String, AllocError>
+    ensures { IfOk result (λ line. string_bytes line ≡ codes "refused: " ++ (cause.now ++ codes "\n")) }
+{
+    format!(in alloc; "refused: {cause}\n")
+}
