@@ -1,0 +1,96 @@
+-- What a search by halving finds among items whose keys rise.
+use Rattle.std.proofs.Common.{◌≡◌, ℕ, zero, suc, ◌+◌, ◌<◌, ◌≤◌, ◌||◌, Bool, true, false, List, [], ◌∷◌, map, length, get_or, Option, Some, None, Less, nat_cmp, inl, inr, refl, sym, ap, ◌∙◌, arith, cond}
+use Rattle.std.specs.Prelude.{option_and_then, slice_get}
+use Rattle.std.specs.Cmp.Lexicographic.{slice_cmp}
+use Rattle.std.specs.List.{AllByRecursion, find, list_any, prefix_len}
+use Rattle.std.specs.List.Sorted.{IsStrictlySortedBy, IsPartitionedBy, IsPartitionPoint}
+use Rattle.std.specs.Option.{option_map_or}
+use Rattle.std.specs.Ordering.{is_lt, is_eq}
+use Rattle.std.specs.Str.{bytes_eq}
+use Rattle.std.specs.declared.cmp.Ordering.{Ordering}
+use Rattle.std.specs.declared.cmp.Ordering.TheVariants.{Equal, Greater}
+use Rattle.std.proofs.lemmas.Bool.{cases_Bool}
+use Rattle.std.proofs.lemmas.Cmp.{nat_list_cmp_total}
+use Rattle.std.proofs.lemmas.Map.Text.{is_eq-slice_cmp}
+use Rattle.std.proofs.lemmas.Slice.Eq.{bytes_eq-Decides}
+
+-- the item's key comes before k
+abbrev pub is_below : {X : Type 0} → (X → List ℕ) → List ℕ → X → Bool
+is_below key k x = is_lt (slice_cmp nat_cmp (key x) k)
+
+-- the item's key is k
+abbrev pub has_key : {X : Type 0} → (X → List ℕ) → List ℕ → X → Bool
+has_key key k x = bytes_eq (key x) k
+
+-- the item, if its key is k
+abbrev pub if_key : {X : Type 0} → (X → List ℕ) → List ℕ → X → Option X
+if_key key k x = cond (has_key key k x) (Some x) None
+
+is_less : (o : Ordering) → is_lt o ≡ true → o ≡ Less
+is_less Less h = refl
+is_less Equal h = absurd (cc)
+is_less Greater h = absurd (cc)
+
+later : {X : Type 0} (key : X → List ℕ) (k : List ℕ) (xs : List X) → AllByRecursion (λ y. slice_cmp nat_cmp k y ≡ Less) (map key xs) → (j : ℕ) (d : X) → j < length xs → slice_cmp nat_cmp k (key (get_or xs j d)) ≡ Less
+later key k [] above j d lt = absurd (omega arith)
+later key k (x ∷ xs) above zero d lt = above.0
+later key k (x ∷ xs) above (suc j) d lt = later key k xs above.1 j d (omega arith)
+
+pub partitioned : {X : Type 0} (key : X → List ℕ) (k : List ℕ) (xs : List X) → IsStrictlySortedBy (slice_cmp nat_cmp) (map key xs) → IsPartitionedBy (is_below key k) xs
+unfolding IsStrictlySortedBy
+partitioned key k [] rising i j d le lt p = absurd (omega arith)
+partitioned key k (x ∷ xs) rising zero zero d le lt p = p
+partitioned key k (x ∷ xs) rising zero (suc j) d le lt p = ap is_lt (nat_list_cmp_total.trans (key x) (key (get_or xs j d)) k (later key (key x) xs rising.0 j d (omega arith)) (is_less _ p))
+partitioned key k (x ∷ xs) rising (suc i) zero d le lt p = absurd (omega arith)
+partitioned key k (x ∷ xs) rising (suc i) (suc j) d le lt p = partitioned key k xs rising.1 i j d (omega arith) (omega arith) p
+
+pub prefix_is : {X : Type 0} (p : X → Bool) (xs : List X) (i : ℕ) → i ≤ length xs → IsPartitionPoint (λ x. p x ≡ true) (λ x. p x ≡ false) xs i → i ≡ prefix_len p xs
+prefix_is p [] i le h = omega arith
+prefix_is p (x ∷ xs) zero le h = rw (h.1 0 x (omega arith) (omega arith)) refl
+prefix_is p (x ∷ xs) (suc i) le h =
+    let rest : i ≡ prefix_len p xs = prefix_is p xs i (omega arith) (λ k d low high. h.0 (suc k) d (omega arith) (omega arith), λ k d low high. h.1 (suc k) d (omega arith) (omega arith)) in
+    rw (h.0 0 x (omega arith) (omega arith)) (omega arith)
+
+-- ---- what stands at the place
+
+apart : {X : Type 0} (key : X → List ℕ) (k : List ℕ) (x : X) (o : Ordering) → slice_cmp nat_cmp (key x) k ≡ o → has_key key k x ≡ is_eq o
+apart key k x o is = sym (is_eq-slice_cmp (key x) k) ∙ ap is_eq is
+
+not_later : {X : Type 0} (key : X → List ℕ) (k low : List ℕ) (y : X) → slice_cmp nat_cmp low k ≡ Greater → slice_cmp nat_cmp low (key y) ≡ Less → has_key key k y ≡ false
+not_later key k low y after below =
+    elim (cases_Bool (has_key key k y)) [
+      | inl same ↦
+          let is : key y ≡ k = (bytes_eq-Decides (key y) k).0 same in
+          let clash : Less ≡ Greater = sym below ∙ ap (slice_cmp nat_cmp low) is ∙ after in absurd (cc)
+      | inr not ↦ not
+    ]
+
+none_later : {X : Type 0} (key : X → List ℕ) (k low : List ℕ) (xs : List X) → slice_cmp nat_cmp low k ≡ Greater → AllByRecursion (λ y. slice_cmp nat_cmp low y ≡ Less) (map key xs) → (find (has_key key k) xs ≡ None) × (list_any (has_key key k) xs ≡ false)
+none_later key k low [] after above = (refl, refl)
+none_later key k low (y ∷ ys) after above =
+    let others = none_later key k low ys after above.1 in
+    let not : has_key key k y ≡ false = not_later key k low y after above.0 in
+    (rw not others.0, rw not others.1)
+
+-- what is found by its key, and whether one has it, is told by the one item at the place
+abbrev pub IsTold : {X : Type 0} → (X → List ℕ) → List ℕ → List X → Type 0
+IsTold key k xs = (option_and_then (if_key key k) (slice_get xs (prefix_len (is_below key k) xs)) ≡ find (has_key key k) xs)
+    × (option_map_or (has_key key k) (slice_get xs (prefix_len (is_below key k) xs)) false ≡ list_any (has_key key k) xs)
+
+told_at : {X : Type 0} (key : X → List ℕ) (k : List ℕ) (x : X) (xs : List X) (o : Ordering) → slice_cmp nat_cmp (key x) k ≡ o → AllByRecursion (λ y. slice_cmp nat_cmp (key x) y ≡ Less) (map key xs) → IsTold key k xs → IsTold key k (x ∷ xs)
+told_at key k x xs Less is above others =
+    let not : has_key key k x ≡ false = apart key k x Less is in
+    let next : 1 + prefix_len (is_below key k) xs ≡ suc (prefix_len (is_below key k) xs) = omega arith in
+    (rw (is, not, next) others.0, rw (is, not, next) others.1)
+told_at key k x xs Equal is above others =
+    let same : has_key key k x ≡ true = apart key k x Equal is in
+    (rw (is, same) refl, rw (is, same) refl)
+told_at key k x xs Greater is above others =
+    let not : has_key key k x ≡ false = apart key k x Greater is in
+    let none = none_later key k (key x) xs is above in
+    (rw (is, not, none.0) refl, rw (is, not, none.1) refl)
+
+pub told : {X : Type 0} (key : X → List ℕ) (k : List ℕ) (xs : List X) → IsStrictlySortedBy (slice_cmp nat_cmp) (map key xs) → IsTold key k xs
+unfolding IsStrictlySortedBy
+told key k [] rising = (refl, refl)
+told key k (x ∷ xs) rising = told_at key k x xs (slice_cmp nat_cmp (key x) k) refl rising.0 (told key k xs rising.1)

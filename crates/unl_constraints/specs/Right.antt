@@ -1,0 +1,73 @@
+-- The right side of a constraint, as its operator reads it.
+use Rattle.std.specs.Prelude.{◌≡◌, ℕ, List, map, Bool, true, false, ◌&&◌, Option, option_map, option_and_then}
+use Rattle.std.specs.List.{list_any}
+use Rattle.semver.specs.Identifiers.{parts_of}
+use Rattle.unl_documents.specs.declared.constraint.Constraint.{Constraint}
+use Rattle.unl_documents.specs.declared.operator.Operator.{Operator}
+use Rattle.unl_documents.specs.declared.operator.Operator.TheVariants.{In, NotIn, StrContains, StrStartsWith, StrEndsWith, NumEq, NumGt}
+use Rattle.unl_documents.specs.declared.operator.Operator.TheVariants.{NumGte, NumLt, NumLte, DateAfter, DateBefore, SemverEq, SemverGt}
+use Rattle.unl_documents.specs.declared.operator.Operator.TheVariants.{SemverLt, Unknown}
+use Rattle.unl_documents.specs.Parameters.{AreRising}
+use Rattle.unl_constraints.specs.Decimal.{number_of, IsRead}
+use Rattle.unl_constraints.specs.Instant.{instant_of}
+use Rattle.unl_constraints.specs.Texts.{compared, is_among}
+use Rattle.unl_constraints.specs.Version.{version_of}
+use Rattle.unl_constraints.specs.declared.right.Kind.{Kind}
+use Rattle.unl_constraints.specs.declared.right.Kind.TheVariants as kind
+use Rattle.unl_constraints.specs.declared.right.Right.{Right}
+use Rattle.unl_constraints.specs.declared.right.Single.{Single}
+use Rattle.unl_constraints.specs.declared.right.Single.TheVariants as single
+
+-- what the operator compares
+abbrev pub kind_of : Operator → Kind
+kind_of In = kind.Member
+kind_of NotIn = kind.Member
+kind_of StrContains = kind.Part
+kind_of StrStartsWith = kind.Part
+kind_of StrEndsWith = kind.Part
+kind_of NumEq = kind.Number
+kind_of NumGt = kind.Number
+kind_of NumGte = kind.Number
+kind_of NumLt = kind.Number
+kind_of NumLte = kind.Number
+kind_of DateAfter = kind.Instant
+kind_of DateBefore = kind.Instant
+kind_of SemverEq = kind.Version
+kind_of SemverGt = kind.Version
+kind_of SemverLt = kind.Version
+kind_of (Unknown name) = kind.Member
+
+-- the values are compared as parts of the field
+abbrev pub is_part : Kind → Bool
+is_part kind.Part = true
+is_part k = false
+
+-- the values are folded: the operator is one of the three STR operators, and letters are alike in either case
+abbrev pub is_folded : Constraint → Bool
+is_folded c = is_part (kind_of c.operator) && c.caseless
+
+-- the values as they are compared
+abbrev pub compared_values : Constraint → List (List ℕ)
+compared_values c = map (compared (is_folded c)) c.values
+
+-- the values as they are compared, in rising byte order, each once
+pub record AreValues (c : Constraint) (values : List (List ℕ)) : Type 0 where
+  pub rising : AreRising values
+  pub same : (text : List ℕ) → is_among values text ≡ is_among (compared_values c) text
+
+-- what was read of the text is what the kind compares with
+abbrev pub IsSingle : Kind → Option (List ℕ) → Single → Type 0
+IsSingle kind.Member text s = Unit {0}
+IsSingle kind.Part text s = Unit {0}
+IsSingle kind.Number text (single.Number n) = IsRead (option_and_then number_of text) n
+IsSingle kind.Number text s = ⊥
+IsSingle kind.Instant text (single.Instant i) = i ≡ option_and_then instant_of text
+IsSingle kind.Instant text s = ⊥
+IsSingle kind.Version text (single.Version v) = option_map parts_of v ≡ option_and_then version_of text
+IsSingle kind.Version text s = ⊥
+
+-- what was read is the right side of the constraint
+pub record IsRight (c : Constraint) (right : Right) : Type 0 where
+  pub rising : AreRising right.values
+  pub same : (test : List ℕ → Bool) → list_any test right.values ≡ list_any test (compared_values c)
+  pub single : IsSingle (kind_of c.operator) c.value right.single

@@ -1,0 +1,88 @@
+//! Constraints whose right side is read once.
+ghost use Rattle.std.specs.Prelude.{◌≡◌, IfOk};
+ghost use Rattle.unl_constraints.specs.Constraint.{constraint_holds, all_hold as all_hold_spec};
+ghost use Rattle.unl_constraints.specs.Right.{AreValues};
+
+use crate::constraint::compare;
+use crate::right::Right;
+use std::alloc::Global;
+use std::marker::Model;
+use unl_context::Context;
+use unl_documents::{Constraint, Copied, List, Memory, Text};
+
+/// A constraint whose values are in order and whose value is read, for many contexts. Contracts see
+/// the constraint.
+#[derive(Drop)]
+pub struct Compiled {
+    constraint: Constraint,
+    right: Right,
+}
+
+impl Model for Compiled {
+    ghost use Rattle.unl_constraints.specs.Right.{IsRight};
+    ghost use Rattle.unl_documents.specs.declared.constraint.Constraint.{Constraint};
+
+    ghost Value = { Constraint };
+
+    ghost view = { λ c. c.constraint };
+
+    ghost invariant = { λ c. IsRight c.constraint c.right };
+}
+
+impl Compiled {
+    /// The constraint, compiled. The only error is want of memory.
+    pub fn new(alloc: Global, constraint: &Constraint) -> Result<Compiled, Memory>
+        ensures { IfOk result (λ c. c ≡ constraint.now) }
+    {
+        let right = Right::of(alloc, constraint)?;
+        let constraint = constraint.copy(alloc)?;
+        Ok(Compiled { constraint, right })
+    }
+
+    /// Whether a context meets the constraint, as [`holds`](crate::holds) says it. `now` is in
+    /// milliseconds since 1970. The only error is want of memory.
+    pub fn holds(&self, alloc: Global, context: &Context, now: u64) -> Result<bool, Memory>
+        ensures { IfOk result (λ r. r ≡ constraint_holds self.now context.now now) }
+    {
+        compare(alloc, &self.constraint, &self.right, context, now)
+    }
+
+    /// The constraint's values in rising byte order, each once. Where the operator is one of the
+    /// three STR operators and letters are alike in either case, they are folded first, by the
+    /// default folding of the Unicode Standard. Takes no memory.
+    pub fn values(&self) -> &List<Text>
+        ensures { AreValues self.now result.now }
+    {
+        &self.right.values
+    }
+
+    /// Whether a context meets each of the constraints, and so where there are none. `now` is in
+    /// milliseconds since 1970. The only error is want of memory.
+    pub fn all_hold(
+        alloc: Global,
+        constraints: &[Compiled],
+        context: &Context,
+        now: u64,
+    ) -> Result<bool, Memory>
+        ensures { IfOk result (λ r. r ≡ all_hold_spec constraints.now context.now now) }
+    {
+        all_compiled_hold(alloc, constraints, context, now)
+    }
+}
+
+#[tactic(auto, unfolding(crate::specs::Constraint::all_hold))]
+fn all_compiled_hold(
+    alloc: Global,
+    constraints: &[Compiled],
+    context: &Context,
+    now: u64,
+) -> Result<bool, Memory>
+    ensures { IfOk result (λ r. r ≡ all_hold_spec constraints.now context.now now) }
+{
+    for constraint in constraints {
+        if !constraint.holds(alloc, context, now)? {
+            return Ok(false);
+        }
+    }
+    Ok(true)
+}

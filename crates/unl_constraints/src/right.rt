@@ -1,0 +1,175 @@
+//! The right sides of constraints, as their operators read them.
+ghost use Rattle.std.specs.Prelude.{◌≡◌, ℕ, List, Bool, IfOk, OnOk, map, option_map, option_and_then};
+ghost use Rattle.std.specs.List.{list_any};
+ghost use Rattle.semver.specs.Identifiers.{parts_of};
+ghost use Rattle.unl_documents.specs.Parameters.{AreRising};
+ghost use Rattle.unl_constraints.specs.Decimal.{number_of, IsRead};
+ghost use Rattle.unl_constraints.specs.Instant.{instant_of};
+ghost use Rattle.unl_constraints.specs.Right.{kind_of as kind_by, is_folded as is_folded_by, compared_values, IsSingle, IsRight};
+ghost use Rattle.unl_constraints.specs.Texts.{compared as compared_by};
+ghost use Rattle.unl_constraints.specs.Version.{version_of};
+
+use crate::decimal::Decimal;
+use crate::instant::read_instant;
+use crate::texts::compared;
+use crate::version::read_version;
+use semver::Version;
+use std::alloc::Global;
+use unl_documents::{Constraint, List, Memory, Operator, Text};
+
+/// What an operator compares.
+#[derive(Clone, Copy)]
+pub(crate) enum Kind {
+    /// The field with the whole of each value.
+    Member,
+    /// The field with parts that it may have.
+    Part,
+    /// Two numbers.
+    Number,
+    /// Two instants.
+    Instant,
+    /// Two versions.
+    Version,
+}
+
+/// The right side of a constraint.
+#[derive(Drop)]
+pub(crate) struct Right {
+    /// The values as they are compared, in rising byte order, each once.
+    pub values: List<Text>,
+    /// The value.
+    pub single: Single,
+}
+
+/// The value of a constraint, as its operator reads it.
+#[derive(Drop)]
+pub(crate) enum Single {
+    /// The operator compares with the values.
+    Values,
+    /// The number, if it is one.
+    Number(Option<Decimal>),
+    /// The instant, if it is one, in nanoseconds since 1970.
+    Instant(Option<i128>),
+    /// The version, if it is one.
+    Version(Option<Version>),
+}
+
+impl Right {
+    /// The right side of a constraint. The error is want of memory.
+    pub(crate) fn of(alloc: Global, constraint: &Constraint) -> Result<Right, Memory>
+        ensures { IfOk result (IsRight constraint.now) }
+    {
+        Ok(Right {
+            values: values_of(alloc, constraint)?,
+            single: single_of(alloc, constraint)?,
+        })
+    }
+}
+
+/// What the operator compares.
+fn kind_of(operator: &Operator) -> Kind
+    ensures { result ≡ kind_by operator.now }
+{
+    match operator {
+        Operator::In => Kind::Member,
+        Operator::NotIn => Kind::Member,
+        Operator::StrContains => Kind::Part,
+        Operator::StrStartsWith => Kind::Part,
+        Operator::StrEndsWith => Kind::Part,
+        Operator::NumEq => Kind::Number,
+        Operator::NumGt => Kind::Number,
+        Operator::NumGte => Kind::Number,
+        Operator::NumLt => Kind::Number,
+        Operator::NumLte => Kind::Number,
+        Operator::DateAfter => Kind::Instant,
+        Operator::DateBefore => Kind::Instant,
+        Operator::SemverEq => Kind::Version,
+        Operator::SemverGt => Kind::Version,
+        Operator::SemverLt => Kind::Version,
+        Operator::Unknown(_) => Kind::Member,
+    }
+}
+
+/// Whether the values are compared in folded case.
+fn is_folded(constraint: &Constraint) -> bool
+    ensures { result ≡ is_folded_by constraint.now }
+{
+    match kind_of(&constraint.operator) {
+        Kind::Part => constraint.caseless,
+        _ => false,
+    }
+}
+
+fn values_of(alloc: Global, constraint: &Constraint) -> Result<List<Text>, Memory>
+    ensures rising { IfOk result AreRising }
+    ensures same { IfOk result (λ values. (test : List ℕ → Bool) → list_any test values ≡ list_any test (compared_values constraint.now)) }
+{
+    let folded = is_folded(constraint);
+    let values = compared_each(alloc, folded, constraint.values.as_slice())?;
+    in_order(values)
+}
+
+/// The texts as they are compared.
+fn compared_each(alloc: Global, folded: bool, texts: &[Text]) -> Result<Vec<Text>, Memory>
+    ensures { IfOk result (λ all. all.items ≡ map (compared_by folded) texts.now) }
+{
+    let mut all = Vec::new(alloc);
+    for text in texts {
+        all.push(compared(alloc, folded, text.as_str())?)?;
+    }
+    Ok(all)
+}
+
+/// The texts in rising byte order, each once.
+fn in_order(texts: Vec<Text>) -> Result<List<Text>, Memory>
+    ensures rising { IfOk result AreRising }
+    ensures same { IfOk result (λ ordered. (test : List ℕ → Bool) → list_any test ordered ≡ list_any test texts.items) }
+{
+    let mut texts = texts;
+    texts.sort()?;
+    texts.dedup();
+    Ok(List::from_vec(texts))
+}
+
+fn single_of(alloc: Global, constraint: &Constraint) -> Result<Single, Memory>
+    ensures { IfOk result (IsSingle (kind_by constraint.now.operator) constraint.now.value) }
+{
+    let text = constraint.value.as_ref().map(Text::as_str);
+    match kind_of(&constraint.operator) {
+        Kind::Member => Ok(Single::Values),
+        Kind::Part => Ok(Single::Values),
+        Kind::Number => Ok(Single::Number(number(text))),
+        Kind::Instant => Ok(Single::Instant(instant(alloc, text)?)),
+        Kind::Version => Ok(Single::Version(version(alloc, text)?)),
+    }
+}
+
+/// The number of a text, if it is one.
+pub(crate) fn number(text: Option<&str>) -> Option<Decimal>
+    ensures { IsRead (option_and_then number_of (option_map (λ t. t.now) text.entry)) result }
+{
+    match text {
+        None => None,
+        Some(text) => Decimal::read(text),
+    }
+}
+
+/// The version of a text, if it is one.
+pub(crate) fn version(alloc: Global, text: Option<&str>) -> Result<Option<Version>, Memory>
+    ensures { IfOk result (λ v. option_map parts_of v ≡ option_and_then version_of (option_map (λ t. t.now) text.entry)) }
+{
+    match text {
+        None => Ok(None),
+        Some(text) => read_version(alloc, text),
+    }
+}
+
+/// The instant of a text, if it is one.
+fn instant(alloc: Global, text: Option<&str>) -> Result<Option<i128>, Memory>
+    ensures { IfOk result (λ i. i ≡ option_and_then instant_of (option_map (λ t. t.now) text.entry)) }
+{
+    match text {
+        None => Ok(None),
+        Some(text) => read_instant(alloc, text),
+    }
+}
