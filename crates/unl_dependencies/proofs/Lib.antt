@@ -2,4 +2,4 @@ mod Named
 mod Lawful
 mod Inlined
 mod Places
-mod Sight
+pub mod Sight

@@ -17,6 +17,6 @@ found_valid name (x ∷ xs) f is valid =
     either (bytes_eq x.name name) x f (feature_named name xs) is (All-head IsValidFeature x xs valid) (λ later. found_valid name xs f later (All-tail IsValidFeature x xs valid))
 
 -- so it is within its limits where all are
-pub named_valid : (name : List ℕ) (features : List Feature) (found : Option (Bor Feature)) → option_map (λ f. f.now) found ≡ feature_named name features → All IsValidFeature features → IfSome found (λ f. IsValidFeature f.now)
-named_valid name features None is valid = tt
-named_valid name features (Some f) is valid = found_valid name features f.now (sym is) valid
+pub named_valid : {F : Type 0} (document : F → Feature) (name : List ℕ) (features : List Feature) (found : Option (Bor F)) → option_map (λ f. document f.now) found ≡ feature_named name features → All IsValidFeature features → IfSome found (λ f. IsValidFeature (document f.now))
+named_valid document name features None is valid = tt
+named_valid document name features (Some f) is valid = found_valid name features (document f.now) (sym is) valid

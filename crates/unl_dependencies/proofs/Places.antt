@@ -1,5 +1,5 @@
 -- The least place at which a test passes.
-use Rattle.std.proofs.Common.{◌≡◌, ℕ, zero, suc, ◌+◌, ◌<◌, Bool, true, false, cond, List, [], ◌∷◌, Option, Some, None, inl, inr, refl, ap, sym, ◌∙◌, subst, arith}
+use Rattle.std.proofs.Common.{◌≡◌, ℕ, zero, suc, ◌+◌, ◌<◌, Bool, true, false, cond, List, [], ◌∷◌, length, drop, Option, Some, None, inl, inr, refl, ap, sym, ◌∙◌, subst, arith}
 use Rattle.std.specs.Prelude.{◌↔◌, slice_get, unwrap_or}
 use Rattle.std.specs.Option.{option_map_or}
 use Rattle.std.proofs.lemmas.Bool.{cases_Bool}
@@ -9,8 +9,8 @@ use Rattle.unl_documents.specs.declared.strategy.Strategy.{Strategy}
 use Rattle.unl_context.specs.Context.{Fields}
 use Rattle.unl_strategies.specs.Moment.{Moment}
 use Rattle.unl_strategies.specs.Strategy.{is_active}
-use Rattle.unl_dependencies.specs.Evaluation.{active_from, first_active}
-use Rattle.unl_dependencies.specs.Laws.{is_active_at, IsFirstActive}
+use Rattle.unl_dependencies.specs.Evaluation.{is_active_at, active_from, first_active}
+use Rattle.unl_dependencies.specs.Laws.{IsFirstActive}
 
 -- ---- any test of a place and what stands there
 
@@ -125,3 +125,33 @@ none_is_active f segments context moment =
       λ none place. sym (same_at f segments context moment place) ∙ none_passes test f.strategies 0 (sym same ∙ none) place,
       λ fails. same ∙ none_is_found test f.strategies 0 (λ k. same_at f segments context moment k ∙ fails k),
     )
+
+-- ---- from one place to the next
+
+record Split {T : Type 0} (xs : List T) (i : ℕ) : Type 0 where
+  item : T
+  at_place : slice_get xs i ≡ Some item
+  is : drop i xs ≡ item ∷ drop (i + 1) xs
+
+split : {T : Type 0} (xs : List T) (i : ℕ) → i < length xs → Split xs i
+split [] i lt = absurd (omega arith)
+split (x ∷ xs) zero lt = record { item = x; at_place = refl; is = refl }
+split (x ∷ xs) (suc i) lt =
+    let more = split xs i (omega arith) in
+    let next : suc i + 1 ≡ suc (i + 1) = omega arith in
+    record { item = more.item; at_place = more.at_place; is = rw next more.is }
+
+step_at : (f : Feature) (segments : List Segment) (context : Fields) (moment : Moment) (i : ℕ) → i < length f.strategies → active_from i (drop i f.strategies) f.name segments context moment ≡ cond (is_active_at f segments context moment i) (Some i) (active_from (i + 1) (drop (i + 1) f.strategies) f.name segments context moment)
+step_at f segments context moment i lt =
+    let parts = split f.strategies i lt in
+    rw (parts.is, parts.at_place) refl
+
+pub active_here : (f : Feature) (segments : List Segment) (context : Fields) (moment : Moment) (i : ℕ) (b : Bool) → i < length f.strategies → b ≡ is_active_at f segments context moment i → b ≡ true → active_from i (drop i f.strategies) f.name segments context moment ≡ Some i
+active_here f segments context moment i b lt is true_is =
+    let passes : is_active_at f segments context moment i ≡ true = sym is ∙ true_is in
+    step_at f segments context moment i lt ∙ rw passes refl
+
+pub active_later : (f : Feature) (segments : List Segment) (context : Fields) (moment : Moment) (i : ℕ) (b : Bool) → i < length f.strategies → b ≡ is_active_at f segments context moment i → b ≡ false → active_from i (drop i f.strategies) f.name segments context moment ≡ active_from (i + 1) (drop (i + 1) f.strategies) f.name segments context moment
+active_later f segments context moment i b lt is false_is =
+    let fails : is_active_at f segments context moment i ≡ false = sym is ∙ false_is in
+    step_at f segments context moment i lt ∙ rw fails refl

@@ -21,6 +21,11 @@ use Rattle.unl_variants.specs.Variant.{choice_of, is_among}
 use Rattle.unl_dependencies.specs.declared.evaluation.Evaluation.{Evaluation}
 use Rattle.unl_dependencies.specs.declared.evaluation.VariantAnswer.{VariantAnswer}
 
+-- the feature has a strategy at the place, and it is active
+abbrev pub is_active_at : Feature → List Segment → Fields → Moment → ℕ → Bool
+is_active_at f segments context moment place =
+    option_map_or (λ s. is_active s f.name place segments context moment) (slice_get f.strategies place) false
+
 -- the least place, from this one on, whose strategy is active
 abbrev pub active_from : ℕ → List Strategy → List ℕ → List Segment → Fields → Moment → Option ℕ
 active_from place [] feature segments context moment = None

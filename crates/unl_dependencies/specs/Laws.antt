@@ -1,7 +1,6 @@
 -- What an evaluation is, said of the whole state.
 use Rattle.std.specs.Prelude.{◌≡◌, ◌≢◌, ◌<◌, ◌↔◌, ℕ, List, All, map, filter, length, Bool, true, false, Option, Some, None}
 use Rattle.std.specs.Prelude.{option_and_then, slice_get, if◌then◌else◌}
-use Rattle.std.specs.Option.{option_map_or}
 use Rattle.unl_documents.specs.declared.feature.Feature.{Feature}
 use Rattle.unl_documents.specs.declared.segment.Segment.{Segment}
 use Rattle.unl_documents.specs.declared.state.State.{State}
@@ -10,8 +9,7 @@ use Rattle.unl_documents.specs.States.{IsValidState, name_key}
 use Rattle.unl_documents.specs.Inline.{inlined}
 use Rattle.unl_context.specs.Context.{Fields}
 use Rattle.unl_strategies.specs.Moment.{Moment}
-use Rattle.unl_strategies.specs.Strategy.{is_active}
-use Rattle.unl_dependencies.specs.Evaluation.{first_active, evaluation_where, feature_named, feature_evaluation, evaluation_of}
+use Rattle.unl_dependencies.specs.Evaluation.{is_active_at, first_active, evaluation_where, feature_named, feature_evaluation, evaluation_of}
 
 -- no feature of the state has the name
 abbrev pub Lacks : State → List ℕ → Type 0
@@ -38,11 +36,6 @@ ParentStandsAlone = (state : State) (parent : Feature) (context : Fields) (momen
 abbrev pub InliningChangesNothing : Type 0
 InliningChangesNothing = (state : State) (name : List ℕ) (context : Fields) (moment : Moment)
     → evaluation_of (inlined state) name context moment ≡ evaluation_of state name context moment
-
--- the feature has a strategy at the place, and it is active
-abbrev pub is_active_at : Feature → List Segment → Fields → Moment → ℕ → Bool
-is_active_at f segments context moment place =
-    option_map_or (λ s. is_active s f.name place segments context moment) (slice_get f.strategies place) false
 
 -- the strategy at the place is active, and none before it is
 pub record IsFirstActive (f : Feature) (segments : List Segment) (context : Fields) (moment : Moment) (place : ℕ) : Type 0 where

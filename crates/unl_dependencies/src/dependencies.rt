@@ -7,28 +7,29 @@ ghost use Rattle.unl_variants.specs.Variant.{is_among as among};
 ghost use Rattle.unl_dependencies.specs.Evaluation.{is_met as met, is_met_by as met_by, agrees as agreeing, dependencies_met};
 
 use crate::evaluation::Evaluation;
-use crate::finding::feature_named;
+use crate::features::{Features, valid_named};
 use crate::picking::evaluate_where;
 use std::alloc::Global;
 use unl_context::Context;
-use unl_documents::{Dependency, Feature, List, Memory, Segment, Shared, State, Text};
+use unl_documents::{Dependency, Memory, Text};
 use unl_strategies::Moment;
 
 /// Whether all of the dependencies are met over a state whose documents are within their limits. The error is want of
 /// memory.
 #[tactic(auto, unfolding(crate::specs::Evaluation::dependencies_met))]
-pub fn all_met(
+pub fn all_met<F: Features>(
     alloc: Global,
     dependencies: &[Dependency],
-    state: &State,
+    features: &F,
     context: &Context,
     moment: &Moment,
 ) -> Result<bool, Memory>
-    requires valid { IsValidState state.now }
-    ensures { IfOk result (λ b. b ≡ dependencies_met dependencies.now state.now context.now moment.entry.now) }
+    requires valid { IsValidState (F.state features.now) }
+    ensures { IfOk result (λ b. b
+        ≡ dependencies_met dependencies.now (F.state features.now) context.now moment.entry.now) }
 {
     for dependency in dependencies {
-        if !is_met(alloc, dependency, state, context, moment)? {
+        if !is_met(alloc, dependency, features, context, moment)? {
             return Ok(false);
         }
     }
@@ -38,40 +39,41 @@ pub fn all_met(
 /// Whether a dependency is met: the state, whose documents are within their limits, has the parent, which meets it. The
 /// error is want of memory.
 #[tactic(auto, unfolding(crate::specs::Evaluation::is_met))]
-pub fn is_met(
+pub fn is_met<F: Features>(
     alloc: Global,
     dependency: &Dependency,
-    state: &State,
+    features: &F,
     context: &Context,
     moment: &Moment,
 ) -> Result<bool, Memory>
-    requires valid { IsValidState state.now }
-    ensures { IfOk result (λ b. b ≡ met state.now context.now moment.entry.now dependency.now) }
+    requires valid { IsValidState (F.state features.now) }
+    ensures { IfOk result (λ b. b ≡ met (F.state features.now) context.now moment.entry.now dependency.now) }
 {
-    match feature_named(&state.features, dependency.feature.as_str()) {
+    match valid_named(features, dependency.feature.as_str()) {
         None => Ok(false),
-        Some(parent) => is_met_by(alloc, dependency, parent, &state.segments, context, moment),
+        Some(parent) => is_met_by(alloc, dependency, features, parent, context, moment),
     }
 }
 
 /// Whether a parent within its limits meets a dependency. One that has dependencies of its own meets none, so no parent's
 /// parent counts. The error is want of memory.
 #[tactic(auto, unfolding(crate::specs::Evaluation::is_met_by))]
-pub fn is_met_by(
+pub fn is_met_by<F: Features>(
     alloc: Global,
     dependency: &Dependency,
-    parent: &Feature,
-    segments: &List<Shared<Segment>>,
+    features: &F,
+    parent: &F::Feature,
     context: &Context,
     moment: &Moment,
 ) -> Result<bool, Memory>
-    requires parent { IsValidFeature parent.now }
-    ensures { IfOk result (λ b. b ≡ met_by segments.now context.now moment.entry.now dependency.now parent.now) }
+    requires parent { IsValidFeature (F.document parent.now) }
+    ensures { IfOk result (λ b. b
+        ≡ met_by (F.state features.now).segments context.now moment.entry.now dependency.now (F.document parent.now)) }
 {
-    if !parent.dependencies.is_empty() {
+    if !F::document(parent).dependencies.is_empty() {
         return Ok(false);
     }
-    let evaluation = evaluate_where(alloc, true, parent, segments, context, moment)?;
+    let evaluation = evaluate_where(alloc, true, features, parent, context, moment)?;
     Ok(agrees(dependency, &evaluation))
 }
 

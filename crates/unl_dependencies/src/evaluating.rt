@@ -6,52 +6,49 @@ ghost use Rattle.unl_dependencies.specs.Evaluation.{feature_evaluation, evaluati
 
 use crate::dependencies::all_met;
 use crate::evaluation::Evaluation;
-use crate::finding::feature_named;
+use crate::features::{Features, valid_named};
 use crate::picking::evaluate_where;
 use std::alloc::Global;
 use unl_context::Context;
-use unl_documents::{Feature, Memory, State};
+use unl_documents::Memory;
 use unl_strategies::Moment;
 
 /// The evaluation of the feature of a name for a context at a moment, over a state whose documents are within their
 /// limits. Ok(None) exactly where the state lacks the name.
 #[tactic(auto, unfolding(crate::specs::Evaluation::evaluation_of))]
-pub fn evaluate(
+pub fn evaluate<F: Features>(
     alloc: Global,
-    state: &State,
+    features: &F,
     name: &str,
     context: &Context,
     moment: &Moment,
 ) -> Result<Option<Evaluation>, Memory>
-    requires valid { IsValidState state.now }
-    ensures value { IfOk result (λ found. found ≡ evaluation_of state.now name.now context.now moment.entry.now) }
+    requires valid { IsValidState (F.state features.now) }
+    ensures value { IfOk result (λ found. found
+        ≡ evaluation_of (F.state features.now) name.now context.now moment.entry.now) }
 {
-    match feature_named(&state.features, name) {
+    match valid_named(features, name) {
         None => Ok(None),
-        Some(feature) => Ok(Some(evaluate_feature(alloc, state, feature, context, moment)?)),
+        Some(feature) => Ok(Some(evaluate_feature(alloc, features, feature, context, moment)?)),
     }
 }
 
 /// The evaluation of a feature over a state that it depends on: the features that it names as its parents, and the
 /// segments that its strategies and theirs name.
 #[tactic(auto, unfolding(crate::specs::Evaluation::feature_evaluation))]
-pub fn evaluate_feature(
+pub fn evaluate_feature<F: Features>(
     alloc: Global,
-    state: &State,
-    feature: &Feature,
+    features: &F,
+    feature: &F::Feature,
     context: &Context,
     moment: &Moment,
 ) -> Result<Evaluation, Memory>
-    requires valid { IsValidState state.now }
-    requires feature { IsValidFeature feature.now }
-    ensures value { IfOk result (λ e. e ≡ feature_evaluation state.now feature.now context.now moment.entry.now) }
+    requires valid { IsValidState (F.state features.now) }
+    requires feature { IsValidFeature (F.document feature.now) }
+    ensures value { IfOk result (λ e. e
+        ≡ feature_evaluation (F.state features.now) (F.document feature.now) context.now moment.entry.now) }
 {
-    let met = all_met(
-        alloc,
-        feature.dependencies.as_slice(),
-        state,
-        context,
-        moment,
-    )?;
-    evaluate_where(alloc, met, feature, &state.segments, context, moment)
+    let dependencies = F::document(feature).dependencies.as_slice();
+    let met = all_met(alloc, dependencies, features, context, moment)?;
+    evaluate_where(alloc, met, features, feature, context, moment)
 }

@@ -4,6 +4,7 @@
 mod dependencies;
 mod evaluating;
 mod evaluation;
+mod features;
 mod finding;
 mod laws;
 mod picking;
@@ -11,6 +12,7 @@ mod picking;
 pub use dependencies::{agrees, all_met, is_met, is_met_by};
 pub use evaluating::{evaluate, evaluate_feature};
 pub use evaluation::{Evaluation, VariantAnswer};
+pub use features::Features;
 pub use finding::feature_named;
 pub use laws::{
     each_is_found, first_is_least, inlining_changes_nothing, none_where_lacking,

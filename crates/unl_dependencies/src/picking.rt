@@ -2,76 +2,80 @@
 ghost use Rattle.std.specs.Prelude.{◌≡◌, ◌≤◌, length, IfOk, option_map};
 ghost use Rattle.unl_documents.specs.Valid.{IsValidFeature};
 ghost use Rattle.unl_variants.specs.Variant.{AreWithinLimits};
-ghost use Rattle.unl_dependencies.specs.Evaluation.{first_active as first_active_of, active_from};
+ghost use Rattle.unl_dependencies.specs.Evaluation.{first_active as first_active_of};
 ghost use Rattle.unl_dependencies.specs.Evaluation.{strategy_variant as variant_of_strategy, own_variant as own_variant_of};
 ghost use Rattle.unl_dependencies.specs.Evaluation.{variant_of as variant_of_feature, variant_in as variant_chosen_in, evaluation_where};
 ghost use Rattle.unl_dependencies.specs.Evaluation.{on_with};
 
 use crate::evaluation::Evaluation;
+use crate::features::Features;
 use std::alloc::Global;
 use unl_context::Context;
-use unl_documents::{Feature, List, Memory, Segment, Shared, Strategy, Text, Variant};
-use unl_strategies::{Mark, Moment, active, parameter_or, random_for, random_id};
+use unl_documents::{Feature, List, Memory, Variant};
+use unl_strategies::{Mark, Moment, parameter_or, random_for, random_id};
 use unl_variants::choose;
 
 /// The evaluation of a feature within its limits, where it is known whether its dependencies are met. The error is want
 /// of memory.
 #[tactic(auto, unfolding(crate::specs::Evaluation::evaluation_where, crate::specs::Evaluation::is_on))]
-pub fn evaluate_where(
+pub fn evaluate_where<F: Features>(
     alloc: Global,
     met: bool,
-    feature: &Feature,
-    segments: &List<Shared<Segment>>,
+    features: &F,
+    feature: &F::Feature,
     context: &Context,
     moment: &Moment,
 ) -> Result<Evaluation, Memory>
-    requires valid { IsValidFeature feature.now }
-    ensures { IfOk result (λ e. e ≡ evaluation_where met feature.now segments.now context.now moment.entry.now) }
+    requires valid { IsValidFeature (F.document feature.now) }
+    ensures { IfOk result (λ e. e ≡ evaluation_where met (F.document feature.now) (F.state features.now).segments
+        context.now moment.entry.now) }
 {
-    if !feature.enabled || !met {
+    let document = F::document(feature);
+    if !document.enabled || !met {
         return Evaluation::off(alloc);
     }
-    let first = first_active(alloc, feature, segments, context, moment)?;
-    if !feature.strategies.is_empty() && first.is_none() {
+    let first = first_active(alloc, features, feature, context, moment)?;
+    if !document.strategies.is_empty() && first.is_none() {
         return Evaluation::off(alloc);
     }
-    Evaluation::on_with(alloc, variant_of(feature, context, moment, first))
+    Evaluation::on_with(alloc, variant_of(document, context, moment, first))
 }
 
 /// The place, from 0, of the first strategy that is active: the least such place, and none where no strategy is. The
 /// feature is within its limits. The error is want of memory.
-#[tactic(auto, unfolding(crate::specs::Evaluation::first_active))]
-pub fn first_active(
+pub fn first_active<F: Features>(
     alloc: Global,
-    feature: &Feature,
-    segments: &List<Shared<Segment>>,
+    features: &F,
+    feature: &F::Feature,
     context: &Context,
     moment: &Moment,
 ) -> Result<Option<u32>, Memory>
-    requires valid { IsValidFeature feature.now }
-    ensures { IfOk result (λ first. first ≡ first_active_of feature.now segments.now context.now moment.entry.now) }
+    requires valid { IsValidFeature (F.document feature.now) }
+    ensures { IfOk result (λ first. first
+        ≡ first_active_of (F.document feature.now) (F.state features.now).segments context.now moment.entry.now) }
 {
-    let strategies = feature.strategies.as_slice();
-    first_among(alloc, strategies, &feature.name, segments, context, moment)
+    let count = F::document(feature).strategies.len();
+    first_among(alloc, count, features, feature, context, moment)
 }
 
-fn first_among(
+#[tactic(auto, unfolding(crate::specs::Evaluation::first_active))]
+fn first_among<F: Features>(
     alloc: Global,
-    strategies: &[Strategy],
-    feature: &Text,
-    segments: &List<Shared<Segment>>,
+    count: usize,
+    features: &F,
+    feature: &F::Feature,
     context: &Context,
     moment: &Moment,
 ) -> Result<Option<u32>, Memory>
-    requires few { length strategies.now ≤ 100 }
-    ensures { IfOk result (λ first. first ≡ active_from 0 strategies.now feature.now segments.now context.now moment.entry.now) }
+    requires few { count ≤ 100 }
+    requires all { count ≡ length (F.document feature.now).strategies }
+    ensures { IfOk result (λ first. first
+        ≡ first_active_of (F.document feature.now) (F.state features.now).segments context.now moment.entry.now) }
 {
-    let mut place = 0;
-    for strategy in strategies {
-        if active(alloc, strategy, feature, place, segments, context, moment)? {
-            return Ok(Some(place));
+    for place in 0..count {
+        if features.is_active(alloc, feature, place as u32, context, moment)? {
+            return Ok(Some(place as u32));
         }
-        place += 1;
     }
     Ok(None)
 }

@@ -147,12 +147,11 @@ fn parts_of(
     match feature_named(&state.features, name) {
         None => Ok(None),
         Some(feature) => {
-            let segments = &state.segments;
-            let first = first_active(alloc, feature, segments, context, &moment)?;
+            let first = first_active(alloc, state, feature, context, &moment)?;
             let has_variant = variant_of(feature, context, &moment, first).is_some();
             let dependencies = feature.dependencies.as_slice();
             let met = all_met(alloc, dependencies, state, context, &moment)?;
-            let evaluation = evaluate_where(alloc, met, feature, segments, context, &moment)?;
+            let evaluation = evaluate_where(alloc, met, state, feature, context, &moment)?;
             Ok(Some((first, has_variant, met, evaluation.on)))
         }
     }

@@ -52,7 +52,7 @@ fn explain_feature(
     let dependencies = feature.dependencies.as_slice();
     let parents = explain_parents(alloc, dependencies, state, context, moment)?;
     let strategies = explain_strategies(alloc, feature, segments, context, moment)?;
-    let first = first_active(alloc, feature, segments, context, moment)?;
+    let first = first_active(alloc, state, feature, context, moment)?;
     let source = source_of(evaluation.on, feature, context, moment, first);
     Ok(Reason {
         evaluation,

@@ -8,7 +8,7 @@ use crate::reason::{ParentCause, ParentReason};
 use std::alloc::Global;
 use unl_context::Context;
 use unl_dependencies::{evaluate_where, feature_named, is_met};
-use unl_documents::{Copied, Dependency, Feature, List, Memory, Segment, Shared, State};
+use unl_documents::{Copied, Dependency, Feature, List, Memory, State};
 use unl_strategies::Moment;
 
 /// Whether each of the dependencies is met, and why.
@@ -63,7 +63,7 @@ fn cause_in(
 {
     match feature_named(&state.features, name) {
         None => Ok(ParentCause::Absent),
-        Some(parent) => cause_of(alloc, parent, &state.segments, context, moment),
+        Some(parent) => cause_of(alloc, state, parent, context, moment),
     }
 }
 
@@ -71,18 +71,18 @@ fn cause_in(
 #[tactic(auto, unfolding(crate::specs::Reasons::cause_of))]
 fn cause_of(
     alloc: Global,
+    state: &State,
     parent: &Feature,
-    segments: &List<Shared<Segment>>,
     context: &Context,
     moment: &Moment,
 ) -> Result<ParentCause, Memory>
     requires parent { IsValidFeature parent.now }
-    ensures { IfOk result (λ cause. cause ≡ cause_of_feature segments.now context.now moment.entry.now parent.now) }
+    ensures { IfOk result (λ cause. cause ≡ cause_of_feature state.now.segments context.now moment.entry.now parent.now) }
 {
     if !parent.dependencies.is_empty() {
         return Ok(ParentCause::HasParents);
     }
-    let evaluation = evaluate_where(alloc, true, parent, segments, context, moment)?;
+    let evaluation = evaluate_where(alloc, true, state, parent, context, moment)?;
     if !evaluation.on {
         return Ok(ParentCause::Off);
     }

@@ -1,0 +1,92 @@
+//! What evaluations are computed over.
+ghost use Rattle.std.specs.Prelude.{◌≡◌, All, IfOk, IfSome, option_map};
+ghost use Rattle.unl_documents.specs.States.{IsValidState};
+ghost use Rattle.unl_documents.specs.Valid.{IsValidFeature};
+ghost use Rattle.unl_documents.specs.declared.feature.Feature.{Feature as FeatureDocument};
+ghost use Rattle.unl_documents.specs.declared.state.State.{State as Whole};
+ghost use Rattle.unl_dependencies.specs.Evaluation.{feature_named as feature_with, is_active_at};
+
+use crate::finding::feature_named;
+use std::alloc::Global;
+use unl_context::Context;
+use unl_documents::{Feature, Memory, State};
+use unl_strategies::{Moment, active};
+
+/// Features that are found by their names and whose strategies are tested. Contracts see a state.
+pub trait Features {
+    /// A feature, as it is kept.
+    type Feature: Drop;
+
+    /// The state that the evaluations are those of.
+    ghost state: { Self → Whole };
+
+    /// The document of a feature.
+    ghost document: { Self.Feature → FeatureDocument };
+
+    /// The feature of a name, if there is one. It takes no memory.
+    fn named(&self, name: &str) -> Option<&Self::Feature>
+        ensures { option_map (λ f. document f.now) result ≡ feature_with name.now (state self.now).features };
+
+    /// The document of a feature. It takes no memory.
+    fn document(feature: &Self::Feature) -> &Feature
+        ensures { result.now ≡ document feature.now };
+
+    /// Whether a feature has a strategy at the place, from 0, and it is active. The error is want of memory.
+    fn is_active(
+        &self,
+        alloc: Global,
+        feature: &Self::Feature,
+        place: u32,
+        context: &Context,
+        moment: &Moment,
+    ) -> Result<bool, Memory>
+        ensures { IfOk result (λ b. b
+            ≡ is_active_at (document feature.now) (state self.now).segments context.now moment.entry.now place) };
+}
+
+impl Features for State {
+    type Feature = Feature;
+
+    ghost state = { λ state. state };
+
+    ghost document = { λ feature. feature };
+
+    fn named(&self, name: &str) -> Option<&Feature> {
+        feature_named(&self.features, name)
+    }
+
+    fn document(feature: &Feature) -> &Feature {
+        feature
+    }
+
+    fn is_active(
+        &self,
+        alloc: Global,
+        feature: &Feature,
+        place: u32,
+        context: &Context,
+        moment: &Moment,
+    ) -> Result<bool, Memory> {
+        match feature.strategies.get(place as usize) {
+            None => Ok(false),
+            Some(strategy) => active(
+                alloc,
+                strategy,
+                &feature.name,
+                place,
+                &self.segments,
+                context,
+                moment,
+            ),
+        }
+    }
+}
+
+/// The feature of a name, which is within its limits.
+pub(crate) fn valid_named<'a, F: Features>(features: &'a F, name: &str) -> Option<&'a F::Feature>
+    requires valid { IsValidState (F.state features.now) }
+    ensures value { option_map (λ f. F.document f.now) result ≡ feature_with name.now (F.state features.now).features }
+    ensures valid { IfSome result (λ f. IsValidFeature (F.document f.now)) }
+{
+    features.named(name)
+}
