@@ -1,2 +1,5 @@
 pub mod Reasons
 pub mod Laws
+pub mod Question
+pub mod Line
+pub mod Running

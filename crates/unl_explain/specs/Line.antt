@@ -1,0 +1,103 @@
+-- The line of JSON that tells an explanation.
+use Rattle.std.specs.Prelude.{ℕ, List, ◌++◌, codes, Option, Some, None, option_map}
+use Rattle.std.specs.Option.{option_map_or}
+use Rattle.serde_json.specs.Data.{Data, boolean, no_members, null, object, put, string}
+use Rattle.serde_json.specs.Written.{compact_text}
+use Rattle.unl_dependencies.specs.declared.evaluation.Evaluation.{Evaluation}
+use Rattle.unl_dependencies.specs.declared.evaluation.VariantAnswer.{VariantAnswer}
+use Rattle.unl_documents.specs.declared.field.Field.TheVariants as field
+use Rattle.unl_documents.specs.Writing.{count, list, payload_data, with, with_some}
+use Rattle.unl_explain.specs.declared.reason.Origin.{Origin}
+use Rattle.unl_explain.specs.declared.reason.Origin.TheVariants as origin
+use Rattle.unl_explain.specs.declared.reason.ParentCause.{ParentCause}
+use Rattle.unl_explain.specs.declared.reason.ParentCause.TheVariants as cause
+use Rattle.unl_explain.specs.declared.reason.ParentReason.{ParentReason}
+use Rattle.unl_explain.specs.declared.reason.Reason.{Reason}
+use Rattle.unl_explain.specs.declared.reason.SegmentReason.{SegmentReason}
+use Rattle.unl_explain.specs.declared.reason.StrategyReason.{StrategyReason}
+
+-- the variant of an evaluation
+unfoldable pub variant_data : VariantAnswer → Data
+variant_data v = object (
+    with_some field.Payload (option_map payload_data v.payload) (
+    with field.Enabled (boolean v.enabled) (
+    with field.Name (string v.name)
+    no_members)))
+
+-- an evaluation
+unfoldable pub evaluation_data : Evaluation → Data
+evaluation_data e = object (
+    put (codes "on") (boolean e.on) (
+    put (codes "variant") (variant_data e.variant)
+    no_members))
+
+-- the word for what a parent is
+abbrev pub cause_text : ParentCause → List ℕ
+cause_text cause.Absent = codes "absent"
+cause_text cause.HasParents = codes "has-parents"
+cause_text (cause.On variant) = codes "on"
+cause_text cause.Off = codes "off"
+
+-- the name of a parent's variant, where it is on
+abbrev pub variant_in : ParentCause → Option (List ℕ)
+variant_in (cause.On variant) = Some variant
+variant_in cause.Absent = None
+variant_in cause.HasParents = None
+variant_in cause.Off = None
+
+-- a parent
+unfoldable pub parent_data : ParentReason → Data
+parent_data p = object (
+    with_some field.Variant (option_map string (variant_in p.cause)) (
+    put (codes "cause") (string (cause_text p.cause)) (
+    with field.Feature (string p.feature) (
+    put (codes "met") (boolean p.met)
+    no_members))))
+
+-- a segment that a strategy names
+unfoldable pub segment_data : SegmentReason → Data
+segment_data s = object (
+    with field.Constraints (list boolean s.constraints) (
+    put (codes "found") (boolean s.found) (
+    with field.Id (count s.id)
+    no_members)))
+
+-- a strategy
+unfoldable pub strategy_data : StrategyReason → Data
+strategy_data s = object (
+    put (codes "active") (boolean s.active) (
+    with field.Constraints (list boolean s.constraints) (
+    with field.Name (string s.name) (
+    put (codes "rule") (boolean s.rule) (
+    with field.Segments (list segment_data s.segments)
+    no_members)))))
+
+-- the word for where a variant comes from
+abbrev pub origin_text : Origin → List ℕ
+origin_text origin.NoVariant = codes "none"
+origin_text origin.Strategy = codes "strategy"
+origin_text origin.Own = codes "own"
+
+-- the place of the first active strategy, or null
+abbrev pub first_data : Option ℕ → Data
+first_data None = null
+first_data (Some place) = count place
+
+-- an explanation
+unfoldable pub reason_data : Reason → Data
+reason_data r = object (
+    with field.Enabled (boolean r.enabled) (
+    put (codes "evaluation") (evaluation_data r.evaluation) (
+    put (codes "first") (first_data r.first) (
+    put (codes "parents") (list parent_data r.parents) (
+    put (codes "source") (string (origin_text r.source)) (
+    with field.Strategies (list strategy_data r.strategies)
+    no_members))))))
+
+-- an explanation, or null where the state lacks the feature
+unfoldable pub explanation_data : Option Reason → Data
+explanation_data reason = option_map_or reason_data reason null
+
+-- the line that tells it
+unfoldable pub explanation_line : Option Reason → List ℕ
+explanation_line reason = compact_text (explanation_data reason) ++ codes "\n"

@@ -1,0 +1,33 @@
+-- What is asked: a feature of a state, for a context at a moment. Each key in order, with its kind.
+use Rattle.std.specs.Prelude.{ℕ, List, Result, Ok, Err, ok_or}
+use Rattle.serde_json.specs.Data.{Data}
+use Rattle.unl_documents.specs.declared.fault.BadDocument.TheVariants.{NotJson}
+use Rattle.unl_documents.specs.declared.field.Field.TheVariants as field
+use Rattle.unl_documents.specs.Kinds.{any_whole, defaulted, document, name, object_of, required, whole}
+use Rattle.unl_documents.specs.Reading.{Reading, ◌>>=◌}
+use Rattle.unl_documents.specs.Results.{json_of}
+use Rattle.unl_documents.specs.States.{IsValidState, state_of}
+use Rattle.unl_explain.specs.declared.question.Question.{Question}
+use Rattle.unl_input.specs.Contexts.{context_in}
+
+-- the last moment
+abbrev pub last_moment : ℕ
+last_moment = 100000000000000
+
+-- a question
+unfoldable pub question_of : Data → Reading Question
+question_of value = do
+  state ← required (object_of state_of) field.State value
+  feature ← required name field.Feature value
+  context ← context_in value
+  now ← defaulted 0 (whole last_moment) field.Now value
+  word ← defaulted 0 any_whole field.Word value
+  Ok (record { state = state; feature = feature; context = context; now = now; word = word })
+
+-- the question that an input spells
+unfoldable pub question_in : List ℕ → Reading Question
+question_in bytes = ok_or (json_of bytes) NotJson >>= document question_of
+
+-- the state of a question is within its limits
+abbrev pub IsValidQuestion : Question → Type 0
+IsValidQuestion question = IsValidState question.state

@@ -1,0 +1,216 @@
+//! The line of JSON that tells an explanation.
+ghost use Rattle.std.specs.Prelude.{◌≡◌, ◌++◌, false, codes, IfOk, OnOk, option_map, string_bytes};
+ghost use Rattle.serde_json.specs.Data.{put as with_key, string};
+ghost use Rattle.serde_json.specs.View.{members_view, view};
+ghost use Rattle.serde_json.specs.Written.{compact_text, has_float};
+ghost use Rattle.unl_documents.specs.Writing.{with_some};
+ghost use Rattle.unl_documents.specs.declared.field.Field.TheVariants as field;
+ghost use Rattle.unl_explain.specs.Line.{cause_text, evaluation_data, explanation_data, explanation_line, first_data, origin_text};
+ghost use Rattle.unl_explain.specs.Line.{parent_data, reason_data, segment_data, strategy_data, variant_data, variant_in};
+
+use crate::reason::{Origin, ParentCause, ParentReason, Reason, SegmentReason, StrategyReason};
+use serde_json::{Map, Value};
+use std::alloc::{AllocError, Global};
+use unl_dependencies::{Evaluation, VariantAnswer};
+use unl_documents::written::{Written, put, put_some};
+use unl_documents::{Field, List, Memory};
+
+/// The line that tells an explanation: an object of JSON with its keys in byte order, or `null` where the state lacks the
+/// feature.
+#[tactic(auto, unfolding(crate::specs::Line::explanation_line))]
+pub(crate) fn explanation_line(alloc: Global, reason: &Option<Reason>) -> Result<List<u8>, Memory>
+    ensures { IfOk result (λ line. line ≡ explanation_line reason.now) }
+{
+    let value = explanation_value(alloc, reason)?;
+    let text = plain_text(alloc, &value)?;
+    let line = ended(alloc, &text)?;
+    Ok(List::from_vec(line.into_bytes()))
+}
+
+#[tactic(auto, unfolding(crate::specs::Line::explanation_data))]
+fn explanation_value(alloc: Global, reason: &Option<Reason>) -> Result<Value, Memory>
+    ensures written { IfOk result (λ v. view v ≡ explanation_data reason.now) }
+{
+    match reason {
+        None => Ok(Value::Null),
+        Some(reason) => reason_value(alloc, reason),
+    }
+}
+
+/// The text of a value that has no number with a point.
+fn plain_text(alloc: Global, value: &Value) -> Result<String, Memory>
+    requires { has_float (view value.now) ≡ false }
+    ensures { IfOk result (λ s. string_bytes s ≡ compact_text (view value.now)) }
+{
+    Ok(value.to_string(alloc)?)
+}
+
+fn ended(alloc: Global, text: &str) -> Result<String, AllocError>
+    ensures { IfOk result (λ line. string_bytes line ≡ text.now ++ codes "\n") }
+{
+    format!(in alloc; "{text}\n")
+}
+
+/// Puts a value at a key.
+fn put_at(
+    members: &mut Map<String, Value>,
+    alloc: Global,
+    key: &str,
+    value: Value,
+) -> Result<(), Memory>
+    ensures { OnOk result (members_view members.new.entries ≡ with_key key.now (view value) (members_view members.old.entries)) }
+{
+    serde_json::put(members, alloc, key, value)?;
+    Ok(())
+}
+
+/// An explanation, as it is written.
+#[tactic(auto, unfolding(crate::specs::Line::reason_data))]
+fn reason_value(alloc: Global, reason: &Reason) -> Result<Value, Memory>
+    ensures { IfOk result (λ v. view v ≡ reason_data reason.now) }
+{
+    let mut members = Map::new(alloc);
+    put(&mut members, alloc, Field::Strategies, &reason.strategies)?;
+    put_at(
+        &mut members,
+        alloc,
+        "source",
+        origin_value(alloc, reason.source)?,
+    )?;
+    put_at(&mut members, alloc, "parents", reason.parents.write(alloc)?)?;
+    put_at(&mut members, alloc, "first", first_value(reason.first))?;
+    put_at(
+        &mut members,
+        alloc,
+        "evaluation",
+        evaluation_value(alloc, &reason.evaluation)?,
+    )?;
+    put(&mut members, alloc, Field::Enabled, &reason.enabled)?;
+    Ok(Value::Object(members))
+}
+
+/// A place, or null where there is none.
+fn first_value(first: Option<u32>) -> Value
+    ensures { view result ≡ first_data first }
+{
+    match first {
+        None => Value::Null,
+        Some(place) => Value::from(place),
+    }
+}
+
+/// The word for where a variant comes from.
+fn origin_value(alloc: Global, origin: Origin) -> Result<Value, Memory>
+    ensures { IfOk result (λ v. view v ≡ string (origin_text origin)) }
+{
+    match origin {
+        Origin::NoVariant => word(alloc, "none"),
+        Origin::Strategy => word(alloc, "strategy"),
+        Origin::Own => word(alloc, "own"),
+    }
+}
+
+/// A word as a string of JSON.
+fn word(alloc: Global, text: &str) -> Result<Value, Memory>
+    ensures { IfOk result (λ v. view v ≡ string text.now) }
+{
+    Ok(Value::try_from_str(alloc, text)?)
+}
+
+/// An evaluation, as it is written.
+#[tactic(auto, unfolding(crate::specs::Line::evaluation_data))]
+fn evaluation_value(alloc: Global, evaluation: &Evaluation) -> Result<Value, Memory>
+    ensures { IfOk result (λ v. view v ≡ evaluation_data evaluation.now) }
+{
+    let mut members = Map::new(alloc);
+    let variant = variant_value(alloc, &evaluation.variant)?;
+    put_at(&mut members, alloc, "variant", variant)?;
+    put_at(&mut members, alloc, "on", Value::from(evaluation.on))?;
+    Ok(Value::Object(members))
+}
+
+/// The variant of an evaluation, as it is written.
+#[tactic(auto, unfolding(crate::specs::Line::variant_data))]
+fn variant_value(alloc: Global, variant: &VariantAnswer) -> Result<Value, Memory>
+    ensures { IfOk result (λ v. view v ≡ variant_data variant.now) }
+{
+    let mut members = Map::new(alloc);
+    put(&mut members, alloc, Field::Name, &variant.name)?;
+    put(&mut members, alloc, Field::Enabled, &variant.enabled)?;
+    put_some(&mut members, alloc, Field::Payload, &variant.payload)?;
+    Ok(Value::Object(members))
+}
+
+impl Written for ParentReason {
+    ghost written = { parent_data };
+
+    #[tactic(auto, unfolding(crate::specs::Line::parent_data))]
+    fn write(&self, alloc: Global) -> Result<Value, Memory> {
+        let mut members = Map::new(alloc);
+        put_at(&mut members, alloc, "met", Value::from(self.met))?;
+        put(&mut members, alloc, Field::Feature, &self.feature)?;
+        put_at(
+            &mut members,
+            alloc,
+            "cause",
+            cause_value(alloc, &self.cause)?,
+        )?;
+        put_variant(&mut members, alloc, &self.cause)?;
+        Ok(Value::Object(members))
+    }
+}
+
+/// The word for what a parent is.
+fn cause_value(alloc: Global, cause: &ParentCause) -> Result<Value, Memory>
+    ensures { IfOk result (λ v. view v ≡ string (cause_text cause.now)) }
+{
+    match cause {
+        ParentCause::Absent => word(alloc, "absent"),
+        ParentCause::HasParents => word(alloc, "has-parents"),
+        ParentCause::On(_) => word(alloc, "on"),
+        ParentCause::Off => word(alloc, "off"),
+    }
+}
+
+/// Puts the variant of a parent that is on.
+fn put_variant(
+    members: &mut Map<String, Value>,
+    alloc: Global,
+    cause: &ParentCause,
+) -> Result<(), Memory>
+    ensures { OnOk result (members_view members.new.entries
+        ≡ with_some field.Variant (option_map string (variant_in cause.now)) (members_view members.old.entries)) }
+{
+    match cause {
+        ParentCause::On(variant) => put(members, alloc, Field::Variant, variant),
+        ParentCause::Absent | ParentCause::HasParents | ParentCause::Off => Ok(()),
+    }
+}
+
+impl Written for StrategyReason {
+    ghost written = { strategy_data };
+
+    #[tactic(auto, unfolding(crate::specs::Line::strategy_data))]
+    fn write(&self, alloc: Global) -> Result<Value, Memory> {
+        let mut members = Map::new(alloc);
+        put(&mut members, alloc, Field::Segments, &self.segments)?;
+        put_at(&mut members, alloc, "rule", Value::from(self.rule))?;
+        put(&mut members, alloc, Field::Name, &self.name)?;
+        put(&mut members, alloc, Field::Constraints, &self.constraints)?;
+        put_at(&mut members, alloc, "active", Value::from(self.active))?;
+        Ok(Value::Object(members))
+    }
+}
+
+impl Written for SegmentReason {
+    ghost written = { segment_data };
+
+    #[tactic(auto, unfolding(crate::specs::Line::segment_data))]
+    fn write(&self, alloc: Global) -> Result<Value, Memory> {
+        let mut members = Map::new(alloc);
+        put(&mut members, alloc, Field::Id, &self.id)?;
+        put_at(&mut members, alloc, "found", Value::from(self.found))?;
+        put(&mut members, alloc, Field::Constraints, &self.constraints)?;
+        Ok(Value::Object(members))
+    }
+}
