@@ -17,7 +17,10 @@ const TOKENS: &[u8] =
 const STATE: &[u8] = b"{\"events\":[{\"type\":\"hydration\",\"eventId\":4}]}";
 
 const POLL: &[u8] =
-    b"GET /api/client/features HTTP/1.1\r\nHost: edge.local:3063\r\nUser-Agent: shop\r\nUNLEASH-APPNAME: shop\r\nUNLEASH-INSTANCEID: i-1\r\nUnleash-Client-Spec: 5.1.0\r\nAccept-Encoding: gzip, deflate\r\nAuthorization: A:dev.c\r\nIf-None-Match: \"0000000000000000-1-0-4\"\r\nConnection: keep-alive\r\n\r\n";
+    b"GET /api/client/features HTTP/1.1\r\nHost: edge.local:3063\r\nUser-Agent: shop\r\n\
+UNLEASH-APPNAME: shop\r\nUNLEASH-INSTANCEID: i-1\r\nUnleash-Client-Spec: 5.1.0\r\n\
+Accept-Encoding: gzip, deflate\r\nAuthorization: A:dev.c\r\nIf-None-Match: \"0000000000000000-1-0-4\"\r\n\
+Connection: keep-alive\r\n\r\n";
 
 const UNCHANGED: &[u8] = b"HTTP/1.1 304 Not Modified\r\nETag: \"0000000000000000-1-0-4\"\r\n\r\n";
 
