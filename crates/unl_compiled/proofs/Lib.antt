@@ -1,2 +1,4 @@
 pub mod Coding
 pub mod NoFloats
+pub mod Finding
+pub mod Projects

@@ -5,7 +5,7 @@ use Rattle.std.specs.List.{cons_option}
 use Rattle.serde_json.specs.Data.{Data}
 use Rattle.serde_json.specs.View.{items_of}
 use Rattle.serde_json.specs.Written.{has_float, items_have_float}
-use Rattle.unl_compiled.specs.Toggles.{variant_data, toggle_data, toggle_of, toggles_data}
+use Rattle.unl_compiled.specs.Toggles.{variant_data, toggle_data, toggle_of, toggles_data, written_toggles}
 use Rattle.unl_context.specs.Context.{Fields}
 use Rattle.unl_dependencies.specs.declared.evaluation.Evaluation.{Evaluation}
 use Rattle.unl_dependencies.specs.declared.evaluation.VariantAnswer.{VariantAnswer}
@@ -47,5 +47,5 @@ all_plain toggle plain [] = refl
 all_plain toggle plain (f ∷ fs) = first_plain (toggle f) (filter_map toggle fs) (plain f) (all_plain toggle plain fs)
 
 pub no_float_toggles : (state : State) (all : Bool) (context : Fields) (moment : Moment) → has_float (toggles_data state all context moment) ≡ false
-unfolding toggles_data
+unfolding toggles_data written_toggles
 no_float_toggles state all context moment = rw (all_plain (toggle_of state all context moment) (if_plain state all context moment) state.features) refl

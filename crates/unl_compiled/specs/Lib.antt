@@ -1,1 +1,3 @@
 pub mod Toggles
+pub mod Places
+pub mod Next

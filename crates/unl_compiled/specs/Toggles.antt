@@ -1,5 +1,5 @@
 -- The body of the frontend endpoints: the toggles of a state, in the order of their names.
-use Rattle.std.specs.Prelude.{Bool, ◌||◌, filter_map, Option, Some, None, option_map, if◌then◌else◌}
+use Rattle.std.specs.Prelude.{List, Bool, ◌||◌, filter_map, Option, Some, None, option_map, if◌then◌else◌}
 use Rattle.serde_json.specs.Data.{Data, boolean, string, array, object, no_members}
 use Rattle.serde_json.specs.View.{items_of}
 use Rattle.unl_context.specs.Context.{Fields}
@@ -11,6 +11,8 @@ use Rattle.unl_documents.specs.declared.field.Field.TheVariants as field
 use Rattle.unl_documents.specs.declared.state.State.{State}
 use Rattle.unl_documents.specs.Writing.{with, with_some, payload_data}
 use Rattle.unl_strategies.specs.Moment.{Moment}
+use Rattle.unl_tokens.specs.Names.{sees}
+use Rattle.unl_tokens.specs.declared.projects.Projects.{Projects}
 
 -- the variant of a feature that is on or off
 unfoldable pub variant_data : Bool → VariantAnswer → Data
@@ -38,8 +40,16 @@ toggle_if all f e = if all || e.on then Some (toggle_data f e) else None
 unfoldable pub toggle_of : State → Bool → Fields → Moment → Feature → Option Data
 toggle_of state all context moment f = toggle_if all f (feature_evaluation state f context moment)
 
+-- the toggle of a feature over a state, where its project is seen
+abbrev pub toggle_if_seen : Projects → State → Bool → Fields → Moment → Feature → Option Data
+toggle_if_seen projects state all context moment f = if sees projects f.project then toggle_of state all context moment f else None
+
+-- the body with these toggles
+unfoldable pub written_toggles : List Data → Data
+written_toggles toggles = object (
+    with field.Toggles (array (items_of toggles))
+    no_members)
+
 -- the toggles of a state: all of them, or those that are on
 unfoldable pub toggles_data : State → Bool → Fields → Moment → Data
-toggles_data state all context moment = object (
-    with field.Toggles (array (items_of (filter_map (toggle_of state all context moment) state.features)))
-    no_members)
+toggles_data state all context moment = written_toggles (filter_map (toggle_of state all context moment) state.features)

@@ -1,6 +1,11 @@
 //! What answers are computed over: the versions of an environment, ready to be evaluated.
 #![tactic(auto)]
 
+mod feature;
+mod index;
+mod parts;
+mod seen;
+mod segment;
 mod snapshot;
 mod toggles;
 

@@ -1,34 +1,43 @@
-ghost use Rattle.std.specs.Prelude.{◌≡◌, false, Some, IfOk};
+ghost use Rattle.std.specs.Prelude.{◌≡◌, false, Some, IfOk, IsSome, option_map};
 ghost use Rattle.serde_json.specs.View.{view};
 ghost use Rattle.serde_json.specs.Written.{has_float};
+ghost use Rattle.unl_compiled.specs.Places.{places_of as places_in, strategy_at};
 ghost use Rattle.unl_compiled.specs.Toggles.{toggles_data};
 ghost use Rattle.unl_delta.specs.declared.batch.Verdict.TheVariants.{Apply};
 ghost use Rattle.unl_delta.specs.Batch.{verdict_of, next_version};
 ghost use Rattle.unl_delta.specs.Valid.{IsValidBatch, IsValidVersion};
 ghost use Rattle.unl_delta.specs.View.{view_of};
 ghost use Rattle.unl_dependencies.specs.Evaluation.{evaluation_of};
-ghost use Rattle.unl_documents.specs.States.{IsValidState};
 ghost use Rattle.unl_tokens.specs.Names.{sees};
 
+use crate::index::{ProjectPlaces, index_of, places_of};
+use crate::parts::Parts;
+use crate::seen::Seen;
 use crate::toggles::toggles_of;
 use serde_json::Value;
 use std::alloc::Global;
 use std::marker::Model;
+use unl_constraints::Compiled;
 use unl_context::Context;
-use unl_delta::{Batch, EnvVersion, Place, apply, view};
+use unl_delta::{Batch, EnvVersion, Place, apply};
 use unl_dependencies::{Evaluation, evaluate};
-use unl_documents::{Memory, Shared, State};
+use unl_documents::{List, Memory, Shared};
 use unl_strategies::Moment;
 use unl_tokens::Projects;
 
-/// A version of an environment, as answers are computed over it. Contracts see the version, which
-/// is valid.
+/// A version of an environment, as answers are computed over it: its documents with their
+/// constraints compiled, and where the features of each project stand. Contracts see the version,
+/// which is valid.
 #[derive(Drop)]
 pub struct Snapshot {
     version: Shared<EnvVersion>,
+    parts: Parts,
+    projects: List<ProjectPlaces>,
 }
 
 impl Model for Snapshot {
+    ghost use Rattle.std.specs.Prelude.{◌≡◌};
+    ghost use Rattle.unl_compiled.specs.Places.{IsIndex};
     ghost use Rattle.unl_delta.specs.declared.version.EnvVersion.{EnvVersion};
     ghost use Rattle.unl_delta.specs.Valid.{IsValidVersion};
 
@@ -36,7 +45,7 @@ impl Model for Snapshot {
 
     ghost view = { λ s. s.version };
 
-    ghost invariant = { λ s. IsValidVersion s.version };
+    ghost invariant = { λ s. IsValidVersion s.version × (s.parts ≡ s.version.state) × IsIndex s.version.state.features s.projects };
 }
 
 impl Snapshot {
@@ -45,20 +54,22 @@ impl Snapshot {
         requires { IsValidVersion version }
         ensures { IfOk result (λ s. s ≡ version) }
     {
-        Ok(Snapshot {
-            version: Shared::new(alloc, version)?,
-        })
+        let parts = Parts::of(alloc, &version.state)?;
+        Snapshot::of_parts(alloc, version, parts)
     }
 
     /// The snapshot of the version after a batch that applies at the place where this one's version
-    /// stands.
+    /// stands. What no event of the batch names is shared with this one.
     pub fn next(&self, alloc: Global, place: &Place, batch: &Batch) -> Result<Snapshot, Memory>
         requires place { place.now.version ≡ Some self.now }
         requires batch { IsValidBatch batch.now }
         requires applies { verdict_of place.now batch.now ≡ Apply }
         ensures { IfOk result (λ s. s ≡ next_version place.now batch.now) }
     {
-        Snapshot::build(alloc, next_of(alloc, self.version(), place, batch)?)
+        let version = next_of(alloc, self.version(), place, batch)?;
+        let events = batch.events.as_slice();
+        let next = self.parts.next(alloc, self.version().number, events)?;
+        Snapshot::of_parts(alloc, version, next)
     }
 
     /// The version. Takes no memory.
@@ -89,7 +100,7 @@ impl Snapshot {
         ensures { IfOk result (λ found. found
             ≡ evaluation_of (view_of (sees projects.now) self.now.state) name.now context.now moment.entry.now) }
     {
-        let seen = self.seen(alloc, projects)?;
+        let seen = Seen::of(&self.parts, projects);
         evaluate(alloc, &seen, name, context, moment)
     }
 
@@ -107,16 +118,38 @@ impl Snapshot {
             ≡ toggles_data (view_of (sees projects.now) self.now.state) all context.now moment.entry.now) }
         ensures no_float { IfOk result (λ v. has_float (view v) ≡ false) }
     {
-        let seen = self.seen(alloc, projects)?;
-        toggles_of(alloc, &seen, all, context, moment)
+        toggles_of(alloc, &self.parts, projects, all, context, moment)
     }
 
-    /// What is seen of the state.
-    fn seen(&self, alloc: Global, projects: &Projects) -> Result<State, Memory>
-        ensures view { IfOk result (λ s. s ≡ view_of (sees projects.now) self.now.state) }
-        ensures valid { IfOk result IsValidState }
+    /// The places, rising, of the features of the version's state that have this project, and none
+    /// where no feature has it. Takes no memory.
+    pub fn of_project(&self, project: &str) -> &[usize]
+        ensures { result.now ≡ places_in project.now self.now.state.features }
     {
-        view(alloc, &self.version().state, projects)
+        places_of(self.projects.as_slice(), project)
+    }
+
+    /// The compiled constraints of the strategy at a place of the feature at a place of the
+    /// version's state: one for each of its constraints, in order. Takes no memory.
+    pub fn constraints(&self, feature: usize, strategy: usize) -> &List<Compiled>
+        requires { IsSome (strategy_at self.now.state feature strategy) }
+        ensures { option_map (λ s. s.constraints) (strategy_at self.now.state feature strategy) ≡ Some result.now }
+    {
+        self.parts.constraints(feature, strategy)
+    }
+
+    /// The snapshot of a version whose parts are compiled.
+    fn of_parts(alloc: Global, version: EnvVersion, parts: Parts) -> Result<Snapshot, Memory>
+        requires valid { IsValidVersion version }
+        requires parts { parts ≡ version.state }
+        ensures { IfOk result (λ s. s ≡ version) }
+    {
+        let projects = index_of(alloc, parts.features())?;
+        Ok(Snapshot {
+            version: Shared::new(alloc, version)?,
+            parts,
+            projects,
+        })
     }
 }
 

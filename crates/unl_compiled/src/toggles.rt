@@ -1,54 +1,136 @@
 //! The body of the frontend endpoints.
-ghost use Rattle.std.specs.Prelude.{◌≡◌, ◌++◌, false, IfOk, OnOk, map, filter_map, option_to_list};
+ghost use Rattle.std.specs.Prelude.{◌≡◌, ◌++◌, All, IfOk, OnOk, map, filter_map, option_to_list};
 ghost use Rattle.serde_json.specs.View.{view};
-ghost use Rattle.serde_json.specs.Written.{has_float};
-ghost use Rattle.unl_compiled.specs.Toggles.{variant_data, toggle_data, toggle_if, toggle_of, toggles_data};
+ghost use Rattle.unl_compiled.specs.Toggles.{variant_data, toggle_data, toggle_if, toggle_if_seen, toggle_of};
+ghost use Rattle.unl_compiled.specs.Toggles.{toggles_data, written_toggles};
+ghost use Rattle.unl_delta.specs.View.{view_of};
 ghost use Rattle.unl_documents.specs.States.{IsValidState};
 ghost use Rattle.unl_documents.specs.Valid.{IsValidFeature};
+ghost use Rattle.unl_tokens.specs.Names.{sees};
 
+use crate::feature::CompiledFeature;
+use crate::parts::Parts;
+use crate::seen::Seen;
 use serde_json::{Map, Value};
 use std::alloc::Global;
 use unl_context::Context;
 use unl_dependencies::{Evaluation, VariantAnswer, evaluate_feature};
 use unl_documents::written::{put, put_some, put_value};
-use unl_documents::{Feature, Field, Memory, State};
+use unl_documents::{Feature, Field, Memory, Shared};
 use unl_strategies::Moment;
+use unl_tokens::Projects;
 
-/// The toggles of a state, all of them or those that are on, in the order of their names.
+/// The toggles of the parts of a valid state whose project is seen, all of them or those that are on,
+/// in the order of their names.
 #[tactic(auto, unfolding(crate::specs::Toggles::toggles_data))]
 pub(crate) fn toggles_of(
     alloc: Global,
-    state: &State,
+    parts: &Parts,
+    projects: &Projects,
     all: bool,
     context: &Context,
     moment: &Moment,
 ) -> Result<Value, Memory>
-    requires { IsValidState state.now }
-    ensures { IfOk result (λ v. view v ≡ toggles_data state.now all context.now moment.entry.now) }
+    requires { IsValidState parts.now }
+    ensures { IfOk result (λ v. view v
+        ≡ toggles_data (view_of (sees projects.now) parts.now) all context.now moment.entry.now) }
 {
-    let toggles = each_toggle(alloc, state, all, context, moment)?;
+    let seen = Seen::of(parts, projects);
+    let toggles = toggles_seen(alloc, &seen, parts, projects, all, context, moment)?;
+    write_toggles(alloc, toggles)
+}
+
+/// The toggles of what is seen of the parts.
+fn toggles_seen(
+    alloc: Global,
+    seen: &Seen,
+    parts: &Parts,
+    projects: &Projects,
+    all: bool,
+    context: &Context,
+    moment: &Moment,
+) -> Result<Vec<Value>, Memory>
+    requires state { IsValidState seen.now }
+    requires parts { IsValidState parts.now }
+    requires seen { seen.now ≡ view_of (sees projects.now) parts.now }
+    ensures { IfOk result (λ v. map view v.items
+        ≡ filter_map (toggle_of seen.now all context.now moment.entry.now) seen.now.features) }
+{
+    each_toggle(
+        alloc,
+        seen,
+        parts.features(),
+        projects,
+        all,
+        context,
+        moment,
+    )
+}
+
+#[tactic(auto, unfolding(crate::specs::Toggles::written_toggles))]
+fn write_toggles(alloc: Global, toggles: Vec<Value>) -> Result<Value, Memory>
+    ensures { IfOk result (λ v. view v ≡ written_toggles (map view toggles.items)) }
+{
     let mut members = Map::new(alloc);
     put_value(&mut members, alloc, Field::Toggles, Value::Array(toggles))?;
     Ok(Value::Object(members))
 }
 
-#[tactic(auto, using(crate::proofs::Coding::cons_front), unfolding(crate::specs::Toggles::toggle_of))]
+/// The toggles of the features whose project is seen.
+#[tactic(auto, using(crate::proofs::Coding::cons_front))]
 fn each_toggle(
     alloc: Global,
-    state: &State,
+    seen: &Seen,
+    features: &[Shared<CompiledFeature>],
+    projects: &Projects,
     all: bool,
     context: &Context,
     moment: &Moment,
 ) -> Result<Vec<Value>, Memory>
-    requires { IsValidState state.now }
-    ensures { IfOk result (λ v. map view v.items ≡ filter_map (toggle_of state.now all context.now moment.entry.now) state.now.features) }
+    requires state { IsValidState seen.now }
+    requires features { All IsValidFeature features.now }
+    ensures { IfOk result (λ v. map view v.items
+        ≡ filter_map (toggle_if_seen projects.now seen.now all context.now moment.entry.now) features.now) }
 {
     let mut toggles = Vec::new(alloc);
-    for feature in state.features.as_slice() {
-        let evaluation = evaluate_feature(alloc, state, feature.get(), context, moment)?;
-        push_toggle(&mut toggles, alloc, all, feature.get(), &evaluation)?;
+    for feature in features {
+        let feature = feature.get();
+        push_seen(
+            &mut toggles,
+            alloc,
+            seen,
+            feature,
+            projects,
+            all,
+            context,
+            moment,
+        )?;
     }
     Ok(toggles)
+}
+
+/// Adds the toggle of a feature, if its project is seen and the toggle is asked for.
+#[tactic(auto, unfolding(crate::specs::Toggles::toggle_of))]
+fn push_seen(
+    toggles: &mut Vec<Value>,
+    alloc: Global,
+    seen: &Seen,
+    feature: &CompiledFeature,
+    projects: &Projects,
+    all: bool,
+    context: &Context,
+    moment: &Moment,
+) -> Result<(), Memory>
+    requires state { IsValidState seen.now }
+    requires feature { IsValidFeature feature.now }
+    ensures { OnOk result (map view toggles.new.items ≡ map view toggles.old.items
+        ++ option_to_list (toggle_if_seen projects.now seen.now all context.now moment.entry.now feature.now)) }
+{
+    if !projects.sees(feature.document().project.as_str()) {
+        return Ok(());
+    }
+    let evaluation = evaluate_feature(alloc, seen, feature, context, moment)?;
+    push_toggle(toggles, alloc, all, feature.document(), &evaluation)
 }
 
 fn push_toggle(

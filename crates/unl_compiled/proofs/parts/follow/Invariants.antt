@@ -1,0 +1,6 @@
+use Rattle.std.proofs.Common.{◌≡◌, drop}
+use Rattle.unl_delta.specs.State.{fold_events, later, number_of}
+use Rattle.unl_compiled.proofs.parts.follow.Given as goal
+
+abbrev pub invariant-loop-event : goal.invariant-loop-event
+invariant-loop-event l = fold_events (later number_of l.above (drop l.event-index l.events)) l.now ≡ fold_events (later number_of l.above l.events) l.initial.now

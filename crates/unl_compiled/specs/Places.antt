@@ -1,0 +1,40 @@
+-- Where a version has what it lends.
+use Rattle.std.specs.Prelude.{◌≡◌, ℕ, ◌+◌, List, [], ◌∷◌, ◌==◌, Option, Some, None, slice_get, option_and_then, if◌then◌else◌}
+use Rattle.std.specs.List.{find}
+use Rattle.std.specs.Option.{option_map_or}
+use Rattle.std.specs.Str.{bytes_eq}
+use Rattle.unl_compiled.specs.declared.index.ProjectPlaces.{ProjectPlaces}
+use Rattle.unl_documents.specs.declared.feature.Feature.{Feature}
+use Rattle.unl_documents.specs.declared.segment.Segment.{Segment}
+use Rattle.unl_documents.specs.declared.state.State.{State}
+use Rattle.unl_documents.specs.declared.strategy.Strategy.{Strategy}
+
+-- the places, rising, of the features of a project, the first of which stands at this place
+abbrev pub places_from : ℕ → List ℕ → List Feature → List ℕ
+places_from place project [] = []
+places_from place project (f ∷ fs) =
+    if bytes_eq f.project project then place ∷ places_from (place + 1) project fs else places_from (place + 1) project fs
+
+-- the places, rising, of the features of a project
+abbrev pub places_of : List ℕ → List Feature → List ℕ
+places_of project features = places_from 0 project features
+
+-- the strategy at a place of the feature at a place
+abbrev pub strategy_at : State → ℕ → ℕ → Option Strategy
+strategy_at state feature strategy = option_and_then (λ f. slice_get f.strategies strategy) (slice_get state.features feature)
+
+-- the places that are listed of a project: none where it isn't listed
+abbrev pub listed : List ℕ → List ProjectPlaces → List ℕ
+listed project index = option_map_or (λ e. e.places) (find (λ e. bytes_eq e.project project) index) []
+
+-- of each project the places of its features are listed
+abbrev pub IsIndex : List Feature → List ProjectPlaces → Type 0
+IsIndex features index = (project : List ℕ) → listed project index ≡ places_of project features
+
+-- the feature, if it has the name
+abbrev pub if_name : List ℕ → Feature → Option Feature
+if_name name f = if bytes_eq f.name name then Some f else None
+
+-- the segment, if it has the id
+abbrev pub if_id : ℕ → Segment → Option Segment
+if_id id s = if s.id == id then Some s else None

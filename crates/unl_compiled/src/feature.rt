@@ -1,0 +1,142 @@
+//! Features with their constraints compiled.
+ghost use Rattle.std.specs.Prelude.{◌≡◌, ◌<◌, Some, IfOk, length, map, option_map, slice_get};
+ghost use Rattle.unl_dependencies.specs.Evaluation.{is_active_at};
+ghost use Rattle.unl_documents.specs.Parameters.{AreRising};
+ghost use Rattle.unl_documents.specs.States.{id_key};
+ghost use Rattle.unl_strategies.specs.Strategy.{is_active as strategy_is_active};
+
+use crate::segment::{CompiledSegment, all_met, compiled};
+use std::alloc::Global;
+use std::marker::Model;
+use unl_constraints::Compiled;
+use unl_context::Context;
+use unl_delta::keyed::Keyed;
+use unl_documents::{Feature, List, Memory, Shared, Strategy, Text};
+use unl_strategies::{Moment, rule};
+
+/// A feature and the constraints of its strategies, compiled. Contracts see the feature.
+#[derive(Drop)]
+pub(crate) struct CompiledFeature {
+    document: Shared<Feature>,
+    constraints: List<List<Compiled>>,
+}
+
+impl Model for CompiledFeature {
+    ghost use Rattle.std.specs.Prelude.{◌≡◌, map};
+    ghost use Rattle.unl_documents.specs.declared.feature.Feature.{Feature};
+
+    ghost Value = { Feature };
+
+    ghost view = { λ f. f.document };
+
+    ghost invariant = { λ f. f.constraints ≡ map (λ s. s.constraints) f.document.strategies };
+}
+
+impl CompiledFeature {
+    /// The feature, compiled.
+    pub(crate) fn new(alloc: Global, document: &Shared<Feature>) -> Result<CompiledFeature, Memory>
+        ensures { IfOk result (λ f. f ≡ document.now) }
+    {
+        let strategies = document.get().strategies.as_slice();
+        Ok(CompiledFeature {
+            constraints: compiled_each(alloc, strategies)?,
+            document: document.copy()?,
+        })
+    }
+
+    /// The feature's document.
+    pub(crate) fn document(&self) -> &Feature
+        ensures { result.now ≡ self.now }
+    {
+        self.document.get()
+    }
+
+    /// The constraints of the strategy at a place.
+    pub(crate) fn constraints(&self, place: usize) -> &List<Compiled>
+        requires { place < length self.now.strategies }
+        ensures { Some result.now ≡ option_map (λ s. s.constraints) (slice_get self.now.strategies place) }
+    {
+        &self.constraints.as_slice()[place]
+    }
+
+    /// Whether the feature has a strategy at the place, and it is active.
+    pub(crate) fn is_active(
+        &self,
+        alloc: Global,
+        place: u32,
+        segments: &[Shared<CompiledSegment>],
+        context: &Context,
+        moment: &Moment,
+    ) -> Result<bool, Memory>
+        requires { AreRising (map id_key segments.now) }
+        ensures { IfOk result (λ b. b ≡ is_active_at self.now segments.now context.now moment.entry.now place) }
+    {
+        match self.document().strategies.get(place as usize) {
+            None => Ok(false),
+            Some(strategy) => {
+                let constraints = self.constraints(place as usize).as_slice();
+                let name = &self.document().name;
+                active(
+                    alloc,
+                    strategy,
+                    constraints,
+                    name,
+                    place,
+                    segments,
+                    context,
+                    moment,
+                )
+            }
+        }
+    }
+}
+
+/// Whether a strategy is active whose constraints are compiled, at its place in the feature of a name.
+#[tactic(auto, unfolding(unl_strategies::specs::Strategy::is_active))]
+fn active(
+    alloc: Global,
+    strategy: &Strategy,
+    constraints: &[Compiled],
+    feature: &Text,
+    place: u32,
+    segments: &[Shared<CompiledSegment>],
+    context: &Context,
+    moment: &Moment,
+) -> Result<bool, Memory>
+    requires rising { AreRising (map id_key segments.now) }
+    requires constraints { constraints.now ≡ strategy.now.constraints }
+    ensures { IfOk result (λ b. b
+        ≡ strategy_is_active strategy.now feature.now place segments.now context.now moment.entry.now) }
+{
+    let now = moment.now;
+    if !Compiled::all_hold(alloc, constraints, context, now)? {
+        return Ok(false);
+    }
+    if !all_met(alloc, strategy.segments.as_slice(), segments, context, now)? {
+        return Ok(false);
+    }
+    rule(alloc, strategy, feature, place, context, moment)
+}
+
+impl Keyed for CompiledFeature {
+    ghost use Rattle.unl_documents.specs.States.{name_key};
+
+    type Key = Text;
+
+    ghost key = { name_key };
+
+    fn key(&self) -> &Text {
+        &self.document().name
+    }
+}
+
+/// The constraints of each of the strategies, compiled.
+fn compiled_each(alloc: Global, strategies: &[Strategy]) -> Result<List<List<Compiled>>, Memory>
+    ensures { IfOk result (λ all. all ≡ map (λ s. s.constraints) strategies.now) }
+{
+    let mut all = List::new(alloc);
+    for strategy in strategies {
+        all.push(compiled(alloc, strategy.constraints.as_slice())?)?;
+    }
+    Ok(all)
+}

@@ -1,0 +1,167 @@
+//! All features and segments of a version, compiled.
+ghost use Rattle.std.specs.Prelude.{◌≡◌, Some, IfOk, IsSome, option_map};
+ghost use Rattle.unl_compiled.specs.Next.{state_after};
+ghost use Rattle.unl_compiled.specs.Places.{strategy_at};
+ghost use Rattle.unl_delta.specs.State as told;
+
+use crate::feature::CompiledFeature;
+use crate::segment::CompiledSegment;
+use std::alloc::Global;
+use std::marker::Model;
+use unl_constraints::Compiled;
+use unl_delta::Event;
+use unl_delta::keyed::{put, without};
+use unl_documents::{Copied, Feature, List, Memory, Segment, Shared, State};
+
+/// The features by their names and the segments by their ids. Contracts see the state that they
+/// were compiled from.
+#[derive(Drop)]
+pub(crate) struct Parts {
+    /// Names rising.
+    pub features: List<Shared<CompiledFeature>>,
+    /// Ids rising.
+    pub segments: List<Shared<CompiledSegment>>,
+}
+
+impl Model for Parts {
+    ghost use Rattle.unl_documents.specs.declared.state.State.{State};
+
+    ghost Value = { State };
+
+    ghost view = { λ p. record { features = p.features; segments = p.segments } };
+}
+
+impl Copied for Parts {
+    fn copy(&self, alloc: Global) -> Result<Parts, Memory> {
+        Ok(Parts {
+            features: self.features.copy(alloc)?,
+            segments: self.segments.copy(alloc)?,
+        })
+    }
+}
+
+impl Parts {
+    /// All of a state, compiled.
+    pub(crate) fn of(alloc: Global, state: &State) -> Result<Parts, Memory>
+        ensures { IfOk result (λ p. p ≡ state.now) }
+    {
+        Ok(Parts {
+            features: compiled_features(alloc, state.features.as_slice())?,
+            segments: compiled_segments(alloc, state.segments.as_slice())?,
+        })
+    }
+
+    /// The features.
+    pub(crate) fn features(&self) -> &[Shared<CompiledFeature>]
+        ensures { result.now ≡ self.now.features }
+    {
+        self.features.as_slice()
+    }
+
+    /// The constraints of the strategy at a place of the feature at a place.
+    pub(crate) fn constraints(&self, feature: usize, strategy: usize) -> &List<Compiled>
+        requires { IsSome (strategy_at self.now feature strategy) }
+        ensures { option_map (λ s. s.constraints) (strategy_at self.now feature strategy) ≡ Some result.now }
+    {
+        self.features.as_slice()[feature]
+            .get()
+            .constraints(strategy)
+    }
+
+    /// The parts after a batch's events, where they are those of a version with this number. What
+    /// no event names is shared.
+    #[tactic(auto, unfolding(crate::specs::Next::state_after))]
+    pub(crate) fn next(&self, alloc: Global, number: u64, events: &[Event]) -> Result<Parts, Memory>
+        ensures { IfOk result (λ p. p ≡ state_after number events.now self.now) }
+    {
+        match events {
+            [] => self.copy(alloc),
+            [Event::Hydration { state, .. }, rest @ ..] => {
+                follow_all(alloc, Parts::of(alloc, state)?, rest)
+            }
+            _ => follow(alloc, self.copy(alloc)?, events, number),
+        }
+    }
+}
+
+fn compiled_features(
+    alloc: Global,
+    features: &[Shared<Feature>],
+) -> Result<List<Shared<CompiledFeature>>, Memory>
+    ensures { IfOk result (λ all. all ≡ features.now) }
+{
+    let mut all = List::new(alloc);
+    for feature in features {
+        all.push(Shared::new(alloc, CompiledFeature::new(alloc, feature)?)?)?;
+    }
+    Ok(all)
+}
+
+fn compiled_segments(
+    alloc: Global,
+    segments: &[Shared<Segment>],
+) -> Result<List<Shared<CompiledSegment>>, Memory>
+    ensures { IfOk result (λ all. all ≡ segments.now) }
+{
+    let mut all = List::new(alloc);
+    for segment in segments {
+        all.push(Shared::new(alloc, CompiledSegment::new(alloc, segment)?)?)?;
+    }
+    Ok(all)
+}
+
+/// The parts after all of the events.
+fn follow_all(alloc: Global, parts: Parts, events: &[Event]) -> Result<Parts, Memory>
+    ensures { IfOk result (λ p. p ≡ told.fold_events events.now parts) }
+{
+    let mut now = parts;
+    for event in events {
+        now = step(alloc, now, event)?;
+    }
+    Ok(now)
+}
+
+/// The parts after the events above a number.
+#[tactic(auto, unfolding(unl_delta::specs::State::later))]
+fn follow(alloc: Global, parts: Parts, events: &[Event], above: u64) -> Result<Parts, Memory>
+    ensures { IfOk result (λ p. p ≡ told.fold_events (told.later told.number_of above events.now) parts) }
+{
+    let mut now = parts;
+    for event in events {
+        if event.number() > above {
+            now = step(alloc, now, event)?;
+        }
+    }
+    Ok(now)
+}
+
+/// The parts after one event, of which only the one that it names is compiled anew.
+fn step(alloc: Global, parts: Parts, event: &Event) -> Result<Parts, Memory>
+    ensures { IfOk result (λ p. p ≡ told.step event.now parts) }
+{
+    match event {
+        Event::Hydration { state, .. } => Parts::of(alloc, state),
+        Event::FeatureUpdated { feature, .. } => {
+            let compiled = Shared::new(alloc, CompiledFeature::new(alloc, feature)?)?;
+            Ok(Parts {
+                features: put(alloc, &compiled, &parts.features)?,
+                segments: parts.segments,
+            })
+        }
+        Event::FeatureRemoved { name, .. } => Ok(Parts {
+            features: without(alloc, name, &parts.features)?,
+            segments: parts.segments,
+        }),
+        Event::SegmentUpdated { segment, .. } => {
+            let compiled = Shared::new(alloc, CompiledSegment::new(alloc, segment)?)?;
+            Ok(Parts {
+                segments: put(alloc, &compiled, &parts.segments)?,
+                features: parts.features,
+            })
+        }
+        Event::SegmentRemoved { id, .. } => Ok(Parts {
+            segments: without(alloc, id, &parts.segments)?,
+            features: parts.features,
+        }),
+    }
+}

@@ -1,0 +1,150 @@
+//! What is seen of a version.
+ghost use Rattle.std.specs.Prelude.{◌≡◌, map, option_and_then, option_map, slice_get};
+ghost use Rattle.std.specs.Cmp.Lexicographic.{slice_cmp};
+ghost use Rattle.std.specs.List.{prefix_len};
+ghost use Rattle.std.specs.Ordering.{nat_cmp, is_lt};
+ghost use Rattle.unl_compiled.specs.Places.{if_name};
+ghost use Rattle.unl_delta.specs.View.{view_of};
+ghost use Rattle.unl_dependencies.specs.Evaluation.{feature_named as feature_with};
+ghost use Rattle.unl_dependencies.specs.Laws.{if_seen as if_project_seen};
+ghost use Rattle.unl_documents.specs.Parameters.{AreRising};
+ghost use Rattle.unl_documents.specs.States.{IsValidState, name_key};
+ghost use Rattle.unl_tokens.specs.Names.{sees};
+
+use crate::feature::CompiledFeature;
+use crate::parts::Parts;
+use std::alloc::Global;
+use std::marker::Model;
+use unl_context::Context;
+use unl_dependencies::Features;
+use unl_documents::{Feature, Memory, Shared};
+use unl_strategies::Moment;
+use unl_tokens::Projects;
+
+/// The features whose project is seen, and all segments. Contracts see the state that they make.
+#[derive(Drop)]
+pub(crate) struct Seen<'a> {
+    parts: &'a Parts,
+    projects: &'a Projects,
+}
+
+impl<'a> Model for Seen<'a> {
+    ghost use Rattle.std.specs.Prelude.{map};
+    ghost use Rattle.unl_delta.specs.View.{view_of};
+    ghost use Rattle.unl_documents.specs.Parameters.{AreRising};
+    ghost use Rattle.unl_documents.specs.States.{name_key, id_key};
+    ghost use Rattle.unl_documents.specs.declared.state.State.{State};
+    ghost use Rattle.unl_tokens.specs.Names.{sees};
+
+    ghost Value = { State };
+
+    ghost view = { λ s. view_of (sees s.projects.now) s.parts.now };
+
+    ghost invariant = { λ s. AreRising (map name_key s.parts.now.features) × AreRising (map id_key s.parts.now.segments) };
+}
+
+impl<'a> Seen<'a> {
+    /// What is seen of the parts of a valid state.
+    pub(crate) fn of(parts: &'a Parts, projects: &'a Projects) -> Seen<'a>
+        requires { IsValidState parts.now }
+        ensures view { result ≡ view_of (sees projects.now) parts.now }
+        ensures valid { IsValidState result }
+    {
+        Seen { parts, projects }
+    }
+}
+
+impl<'a> Features for Seen<'a> {
+    type Feature = CompiledFeature;
+
+    ghost state = { λ state. state };
+
+    ghost document = { λ feature. feature };
+
+    fn named(&self, name: &str) -> Option<&CompiledFeature> {
+        seen_named(self.parts, self.projects, name)
+    }
+
+    fn document(feature: &CompiledFeature) -> &Feature
+        ensures { result.now ≡ feature.now }
+    {
+        feature.document()
+    }
+
+    fn is_active(
+        &self,
+        alloc: Global,
+        feature: &CompiledFeature,
+        place: u32,
+        context: &Context,
+        moment: &Moment,
+    ) -> Result<bool, Memory> {
+        let parts = self.parts;
+        let segments = parts.segments.as_slice();
+        feature.is_active(alloc, place, segments, context, moment)
+    }
+}
+
+/// The feature of a name, if its project is seen, among features whose names rise.
+fn seen_named<'a>(parts: &'a Parts, projects: &Projects, name: &str) -> Option<&'a CompiledFeature>
+    requires { AreRising (map name_key parts.now.features) }
+    ensures { option_map (λ f. f.now) result
+        ≡ feature_with name.now (view_of (sees projects.now) parts.now).features }
+{
+    let found = feature_named(parts.features(), name);
+    if_seen(projects, found)
+}
+
+/// The feature, if its project is seen.
+fn if_seen<'a>(
+    projects: &Projects,
+    found: Option<&'a CompiledFeature>,
+) -> Option<&'a CompiledFeature>
+    ensures { option_map (λ f. f.now) result
+        ≡ option_and_then (if_project_seen (sees projects.now)) (option_map (λ f. f.now) found.entry) }
+{
+    match found {
+        None => None,
+        Some(feature) => {
+            if projects.sees(feature.document().project.as_str()) {
+                Some(feature)
+            } else {
+                None
+            }
+        }
+    }
+}
+
+/// The feature of a name, among features whose names rise.
+fn feature_named<'a>(
+    features: &'a [Shared<CompiledFeature>],
+    name: &str,
+) -> Option<&'a CompiledFeature>
+    requires { AreRising (map name_key features.now) }
+    ensures { option_map (λ f. f.now) result ≡ feature_with name.now features.now }
+{
+    feature_at(features, place_of(features, name), name)
+}
+
+/// The feature at the place, if it has the name.
+fn feature_at<'a>(
+    features: &'a [Shared<CompiledFeature>],
+    place: usize,
+    name: &str,
+) -> Option<&'a CompiledFeature>
+    ensures { option_map (λ f. f.now) result ≡ option_and_then (if_name name.now) (slice_get features.now place) }
+{
+    let feature = features.get(place)?.get();
+    if feature.document().name.as_str() == name {
+        return Some(feature);
+    }
+    None
+}
+
+/// Where the name stands, or else belongs, among features whose names rise.
+fn place_of(features: &[Shared<CompiledFeature>], name: &str) -> usize
+    requires { AreRising (map name_key features.now) }
+    ensures { result ≡ prefix_len (λ f. is_lt (slice_cmp nat_cmp (name_key f) name.now)) features.now }
+{
+    features.partition_point(|feature| feature.get().document().name.as_str().cmp(name).is_lt())
+}

@@ -1,0 +1,146 @@
+//! Segments with their constraints compiled.
+ghost use Rattle.std.specs.Prelude.{◌≡◌, ◌∷◌, [], IfOk, length, map, option_and_then, option_map, slice_get};
+ghost use Rattle.std.specs.List.{list_all, prefix_len};
+ghost use Rattle.unl_constraints.specs.Constraint.{all_hold};
+ghost use Rattle.unl_delta.specs.Keyed.{is_before};
+ghost use Rattle.unl_documents.specs.Inline.{segment_of as segment_with};
+ghost use Rattle.unl_documents.specs.Parameters.{AreRising};
+ghost use Rattle.unl_documents.specs.States.{id_key};
+ghost use Rattle.unl_strategies.specs.Strategy.{is_met as is_met_by};
+ghost use Rattle.unl_compiled.specs.Places.{if_id};
+
+use std::alloc::Global;
+use std::marker::Model;
+use unl_constraints::Compiled;
+use unl_context::Context;
+use unl_delta::keyed::{Key, Keyed};
+use unl_documents::{Constraint, List, Memory, Segment, Shared};
+
+/// A segment and its constraints, compiled. Contracts see the segment.
+#[derive(Drop)]
+pub(crate) struct CompiledSegment {
+    document: Shared<Segment>,
+    constraints: List<Compiled>,
+}
+
+impl Model for CompiledSegment {
+    ghost use Rattle.std.specs.Prelude.{◌≡◌};
+    ghost use Rattle.unl_documents.specs.declared.segment.Segment.{Segment};
+
+    ghost Value = { Segment };
+
+    ghost view = { λ s. s.document };
+
+    ghost invariant = { λ s. s.constraints ≡ s.document.constraints };
+}
+
+impl CompiledSegment {
+    /// The segment, compiled.
+    pub(crate) fn new(alloc: Global, document: &Shared<Segment>) -> Result<CompiledSegment, Memory>
+        ensures { IfOk result (λ s. s ≡ document.now) }
+    {
+        let constraints = compiled(alloc, document.get().constraints.as_slice())?;
+        Ok(CompiledSegment {
+            constraints,
+            document: document.copy()?,
+        })
+    }
+
+    /// Whether a context meets all constraints of the segment.
+    fn holds(&self, alloc: Global, context: &Context, now: u64) -> Result<bool, Memory>
+        ensures { IfOk result (λ b. b ≡ all_hold self.now.constraints context.now now) }
+    {
+        Compiled::all_hold(alloc, self.constraints.as_slice(), context, now)
+    }
+}
+
+impl Keyed for CompiledSegment {
+    ghost use Rattle.unl_documents.specs.States.{id_key};
+
+    type Key = u64;
+
+    ghost key = { id_key };
+
+    fn key(&self) -> &u64 {
+        &self.document.get().id
+    }
+}
+
+/// The constraints, compiled.
+pub(crate) fn compiled(alloc: Global, constraints: &[Constraint]) -> Result<List<Compiled>, Memory>
+    ensures { IfOk result (λ all. all ≡ constraints.now) }
+{
+    let mut all = List::new(alloc);
+    for constraint in constraints {
+        all.push(Compiled::new(alloc, constraint)?)?;
+    }
+    Ok(all)
+}
+
+/// Whether the segments, whose ids rise, have one of each id, and the context meets it. `now` is in
+/// milliseconds since 1970.
+pub(crate) fn all_met(
+    alloc: Global,
+    ids: &[u64],
+    segments: &[Shared<CompiledSegment>],
+    context: &Context,
+    now: u64,
+) -> Result<bool, Memory>
+    requires { AreRising (map id_key segments.now) }
+    ensures { IfOk result (λ b. b ≡ list_all (is_met_by segments.now context.now now) ids.now) }
+{
+    for id in ids {
+        if !is_met(alloc, *id, segments, context, now)? {
+            return Ok(false);
+        }
+    }
+    Ok(true)
+}
+
+#[tactic(auto, unfolding(unl_strategies::specs::Strategy::is_met))]
+fn is_met(
+    alloc: Global,
+    id: u64,
+    segments: &[Shared<CompiledSegment>],
+    context: &Context,
+    now: u64,
+) -> Result<bool, Memory>
+    requires { AreRising (map id_key segments.now) }
+    ensures { IfOk result (λ b. b ≡ is_met_by segments.now context.now now id) }
+{
+    match segment_of(segments, id) {
+        None => Ok(false),
+        Some(segment) => segment.holds(alloc, context, now),
+    }
+}
+
+/// The segment of an id, among segments whose ids rise.
+fn segment_of(segments: &[Shared<CompiledSegment>], id: u64) -> Option<&CompiledSegment>
+    requires { AreRising (map id_key segments.now) }
+    ensures { option_map (λ s. s.now) result ≡ segment_with id segments.now }
+{
+    segment_at(segments, place_of(segments, id), id)
+}
+
+/// The segment at the place, if it has the id.
+fn segment_at(
+    segments: &[Shared<CompiledSegment>],
+    place: usize,
+    id: u64,
+) -> Option<&CompiledSegment>
+    ensures { option_map (λ s. s.now) result ≡ option_and_then (if_id id) (slice_get segments.now place) }
+{
+    let segment = segments.get(place)?.get();
+    if *segment.key() == id {
+        return Some(segment);
+    }
+    None
+}
+
+/// Where the id stands, or else belongs, among segments whose ids rise.
+fn place_of(segments: &[Shared<CompiledSegment>], id: u64) -> usize
+    requires { AreRising (map id_key segments.now) }
+    ensures { result ≡ prefix_len (λ s. is_before (id_key s) (id ∷ [])) segments.now }
+{
+    segments.partition_point(|segment| segment.get().key().is_before(&id))
+}
