@@ -1,5 +1,5 @@
 //! The writer as one value that changes in place.
-ghost use Rattle.std.specs.Prelude.{◌≡◌, true, [], ◌∷◌, length, Some, is_some, unwrap_or, option_map, IfSome, IsErr, MatchResult};
+ghost use Rattle.std.specs.Prelude.{◌≡◌, true, [], ◌∷◌, length, fold, Some, is_some, unwrap_or, option_map, IfSome, IsErr, MatchResult};
 ghost use Rattle.unl_published.specs.Meaning.{front_seen};
 ghost use Rattle.unl_published.specs.Rule.{knows_nothing, told_by, with_installs};
 
@@ -51,6 +51,18 @@ impl<'a, W: Wait, T: Counted<I> + Drop, I: Drop, P: Rules<T, I>> Publisher<'a, W
             other.end(self.rt);
         }
         published
+    }
+
+    /// The value that readers take now: the opening value after all installs.
+    pub fn value(&self) -> &T
+        ensures list { (opening : T.State) → (published self.now).opening ≡ Some opening
+            → T.state result.now ≡ fold T.applied opening (published self.now).installs }
+        ensures front { T.front_of (T.state result.now) ≡ front_seen (published self.now) }
+    {
+        let Some(writer) = &self.writer else {
+            unreachable!()
+        };
+        writer.value()
     }
 
     /// What the writer knows now, for one reader: its list where there is room for one more reader, and else its length alone.

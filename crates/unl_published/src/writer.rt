@@ -1,6 +1,6 @@
 //! The one who publishes.
 ghost use Rattle.std.specs.Prelude.{◌≡◌, ◌^◌, ◌<◌, ◌≤◌, false, [], ◌∷◌, ◌++◌, ℕ, length, drop, fold, IfOk, IfSome, IsErr, MatchResult};
-ghost use Rattle.std.specs.Prelude.{true};
+ghost use Rattle.std.specs.Prelude.{true, Some};
 ghost use Rattle.left_right.specs.Sides.{view};
 ghost use Rattle.unl_published.specs.Rule.{Opens, knows_opening, told_by, with_installs};
 ghost use Rattle.unl_published.specs.Looking.{Shows};
@@ -67,6 +67,15 @@ impl<T: Counted<I> + Drop, I: Drop, P: Rules<T, I>> Writer<T, I, P> {
                 Err(e)
             }
         }
+    }
+
+    /// The value that readers take now: the opening value after all installs.
+    pub fn value(&self) -> &T
+        ensures list { (opening : T.State) → (written self.now).opening ≡ Some opening
+            → T.state result.now ≡ fold T.applied opening (written self.now).installs }
+        ensures front { T.front_of (T.state result.now) ≡ front_seen (written self.now) }
+    {
+        self.sides.published()
     }
 
     /// What the writer knows now, for one reader: its list where there is room for one more reader, and else its length alone.
