@@ -1,0 +1,89 @@
+-- The board that is known, and the boards at its fronts.
+use Rattle.std.proofs.Common.{◌≡◌, ℕ, zero, suc, ◌<◌, ◌≤◌, ◌+◌, List, [], ◌∷◌, ◌++◌, length, take, fold, Bool, true, false, leb, Option, Some, None, is_some, refl, sym, ap, ◌∙◌, subst, arith, IfSome, length-append, unwrap_or}
+use Rattle.std.specs.Option.{option_map}
+use Rattle.std.proofs.lemmas.Bool.Decides.{nat_tests}
+use Rattle.unl_core.specs.declared.board.Board.{Board}
+use Rattle.unl_core.specs.declared.board.Install.{Install}
+use Rattle.unl_core.specs.Board.{board_after, installed}
+use Rattle.unl_edge_state.specs.Editions.{BoardAt, board_known, edited, no_board}
+use Rattle.unl_edge_state.specs.Orderly.{IsInOrder, IsOrderly, KnowsOrderly}
+use Rattle.unl_edge_state.specs.Reading.{board_of}
+use Rattle.unl_edge_state.proofs.GoingOn.{orderly_more}
+use Rattle.unl_published.specs.declared.knowledge.Knowledge.{Knowledge}
+use Rattle.unl_published.specs.Meaning.{at_or, known, value_at, where_true}
+use Rattle.unl_published.specs.Looking.{Follows}
+use Rattle.unl_published.specs.Rule.{with_installs}
+
+-- installs one after the other lead to the board after them
+pub board_of_fold : (opening : BoardAt) (list : List Install) → (fold edited opening list).board ≡ board_after opening.board list
+board_of_fold opening [] = refl
+board_of_fold opening (what ∷ list) = board_of_fold (edited opening what) list
+
+pub board_after_more : (board : Board) (list : List Install) (what : Install) → board_after board (list ++ what ∷ []) ≡ installed what (board_after board list)
+board_after_more board [] what = refl
+board_after_more board (first ∷ list) what = board_after_more (installed first board) list what
+
+after_more : (opening : Option BoardAt) (list : List Install) (what : Install) → is_some opening ≡ true
+    → unwrap_or (option_map (λ o. board_after o.board (list ++ what ∷ [])) opening) no_board ≡ installed what (unwrap_or (option_map (λ o. board_after o.board list) opening) no_board)
+after_more None list what there = absurd cc
+after_more (Some opening) list what there = board_after_more opening.board list what
+
+-- the board after one install more
+pub known_more : (known : Knowledge BoardAt Install) (what : Install) → is_some known.opening ≡ true → board_known (with_installs (what ∷ []) known) ≡ installed what (board_known known)
+known_more known what there = after_more known.opening known.installs what there
+
+shown : (opening : Option BoardAt) (list : List Install) (value : BoardAt) → is_some opening ≡ true → ((o : BoardAt) → opening ≡ Some o → value ≡ fold edited o list)
+    → value.board ≡ unwrap_or (option_map (λ o. board_after o.board list) opening) no_board
+shown None list value there is = absurd cc
+shown (Some opening) list value there is = ap (λ (e : BoardAt). e.board) (is opening refl) ∙ board_of_fold opening list
+
+-- what is shown is the board that is known
+pub shown_known : (known : Knowledge BoardAt Install) (value : BoardAt) → is_some known.opening ≡ true → ((o : BoardAt) → known.opening ≡ Some o → value ≡ fold edited o known.installs)
+    → value.board ≡ board_known known
+shown_known known value there is = shown known.opening known.installs value there is
+
+keeps_mapped : (old new : Option BoardAt) (board : Board) → ((edition : BoardAt) → old ≡ Some edition → new ≡ Some edition) → option_map (λ e. e.board) old ≡ Some board → option_map (λ e. e.board) new ≡ Some board
+keeps_mapped None new board keeps is = absurd cc
+keeps_mapped (Some edition) new board keeps is = ap (option_map (λ (e : BoardAt). e.board)) (keeps edition refl) ∙ is
+
+-- boards stay known where the editions do
+pub keeps_boards : (old new : Knowledge BoardAt Install) → ((k : ℕ) (edition : BoardAt) → value_at edited old k ≡ Some edition → value_at edited new k ≡ Some edition)
+    → (k : ℕ) (board : Board) → board_of old k ≡ Some board → board_of new k ≡ Some board
+keeps_boards old new keeps k board is = keeps_mapped (value_at edited old k) (value_at edited new k) board (keeps k) is
+
+-- one who looked, and then left
+pub seen_left : (late : Option (Knowledge BoardAt Install)) (now taken : Knowledge BoardAt Install) → late ≡ None → now ≡ taken → known late now ≡ taken
+seen_left late now taken none is = ap (λ (o : Option (Knowledge BoardAt Install)). known o now) none ∙ is
+
+-- boards stay known where one looked
+pub keeps_left : (old new before taken : Knowledge BoardAt Install) → old ≡ before → new ≡ taken → Follows edited before taken
+    → (k : ℕ) (board : Board) → board_of old k ≡ Some board → board_of new k ≡ Some board
+keeps_left old new before taken old_is new_is follows k board is =
+    keeps_boards old new (λ j e h. subst (λ (v : Knowledge BoardAt Install). value_at edited v j ≡ Some e) (sym new_is)
+    (follows.keeps j e (subst (λ (v : Knowledge BoardAt Install). value_at edited v j ≡ Some e) old_is h))) k board is
+
+true_here : {A : Type 0} (p : Bool) (x : Option A) → p ≡ true → where_true p x ≡ x
+true_here p x is = ap (λ (z : Bool). where_true z x) is
+
+none_before : (k : ℕ) (other : Option BoardAt) → at_or [] k other ≡ other
+none_before k other = refl
+
+-- the board at a front of a reader that went on from nothing else
+pub boards_are : (known : Knowledge BoardAt Install) (opening : BoardAt) (k : ℕ) → known.opening ≡ Some opening → known.before ≡ [] → k ≤ length known.installs
+    → board_of known k ≡ Some (board_after opening.board (take k known.installs))
+boards_are known opening k is none low =
+    let within : leb k (length known.installs) ≡ true = grind (arith, nat_tests) in
+    ap (option_map (λ (e : BoardAt). e.board)) (
+    true_here (leb k (length known.installs)) _ within
+    ∙ ap (λ (xs : List (Option BoardAt)). at_or xs k (option_map (λ o. fold edited o (take k known.installs)) known.opening)) none
+    ∙ ap (option_map (λ (o : BoardAt). fold edited o (take k known.installs))) is)
+    ∙ ap (λ (b : Board). Some b) (board_of_fold opening (take k known.installs))
+
+more_orderly : (opening : Option BoardAt) (list : List Install) (what : Install) → IfSome opening (λ o. IsOrderly o.board list)
+    → IsInOrder (unwrap_or (option_map (λ o. board_after o.board list) opening) no_board) what → IfSome opening (λ o. IsOrderly o.board (list ++ what ∷ []))
+more_orderly None list what orderly goes = orderly
+more_orderly (Some opening) list what orderly goes = orderly_more opening.board list what orderly goes
+
+-- an install that goes on from the board that is known
+pub knows_more : (known : Knowledge BoardAt Install) (what : Install) → KnowsOrderly known → IsInOrder (board_known known) what → KnowsOrderly (with_installs (what ∷ []) known)
+knows_more known what orderly goes = more_orderly known.opening known.installs what orderly goes

@@ -1,0 +1,149 @@
+-- The places of a writer beside what it published.
+use Rattle.std.proofs.Common.{◌≡◌, ℕ, ◌<◌, ◌+◌, List, [], ◌∷◌, ◌++◌, length, Bool, true, false, Some, Option, Result, Ok, Err, OnOk, OnErr, MatchResult, is_some, refl, sym, ap, ◌∙◌, subst, arith, length-append, get_or, map, All, unwrap_or}
+use Rattle.std.proofs.Math.ListN.{set}
+use Rattle.std.specs.Prelude.{slice_set, slice_get}
+use Rattle.std.proofs.lemmas.Option.{slice_get-get_or}
+use Rattle.unl_core.specs.declared.board.Board.{Board}
+use Rattle.unl_core.specs.declared.board.Install.{Install}
+use Rattle.unl_core.specs.declared.board.Install.TheVariants.{Tokens, Env}
+use Rattle.unl_core.specs.Board.{AreSlots, with_tokens}
+use Rattle.unl_core.specs.Standing.{IsStanding, place_at, snapshot_at}
+use Rattle.unl_core.proofs.Standings.{standing_begun, standing_held, standing_taking}
+use Rattle.unl_delta.specs.declared.batch.Batch.{Batch}
+use Rattle.unl_delta.specs.declared.batch.Verdict.TheVariants.{Apply}
+use Rattle.unl_delta.specs.declared.version.EnvVersion.{EnvVersion}
+use Rattle.unl_delta.specs.declared.version.Place.{Place}
+use Rattle.unl_delta.specs.Batch.{empty_place, next_version, verdict_of}
+use Rattle.unl_delta.specs.Installing.{after_install, place_of}
+use Rattle.unl_delta.specs.Valid.{IsValidPlace, IsValidVersion}
+use Rattle.unl_edge_state.specs.Editions.{BoardAt, board_known, opening_at}
+use Rattle.unl_edge_state.specs.Orderly.{KnowsOrderly}
+use Rattle.unl_edge_state.specs.Writing.{Writing, IsWriting, Stays, after_batch, after_hold, installed_by, with_install, with_version}
+use Rattle.unl_edge_state.proofs.Boards.{known_more, knows_more}
+use Rattle.unl_published.specs.declared.knowledge.Knowledge.{Knowledge}
+use Rattle.unl_published.specs.Rule.{knows_opening, with_installs}
+use Rattle.unl_tokens.specs.declared.token.Token.{Token}
+
+tokens_stand : (board : Board) (places : List Place) (book : List Token) → IsStanding board places → IsStanding (with_tokens book board) places
+tokens_stand board places book s = record { slots = s.slots; versions = s.versions; valid = s.valid }
+
+-- an opening board, and the places of its slots
+pub writing_begun : (board : Board) (known : Knowledge BoardAt Install) (table : ℕ) (places : List Place) → AreSlots board.slots → known ≡ knows_opening table (opening_at board)
+    → places ≡ map place_at board.slots → All IsValidPlace places → IsWriting known places
+writing_begun board known table places slots is made valid = subst (λ (k : Knowledge BoardAt Install). IsWriting k places) (sym is) (record {
+  begun = refl;
+  stands = standing_begun board places slots made valid;
+})
+
+-- a book was published
+pub writing_tokens : (known new : Knowledge BoardAt Install) (places : List Place) (book : List Token) → IsWriting known places
+    → new ≡ with_installs (Tokens book ∷ []) known → IsWriting new places
+writing_tokens known new places book w is = subst (λ (k : Knowledge BoardAt Install). IsWriting k places) (sym is) (record {
+  begun = w.begun;
+  stands = subst (λ (b : Board). IsStanding b places) (sym (known_more known (Tokens book) w.begun)) (tokens_stand (board_known known) places book w.stands);
+})
+
+-- a version was published, and stands at its place
+pub writing_version : (known new : Knowledge BoardAt Install) (places : List Place) (slot : ℕ) (v kept : EnvVersion) (held : Bool) → IsWriting known places
+    → new ≡ with_installs (Env slot v ∷ []) known → kept ≡ v → IsValidVersion v → IsWriting new (set places slot (record { version = Some kept; held = held }))
+writing_version known new places slot v kept held w is kept_is valid =
+    subst (λ (k : Knowledge BoardAt Install). IsWriting k (set places slot (record { version = Some kept; held = held }))) (sym is) (record {
+      begun = w.begun;
+      stands =
+          subst (λ (b : Board). IsStanding b (set places slot (record { version = Some kept; held = held }))) (sym (known_more known (Env slot v) w.begun))
+          (standing_taking (board_known known) places slot v (record { version = Some kept; held = held }) w.stands (ap Some kept_is) valid);
+    })
+
+-- nothing was published
+pub writing_same : (known new : Knowledge BoardAt Install) (places : List Place) → IsWriting known places → new ≡ known → IsWriting new places
+writing_same known new places w is = subst (λ (k : Knowledge BoardAt Install). IsWriting k places) (sym is) w
+
+-- a book was published, or nothing was
+pub writing_told : {E : Type 0} (r : Result ℕ E) (F : ℕ → Type 0) (known new : Knowledge BoardAt Install) (places : List Place) (book : List Token) → IsWriting known places
+    → MatchResult r (λ front. (new ≡ with_installs (Tokens book ∷ []) known) × F front) (λ _. new ≡ known) → IsWriting new places
+writing_told (Ok front) F known new places book w told = writing_tokens known new places book w told.0
+writing_told (Err e) F known new places book w told = writing_same known new places w told
+
+-- a place is held
+pub writing_held : (known : Knowledge BoardAt Install) (places : List Place) (slot : ℕ) (place d : Place) → IsWriting known places → slot < length places
+    → place.version ≡ (get_or places slot d).version → IsWriting known (set places slot place)
+writing_held known places slot place d w low same = record {
+  begun = w.begun;
+  stands = standing_held (board_known known) places slot place d w.stands low same;
+}
+
+-- the place of a slot, as it stands
+pub place_is : (known : Knowledge BoardAt Install) (places : List Place) (closed : Bool) (slot : ℕ) (p : Place) (w : Writing)
+    → record { known = known; places = places; closed = closed } ≡ w → slot < length places → p ≡ get_or places slot p → place_of (installed_by w) slot ≡ p
+place_is known places closed slot p w same low is =
+    ap (λ (x : Writing). place_of (installed_by x) slot) (sym same) ∙ ap (λ (o : Option Place). unwrap_or o empty_place) (slice_get-get_or places slot p low) ∙ sym is
+
+-- a writer whose slot is held
+pub hold_is : (known : Knowledge BoardAt Install) (places : List Place) (closed : Bool) (slot : ℕ) (p : Place) (w : Writing)
+    → record { known = known; places = places; closed = closed } ≡ w → slot < length places → p ≡ get_or places slot p
+    → record { known = known; places = set places slot (record { version = p.version; held = true }); closed = closed } ≡ after_hold slot w
+hold_is known places closed slot p w same low is =
+    let old : Writing = record { known = known; places = places; closed = closed } in
+    let here : place_of (installed_by old) slot ≡ p = place_is known places closed slot p old refl low is in
+    ap (λ (v : Option EnvVersion). writing known (set places slot (record { version = v; held = true })) closed) (ap (λ (q : Place). q.version) (sym here))
+    ∙ ap (after_hold slot) same
+  where
+    writing : Knowledge BoardAt Install → List Place → Bool → Writing
+    writing k ps c = record { known = k; places = ps; closed = c }
+
+-- a writer with the version after a batch
+pub batch_is : {E : Type 0} (r : Result ℕ E) (old new w : Writing) (slot : ℕ) (batch : Batch) (p : Place) (v shown : EnvVersion) → old ≡ w
+    → place_of (installed_by w) slot ≡ p → v ≡ next_version p batch → shown ≡ v → OnOk r (new ≡ record (with_version slot shown false old) { closed = new.closed })
+    → OnOk r (new ≡ record (after_batch slot batch w) { closed = new.closed })
+batch_is (Err e) old new w slot batch p v shown same here next shown_is published = tt
+batch_is (Ok front) old new w slot batch p v shown same here next shown_is published =
+    let is : shown ≡ next_version (place_of (installed_by w) slot) batch = shown_is ∙ next ∙ ap (λ (q : Place). next_version q batch) (sym here) in
+    published ∙ (λ i. record (with_version slot (is i) false (same i)) { closed = new.closed })
+
+-- ---- what an installer sees
+
+-- a batch was published
+pub batch_installed : (w new : Writing) (slot : ℕ) (batch : Batch) → is_some w.known.opening ≡ true → new ≡ record (after_batch slot batch w) { closed = new.closed }
+    → installed_by new ≡ after_install slot batch (installed_by w)
+batch_installed w new slot batch begun is =
+    let v : EnvVersion = next_version (place_of (installed_by w) slot) batch in
+    let front : length (w.known.installs ++ Env slot v ∷ []) ≡ length w.known.installs + 1 = length-append w.known.installs (Env slot v ∷ []) in
+    let book : (board_known (with_installs (Env slot v ∷ []) w.known)).book ≡ (board_known w.known).book = ap (λ (b : Board). b.book) (known_more w.known (Env slot v) begun) in
+    ap installed_by is ∙ (λ i. record { places = slice_set w.places slot (record { version = Some v; held = false }); front = front i; book = book i })
+
+-- a book was published
+pub book_installed : (w new : Writing) (tokens : List Token) → is_some w.known.opening ≡ true → new ≡ record (with_install (Tokens tokens) w) { closed = new.closed }
+    → installed_by new ≡ record { places = w.places; front = length w.known.installs + 1; book = tokens }
+book_installed w new tokens begun is =
+    let front : length (w.known.installs ++ Tokens tokens ∷ []) ≡ length w.known.installs + 1 = length-append w.known.installs (Tokens tokens ∷ []) in
+    let book : (board_known (with_installs (Tokens tokens ∷ []) w.known)).book ≡ tokens = ap (λ (b : Board). b.book) (known_more w.known (Tokens tokens) begun) in
+    ap installed_by is ∙ (λ i. record { places = w.places; front = front i; book = book i })
+
+-- a batch was published, or nothing was
+pub batch_told : {E : Type 0} (r : Result ℕ E) (w new : Writing) (slot : ℕ) (batch : Batch) → is_some w.known.opening ≡ true
+    → OnOk r (new ≡ record (after_batch slot batch w) { closed = new.closed }) → OnOk r (installed_by new ≡ after_install slot batch (installed_by w))
+batch_told (Err e) w new slot batch begun published = tt
+batch_told (Ok front) w new slot batch begun published = batch_installed w new slot batch begun published
+
+-- ---- what is orderly
+
+-- a version that goes on, or nothing
+pub batch_orderly : {E : Type 0} (r : Result ℕ E) (w new : Writing) (slot : ℕ) (batch : Batch) → (place_of (installed_by w) slot).version ≡ snapshot_at (board_known w.known).slots slot
+    → verdict_of (place_of (installed_by w) slot) batch ≡ Apply → OnOk r (new ≡ record (after_batch slot batch w) { closed = new.closed }) → OnErr r (Stays w new)
+    → KnowsOrderly w.known → KnowsOrderly new.known
+batch_orderly (Ok front) w new slot batch stands applies published stays orderly =
+    let v : EnvVersion = next_version (place_of (installed_by w) slot) batch in
+    subst (λ (x : Writing). KnowsOrderly x.known) (sym published)
+    (knows_more w.known (Env slot v) orderly (record { place = place_of (installed_by w) slot; stands = stands; batch = batch; applies = applies; next = refl }))
+batch_orderly (Err e) w new slot batch stands applies published stays orderly = subst (λ (x : Writing). KnowsOrderly x.known) (sym stays) orderly
+
+-- a book, which goes on from any other
+pub book_orderly : (w new : Writing) (tokens : List Token) → new ≡ record (with_install (Tokens tokens) w) { closed = new.closed } → KnowsOrderly w.known → KnowsOrderly new.known
+book_orderly w new tokens published orderly = subst (λ (x : Writing). KnowsOrderly x.known) (sym published) (knows_more w.known (Tokens tokens) orderly tt)
+
+pub same_orderly : (w new : Writing) → Stays w new → KnowsOrderly w.known → KnowsOrderly new.known
+same_orderly w new stays orderly = subst (λ (x : Writing). KnowsOrderly x.known) (sym stays) orderly
+
+-- a writer with a book more
+abbrev pub book_told : Writing → List Token → Bool → Writing
+book_told w tokens closed = record (with_install (Tokens tokens) w) { closed = closed }

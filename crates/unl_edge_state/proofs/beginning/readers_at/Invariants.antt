@@ -1,0 +1,17 @@
+use Rattle.std.proofs.Common.{◌≡◌, ◌≤◌, ◌-◌, length}
+use Rattle.std.specs.Prelude.{All}
+use Rattle.unl_edge_state.specs.Reading.{HasBegun}
+use Rattle.unl_published.specs.Rule.{told_by}
+use Rattle.unl_published.specs.Seen.{is_closed, written}
+use Rattle.unl_edge_state.proofs.beginning.readers_at.Given as goal
+
+-- so many readers began
+abbrev pub invariant-made : goal.invariant-made
+invariant-made l =
+    (written l.writer ≡ written l.initial.writer)
+    × (is_closed l.writer ≡ is_closed l.initial.writer)
+    × (length l.readers.items ≤ l.fn.count)
+    × All (HasBegun (told_by (written l.initial.writer))) l.readers.items
+
+abbrev pub decreases-made : goal.decreases-made
+decreases-made l = l.fn.count - length l.readers.items

@@ -1,0 +1,4 @@
+pub mod Editions
+pub mod Reading
+pub mod Writing
+pub mod Orderly

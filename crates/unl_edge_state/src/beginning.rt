@@ -1,0 +1,123 @@
+//! How a writer of a board and its readers begin.
+ghost use Rattle.std.specs.Prelude.{◌≡◌, ℕ, ◌<◌, ◌≤◌, All, IfOk, IsTrue, false, length, map};
+ghost use Rattle.std.specs.Prelude.{is_some, true};
+ghost use Rattle.unl_core.specs.Board.{AreSlots};
+ghost use Rattle.unl_core.specs.Standing.{place_at};
+ghost use Rattle.unl_edge_state.specs.Editions.{opening_at};
+ghost use Rattle.unl_edge_state.specs.Reading.{HasBegun};
+ghost use Rattle.unl_published.specs.Rule.{knows_opening, told_by};
+ghost use Rattle.unl_published.specs.Seen.{is_closed, written};
+
+use crate::edition::Edition;
+use crate::reader::EdgeReader;
+use crate::writer::EdgeWriter;
+use std::alloc::{AllocError, Global};
+use std::sync::Wait;
+use unl_core::{Board, Install, Slot, places_at};
+use unl_documents::{Copied, List, Memory, Text};
+use unl_published::{Ruled, Writer, new_reader};
+
+/// A writer of a board and so many readers of it, which know the opening board alone. There is room to tell each reader once at
+/// a time.
+///
+/// # Errors
+///
+/// Want of memory, or a reader that could not be made.
+pub fn begin<'a, W: Wait>(
+    rt: &'a W,
+    alloc: Global,
+    board: Board,
+    readers: u32,
+) -> Result<(EdgeWriter<'a, W>, Vec<EdgeReader>), Memory>
+    requires readers { (0 < readers) × (readers ≤ 16) }
+    requires slots { AreSlots board.slots }
+    ensures writer { IfOk result (λ r. (table : ℕ) × (r.0 ≡ record {
+      known = knows_opening table (opening_at board);
+      places = map place_at board.slots;
+      closed = false;
+    })) }
+    ensures count { IfOk result (λ r. length r.1.items ≡ readers) }
+    ensures readers { IfOk result (λ r. All (HasBegun r.0.known) r.1.items) }
+{
+    let places = places_at(alloc, board.slots.as_slice())?;
+    let second = copy_of(alloc, &board)?;
+    let count = readers as usize;
+    let mut writer = Writer::new(
+        rt,
+        alloc,
+        Edition::new(board),
+        Edition::new(second),
+        count + count,
+    )?;
+    match readers_at(alloc, &mut writer, count) {
+        Ok(readers) => Ok((EdgeWriter::over(rt, writer, places), readers)),
+        Err(memory) => {
+            writer.end(rt);
+            Err(memory)
+        }
+    }
+}
+
+/// So many readers, which know what the writer knows.
+fn readers_at(
+    alloc: Global,
+    writer: &mut Writer<Edition, Install, Ruled<Install>>,
+    count: usize,
+) -> Result<Vec<EdgeReader>, Memory>
+    requires { is_some (written writer.old).opening ≡ true }
+    ensures same { written writer.new ≡ written writer.old }
+    ensures closed { is_closed writer.new ≡ is_closed writer.old }
+    ensures count { IfOk result (λ readers. length readers.items ≡ count) }
+    ensures readers { IfOk result (λ readers. All (HasBegun (told_by (written writer.old))) readers.items) }
+{
+    let mut readers = Vec::new(alloc);
+    'made: while readers.len() < count {
+        readers.push(reader_at(writer)?)?;
+    }
+    Ok(readers)
+}
+
+/// One more reader, which knows what the writer knows.
+fn reader_at(writer: &mut Writer<Edition, Install, Ruled<Install>>) -> Result<EdgeReader, Memory>
+    requires { is_some (written writer.old).opening ≡ true }
+    ensures same { written writer.new ≡ written writer.old }
+    ensures closed { is_closed writer.new ≡ is_closed writer.old }
+    ensures reader { IfOk result (HasBegun (told_by (written writer.old))) }
+{
+    let seat = new_reader(writer)?;
+    Ok(EdgeReader::new(seat))
+}
+
+/// The same board once more. What it shares stays shared.
+fn copy_of(alloc: Global, board: &Board) -> Result<Board, Memory>
+    ensures { IfOk result (λ copy. copy ≡ board.now) }
+{
+    Ok(Board {
+        boot: board.boot,
+        host: Text::new(alloc, board.host.as_str())?,
+        generation: board.generation,
+        book: board.book.copy()?,
+        slots: List::from_vec(copies_of(alloc, board.slots.as_slice())?),
+    })
+}
+
+/// The same slots once more.
+fn copies_of(alloc: Global, slots: &[Slot]) -> Result<Vec<Slot>, Memory>
+    ensures { IfOk result (λ copies. copies.items ≡ slots.now) }
+{
+    let mut copies = Vec::new(alloc);
+    for slot in slots {
+        copies.push(copy_of_slot(alloc, slot)?)?;
+    }
+    Ok(copies)
+}
+
+/// The same slot once more.
+fn copy_of_slot(alloc: Global, slot: &Slot) -> Result<Slot, Memory>
+    ensures { IfOk result (λ copy. copy ≡ slot.now) }
+{
+    Ok(Slot {
+        environment: Text::new(alloc, slot.environment.as_str())?,
+        snapshot: slot.snapshot.copy(alloc)?,
+    })
+}

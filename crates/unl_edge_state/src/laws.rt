@@ -1,0 +1,24 @@
+//! What holds of every list of installs.
+ghost use Rattle.std.specs.Prelude.{◌≡◌, ◌≤◌, ℕ, List, [], Some, length, take};
+ghost use Rattle.unl_core.specs.declared.board.Board.{Board};
+ghost use Rattle.unl_core.specs.declared.board.Install.{Install};
+ghost use Rattle.unl_core.specs.Board.{board_after};
+ghost use Rattle.unl_core.specs.Standing.{snapshot_at};
+ghost use Rattle.unl_delta.specs.History.{IsNotBelow};
+ghost use Rattle.unl_edge_state.specs.Editions.{BoardAt};
+ghost use Rattle.unl_edge_state.specs.Orderly.{IsOrderly};
+ghost use Rattle.unl_edge_state.specs.Reading.{board_of};
+ghost use Rattle.unl_published.specs.declared.knowledge.Knowledge.{Knowledge};
+
+/// The board at a front is the opening board after so many of the installs that were seen, where the reader never went on from
+/// what it was told.
+pub fn boards_are_after_installs()
+    ensures { (known : Knowledge BoardAt Install) (opening : BoardAt) (k : ℕ) → known.opening ≡ Some opening → known.before ≡ []
+        → k ≤ length known.installs → board_of known k ≡ Some (board_after opening.board (take k known.installs)) }
+{}
+
+/// Of an orderly list a larger front has at each slot no older version, and no slot is empty that was filled.
+pub fn fronts_only_go_on()
+    ensures { (board : Board) (list : List Install) (j k slot : ℕ) → IsOrderly board list → j ≤ k
+        → IsNotBelow (snapshot_at (board_after board (take j list)).slots slot) (snapshot_at (board_after board (take k list)).slots slot) }
+{}

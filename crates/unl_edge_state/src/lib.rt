@@ -1,0 +1,16 @@
+//! The board of an edge: one writer publishes what is installed on it, and desks in threads of their own answer over what was
+//! published, and never wait.
+#![tactic(auto)]
+
+mod beginning;
+mod edition;
+pub mod laws;
+mod reader;
+#[cfg(test)]
+mod tests;
+mod writer;
+
+pub use beginning::begin;
+pub use edition::Edition;
+pub use reader::{EdgeReader, Told};
+pub use writer::EdgeWriter;

@@ -1,0 +1,119 @@
+//! A desk that answers over what was published when it looked.
+ghost use Rattle.std.specs.Prelude.{max, ◌≡◌, ◌≤◌, true, is_some, unwrap_or, option_map, IfSome};
+ghost use Rattle.unl_published.specs.Looking.{SameOrigin, goes_on};
+ghost use Rattle.unl_published.specs.Rule.{knows_nothing};
+ghost use Rattle.unl_published.specs.Seen.{next, told_front, told_list};
+
+use crate::edition::Edition;
+use std::alloc::Global;
+use unl_base::Draw;
+use unl_core::{Answer, Desk, Install, answer};
+use unl_documents::Memory;
+use unl_http_api::Request;
+use unl_published::{Reader, Ruled};
+
+/// What a writer told, for one reader to learn.
+pub type Told = unl_published::Told<Edition, Install, Ruled<Install>>;
+
+/// A desk over what one writer publishes. It looks once for each answer, and waits for nobody.
+#[derive(Drop)]
+pub struct EdgeReader {
+    pub(crate) seat: Option<Reader<Edition, Install, Ruled<Install>>>,
+    ghost there: { is_some (unwrap_or (option_map next seat) knows_nothing).opening ≡ true },
+}
+
+impl EdgeReader {
+    ghost use Rattle.unl_edge_state.specs.Reading.{HasBegun, next_of, seen_by, told_to};
+
+    /// A desk at a seat that knows the opening board.
+    pub(crate) fn new(seat: Reader<Edition, Install, Ruled<Install>>) -> EdgeReader
+        requires { is_some (next seat).opening ≡ true }
+        ensures { result.seat ≡ Some seat }
+    {
+        EdgeReader { seat: Some(seat) }
+    }
+
+    /// Learns what the writer told: each later front is at least the one that was told. What was known stays known. Where it was
+    /// told of more than it knew, the list that it takes next begins with the list that was told, where there was room to tell it.
+    /// Takes no memory.
+    pub fn learn(&mut self, told: Told)
+        requires origin { IfSome (told_list told) (λ list. SameOrigin list (next_of self.old)) }
+        ensures origin { SameOrigin (next_of self.new) (next_of self.old) }
+        ensures least { told_to self.new ≡ max (told_to self.old) (told_front told) }
+        ensures seen { seen_by self.new ≡ seen_by self.old }
+        ensures next { next_of self.new ≡ goes_on (told_front told) (told_list told) (next_of self.old) }
+    {
+        let Some(mut seat) = self.seat.take() else {
+            unreachable!()
+        };
+        seat.learn(told);
+        self.seat = Some(seat);
+    }
+}
+
+impl Desk for EdgeReader {
+    ghost use Rattle.std.specs.Prelude.{◌≡◌, ◌≤◌, Some, [], ◌∷◌, IfOk, IfSome, OnErr};
+    ghost use Rattle.unl_core.specs.declared.board.Board.{Board};
+    ghost use Rattle.unl_core.specs.Answer.{answer_of};
+    ghost use Rattle.unl_core.specs.Desk.{Keeps, Enters, EntersAtMostOnce};
+    ghost use Rattle.unl_edge_state.specs.Editions.{board_known};
+    ghost use Rattle.unl_edge_state.specs.Reading.{board_of, next_of, seen_by, told_to};
+    ghost use Rattle.unl_metrics.specs.Reports.{IsReport};
+    ghost use Rattle.unl_published.specs.Looking.{LooksBelow, SameOrigin};
+    ghost use Rattle.unl_published.specs.Meaning.{front_seen};
+    ghost use Rattle.unl_published.specs.Rule.{StartsWith};
+
+    ghost front = { λ reader. front_seen (seen_by reader) };
+
+    ghost board_at = { λ reader. board_of (seen_by reader) };
+
+    ghost fronts = { λ reader. Some (seen_by reader).fronts };
+
+    /// Answers over the board that is published when it looks.
+    ///
+    /// # Errors
+    ///
+    /// Want of memory for the answer; or it did not look, for which `left_right` names no cause; or it came to fewer publications
+    /// than it was told of.
+    fn answer(
+        &mut self,
+        alloc: Global,
+        request: &Request,
+        draw: &Draw,
+    ) -> Result<(u64, Answer), Memory>
+        ensures front { IfOk result (λ a. a.0 ≡ front_seen (seen_by self.new)) }
+        ensures answer { IfOk result (λ a. (board : Board) × (board_of (seen_by self.new) a.0 ≡ Some board)
+            × (a.1 ≡ answer_of board request.now draw.entry.now)) }
+        ensures report { IfOk result (λ a. IfSome a.1.report IsReport) }
+        ensures rises { front_seen (seen_by self.old) ≤ front_seen (seen_by self.new) }
+        ensures keeps { Keeps (board_of (seen_by self.old)) (board_of (seen_by self.new)) }
+        ensures entered { IfOk result (λ a. Enters (Some (seen_by self.old).fronts) (a.0 ∷ []) (Some (seen_by self.new).fronts)) }
+        ensures unanswered { OnErr result (EntersAtMostOnce (Some (seen_by self.old).fronts) (Some (seen_by self.new).fronts)) }
+
+        // The answer is that over the opening board after all installs that it took, as many as its front says.
+        ensures over { IfOk result (λ a. a.1 ≡ answer_of (board_known (seen_by self.new)) request.now draw.entry.now) }
+
+        // It took a list that begins with the one it goes on from, of no fewer than it was told of.
+        ensures list { IfOk result (λ _. StartsWith (seen_by self.new).installs (next_of self.old).installs) }
+        ensures told { IfOk result (λ a. told_to self.old ≤ a.0) }
+        ensures next { IfOk result (λ _. next_of self.new ≡ seen_by self.new) }
+        ensures origin { SameOrigin (next_of self.new) (next_of self.old) }
+        ensures still_told { told_to self.new ≡ told_to self.old }
+    {
+        let Some(seat) = self.seat.take() else {
+            return Err(Memory);
+        };
+        match seat.enter() {
+            Err(seat) => {
+                self.seat = Some(seat);
+                Err(Memory)
+            }
+            Ok(guard) => {
+                let front = guard.front();
+                let given = answer(alloc, guard.value().board(), request, draw);
+                self.seat = Some(guard.leave());
+                Ok((front, given?))
+            }
+        }
+    }
+}

@@ -1,0 +1,213 @@
+//! The one who publishes what is installed.
+ghost use Rattle.std.specs.Prelude.{◌≡◌, ◌-◌, ◌^◌, ◌<◌, ◌∷◌, [], true, false, length, IfOk, IfNone, IfSome, IsErr, OnErr, OnOk, OnSome};
+ghost use Rattle.unl_core.specs.declared.board.Install.TheVariants.{Env, Tokens};
+ghost use Rattle.unl_delta.specs.declared.batch.Verdict.TheVariants.{Apply};
+ghost use Rattle.unl_delta.specs.Batch.{next_version, verdict_of};
+ghost use Rattle.unl_delta.specs.Installing.{after_hold, after_install, place_of, IsBookInstalled};
+ghost use Rattle.unl_delta.specs.Valid.{IsValidBatch, IsValidPlace};
+ghost use Rattle.unl_core.specs.Board.{AreSlots};
+ghost use Rattle.unl_edge_state.specs.Editions.{board_known};
+ghost use Rattle.unl_edge_state.specs.Orderly.{KnowsOrderly};
+ghost use Rattle.unl_edge_state.specs.Writing as writing;
+ghost use Rattle.unl_edge_state.specs.Writing.{after_publish, installed_by, with_install, with_version, IsWithin, IsWriting, Stays};
+ghost use Rattle.unl_published.specs.Rule.{told_by};
+ghost use Rattle.unl_published.specs.Seen.{is_closed, told_front, told_list, written};
+
+use crate::edition::Edition;
+use crate::reader::Told;
+use std::alloc::Global;
+use std::marker::Model;
+use std::sync::Wait;
+use unl_compiled::Snapshot;
+use unl_core::{Board, Install, snapshot_after};
+use unl_delta::{Batch, Installer, Place};
+use unl_documents::{Memory, Shared};
+use unl_published::{Counted, Publisher, Ruled, Writer};
+use unl_tokens::Book;
+
+/// Publishes what is installed on a board, and keeps the place of each slot beside it. It is not `Drop`: end it by `end`, once
+/// its readers have ended.
+pub struct EdgeWriter<'a, W: Wait> {
+    publisher: Publisher<'a, W, Edition, Install, Ruled<Install>>,
+    places: Vec<Place>,
+}
+
+impl<'a, W: Wait> Model for EdgeWriter<'a, W> {
+    ghost use Rattle.unl_published.specs.Seen.{published, stays_closed};
+    ghost use Rattle.unl_edge_state.specs.Writing.{IsWriting, Writing};
+
+    ghost Value = { Writing };
+
+    ghost view = { λ writer. record {
+      known = published writer.publisher;
+      places = writer.places.items;
+      closed = stays_closed writer.publisher;
+    } };
+
+    ghost invariant = { λ writer. IsWriting (published writer.publisher) writer.places.items };
+}
+
+impl<'a, W: Wait> EdgeWriter<'a, W> {
+    /// A writer over what was published, with these places.
+    pub(crate) fn over(
+        rt: &'a W,
+        writer: Writer<Edition, Install, Ruled<Install>>,
+        places: Vec<Place>,
+    ) -> EdgeWriter<'a, W>
+        requires { IsWriting (written writer) places.items }
+        ensures { result ≡ record { known = written writer; places = places.items; closed = is_closed writer } }
+    {
+        EdgeWriter {
+            publisher: Publisher::new(rt, writer),
+            places,
+        }
+    }
+
+    /// The board that is published. Takes no memory.
+    pub fn board(&self) -> &Board
+        ensures board { result.now ≡ board_known self.now.known }
+        ensures slots { AreSlots result.now.slots }
+    {
+        self.publisher.value().board()
+    }
+
+    /// Publishes an install, and answers the new front. A slot that it names stays held or not. Waits for readers that still look
+    /// at an older board.
+    ///
+    /// # Errors
+    ///
+    /// Want of memory: nothing is published. Where it was found once the install was noted, no later one is published.
+    pub fn publish(&mut self, alloc: Global, what: Install) -> Result<u64, Memory>
+        requires front { length self.old.known.installs < 2 ^ 64 - 1 }
+        requires within { IsWithin what (length self.old.places) }
+        ensures published { OnOk result (self.new ≡ record (after_publish what self.old) { closed = self.new.closed }) }
+        ensures front { IfOk result (λ front. front ≡ length self.new.known.installs) }
+        ensures memory { OnErr result (Stays self.old self.new) }
+        ensures closed { self.old.closed ≡ true → (self.new.closed ≡ true) × IsErr result }
+    {
+        match what {
+            Install::Tokens(book) => self.publish_book(book),
+            Install::Env(slot, snapshot) => {
+                let held = self.places[slot].held;
+                self.publish_version(alloc, slot, snapshot, held)
+            }
+        }
+    }
+
+    /// What the writer knows now, for one reader to learn. Changes nothing, and takes no memory.
+    pub fn tell(&mut self) -> Told
+        ensures same { self.new ≡ self.old }
+        ensures front { told_front result ≡ length self.old.known.installs }
+        ensures list { IfSome (told_list result) (λ list. list ≡ told_by self.old.known) }
+    {
+        self.publisher.tell()
+    }
+
+    /// Waits for the readers that still look, and ends the publications. Takes no memory.
+    pub fn end(self) {
+        let EdgeWriter {
+            publisher,
+            places: _,
+        } = self;
+        publisher.end();
+    }
+
+    /// Publishes a book.
+    fn publish_book(&mut self, book: Shared<Book>) -> Result<u64, Memory>
+        requires front { length self.old.known.installs < 2 ^ 64 - 1 }
+        ensures published { OnOk result (self.new ≡ record (with_install (Tokens book) self.old) { closed = self.new.closed }) }
+        ensures front { IfOk result (λ front. front ≡ length self.new.known.installs) }
+        ensures memory { OnErr result (Stays self.old self.new) }
+        ensures closed { self.old.closed ≡ true → (self.new.closed ≡ true) × IsErr result }
+    {
+        Ok(self.publisher.publish(Install::Tokens(book))?)
+    }
+
+    /// Publishes a version at a slot, which is held or not from then on.
+    fn publish_version(
+        &mut self,
+        alloc: Global,
+        slot: usize,
+        snapshot: Shared<Snapshot>,
+        held: bool,
+    ) -> Result<u64, Memory>
+        requires front { length self.old.known.installs < 2 ^ 64 - 1 }
+        requires slot { slot < length self.old.places }
+        ensures published { OnOk result (self.new ≡ record (with_version slot snapshot held self.old) { closed = self.new.closed }) }
+        ensures front { IfOk result (λ front. front ≡ length self.new.known.installs) }
+        ensures memory { OnErr result (Stays self.old self.new) }
+        ensures closed { self.old.closed ≡ true → (self.new.closed ≡ true) × IsErr result }
+    {
+        let _ = snapshot.get().version();
+        let version = snapshot.get().shared(alloc)?;
+        let front = self.publisher.publish(Install::Env(slot, snapshot))?;
+        self.places[slot] = Place {
+            version: Some(version),
+            held,
+        };
+        Ok(front)
+    }
+}
+
+impl<W: Wait> Installer for EdgeWriter<'_, W> {
+    ghost installed = { installed_by };
+
+    ghost installs = { λ slot batch old new. new ≡ record (writing.after_batch slot batch old) { closed = new.closed } };
+
+    ghost holds = { λ slot old new. new ≡ writing.after_hold slot old };
+
+    fn slots(&self) -> usize {
+        self.places.len()
+    }
+
+    fn front(&self) -> u64 {
+        self.publisher.value().front()
+    }
+
+    fn place(&self, slot: usize) -> &Place {
+        &self.places[slot]
+    }
+
+    fn install(&mut self, alloc: Global, slot: usize, batch: &Batch) -> Result<u64, Memory>
+        requires slot { slot < length (installed_by self.old).places }
+        requires front { (installed_by self.old).front < 2 ^ 64 - 1 }
+        requires batch { IsValidBatch batch.now }
+        requires applies { verdict_of (place_of (installed_by self.old) slot) batch.now ≡ Apply }
+        ensures published { OnOk result (installed_by self.new ≡ after_install slot batch.now (installed_by self.old)) }
+        ensures whole { OnOk result (self.new ≡ record (writing.after_batch slot batch.now self.old) { closed = self.new.closed }) }
+        ensures front { IfOk result (λ front. front ≡ (installed_by self.new).front) }
+        ensures memory { OnErr result (installed_by self.new ≡ installed_by self.old) }
+        ensures same { OnErr result (Stays self.old self.new) }
+        ensures orderly { KnowsOrderly self.old.known → KnowsOrderly self.new.known }
+    {
+        let slots = &self.publisher.value().board().slots;
+        let snapshot = snapshot_after(alloc, slots, slot, &self.places[slot], batch)?;
+        let snapshot = Shared::new(alloc, snapshot)?;
+        self.publish_version(alloc, slot, snapshot, false)
+    }
+
+    fn hold(&mut self, slot: usize)
+        requires { slot < length (installed_by self.old).places }
+        ensures held { installed_by self.new ≡ after_hold slot (installed_by self.old) }
+        ensures whole { self.new ≡ writing.after_hold slot self.old }
+    {
+        self.places[slot].held = true;
+    }
+
+    fn install_book(&mut self, alloc: Global, book: Book) -> Result<Option<u64>, Memory>
+        requires { (installed_by self.old).front < 2 ^ 64 - 1 }
+        ensures book { IfOk result (λ front. IsBookInstalled book (installed_by self.old) front (installed_by self.new)) }
+        ensures memory { OnErr result (installed_by self.new ≡ installed_by self.old) }
+        ensures repeated { IfOk result (λ front. IfNone front (self.new ≡ self.old)) }
+        ensures whole { IfOk result (λ front. OnSome front
+            (self.new ≡ record (with_install (Tokens book) self.old) { closed = self.new.closed })) }
+        ensures same { OnErr result (Stays self.old self.new) }
+        ensures orderly { KnowsOrderly self.old.known → KnowsOrderly self.new.known }
+    {
+        if self.publisher.value().board().book.get().is_same(&book) {
+            return Ok(None);
+        }
+        let book = Shared::new(alloc, book)?;
+        Ok(Some(self.publish_book(book)?))
+    }
+}
