@@ -1,5 +1,5 @@
 -- Where nothing fails, a connection ends as the session of its bytes does.
-use Rattle.std.proofs.Common.{◌≡◌, ◌≢◌, ◌≤◌, ℕ, List, refl, sym, subst, arith, Option}
+use Rattle.std.proofs.Common.{◌≡◌, ◌≢◌, ◌≤◌, ℕ, List, refl, sym, subst, arith, Option, Some}
 use Rattle.unl_base.specs.Faults.{Rose}
 use Rattle.unl_http_api.specs.declared.end.End.{End}
 use Rattle.unl_http_api.specs.declared.end.End.TheVariants.{Closed, Asked, Limit, Refused, CutOff, ReadFault, WriteFault, Memory}
@@ -8,7 +8,8 @@ use Rattle.unl_http_api.specs.declared.request.Request.{Request}
 use Rattle.unl_http_api.specs.Session.{Session, AreWhole, IsRegular}
 use Rattle.unl_http_api.proofs.SessionLemmas.{Session_unique}
 use Rattle.unl_http_api.proofs.WholeLemmas.{whole_session}
-use Rattle.unl_exchange.specs.Conversation.{Serves, Concludes, AnswersAll}
+use Rattle.unl_exchange.specs.Conversation.{Serves, Concludes, AnswersAll, Converses, GivesUp, Reaches}
+use Rattle.unl_exchange.specs.Links.{LinkState}
 
 -- a count that rose later rose
 pub Rose_earlier : (a b c : ℕ) → a ≤ b → Rose b c → Rose a c
@@ -71,3 +72,25 @@ completes_whole Step bytes asked sent before result after left_after sent_after 
       subst IsRegular (sym all.0) regular.regular,
       subst (λ (e : End). AnswersAll Step asked sent before e after sent_after) (sym all.0) all.1,
     )
+
+-- all that a conversation says
+pub converses_so : {S : Type 0} (Step : S → Request → Reply → S → Type 0) (Lacks : S → Request → S → Type 0) (link : LinkState)
+    (before : S) (end : End) (after : S) (count : ℕ) (link_after : LinkState)
+    → ((bytes : List ℕ) → link.left ≡ Some bytes → Concludes Step bytes link.sent before end after link_after.left link_after.sent)
+    → ((bytes : List ℕ) → link.left ≡ Some bytes → end ≡ Memory
+    → GivesUp Step Lacks bytes link.sent link.faults before after link_after.sent link_after.faults)
+    → Reaches Step Lacks before end after count → link.faults ≤ link_after.faults
+    → (end ≡ ReadFault → Rose link.faults link_after.faults) → (end ≡ WriteFault → Rose link.faults link_after.faults)
+    → Converses Step Lacks link before end after count link_after
+converses_so Step Lacks link before end after count link_after session memory answered later read write = record {
+  session = session;
+  complete = λ bytes asked ending told is none some. completes Step bytes asked ending link.sent before end after link_after.left
+      link_after.sent is none some read write (session bytes told);
+  whole = λ bytes asked told are none some. completes_whole Step bytes asked link.sent before end after link_after.left
+      link_after.sent are none some read write (session bytes told);
+  memory = memory;
+  answered = answered;
+  later = later;
+  read_cause = read;
+  write_cause = write;
+}

@@ -1,6 +1,8 @@
+pub mod AskedLemmas
 mod CompleteLemmas
 mod ConversationLemmas
 mod ExchangeLemmas
+pub mod HostingLemmas
 mod ReachesLemmas
 mod ReceiveLemmas
 pub mod ShowsLemmas

@@ -89,12 +89,10 @@ pub record Counts
   pub step : (s t : S) (q : Request) (r : Reply) → Step s q r t → count t ≡ count s + 1
   pub lack : (s t : S) (q : Request) → Lacks s q t → count t ≡ count s
 
--- so it is where what answers counts its notes
-pub Answers_count : {Desk Book Notes : Type 0} (noted : Notes → ℕ)
-    (gives : Desk → Book → Notes → Request → Draw → Reply → Desk → Book → Notes → Type 0)
-    (gives_up : Desk → Book → Notes → Request → Draw → Desk → Book → Notes → Type 0)
-    → Counts (Answers noted gives) (LacksMemory noted gives_up) (λ s. noted s.notes)
-Answers_count noted gives gives_up = record {
+-- so it is where what answers counts
+pub Answers_count : {S : Type 0} (gives : S → Request → Draw → Reply → S → Type 0) (gives_up : S → Request → Draw → S → Type 0)
+    → Counts (Answers gives) (LacksMemory gives_up) (λ s. s.count)
+Answers_count gives gives_up = record {
   step = λ s t q r one. one.counted;
   lack = λ s t q none. none.counted;
 }

@@ -4,8 +4,9 @@ use Rattle.unl_http_api.specs.declared.end.End.{End}
 use Rattle.unl_http_api.specs.declared.end.End.TheVariants.{Closed, Asked, Limit, Refused, CutOff, ReadFault, WriteFault, Memory}
 use Rattle.unl_http_api.specs.declared.reply.Reply.{Reply}
 use Rattle.unl_http_api.specs.declared.request.Request.{Request}
-use Rattle.unl_exchange.specs.Conversation.{Answered, AnswersAll, Concludes, GivesUp, IsUnreplied, Serves}
+use Rattle.unl_exchange.specs.Conversation.{Answered, AnswersAll, Concludes, Converses, GivesUp, IsUnreplied, Reaches, Serves}
 use Rattle.unl_exchange.specs.Exchange.{Unreplied}
+use Rattle.unl_exchange.specs.Links.{LinkState}
 
 -- this state is the last one, or memory was wanting at one more request
 abbrev pub IsNear :
@@ -20,6 +21,7 @@ pub record Shows
   pub chain : (state : S) (qs : List Request) (text : List ℕ) → IsNear Step Lacks state after
       → Answered Step 0 before qs text state → Answered Seen 0 (view before) qs text (view state)
   pub last : (state : S) (q : Request) → Unreplied Step Lacks state q after → Unreplied Seen Misses (view state) q (view after)
+  pub lack : (state : S) (q : Request) → Lacks state q after → Misses (view state) q (view after)
 
 Serves_seen : {S T : Type 0} {Step : S → Request → Reply → S → Type 0} {Lacks : S → Request → S → Type 0}
     {Seen : T → Request → Reply → T → Type 0} {Misses : T → Request → T → Type 0} {view : S → T} {before after : S}
@@ -34,7 +36,7 @@ Serves_seen {after} bytes sent end sent_after shows serves = record {
   sends = serves.sends;
 }
 
-pub AnswersAll_seen : {S T : Type 0} {Step : S → Request → Reply → S → Type 0} {Lacks : S → Request → S → Type 0}
+AnswersAll_seen : {S T : Type 0} {Step : S → Request → Reply → S → Type 0} {Lacks : S → Request → S → Type 0}
     {Seen : T → Request → Reply → T → Type 0} {Misses : T → Request → T → Type 0} {view : S → T} {before after : S}
     (asked : List Request) (sent : Option (List ℕ)) (end : End) (sent_after : Option (List ℕ))
     → Shows Step Lacks Seen Misses view before after → AnswersAll Step asked sent before end after sent_after
@@ -49,7 +51,7 @@ either_seen : {P Q A B : Type 0} → (P → A) → (Q → B) → P ⊎ Q → A �
 either_seen f g (inl p) = inl (f p)
 either_seen f g (inr q) = inr (g q)
 
-pub Concludes_seen : {S T : Type 0} {Step : S → Request → Reply → S → Type 0} {Lacks : S → Request → S → Type 0}
+Concludes_seen : {S T : Type 0} {Step : S → Request → Reply → S → Type 0} {Lacks : S → Request → S → Type 0}
     {Seen : T → Request → Reply → T → Type 0} {Misses : T → Request → T → Type 0} {view : S → T} {before after : S}
     (bytes : List ℕ) (sent : Option (List ℕ)) (end : End) (left_after sent_after : Option (List ℕ))
     → Shows Step Lacks Seen Misses view before after → Concludes Step bytes sent before end after left_after sent_after
@@ -112,7 +114,7 @@ next_seen rest state shows (inr one) = inr (record {
   unreplied = shows.last state one.request one.unreplied;
 })
 
-pub GivesUp_seen : {S T : Type 0} {Step : S → Request → Reply → S → Type 0} {Lacks : S → Request → S → Type 0}
+GivesUp_seen : {S T : Type 0} {Step : S → Request → Reply → S → Type 0} {Lacks : S → Request → S → Type 0}
     {Seen : T → Request → Reply → T → Type 0} {Misses : T → Request → T → Type 0} {view : S → T} {before after : S}
     (bytes : List ℕ) (sent : Option (List ℕ)) (faults : ℕ) (sent_after : Option (List ℕ)) (faults_after : ℕ)
     → Shows Step Lacks Seen Misses view before after
@@ -131,4 +133,53 @@ GivesUp_seen {view} {after} bytes sent faults sent_after faults_after shows give
   sent_before = gives_up.sent_before;
   sends = gives_up.sends;
   told = gives_up.told;
+}
+
+-- ---- in every case
+
+near_reached : {S : Type 0} (Step : S → Request → Reply → S → Type 0) (Lacks : S → Request → S → Type 0) (reached after : S) (end : End)
+    → (after ≡ reached) ⊎ ((end ≡ Memory) × (request : Request) × Lacks reached request after) → IsNear Step Lacks reached after
+near_reached Step Lacks reached after end (inl same) = inl same
+near_reached Step Lacks reached after end (inr (is, request, lacks)) = inr (request, inl lacks)
+
+reached_seen : {S T : Type 0} {Step : S → Request → Reply → S → Type 0} {Lacks : S → Request → S → Type 0}
+    {Seen : T → Request → Reply → T → Type 0} {Misses : T → Request → T → Type 0} {view : S → T} {before after : S}
+    (reached : S) (end : End) → Shows Step Lacks Seen Misses view before after
+    → (after ≡ reached) ⊎ ((end ≡ Memory) × (request : Request) × Lacks reached request after)
+    → (view after ≡ view reached) ⊎ ((end ≡ Memory) × (request : Request) × Misses (view reached) request (view after))
+reached_seen {view} reached end shows (inl same) = inl (ap view same)
+reached_seen reached end shows (inr (is, request, lacks)) = inr (is, request, shows.lack reached request lacks)
+
+Reaches_seen : {S T : Type 0} {Step : S → Request → Reply → S → Type 0} {Lacks : S → Request → S → Type 0}
+    {Seen : T → Request → Reply → T → Type 0} {Misses : T → Request → T → Type 0} {view : S → T} {before after : S}
+    (end : End) (count : ℕ) → Shows Step Lacks Seen Misses view before after → Reaches Step Lacks before end after count
+    → Reaches Seen Misses (view before) end (view after) count
+Reaches_seen {Step} {Lacks} {view} {after} end count shows reaches = record {
+  requests = reaches.requests;
+  text = reaches.text;
+  reached = view reaches.reached;
+  answered = shows.chain reaches.reached reaches.requests reaches.text (near_reached Step Lacks reaches.reached after end reaches.next) reaches.answered;
+  counted = reaches.counted;
+  next = reached_seen reaches.reached end shows reaches.next;
+}
+
+-- all that a conversation says
+pub Converses_seen : {S T : Type 0} {Step : S → Request → Reply → S → Type 0} {Lacks : S → Request → S → Type 0}
+    {Seen : T → Request → Reply → T → Type 0} {Misses : T → Request → T → Type 0} {view : S → T} {before after : S}
+    (link : LinkState) (end : End) (count : ℕ) (link_after : LinkState) → Shows Step Lacks Seen Misses view before after
+    → Converses Step Lacks link before end after count link_after
+    → Converses Seen Misses link (view before) end (view after) count link_after
+Converses_seen link end count link_after shows said = record {
+  session = λ bytes told. Concludes_seen bytes link.sent end link_after.left link_after.sent shows (said.session bytes told);
+  complete = λ bytes asked ending told session none some.
+      let all = said.complete bytes asked ending told session none some in
+      (all.0, AnswersAll_seen asked link.sent ending link_after.sent shows all.1);
+  whole = λ bytes asked told whole none some.
+      let all = said.whole bytes asked told whole none some in
+      (all.0, AnswersAll_seen asked link.sent end link_after.sent shows all.1);
+  memory = λ bytes told is. GivesUp_seen bytes link.sent link.faults link_after.sent link_after.faults shows (said.memory bytes told is);
+  answered = Reaches_seen end count shows said.answered;
+  later = said.later;
+  read_cause = said.read_cause;
+  write_cause = said.write_cause;
 }

@@ -5,34 +5,34 @@ use Rattle.unl_base.specs.Draws.{TakesDraw}
 use Rattle.unl_http_api.specs.declared.reply.Reply.{Reply}
 use Rattle.unl_http_api.specs.declared.request.Request.{Request}
 
--- what a connection is answered by, and the draws that are to come
-pub record Answerer (Desk Book Notes : Type 0) : Type 0 where
-  pub desk : Desk
-  pub book : Book
-  pub notes : Notes
-  pub coming : Option (List Draw × Draw)
+-- the draws to come, where that is told
+abbrev pub Coming : Type 0
+Coming = Option (List Draw × Draw)
+
+-- what a connection is answered by, how many of its requests were answered, and the draws that are to come
+pub record Answerer (S : Type 0) : Type 0 where
+  pub state : S
+  pub count : ℕ
+  pub coming : Coming
 
 -- these together
-abbrev pub answerer : {Desk Book Notes : Type 0} → Desk → Book → Notes → Option (List Draw × Draw) → Answerer Desk Book Notes
-answerer desk book notes coming = record { desk = desk; book = book; notes = notes; coming = coming }
+abbrev pub answerer : {S : Type 0} → S → ℕ → Coming → Answerer S
+answerer state count coming = record { state = state; count = count; coming = coming }
 
--- a draw was taken, and with it the request was given this reply and noted
+-- a draw was taken, and with it the request was given this reply and counted
 pub record Answers
-    {Desk Book Notes : Type 0} (noted : Notes → ℕ)
-    (gives : Desk → Book → Notes → Request → Draw → Reply → Desk → Book → Notes → Type 0)
-    (before : Answerer Desk Book Notes) (request : Request) (reply : Reply)
-    (after : Answerer Desk Book Notes) : Type 0 where
+    {S : Type 0} (gives : S → Request → Draw → Reply → S → Type 0)
+    (before : Answerer S) (request : Request) (reply : Reply) (after : Answerer S) : Type 0 where
   pub draw : Draw
   pub taken : TakesDraw before.coming draw after.coming
-  pub given : gives before.desk before.book before.notes request draw reply after.desk after.book after.notes
-  pub counted : noted after.notes ≡ noted before.notes + 1
+  pub given : gives before.state request draw reply after.state
+  pub counted : after.count ≡ before.count + 1
 
--- a draw was taken, and then memory was wanting, so that the request was not noted
+-- a draw was taken, and then memory was wanting, so that the request was not counted
 pub record LacksMemory
-    {Desk Book Notes : Type 0} (noted : Notes → ℕ)
-    (gives_up : Desk → Book → Notes → Request → Draw → Desk → Book → Notes → Type 0)
-    (before : Answerer Desk Book Notes) (request : Request) (after : Answerer Desk Book Notes) : Type 0 where
+    {S : Type 0} (gives_up : S → Request → Draw → S → Type 0)
+    (before : Answerer S) (request : Request) (after : Answerer S) : Type 0 where
   pub draw : Draw
   pub taken : TakesDraw before.coming draw after.coming
-  pub given_up : gives_up before.desk before.book before.notes request draw after.desk after.book after.notes
-  pub counted : noted after.notes ≡ noted before.notes
+  pub given_up : gives_up before.state request draw after.state
+  pub counted : after.count ≡ before.count

@@ -1,7 +1,8 @@
 -- What a whole connection was: its requests, the reply to each, and how it ended. `Step before request reply after` is
 -- what one answer does with the state of whoever answers, and `Lacks before request after` what want of memory at a
 -- request leaves of it.
-use Rattle.std.specs.Prelude.{◌≡◌, ℕ, ◌+◌, ◌⊎◌, ◌==◌, ◌||◌, List, [], ◌∷◌, ◌++◌, length, Option, Some, ⊤}
+use Rattle.std.specs.Prelude.{◌≡◌, ◌≢◌, ◌≤◌, ℕ, ◌+◌, ◌⊎◌, ◌==◌, ◌||◌, List, [], ◌∷◌, ◌++◌, length, Option, Some, ⊤}
+use Rattle.unl_base.specs.Faults.{Rose}
 use Rattle.unl_base.specs.Streams.{Sends, SendsFront}
 use Rattle.unl_http_api.specs.declared.end.End.{End}
 use Rattle.unl_http_api.specs.declared.end.End.TheVariants.{Closed, Asked, Limit, Refused, CutOff, ReadFault, WriteFault, Memory}
@@ -9,8 +10,9 @@ use Rattle.unl_http_api.specs.declared.reply.Reply.{Reply}
 use Rattle.unl_http_api.specs.declared.request.Request.{Request}
 use Rattle.unl_http_api.specs.Reply.{reply_text, refusal_text}
 use Rattle.unl_http_api.specs.Requests.{BeginsWith}
-use Rattle.unl_http_api.specs.Session.{Reads, IsOpen, Session}
+use Rattle.unl_http_api.specs.Session.{AreWhole, IsOpen, IsRegular, Reads, Session}
 use Rattle.unl_exchange.specs.Exchange.{Unreplied, Tells500}
+use Rattle.unl_exchange.specs.Links.{LinkState}
 
 -- The text answers the requests, of which so many came before: each by one step, and the connection ends after one that
 -- asks for it and after the 1,000th.
@@ -139,3 +141,28 @@ pub record Reaches
   pub answered : Answered Step 0 before requests text reached
   pub counted : length requests ≡ count
   pub next : (after ≡ reached) ⊎ ((end ≡ Memory) × (request : Request) × Lacks reached request after)
+
+-- What a conversation on a link says, from its beginning to its end, at which so many requests were answered.
+pub record Converses
+    {S : Type 0} (Step : S → Request → Reply → S → Type 0) (Lacks : S → Request → S → Type 0) (link : LinkState) (before : S)
+    (end : End) (after : S) (count : ℕ) (link_after : LinkState) : Type 0 where
+  -- the end is the session's, and its requests were answered one after another
+  pub session : (bytes : List ℕ) → link.left ≡ Some bytes
+      → Concludes Step bytes link.sent before end after link_after.left link_after.sent
+  -- where no call of the link failed and memory was found, that is the end, and each request has its answer
+  pub complete : (bytes : List ℕ) (asked : List Request) (ending : End) → link.left ≡ Some bytes → Session bytes asked ending
+      → ¬ (Rose link.faults link_after.faults) → end ≢ Memory
+      → (end ≡ ending) × AnswersAll Step asked link.sent before ending after link_after.sent
+  -- so whole requests, of which only the last may end the connection, get exactly their answers
+  pub whole : (bytes : List ℕ) (asked : List Request) → link.left ≡ Some bytes → AreWhole bytes asked
+      → ¬ (Rose link.faults link_after.faults) → end ≢ Memory
+      → IsRegular end × AnswersAll Step asked link.sent before end after link_after.sent
+  -- want of memory is told to the other side, after whole replies
+  pub memory : (bytes : List ℕ) → link.left ≡ Some bytes → end ≡ Memory
+      → GivesUp Step Lacks bytes link.sent link.faults before after link_after.sent link_after.faults
+  -- in every case so many requests were answered one after another
+  pub answered : Reaches Step Lacks before end after count
+  -- a fault is told only where the link counted one
+  pub later : link.faults ≤ link_after.faults
+  pub read_cause : end ≡ ReadFault → Rose link.faults link_after.faults
+  pub write_cause : end ≡ WriteFault → Rose link.faults link_after.faults

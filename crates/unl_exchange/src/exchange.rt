@@ -1,4 +1,4 @@
-//! One exchange on a connection: a request is received, answered, noted and replied to.
+//! One exchange on a connection: a request is received, answered, counted and replied to.
 ghost use Rattle.std.specs.Prelude.{◌≡◌, ◌<◌, ◌≤◌, if◌then◌else◌};
 ghost use Rattle.http.specs.StatusCode.{IsStatusCode};
 ghost use Rattle.unl_base.specs.Faults.{Rose};
@@ -17,28 +17,30 @@ use unl_http_api::{End, Reader, Reply, Request, WriteRefusal, write_500, write_r
 pub(crate) fn exchange<A: Answering, L: Link, R: Draws>(
     alloc: Global,
     reader: &mut Reader,
-    desk: &mut A::Desk,
-    book: &mut A::Book,
-    notes: &mut A::Notes,
+    state: &mut A::State,
+    count: &mut usize,
     link: &mut L,
     draws: &mut R,
     last: bool,
 ) -> Option<End>
-    requires { A.noted notes.old < MOST_REQUESTS }
-    ensures goes { Goes (Answers A.noted A.gives) (LacksMemory A.noted A.gives_up) last
+    requires fits { A.fits count.old state.old }
+    requires few { count.old < MOST_REQUESTS }
+    ensures goes { Goes (Answers A.gives) (LacksMemory A.gives_up) last
         (record {
           held = reader.old;
           left = L.left link.old;
-          state = answerer desk.old book.old notes.old (R.coming draws.old);
+          state = answerer state.old count.old (R.coming draws.old);
           sent = L.sent link.old;
         })
         result
         (record {
           held = reader.new;
           left = L.left link.new;
-          state = answerer desk.new book.new notes.new (R.coming draws.new);
+          state = answerer state.new count.new (R.coming draws.new);
           sent = L.sent link.new;
         }) }
+    ensures fits { A.fits count.new state.new }
+    ensures keeps { A.keeps state.old state.new }
     ensures later { L.Source.faults link.old ≤ L.Source.faults link.new }
     ensures read_cause { result ≡ Some End.ReadFault → Rose (L.Source.faults link.old) (L.Source.faults link.new) }
     ensures write_cause { result ≡ Some End.WriteFault → Rose (L.Source.faults link.old) (L.Source.faults link.new) }
@@ -48,7 +50,7 @@ pub(crate) fn exchange<A: Answering, L: Link, R: Draws>(
     match receive(alloc, reader, link) {
         Received::Request(request) => {
             let close = request.close || last;
-            match reply_to::<A, L, R>(alloc, desk, book, notes, link, draws, &request, close) {
+            match reply_to::<A, L, R>(alloc, state, count, link, draws, &request, close) {
                 Some(end) => Some(end),
                 None => asked(request.close),
             }
@@ -71,19 +73,20 @@ fn asked(close: bool) -> Option<End>
 /// Answers a request, and sends the reply. None: the reply was sent.
 fn reply_to<A: Answering, L: Link, R: Draws>(
     alloc: Global,
-    desk: &mut A::Desk,
-    book: &mut A::Book,
-    notes: &mut A::Notes,
+    state: &mut A::State,
+    count: &mut usize,
     link: &mut L,
     draws: &mut R,
     request: &Request,
     close: bool,
 ) -> Option<End>
-    requires { A.noted notes.old < MOST_REQUESTS }
-    ensures replied { Replied (Answers A.noted A.gives) (LacksMemory A.noted A.gives_up) request.now close
-        (answerer desk.old book.old notes.old (R.coming draws.old))
-        (answerer desk.new book.new notes.new (R.coming draws.new))
+    requires fits { A.fits count.old state.old }
+    requires few { count.old < MOST_REQUESTS }
+    ensures replied { Replied (Answers A.gives) (LacksMemory A.gives_up) request.now close
+        (answerer state.old count.old (R.coming draws.old)) (answerer state.new count.new (R.coming draws.new))
         (L.sent link.old) result (L.sent link.new) }
+    ensures fits { A.fits count.new state.new }
+    ensures keeps { A.keeps state.old state.new }
     ensures left { L.left link.new ≡ L.left link.old }
     ensures later { L.Source.faults link.old ≤ L.Source.faults link.new }
     ensures cause { result ≡ Some End.WriteFault → Rose (L.Source.faults link.old) (L.Source.faults link.new) }
@@ -91,10 +94,11 @@ fn reply_to<A: Answering, L: Link, R: Draws>(
         → Tells500 (L.sent link.old) (L.Source.faults link.old) (L.sent link.new) (L.Source.faults link.new) }
 {
     let draw = draws.draw();
-    let reply = match A::answer(alloc, desk, book, notes, request, &draw) {
+    let reply = match A::answer(alloc, state, *count, request, &draw) {
         Ok(reply) => reply,
         Err(Memory) => return Some(give_up(link)),
     };
+    *count += 1;
     send(alloc, &reply, close, link)
 }
 

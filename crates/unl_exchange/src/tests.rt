@@ -14,34 +14,28 @@ struct Countdown;
 impl Answering for Countdown {
     ghost use Rattle.std.specs.Prelude.{◌≡◌, ◌+◌, ◌%◌};
 
-    type Desk = u16;
+    type State = u16;
 
-    type Book = ();
+    ghost fits = { λ count left. Unit {0} };
 
-    type Notes = usize;
+    ghost keeps = { λ left left_after. Unit {0} };
 
-    ghost noted = { λ noted. noted };
+    ghost gives = { λ left request draw reply left_after. (reply.status ≡ 200 + left % 3) × (left_after + 1 ≡ left) };
 
-    ghost gives = { λ left book noted request draw reply left_after book_after noted_after.
-        (reply.status ≡ 200 + left % 3) × (left_after + 1 ≡ left) };
-
-    ghost gives_up = { λ left book noted request draw left_after book_after noted_after.
-        (left ≡ 0) × (left_after ≡ 0) };
+    ghost gives_up = { λ left request draw left_after. (left ≡ 0) × (left_after ≡ 0) };
 
     fn answer(
         alloc: Global,
-        desk: &mut u16,
-        book: &mut (),
-        notes: &mut usize,
-        request: &Request,
-        draw: &Draw,
+        state: &mut u16,
+        _count: usize,
+        _request: &Request,
+        _draw: &Draw,
     ) -> Result<Reply, Memory> {
-        if *desk == 0 {
+        if *state == 0 {
             return Err(Memory);
         }
-        let status = 200 + *desk % 3;
-        *desk -= 1;
-        *notes += 1;
+        let status = 200 + *state % 3;
+        *state -= 1;
         Ok(Reply {
             status,
             tag: None,
@@ -49,13 +43,17 @@ impl Answering for Countdown {
             body: List::new(alloc),
         })
     }
+
+    ghost keeps_itself = { λ left. tt };
+
+    ghost keeps_on = { λ first next last first_kept next_kept. tt };
 }
 
-/// What a connection was sent, how many answers were noted, where the countdown stands, and how it ended.
+/// What a connection was sent, how many requests were answered, where the countdown stands, and how it ended.
 #[derive(Drop)]
 struct Outcome {
     sent: Vec<u8>,
-    noted: usize,
+    count: usize,
     left: u16,
     end: End,
 }
@@ -76,18 +74,12 @@ fn talk(
     };
     let mut draws = ListDraws::new(Vec::new(alloc));
     let mut left = start;
-    let mut noted = 0;
-    let end = converse::<Countdown, MemoryLink, ListDraws>(
-        alloc,
-        &mut left,
-        &mut (),
-        &mut noted,
-        &mut link,
-        &mut draws,
+    let (count, end) = converse::<Countdown, MemoryLink, ListDraws>(
+        alloc, &mut left, &mut link, &mut draws,
     );
     Ok(Outcome {
         sent: link.sent().to_vec(alloc)?,
-        noted,
+        count,
         left,
         end,
     })
@@ -95,7 +87,7 @@ fn talk(
 
 const ONE: &[u8] = b"GET / HTTP/1.1\r\nHost: x\r\n\r\n";
 
-/// Bytes, where the countdown starts, what is then sent, how many answers are noted, and how it ends.
+/// Bytes, where the countdown starts, what is then sent, how many requests are answered, and how it ends.
 const TALKS: [(&[u8], u16, &[u8], usize, End); 6] = [
     (b"", 5, b"", 0, End::Closed),
     (b"GET / HTTP/1.1\r\n", 5, b"", 0, End::CutOff),
@@ -132,11 +124,11 @@ const TALKS: [(&[u8], u16, &[u8], usize, End); 6] = [
 #[test]
 fn talks(rt: HostRuntime) -> Result<(), Fail> {
     let alloc = rt.alloc();
-    for (bytes, start, sent, noted, end) in TALKS {
+    for (bytes, start, sent, count, end) in TALKS {
         for most in 1..9 {
             let outcome = talk(alloc, bytes, start, most, &[])?;
             assert_eq!(rt; outcome.sent.as_slice(), sent);
-            assert_eq!(rt; outcome.noted, noted);
+            assert_eq!(rt; outcome.count, count);
             assert_eq!(rt; outcome.end, end);
         }
     }
@@ -151,7 +143,7 @@ fn limits_and_faults(rt: HostRuntime) -> Result<(), Fail> {
         many.extend_from_slice(ONE)?;
     }
     let outcome = talk(alloc, &many, 1001, 16_384, &[])?;
-    assert_eq!(rt; outcome.noted, 1000);
+    assert_eq!(rt; outcome.count, 1000);
     assert_eq!(rt; outcome.left, 1);
     assert_eq!(rt; outcome.end, End::Limit);
     assert!(rt;
@@ -159,14 +151,14 @@ fn limits_and_faults(rt: HostRuntime) -> Result<(), Fail> {
             b"HTTP/1.1 202 Accepted\r\nContent-Length: 0\r\nConnection: close\r\n\r\n"
         )
     );
-    for (failing, noted, end) in [
+    for (failing, count, end) in [
         (0, 0, End::ReadFault),
         (1, 1, End::WriteFault),
         (2, 1, End::ReadFault),
     ] {
         let outcome = talk(alloc, ONE, 7, 100, &[failing])?;
-        assert_eq!(rt; outcome.noted, noted);
-        assert_eq!(rt; outcome.left, if noted == 0 { 7 } else { 6 });
+        assert_eq!(rt; outcome.count, count);
+        assert_eq!(rt; outcome.left, if count == 0 { 7 } else { 6 });
         assert_eq!(rt; outcome.end, end);
     }
     Ok(())

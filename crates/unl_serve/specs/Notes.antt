@@ -71,27 +71,33 @@ pub record Known : Type 0 where
 abbrev pub known_by : {D : Type 0} → (D → ℕ) → (D → ℕ → Option Board) → (D → Option (List ℕ)) → D → Known
 known_by front board_at fronts desk = record { front = front desk; board_at = board_at desk; fronts = fronts desk }
 
+-- what is seen of a desk that answers, of the notes of its answers and of the book that sums them up
+pub record Seen : Type 0 where
+  pub desk : Known
+  pub noted : Noted
+
+-- these together
+abbrev pub seen : Known → List ServedOne → Book → Seen
+seen desk ones book = record { desk = desk; noted = noted ones book }
+
 -- the desk looked once and answered over the board that it saw; its front and the draw were noted, and what was reported is summed
-pub record AnswersOver
-    (before : Known) (book : Book) (ones : List ServedOne) (request : Request) (draw : Draw) (reply : Reply) (after : Known)
-    (book_after : Book) (ones_after : List ServedOne) : Type 0 where
+pub record AnswersOver (before : Seen) (request : Request) (draw : Draw) (reply : Reply) (after : Seen) : Type 0 where
   pub board : Board
-  pub known : after.board_at after.front ≡ Some board
-  pub is : reply ≡ final_reply book (answer_of board request draw)
-  pub summed : book_after ≡ final_book book (answer_of board request draw)
+  pub known : after.desk.board_at after.desk.front ≡ Some board
+  pub is : reply ≡ final_reply before.noted.book (answer_of board request draw)
+  pub summed : after.noted.book ≡ final_book before.noted.book (answer_of board request draw)
   pub one : ServedOne
-  pub added : ones_after ≡ ones ++ one ∷ []
-  pub its_front : one.front ≡ after.front
+  pub added : after.noted.ones ≡ before.noted.ones ++ one ∷ []
+  pub its_front : one.front ≡ after.desk.front
   pub its_draw : one.draw ≡ draw
-  pub rises : before.front ≤ after.front
-  pub keeps : Keeps before.board_at after.board_at
-  pub entered : Enters before.fronts (after.front ∷ []) after.fronts
+  pub rises : before.desk.front ≤ after.desk.front
+  pub keeps : Keeps before.desk.board_at after.desk.board_at
+  pub entered : Enters before.desk.fronts (after.desk.front ∷ []) after.desk.fronts
 
 -- memory was wanting: nothing was noted or summed, and the desk looked once at most
-pub record AnswersNothing
-    (before : Known) (book : Book) (ones : List ServedOne) (after : Known) (book_after : Book) (ones_after : List ServedOne) : Type 0 where
-  pub same : ones_after ≡ ones
-  pub same_book : book_after ≡ book
-  pub rises : before.front ≤ after.front
-  pub keeps : Keeps before.board_at after.board_at
-  pub entered : EntersAtMostOnce before.fronts after.fronts
+pub record AnswersNothing (before after : Seen) : Type 0 where
+  pub same : after.noted.ones ≡ before.noted.ones
+  pub same_book : after.noted.book ≡ before.noted.book
+  pub rises : before.desk.front ≤ after.desk.front
+  pub keeps : Keeps before.desk.board_at after.desk.board_at
+  pub entered : EntersAtMostOnce before.desk.fronts after.desk.fronts

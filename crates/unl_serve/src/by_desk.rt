@@ -10,40 +10,51 @@ use unl_exchange::Answering;
 use unl_http_api::{Reply, Request};
 use unl_metrics::MetricsBook;
 
+/// A desk that answers, the book that sums up what is reported, and the notes of the answers.
+#[derive(Drop)]
+pub(crate) struct Attended<'a, D> {
+    pub desk: &'a mut D,
+    pub book: &'a mut MetricsBook,
+    pub served: &'a mut Served,
+}
+
 /// Answers each request by a desk, sums up what it reports, and notes the desk's front and the draw.
-pub(crate) struct ByDesk<D>(PhantomData<D>);
+pub(crate) struct ByDesk<'a, D>(PhantomData<&'a D>);
 
-impl<D: Desk> Answering for ByDesk<D> {
-    ghost use Rattle.std.specs.Prelude.{length};
-    ghost use Rattle.unl_serve.specs.Notes.{AnswersNothing, AnswersOver, known_by};
+impl<'a, D: Desk> Answering for ByDesk<'a, D> {
+    ghost use Rattle.std.specs.Prelude.{◌≡◌, length};
+    ghost use Rattle.std.proofs.Common.{rules};
+    ghost use Rattle.unl_serve.specs.Notes.{AnswersNothing, AnswersOver, known_by, seen};
 
-    type Desk = D;
+    type State = Attended<'a, D>;
 
-    type Book = MetricsBook;
+    ghost fits = { λ count state. length state.served.now ≡ count };
 
-    type Notes = Served;
+    ghost keeps = { λ state after. (after.desk.ghost_name ≡ state.desk.ghost_name)
+        × (after.book.ghost_name ≡ state.book.ghost_name) × (after.served.ghost_name ≡ state.served.ghost_name) };
 
-    ghost noted = { λ ones. length ones };
+    ghost gives = { λ state request draw reply after. AnswersOver
+        (seen (known_by D.front D.board_at D.fronts state.desk.now) state.served.now state.book.now) request draw reply
+        (seen (known_by D.front D.board_at D.fronts after.desk.now) after.served.now after.book.now) };
 
-    ghost gives = { λ desk book ones request draw reply desk_after book_after ones_after.
-        AnswersOver (known_by D.front D.board_at D.fronts desk) book ones request draw reply
-        (known_by D.front D.board_at D.fronts desk_after) book_after ones_after };
-
-    ghost gives_up = { λ desk book ones request draw desk_after book_after ones_after.
-        AnswersNothing (known_by D.front D.board_at D.fronts desk) book ones
-        (known_by D.front D.board_at D.fronts desk_after) book_after ones_after };
+    ghost gives_up = { λ state request draw after. AnswersNothing
+        (seen (known_by D.front D.board_at D.fronts state.desk.now) state.served.now state.book.now)
+        (seen (known_by D.front D.board_at D.fronts after.desk.now) after.served.now after.book.now) };
 
     fn answer(
         alloc: Global,
-        desk: &mut D,
-        book: &mut MetricsBook,
-        notes: &mut Served,
+        state: &mut Attended<'a, D>,
+        _count: usize,
         request: &Request,
         draw: &Draw,
     ) -> Result<Reply, Memory> {
-        let (front, answer) = desk.answer(alloc, request, draw)?;
-        let reply = settle(alloc, book, answer)?;
-        notes.note(ServedOne { front, draw: *draw });
+        let (front, answer) = state.desk.answer(alloc, request, draw)?;
+        let reply = settle(alloc, state.book, answer)?;
+        state.served.note(ServedOne { front, draw: *draw });
         Ok(reply)
     }
+
+    ghost keeps_itself = { Prim.search rules };
+
+    ghost keeps_on = { Prim.search rules };
 }

@@ -5,26 +5,28 @@ use Rattle.unl_exchange.specs.Answering.{Answers, answerer}
 use Rattle.unl_exchange.proofs.ConversationLemmas.{Talk}
 use Rattle.unl_exchange.proofs.conversation.converse.Given as goal
 
--- as many requests as turns were answered and noted, and none of them ends the connection
+-- as many requests as turns were answered, and none of them ends the connection
 abbrev pub invariant-loop-turn : goal.invariant-loop-turn
 invariant-loop-turn g l = record {
   requests : List Request;
-  talk : Talk (Answers g.A.Answering.noted g.A.Answering.gives)
+  talk : Talk (Answers g.A.Answering.gives)
       (record {
         held = [];
         left = g.L.Source.left l.initial.link;
-        state = answerer l.initial.desk l.initial.book l.initial.notes (g.R.Draws.coming l.initial.draws);
+        state = answerer l.initial.state 0 (g.R.Draws.coming l.initial.draws);
         sent = g.L.Sink.sent l.initial.link;
       })
       (record {
         held = l.reader;
         left = g.L.Source.left l.link;
-        state = answerer l.desk l.book l.notes (g.R.Draws.coming l.draws);
+        state = answerer l.state l.count (g.R.Draws.coming l.draws);
         sent = g.L.Sink.sent l.link;
       })
       requests;
   stay : StayOpen requests;
   asked : length requests ≡ l.turn;
-  noted : g.A.Answering.noted l.notes ≡ l.turn;
+  counted : l.count ≡ l.turn;
+  fits : g.A.Answering.fits l.count l.state;
+  keeps : g.A.Answering.keeps l.initial.state l.state;
   later : g.L.Source.faults l.initial.link ≤ g.L.Source.faults l.link;
 }

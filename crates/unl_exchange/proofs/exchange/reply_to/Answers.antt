@@ -1,14 +1,15 @@
+use Rattle.std.proofs.Common.{refl}
 use Rattle.unl_exchange.specs.Answering.{LacksMemory}
 use Rattle.unl_exchange.proofs.ExchangeLemmas.{replied_so}
 use Rattle.unl_exchange.proofs.exchange.reply_to.Goals as goal
 
 pub returns-clause-replied : goal.returns-clause-replied
 returns-clause-replied g c =
-    replied_so _ (LacksMemory g.A.Answering.noted g.A.Answering.gives_up) c.args.request.now c.args.close _ _ c.in-Ok.reply _ c.send.result _
+    replied_so _ (LacksMemory g.A.Answering.gives_up) c.args.request.now c.args.close _ _ c.in-Ok.reply _ c.send.result _
     (record {
       draw = c.draw-draw.result;
       taken = c.draw-draw.ensures.drawn;
       given = c.in-Ok.ensures.gives;
-      counted = c.in-Ok.ensures.notes;
+      counted = refl;
     })
     c.send.ensures.writes

@@ -1,0 +1,59 @@
+-- Links of a door that tells its links, served one after another. `LinkServed before coming bytes back after coming_after`
+-- is what serving one link did that gave these bytes and came back with what it had sent and how often it had failed.
+use Rattle.std.specs.Prelude.{◌≡◌, ℕ, ◌+◌, List, [], ◌∷◌, ◌++◌, length, Option, Some}
+use Rattle.unl_base.specs.Doors.{DoorState}
+use Rattle.unl_exchange.specs.Answering.{Coming}
+
+-- Links that gave these bytes were served one after another, the first by this server with these draws to come, and each
+-- had then sent and failed so often.
+abbrev pub Linked :
+    {S : Type 0} → (S → Coming → List ℕ → List ℕ × ℕ → S → Coming → Type 0) → S → Coming → List (List ℕ) → List (List ℕ × ℕ)
+    → S → Coming → Type 0
+Linked LinkServed server coming [] [] after coming_after = (after ≡ server) × (coming_after ≡ coming)
+Linked LinkServed server coming [] (back ∷ backs) after coming_after = ⊥
+Linked LinkServed server coming (bytes ∷ links) [] after coming_after = ⊥
+Linked {S} LinkServed server coming (bytes ∷ links) (back ∷ backs) after coming_after =
+    (middle : S) × (coming_middle : Coming) × LinkServed server coming bytes back middle coming_middle
+    × Linked LinkServed middle coming_middle links backs after coming_after
+
+-- what stands while links are served: the server, the draws to come, and the door's links
+pub record Linking (S : Type 0) : Type 0 where
+  pub server : S
+  pub coming : Coming
+  pub given : ℕ
+  pub back : ℕ
+  pub links : Option (List (List ℕ))
+  pub returned : Option (List (List ℕ × ℕ))
+
+-- these of a server, the draws to come and a door
+abbrev pub linking : {S : Type 0} → S → Coming → DoorState → Linking S
+linking server coming door = record {
+  server = server;
+  coming = coming;
+  given = door.given;
+  back = door.back;
+  links = door.links;
+  returned = door.returned;
+}
+
+-- of these links to come so many were handed out, served, and handed back in order after those from before
+pub record ServesLinks
+    {S : Type 0} (LinkServed : S → Coming → List ℕ → List ℕ × ℕ → S → Coming → Type 0) (before after : Linking S)
+    (served : ℕ) (links : List (List ℕ)) (returned : List (List ℕ × ℕ)) : Type 0 where
+  pub given_links : List (List ℕ)
+  pub rest : List (List ℕ)
+  pub backs : List (List ℕ × ℕ)
+  pub are : links ≡ given_links ++ rest
+  pub left : after.links ≡ Some rest
+  pub returned_after : after.returned ≡ Some (returned ++ backs)
+  pub counted : length given_links ≡ served
+  pub linked : Linked LinkServed before.server before.coming given_links backs after.server after.coming
+
+-- So many links were handed out, and as many were handed back. Where a door tells its links, each was served.
+pub record HandsBack
+    {S : Type 0} (LinkServed : S → Coming → List ℕ → List ℕ × ℕ → S → Coming → Type 0) (before after : Linking S)
+    (served : ℕ) : Type 0 where
+  pub given : after.given ≡ before.given + served
+  pub back : after.back ≡ before.back + served
+  pub linked : (links : List (List ℕ)) (returned : List (List ℕ × ℕ)) → before.links ≡ Some links → before.returned ≡ Some returned
+      → ServesLinks LinkServed before after served links returned
