@@ -9,3 +9,4 @@ pub mod Linking
 pub mod Spelled
 pub mod Asked
 pub mod Naming
+pub mod Written

@@ -26,32 +26,32 @@ after_both (command ∷ first) second up = after_both first second (after_comman
 
 -- what stands after requests is what their commands leave
 pub requests_up : (count : ℕ) (qs : List Request) (text : List ℕ) (before after : Serving) → AnsweredAll Step count before qs text after
-    → after.desk ≡ after_commands (commands_given before.desk.secret qs) before.desk
-requests_up count [] text before after answered = ap (λ (s : Serving). s.desk) answered.1
+    → after.state ≡ after_commands (commands_given before.state.secret qs) before.state
+requests_up count [] text before after answered = ap (λ (s : Serving). s.state) answered.1
 requests_up count (q ∷ qs) text before after answered =
     let middle : Serving = answered.1 in
     let step : Step before q answered.0 middle = answered.3 in
-    let first : middle.desk ≡ after_commands (option_to_list (command_given before.desk.secret q)) before.desk =
-    ap (λ (a : Answered). a.up) (sym step.given) ∙ answer_leads before.desk q step.draw in
-    let secret : middle.desk.secret ≡ before.desk.secret =
-    ap (λ (u : UpstreamState). u.secret) first ∙ commands_secret (option_to_list (command_given before.desk.secret q)) before.desk in
+    let first : middle.state ≡ after_commands (option_to_list (command_given before.state.secret q)) before.state =
+    ap (λ (a : Answered). a.up) (sym step.given) ∙ answer_leads before.state q step.draw in
+    let secret : middle.state.secret ≡ before.state.secret =
+    ap (λ (u : UpstreamState). u.secret) first ∙ commands_secret (option_to_list (command_given before.state.secret q)) before.state in
     requests_up (count + 1) qs answered.2 middle after answered.5
-    ∙ ap (λ s. after_commands (commands_given s qs) middle.desk) secret
-    ∙ ap (after_commands (commands_given before.desk.secret qs)) first
-    ∙ sym (after_both (option_to_list (command_given before.desk.secret q)) (commands_given before.desk.secret qs) before.desk)
+    ∙ ap (λ s. after_commands (commands_given s qs) middle.state) secret
+    ∙ ap (after_commands (commands_given before.state.secret qs)) first
+    ∙ sym (after_both (option_to_list (command_given before.state.secret q)) (commands_given before.state.secret qs) before.state)
 
 -- what stands after a connection is what the commands of its requests leave
-pub obeys : (before after : Serving) (end : End) (count : ℕ) → Reaches Step Lacks before end after count → Obeys before.desk count after.desk
+pub obeys : (before after : Serving) (end : End) (count : ℕ) → Reaches Step Lacks before end after count → Obeys before.state count after.state
 obeys before after end count reaches = record {
   requests = reaches.requests;
   counted = reaches.counted;
   obeyed = by_next reaches.next;
 }
   where
-    answered_up : reaches.reached.desk ≡ after_commands (commands_given before.desk.secret reaches.requests) before.desk
+    answered_up : reaches.reached.state ≡ after_commands (commands_given before.state.secret reaches.requests) before.state
     answered_up = requests_up 0 reaches.requests reaches.text before reaches.reached reaches.answered
 
     by_next : (after ≡ reaches.reached) ⊎ ((end ≡ ends.Memory) × (request : Request) × Lacks reaches.reached request after)
-        → after.desk ≡ after_commands (commands_given before.desk.secret reaches.requests) before.desk
-    by_next (inl same) = ap (λ (s : Serving). s.desk) same ∙ answered_up
+        → after.state ≡ after_commands (commands_given before.state.secret reaches.requests) before.state
+    by_next (inl same) = ap (λ (s : Serving). s.state) same ∙ answered_up
     by_next (inr lacks) = lacks.2.given_up ∙ answered_up

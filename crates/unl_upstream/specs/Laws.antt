@@ -10,7 +10,8 @@ use Rattle.unl_tokens.specs.declared.token.Token.{Token}
 use Rattle.unl_upstream.specs.declared.command.Command.{Command}
 use Rattle.unl_upstream.specs.Upstream.{UpstreamState, opening}
 use Rattle.unl_upstream.specs.History.{IsHistoryOf, accepted, after_commands, for_environment, history_of}
-use Rattle.unl_upstream.specs.Hosting.{Coming, Linked}
+use Rattle.unl_exchange.specs.Answering.{Coming}
+use Rattle.unl_upstream.specs.Hosting.{Linked}
 use Rattle.unl_upstream.specs.Lines.{SpellAccepted, obeying}
 use Rattle.unl_upstream.specs.Linked.{LinkedBy, LinksName, draws_after}
 

@@ -1,4 +1,5 @@
 pub mod Command
+pub mod Writing
 pub mod Upstream
 pub mod History
 pub mod Answer

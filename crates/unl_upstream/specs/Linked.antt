@@ -5,7 +5,8 @@ use Rattle.unl_http_api.specs.declared.request.Request.{Request}
 use Rattle.unl_http_api.specs.Session.{Reads}
 use Rattle.unl_upstream.specs.declared.command.Command.{Command}
 use Rattle.unl_upstream.specs.History.{accepted, after_commands}
-use Rattle.unl_upstream.specs.Hosting.{Coming, LinkServed}
+use Rattle.unl_exchange.specs.Answering.{Coming}
+use Rattle.unl_upstream.specs.Hosting.{LinkServed}
 use Rattle.unl_upstream.specs.Serving.{commands_given}
 use Rattle.unl_upstream.specs.Upstream.{UpstreamState}
 

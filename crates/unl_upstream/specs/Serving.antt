@@ -1,7 +1,10 @@
 -- What an upstream does on a connection: each request is answered, and the commands among them are obeyed in their order.
-use Rattle.std.specs.Prelude.{◌≡◌, ℕ, List, [], ◌∷◌, ◌++◌, length, Option, option_to_list}
+use Rattle.std.specs.Prelude.{◌≡◌, ℕ, List, [], ◌∷◌, ◌++◌, length, option_to_list}
 use Rattle.unl_base.specs.declared.draws.Draw.{Draw}
-use Rattle.unl_exchange.specs.Answering.{Answerer, Answers, LacksMemory, answerer}
+use Rattle.unl_exchange.specs.Answering.{Answerer, Answers, Coming, LacksMemory, answerer}
+use Rattle.unl_exchange.specs.Conversation.{Converses}
+use Rattle.unl_exchange.specs.Links.{LinkState}
+use Rattle.unl_http_api.specs.declared.end.End.{End}
 use Rattle.unl_http_api.specs.declared.reply.Reply.{Reply}
 use Rattle.unl_http_api.specs.declared.request.Request.{Request}
 use Rattle.unl_upstream.specs.declared.command.Command.{Command}
@@ -13,32 +16,28 @@ use Rattle.unl_upstream.specs.Upstream.{UpstreamState}
 -- ---- one request
 
 -- a request is answered, and this stands then
-abbrev pub Gives : UpstreamState → Unit {0} → ℕ → Request → Draw → Reply → UpstreamState → Unit {0} → ℕ → Type 0
-Gives up book count q draw given up_after book_after count_after = upstream_answer up q draw ≡ record { reply = given; up = up_after }
+abbrev pub Gives : UpstreamState → Request → Draw → Reply → UpstreamState → Type 0
+Gives up q draw given up_after = upstream_answer up q draw ≡ record { reply = given; up = up_after }
 
 -- want of memory changes nothing
-abbrev pub GivesUp : UpstreamState → Unit {0} → ℕ → Request → Draw → UpstreamState → Unit {0} → ℕ → Type 0
-GivesUp up book count q draw up_after book_after count_after = up_after ≡ up
-
--- as many requests were answered as are counted
-abbrev pub counted : ℕ → ℕ
-counted count = count
+abbrev pub GivesUp : UpstreamState → Request → Draw → UpstreamState → Type 0
+GivesUp up q draw up_after = up_after ≡ up
 
 -- an upstream that has answered so many requests of a connection, and the draws to come
 abbrev pub Serving : Type 0
-Serving = Answerer UpstreamState (Unit {0}) ℕ
+Serving = Answerer UpstreamState
 
 -- these together
-abbrev pub serving : UpstreamState → ℕ → Option (List Draw × Draw) → Serving
-serving up count coming = answerer up tt count coming
+abbrev pub serving : UpstreamState → ℕ → Coming → Serving
+serving up count coming = answerer up count coming
 
 -- one request is answered, with the next draw
 abbrev pub Step : Serving → Request → Reply → Serving → Type 0
-Step = Answers counted Gives
+Step = Answers Gives
 
 -- a draw was taken, and then memory was wanting
 abbrev pub Lacks : Serving → Request → Serving → Type 0
-Lacks = LacksMemory counted GivesUp
+Lacks = LacksMemory GivesUp
 
 -- ---- the commands among requests
 
@@ -52,3 +51,13 @@ pub record Obeys (up : UpstreamState) (count : ℕ) (up_after : UpstreamState) :
   pub requests : List Request
   pub counted : length requests ≡ count
   pub obeyed : up_after ≡ after_commands (commands_given up.secret requests) up
+
+-- ---- a connection
+
+-- a link was served: so many requests were answered, and their commands are all that changed the upstream
+pub record ServesLink
+    (up : UpstreamState) (coming : Coming) (link link_after : LinkState) (up_after : UpstreamState) (coming_after : Coming) : Type 0 where
+  pub count : ℕ
+  pub end : End
+  pub conversation : Converses Step Lacks link (serving up 0 coming) end (serving up_after count coming_after) count link_after
+  pub obeyed : Obeys up count up_after

@@ -12,12 +12,14 @@ mod ready;
 mod refusal;
 mod serving;
 mod upstream;
+mod writing;
 
 pub use command::Command;
 pub use lines::CommandLines;
 pub use reading::read_command;
 pub use refusal::CommandRefusal;
 pub use upstream::Upstream;
+pub use writing::write_command;
 
 #[cfg(test)]
 mod limit_tests;

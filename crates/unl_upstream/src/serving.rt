@@ -1,32 +1,26 @@
 //! An upstream on a connection.
-ghost use Rattle.std.specs.Prelude.{◌≡◌, ◌≢◌, ◌≤◌, List, ℕ, Some};
-ghost use Rattle.unl_base.specs.Faults.{Rose};
-ghost use Rattle.unl_exchange.specs.Conversation.{AnswersAll, Concludes, GivesUp as TellsMemory, Reaches};
-ghost use Rattle.unl_http_api.specs.declared.end.End.{End};
-ghost use Rattle.unl_http_api.specs.declared.request.Request.{Request};
-ghost use Rattle.unl_http_api.specs.Session.{AreWhole, IsRegular, Session};
+ghost use Rattle.unl_exchange.specs.Conversation.{Converses};
+ghost use Rattle.unl_exchange.specs.Links.{link_state};
 ghost use Rattle.unl_upstream.specs.Serving.{Lacks, Obeys, Step, serving};
 
 use crate::upstream::Upstream;
 use std::alloc::Global;
 use unl_base::{Draw, Draws, Link};
 use unl_documents::Memory;
-use unl_exchange::{Answering, converse};
+use unl_exchange::{Answering, Server, converse};
 use unl_http_api::{End, Reply, Request};
 
-/// Answers requests by an upstream, and counts them.
+/// Answers requests by an upstream.
 pub(crate) struct ByUpstream;
 
 impl Answering for ByUpstream {
-    ghost use Rattle.unl_upstream.specs.Serving.{Gives, GivesUp, counted};
+    ghost use Rattle.unl_upstream.specs.Serving.{Gives, GivesUp};
 
-    type Desk = Upstream;
+    type State = Upstream;
 
-    type Book = ();
+    ghost fits = { λ count up. Unit {0} };
 
-    type Notes = usize;
-
-    ghost noted = { counted };
+    ghost keeps = { λ up up_after. Unit {0} };
 
     ghost gives = { Gives };
 
@@ -34,16 +28,18 @@ impl Answering for ByUpstream {
 
     fn answer(
         alloc: Global,
-        desk: &mut Upstream,
-        _book: &mut (),
-        notes: &mut usize,
+        state: &mut Upstream,
+        _count: usize,
         request: &Request,
         draw: &Draw,
     ) -> Result<Reply, Memory> {
-        let reply = desk.answer(alloc, request, draw)?;
-        *notes += 1;
+        let reply = state.answer(alloc, request, draw)?;
         Ok(reply)
     }
+
+    ghost keeps_itself = { λ up. tt };
+
+    ghost keeps_on = { λ first next last first_kept next_kept. tt };
 }
 
 impl Upstream {
@@ -55,41 +51,34 @@ impl Upstream {
         link: &mut L,
         draws: &mut R,
     ) -> (usize, End)
-        // The end is the session's, and its requests were answered one after another.
-        ensures session { (bytes : List ℕ) → L.left link.old ≡ Some bytes
-            → Concludes Step bytes (L.sent link.old) (serving self.old 0 (R.coming draws.old)) result.1
-            (serving self.new result.0 (R.coming draws.new)) (L.left link.new) (L.sent link.new) }
+        // The conversation of an upstream: its session, its replies, its end, how many requests were answered, each with the
+        // next draw, and each cause.
+        ensures converses { Converses Step Lacks
+            (link_state (L.left link.old) (L.sent link.old) (L.Source.faults link.old))
+            (serving self.old 0 (R.coming draws.old)) result.1 (serving self.new result.0 (R.coming draws.new)) result.0
+            (link_state (L.left link.new) (L.sent link.new) (L.Source.faults link.new)) }
 
-        // Where no call of the link failed and memory was found, that is the end, and each request has its answer.
-        ensures complete { (bytes : List ℕ) (asked : List Request) (end : End) → L.left link.old ≡ Some bytes
-            → Session bytes asked end → ¬ (Rose (L.Source.faults link.old) (L.Source.faults link.new)) → result.1 ≢ End.Memory
-            → (result.1 ≡ end) × AnswersAll Step asked (L.sent link.old) (serving self.old 0 (R.coming draws.old)) end
-            (serving self.new result.0 (R.coming draws.new)) (L.sent link.new) }
-
-        // So whole requests, of which only the last may end the connection, get exactly their answers.
-        ensures whole { (bytes : List ℕ) (asked : List Request) → L.left link.old ≡ Some bytes
-            → AreWhole bytes asked → ¬ (Rose (L.Source.faults link.old) (L.Source.faults link.new)) → result.1 ≢ End.Memory
-            → IsRegular result.1 × AnswersAll Step asked (L.sent link.old) (serving self.old 0 (R.coming draws.old)) result.1
-            (serving self.new result.0 (R.coming draws.new)) (L.sent link.new) }
-
-        // Want of memory is told to the other side, after whole replies.
-        ensures memory { (bytes : List ℕ) → L.left link.old ≡ Some bytes → result.1 ≡ End.Memory
-            → TellsMemory Step Lacks bytes (L.sent link.old) (L.Source.faults link.old) (serving self.old 0 (R.coming draws.old))
-            (serving self.new result.0 (R.coming draws.new)) (L.sent link.new) (L.Source.faults link.new) }
-
-        // In every case so many requests were answered one after another, each with the next draw, and their commands are
-        // all that changed the upstream.
-        ensures answered { Reaches Step Lacks (serving self.old 0 (R.coming draws.old)) result.1
-            (serving self.new result.0 (R.coming draws.new)) result.0 }
+        // In every case the commands of the answered requests are all that changed the upstream.
         ensures obeyed { Obeys self.old result.0 self.new }
-
-        // A fault is told only where the link counted one.
-        ensures later { L.Source.faults link.old ≤ L.Source.faults link.new }
-        ensures read_cause { result.1 ≡ End.ReadFault → Rose (L.Source.faults link.old) (L.Source.faults link.new) }
-        ensures write_cause { result.1 ≡ End.WriteFault → Rose (L.Source.faults link.old) (L.Source.faults link.new) }
     {
-        let mut count = 0;
-        let end = converse::<ByUpstream, L, R>(alloc, self, &mut (), &mut count, link, draws);
-        (count, end)
+        converse::<ByUpstream, L, R>(alloc, self, link, draws)
     }
+}
+
+impl Server for Upstream {
+    ghost use Rattle.unl_upstream.specs.Serving.{ServesLink};
+
+    ghost fits = { λ up. Unit {0} };
+
+    ghost keeps = { λ up up_after. Unit {0} };
+
+    ghost serves = { ServesLink };
+
+    fn serve_link<L: Link, R: Draws>(&mut self, alloc: Global, link: &mut L, draws: &mut R) {
+        self.serve(alloc, link, draws);
+    }
+
+    ghost keeps_itself = { λ up. tt };
+
+    ghost keeps_on = { λ first next last first_kept next_kept. tt };
 }

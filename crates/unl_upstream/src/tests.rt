@@ -1,4 +1,4 @@
-use crate::{Command, CommandRefusal, Upstream, read_command};
+use crate::{Command, CommandRefusal, Upstream, read_command, write_command};
 use std::alloc::Global;
 use std::test::Fail;
 use unl_base::Draw;
@@ -155,6 +155,29 @@ fn each_fault_in_its_order(rt: HostRuntime) -> Result<(), Fail> {
     for (text, fault) in &FAULTY {
         let read = command(alloc, text).expect(&rt, "a value");
         assert!(rt; read.err().as_ref() == Some(fault), "{text}");
+    }
+    Ok(())
+}
+
+/// Commands as they are written.
+const WRITTEN: [&str; 3] = [
+    r#"{"command":"remove-feature","environment":"dev","name":"a"}"#,
+    r#"{"command":"put-segment","environment":"dev","segment":{"constraints":[],"id":4}}"#,
+    r#"{"command":"remove-segment","environment":"dev","id":4}"#,
+];
+
+/// Whether a command is written as the text that it was read from.
+fn is_written_so(alloc: Global, text: &str) -> Option<bool> {
+    let command = command(alloc, text)?.ok()?;
+    let value = write_command(alloc, &command).ok()?;
+    Some(value.to_string(alloc).ok()?.as_str() == text)
+}
+
+#[test]
+fn each_command_is_written_as_it_is_read(rt: HostRuntime) -> Result<(), Fail> {
+    let alloc = rt.alloc();
+    for text in WRITTEN {
+        assert_eq!(rt; is_written_so(alloc, text), Some(true), "{text}");
     }
     Ok(())
 }

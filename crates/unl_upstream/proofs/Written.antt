@@ -1,0 +1,73 @@
+-- What is written of a command is read as it.
+use Rattle.std.proofs.Common.{◌≡◌, ℕ, List, Bool, true, Some, Ok, refl, ◌∙◌}
+use Rattle.std.specs.Prelude.{codes}
+use Rattle.serde_json.specs.Data.{Data, array, boolean, null, number, object, string}
+use Rattle.unl_documents.specs.declared.field.Field.{Field}
+use Rattle.unl_documents.specs.declared.field.Field.TheVariants as field
+use Rattle.unl_documents.specs.Reading.{Reading}
+use Rattle.unl_documents.specs.Kinds.{any_text, any_whole, at, document, is_object, name, object_of, present, required}
+use Rattle.unl_documents.specs.Writing.{count, feature_data, segment_data}
+use Rattle.unl_documents.proofs.RoundTrip.{any_text_back, any_whole_back, features, name_back, required_back, segments}
+use Rattle.unl_documents.proofs.RoundTrip.{ComesBack}
+use Rattle.unl_upstream.specs.declared.command.Command.{Command}
+use Rattle.unl_upstream.specs.declared.command.Command.TheVariants.{PutFeature, RemoveFeature, PutSegment, RemoveSegment}
+use Rattle.unl_upstream.specs.Command.{IsValidCommand, command_by, command_of, put_feature_of, put_segment_of, remove_feature_of, remove_segment_of}
+use Rattle.unl_upstream.specs.Writing.{HasNames, command_data}
+
+present_one : (d : Data) → is_object d ≡ true → present d ≡ Some d
+present_one null is = absurd cc
+present_one (boolean b) is = absurd cc
+present_one (number n) is = absurd cc
+present_one (string bytes) is = absurd cc
+present_one (array values) is = absurd cc
+present_one (object inside) is = refl
+
+-- an object at a key
+one_back : {T : Type 0} {reads : Data → Reading T} {written : T → Data} {P : T → Type 0} → ComesBack reads written P → (f : Field) (value : Data)
+    (x : T) → P x → at f value ≡ present (written x) → required (object_of reads) f value ≡ Ok x
+unfolding object_of
+one_back {T} {reads} {written} comes f value x valid here =
+    let there : at f value ≡ Some (written x) = here ∙ present_one (written x) (comes.is_one x) in
+    required_back (object_of reads) f value (written x) x there (rw (comes.is_one x) (comes.back x valid))
+
+word_back : (value : Data) (word : List ℕ) → at field.Command value ≡ Some (string word) → command_of value ≡ command_by word value
+unfolding command_of
+word_back value word here = rw (required_back any_text field.Command value (string word) word here (any_text_back field.Command word)) refl
+
+pub command_back : (command : Command) → IsValidCommand command → HasNames command → command_of (command_data command) ≡ Ok command
+unfolding command_by put_feature_of remove_feature_of put_segment_of remove_segment_of command_data at
+command_back (PutFeature environment feature) valid names =
+    let value = command_data (PutFeature environment feature) in
+    let word = word_back value (codes "put-feature") refl in
+    let where_ = required_back name field.Environment value (string environment) environment refl (name_back field.Environment environment names) in
+    let what = one_back features field.Feature value feature valid refl in
+    rw (word, where_, what) refl
+command_back (RemoveFeature environment named) valid names =
+    let value = command_data (RemoveFeature environment named) in
+    let word = word_back value (codes "remove-feature") refl in
+    let where_ = required_back name field.Environment value (string environment) environment refl (name_back field.Environment environment names.0) in
+    let what = required_back name field.Name value (string named) named refl (name_back field.Name named names.1) in
+    rw (word, where_, what) refl
+command_back (PutSegment environment segment) valid names =
+    let value = command_data (PutSegment environment segment) in
+    let word = word_back value (codes "put-segment") refl in
+    let where_ = required_back name field.Environment value (string environment) environment refl (name_back field.Environment environment names) in
+    let what = one_back segments field.Segment value segment valid refl in
+    rw (word, where_, what) refl
+command_back (RemoveSegment environment id) valid names =
+    let value = command_data (RemoveSegment environment id) in
+    let word = word_back value (codes "remove-segment") refl in
+    let where_ = required_back name field.Environment value (string environment) environment refl (name_back field.Environment environment names) in
+    let what = required_back any_whole field.Id value (count id) id refl (any_whole_back field.Id id) in
+    rw (word, where_, what) refl
+
+document_is : (command : Command) → document command_of (command_data command) ≡ command_of (command_data command)
+unfolding command_data
+document_is (PutFeature environment feature) = refl
+document_is (RemoveFeature environment named) = refl
+document_is (PutSegment environment segment) = refl
+document_is (RemoveSegment environment id) = refl
+
+-- what is written is read as a document
+pub written_back : (command : Command) → IsValidCommand command → HasNames command → document command_of (command_data command) ≡ Ok command
+written_back command valid names = document_is command ∙ command_back command valid names

@@ -1,0 +1,30 @@
+-- What a command is written as. A `put` keeps the keys in byte order.
+use Rattle.std.specs.Prelude.{ℕ, List, codes}
+use Rattle.serde_json.specs.Data.{Data, Members, no_members, object, string}
+use Rattle.unl_documents.specs.declared.field.Field.TheVariants as field
+use Rattle.unl_documents.specs.Limits.{IsName}
+use Rattle.unl_documents.specs.Writing.{count, feature_data, segment_data, with}
+use Rattle.unl_upstream.specs.declared.command.Command.{Command}
+use Rattle.unl_upstream.specs.declared.command.Command.TheVariants.{PutFeature, RemoveFeature, PutSegment, RemoveSegment}
+
+-- the word of a command and its environment, put into what else it has
+abbrev pub with_head : List ℕ → List ℕ → Members → Members
+with_head word environment members = with field.Command (string word) (with field.Environment (string environment) members)
+
+-- a command as it is written
+unfoldable pub command_data : Command → Data
+command_data (PutFeature environment feature) =
+    object (with_head (codes "put-feature") environment (with field.Feature (feature_data feature) no_members))
+command_data (RemoveFeature environment name) =
+    object (with_head (codes "remove-feature") environment (with field.Name (string name) no_members))
+command_data (PutSegment environment segment) =
+    object (with_head (codes "put-segment") environment (with field.Segment (segment_data segment) no_members))
+command_data (RemoveSegment environment id) =
+    object (with_head (codes "remove-segment") environment (with field.Id (count id) no_members))
+
+-- the environment, and the name that is removed, are names within the limits
+abbrev pub HasNames : Command → Type 0
+HasNames (PutFeature environment feature) = IsName environment
+HasNames (RemoveFeature environment name) = IsName environment × IsName name
+HasNames (PutSegment environment segment) = IsName environment
+HasNames (RemoveSegment environment id) = IsName environment

@@ -1,0 +1,101 @@
+//! Writing commands.
+ghost use Rattle.std.specs.Prelude.{◌≡◌, IfOk, Ok, OnOk};
+ghost use Rattle.serde_json.specs.View.{members_view, view};
+ghost use Rattle.unl_documents.specs.Kinds.{document};
+ghost use Rattle.unl_upstream.specs.declared.command.Command.TheVariants as command;
+ghost use Rattle.unl_upstream.specs.Command.{IsValidCommand, command_of};
+ghost use Rattle.unl_upstream.specs.Writing.{HasNames, command_data, with_head};
+
+use crate::command::Command;
+use serde_json::{Map, Value};
+use std::alloc::Global;
+use unl_documents::written::{Written, put, put_value};
+use unl_documents::{Feature, Field, Memory, Segment, Text};
+
+/// The value that a command is written as: its word, its environment, and the feature, the name, the segment or the id. It
+/// is read as the command, where the document in it is within its limits and its environment, and the name that it removes,
+/// are names.
+#[tactic(auto, using(crate::proofs::Written::written_back))]
+pub fn write_command(alloc: Global, command: &Command) -> Result<Value, Memory>
+    ensures written { IfOk result (λ value. view value ≡ command_data command.now) }
+    ensures reads_back { IsValidCommand command.now → HasNames command.now
+        → IfOk result (λ value. document command_of (view value) ≡ Ok command.now) }
+{
+    command_value(alloc, command)
+}
+
+fn command_value(alloc: Global, command: &Command) -> Result<Value, Memory>
+    ensures { IfOk result (λ value. view value ≡ command_data command.now) }
+{
+    match command {
+        Command::PutFeature {
+            environment,
+            feature,
+        } => put_feature(alloc, environment, feature),
+        Command::RemoveFeature { environment, name } => remove_feature(alloc, environment, name),
+        Command::PutSegment {
+            environment,
+            segment,
+        } => put_segment(alloc, environment, segment),
+        Command::RemoveSegment { environment, id } => remove_segment(alloc, environment, *id),
+    }
+}
+
+/// The word of a command and its environment, put into what else it has.
+fn put_head(
+    members: &mut Map<String, Value>,
+    alloc: Global,
+    word: &str,
+    environment: &Text,
+) -> Result<(), Memory>
+    ensures { OnOk result (members_view members.new.entries
+        ≡ with_head word.now environment.now (members_view members.old.entries)) }
+{
+    put(members, alloc, Field::Environment, environment)?;
+    put_value(
+        members,
+        alloc,
+        Field::Command,
+        Value::try_from_str(alloc, word)?,
+    )
+}
+
+#[tactic(auto, unfolding(crate::specs::Writing::command_data))]
+fn put_feature(alloc: Global, environment: &Text, feature: &Feature) -> Result<Value, Memory>
+    ensures { IfOk result (λ value. view value ≡ command_data (command.PutFeature environment.now feature.now)) }
+{
+    let mut members = Map::new(alloc);
+    put(&mut members, alloc, Field::Feature, feature)?;
+    put_head(&mut members, alloc, "put-feature", environment)?;
+    Ok(Value::Object(members))
+}
+
+#[tactic(auto, unfolding(crate::specs::Writing::command_data))]
+fn remove_feature(alloc: Global, environment: &Text, name: &Text) -> Result<Value, Memory>
+    ensures { IfOk result (λ value. view value ≡ command_data (command.RemoveFeature environment.now name.now)) }
+{
+    let mut members = Map::new(alloc);
+    put(&mut members, alloc, Field::Name, name)?;
+    put_head(&mut members, alloc, "remove-feature", environment)?;
+    Ok(Value::Object(members))
+}
+
+#[tactic(auto, unfolding(crate::specs::Writing::command_data))]
+fn put_segment(alloc: Global, environment: &Text, segment: &Segment) -> Result<Value, Memory>
+    ensures { IfOk result (λ value. view value ≡ command_data (command.PutSegment environment.now segment.now)) }
+{
+    let mut members = Map::new(alloc);
+    put(&mut members, alloc, Field::Segment, segment)?;
+    put_head(&mut members, alloc, "put-segment", environment)?;
+    Ok(Value::Object(members))
+}
+
+#[tactic(auto, unfolding(crate::specs::Writing::command_data))]
+fn remove_segment(alloc: Global, environment: &Text, id: u64) -> Result<Value, Memory>
+    ensures { IfOk result (λ value. view value ≡ command_data (command.RemoveSegment environment.now id)) }
+{
+    let mut members = Map::new(alloc);
+    put(&mut members, alloc, Field::Id, &id)?;
+    put_head(&mut members, alloc, "remove-segment", environment)?;
+    Ok(Value::Object(members))
+}
