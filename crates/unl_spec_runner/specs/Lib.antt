@@ -2,5 +2,4 @@ pub mod Expected
 pub mod TestFile
 pub mod Report
 pub mod Steps
-pub mod Input
 pub mod Check

@@ -1,20 +1,16 @@
 -- A state test file in the form of the Unleash client specification: each object's keys in order, each with its kind.
-use Rattle.std.specs.Prelude.{ℕ, List, [], ◌∷◌, Bool, Option, Result, Ok, Err, ok_or, unwrap_or}
+use Rattle.std.specs.Prelude.{ℕ, List, [], ◌∷◌, Bool, Option, Ok, Err, ok_or}
 use Rattle.std.specs.Option.{option_or, option_map_or}
-use Rattle.serde_json.specs.Data.{Data, object, no_members}
+use Rattle.serde_json.specs.Data.{Data}
 use Rattle.serde_json.specs.Find.{as_array}
-use Rattle.unl_context.specs.declared.fault.BadContext.{BadContext}
-use Rattle.unl_context.specs.declared.fault.BadContext.TheVariants as of_context
-use Rattle.unl_context.specs.Context.{Fields}
-use Rattle.unl_context.specs.Json.{json_context}
-use Rattle.unl_documents.specs.declared.fault.BadDocument.{BadDocument}
-use Rattle.unl_documents.specs.declared.fault.BadDocument.TheVariants.{NotJson, WrongKind, TooLarge, Memory}
+use Rattle.unl_documents.specs.declared.fault.BadDocument.TheVariants.{NotJson}
 use Rattle.unl_documents.specs.declared.field.Field.TheVariants as field
 use Rattle.unl_documents.specs.Documents.{payload_of}
-use Rattle.unl_documents.specs.Kinds.{name, any_text, text, truth, at, required, optional, defaulted, object_of, objects, document, each}
+use Rattle.unl_documents.specs.Kinds.{name, any_text, text, truth, required, optional, defaulted, object_of, objects, document, each}
 use Rattle.unl_documents.specs.Reading.{Reading, ◌>>=◌}
 use Rattle.unl_documents.specs.Results.{json_of}
 use Rattle.unl_documents.specs.States.{state_of, IsValidState}
+use Rattle.unl_input.specs.Contexts.{context_in}
 use Rattle.unl_spec_runner.specs.declared.expected.Expected.{Expected}
 use Rattle.unl_spec_runner.specs.declared.expected.Expected.TheVariants.{Result as On, Variant}
 use Rattle.unl_spec_runner.specs.declared.expected.ExpectedVariant.{ExpectedVariant}
@@ -22,22 +18,6 @@ use Rattle.unl_spec_runner.specs.declared.document.Test.{Test}
 use Rattle.unl_spec_runner.specs.declared.document.TestFile.{TestFile}
 
 -- ---- tests
-
--- a fault of a context, which is named at its key alone
-abbrev pub context_fault : BadContext → BadDocument
-context_fault of_context.NotObject = WrongKind field.Context
-context_fault (of_context.WrongKind part) = WrongKind field.Context
-context_fault of_context.TooLarge = TooLarge field.Context 0
-context_fault of_context.Memory = Memory
-
--- a reading of a context, with its fault at the key
-abbrev pub at_context : Result Fields BadContext → Reading Fields
-at_context (Ok context) = Ok context
-at_context (Err fault) = Err (context_fault fault)
-
--- the context at its key, which is an empty object where it is absent
-unfoldable pub context_in : Data → Reading Fields
-context_in value = at_context (json_context (unwrap_or (at field.Context value) (object no_members)))
 
 -- whether the feature is on, by its first spelling or else by its second
 unfoldable pub feature_enabled_in : Data → Reading (Option Bool)

@@ -1,17 +1,16 @@
 //! The check of an input.
-ghost use Rattle.std.specs.Prelude.{◌≢◌, ◌≤◌, Err, IsErrOf};
+ghost use Rattle.std.specs.Prelude.{◌≡◌, ◌≢◌, ◌≤◌, Err, IsErrOf};
 ghost use Rattle.unl_base.specs.Faults.{Rose};
-ghost use Rattle.unl_documents.specs.Reading.{Gives};
-ghost use Rattle.unl_spec_runner.specs.Check.{Checks, accepted};
+ghost use Rattle.unl_spec_runner.specs.Check.{Checks, accepted, fault_of, text_of};
 
 use crate::document::files_in;
 use crate::fault::{CheckFault, Summary};
-use crate::input::read_input;
 use crate::report::Report;
 use crate::running::report_files;
 use std::alloc::Global;
-use unl_base::{Draw, Sink, Source, write_all};
+use unl_base::{Draw, Sink, Source};
 use unl_documents::BadDocument;
+use unl_input::{AnswerFault, InputAnswer, InputRefusal, answer_input};
 
 /// Reads test files to the end of the source, evaluates their tests at the moment of the draw, and writes the report: a
 /// line for each test, and both counts. Nothing is written before the whole input is read and accepted.
@@ -37,26 +36,45 @@ pub fn check<S: Source, K: Sink>(
     ensures source_later { S.faults source.old ≤ S.faults source.new }
     ensures sink_later { K.faults sink.old ≤ K.faults sink.new }
 {
-    let bytes = match read_input(alloc, source) {
-        Ok(bytes) => bytes,
-        Err(fault) => return Err(fault),
-    };
-    let report = match accepted(alloc, bytes.as_slice(), draw) {
-        Ok(report) => report,
-        Err(BadDocument::Memory) => return Err(CheckFault::Memory),
-        Err(fault) => return Err(CheckFault::BadFile(fault)),
-    };
-    match write_all(sink, report.text()) {
-        Ok(()) => Ok(report.summary()),
-        Err(_) => Err(CheckFault::WriteFault),
+    match answer_input::<Checking, S, K>(alloc, &Checking { draw: *draw }, source, sink) {
+        Ok(report) => Ok(report.summary()),
+        Err(AnswerFault::Refused(refusal)) => Err(fault_of(refusal)),
+        Err(AnswerFault::ReadFault) => Err(CheckFault::ReadFault),
+        Err(AnswerFault::WriteFault) => Err(CheckFault::WriteFault),
+        Err(AnswerFault::Memory) => Err(CheckFault::Memory),
     }
 }
 
-/// The report of the files that an input spells.
-#[tactic(auto, unfolding(crate::specs::Check::accepted))]
-fn accepted(alloc: Global, bytes: &[u8], draw: &Draw) -> Result<Report, BadDocument>
-    ensures { Gives result (accepted draw.entry.now bytes.now) }
+/// The fault for a refusal.
+fn fault_of(refusal: InputRefusal) -> CheckFault
+    ensures { result ≡ fault_of refusal }
 {
-    let files = files_in(alloc, bytes)?;
-    Ok(report_files(alloc, files.as_slice(), draw)?)
+    match refusal {
+        InputRefusal::BadInput(fault) => CheckFault::BadFile(fault),
+        InputRefusal::TooLarge => CheckFault::TooLarge,
+    }
+}
+
+/// Answers an input with the report of its test files at the moment of a draw.
+#[derive(Drop)]
+struct Checking {
+    draw: Draw,
+}
+
+impl InputAnswer for Checking {
+    type Answer = Report;
+
+    ghost reads = { λ checking. accepted checking.draw };
+
+    ghost says = { text_of };
+
+    #[tactic(auto, unfolding(crate::specs::Check::accepted))]
+    fn answer(&self, alloc: Global, bytes: &[u8]) -> Result<Report, BadDocument> {
+        let files = files_in(alloc, bytes)?;
+        Ok(report_files(alloc, files.as_slice(), &self.draw)?)
+    }
+
+    fn text(report: &Report) -> &[u8] {
+        report.text()
+    }
 }

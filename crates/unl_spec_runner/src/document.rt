@@ -5,24 +5,24 @@ ghost use Rattle.serde_json.specs.View.{view};
 ghost use Rattle.unl_documents.specs.declared.fault.BadDocument.{BadDocument};
 ghost use Rattle.unl_documents.specs.Kinds.{always, is_object, object_of, document};
 ghost use Rattle.unl_documents.specs.Limits.{Anything};
-ghost use Rattle.unl_context.specs.Json.{json_context};
 ghost use Rattle.unl_documents.specs.Reading.{Gives};
 ghost use Rattle.unl_spec_runner.specs.declared.expected.Expected.{Expected};
-ghost use Rattle.unl_spec_runner.specs.TestFile.{IsValidFile, at_context, context_fault, context_in, expected_result, expected_variant};
+ghost use Rattle.unl_spec_runner.specs.TestFile.{IsValidFile, expected_result, expected_variant};
 ghost use Rattle.unl_spec_runner.specs.TestFile.{expected_variant_of, feature_enabled_in, file_alone, file_of, files_in, files_of};
 ghost use Rattle.unl_spec_runner.specs.TestFile.{test_of};
 
 use crate::expected::{Expected, ExpectedVariant};
-use serde_json::{Map, Value};
+use serde_json::Value;
 use std::alloc::Global;
 use std::marker::PhantomData;
-use unl_context::{BadContext, Context};
+use unl_context::Context;
 use unl_documents::document::{Document, Object, read_document};
 use unl_documents::items::{Item, each_item, list};
 use unl_documents::json::read_json;
-use unl_documents::keys::{defaulted, optional, required, value_at};
+use unl_documents::keys::{defaulted, optional, required};
 use unl_documents::kind::{AnyText, Kind, Name, Truth, UpTo};
 use unl_documents::{BadDocument, Field, List, Payload, State, Text};
+use unl_input::context_in;
 
 /// More tests than bytes fit into no input, so their count has no limit of its own.
 const MOST_TESTS: usize = 16_777_216;
@@ -168,37 +168,6 @@ fn read_test<E: Expects>(alloc: Global, value: &Value) -> Result<Test, BadDocume
         toggle,
         expected,
     })
-}
-
-/// The context of a test, which says nothing where it is absent.
-#[tactic(auto, unfolding(crate::specs::TestFile::context_in))]
-fn context_in(alloc: Global, value: &Value) -> Result<Context, BadDocument>
-    ensures { Gives result (context_in (view value.now)) }
-{
-    match value_at(Field::Context, value) {
-        Some(found) => context_of(alloc, found),
-        None => context_of(alloc, &Value::Object(Map::new(alloc))),
-    }
-}
-
-fn context_of(alloc: Global, value: &Value) -> Result<Context, BadDocument>
-    ensures { Gives result (at_context (json_context (view value.now))) }
-{
-    match Context::read_json(alloc, value) {
-        Ok(context) => Ok(context),
-        Err(fault) => Err(context_fault(fault)),
-    }
-}
-
-/// The fault of a context, which is named at its key alone.
-fn context_fault(fault: BadContext) -> BadDocument
-    ensures { result ≡ context_fault fault }
-{
-    match fault {
-        BadContext::NotObject | BadContext::WrongKind(_) => BadDocument::WrongKind(Field::Context),
-        BadContext::TooLarge => BadDocument::TooLarge(Field::Context, 0),
-        BadContext::Memory => BadDocument::Memory,
-    }
 }
 
 impl Document for TestFile {

@@ -1,9 +1,5 @@
 //! How a check ends.
-ghost use Rattle.std.specs.Prelude.{◌≡◌};
-ghost use Rattle.unl_spec_runner.specs.declared.fault.CheckFault.TheVariants.{Memory as memory};
-
-use std::alloc::{AllocError, AllocFailed};
-use unl_documents::{BadDocument, Memory};
+use unl_documents::BadDocument;
 
 /// How many tests of an input passed, and how many failed.
 #[derive(Clone, Copy, Debug, PartialEq, Eq)]
@@ -27,28 +23,4 @@ pub enum CheckFault {
     WriteFault,
     /// Memory ran out.
     Memory,
-}
-
-impl From<Memory> for CheckFault {
-    ghost from_gives = { λ _ e. e ≡ memory };
-
-    fn from(_: Memory) -> Self {
-        CheckFault::Memory
-    }
-}
-
-impl From<AllocError> for CheckFault {
-    ghost from_gives = { λ _ e. e ≡ memory };
-
-    fn from(_: AllocError) -> Self {
-        CheckFault::Memory
-    }
-}
-
-impl<T: Drop> From<AllocFailed<T>> for CheckFault {
-    ghost from_gives = { λ _ e. e ≡ memory };
-
-    fn from(_: AllocFailed<T>) -> Self {
-        CheckFault::Memory
-    }
 }

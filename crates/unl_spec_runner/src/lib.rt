@@ -6,7 +6,6 @@ mod checking;
 mod document;
 mod expected;
 mod fault;
-mod input;
 mod report;
 mod running;
 
