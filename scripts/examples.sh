@@ -12,7 +12,9 @@ trap 'rm -f "$printed"' EXIT
 count=0
 for expected in examples/*.out; do
     name=${expected%.out}
-    if test -f "$name.json"; then
+    if test "$name" = examples/explain; then
+        "$program" explain <"$name.json" >"$printed"
+    elif test -f "$name.json"; then
         "$program" check <"$name.json" >"$printed"
     else
         "$program" replay <"$name.jsonl" >"$printed"

@@ -1,24 +1,33 @@
 -- How an upstream ends, from how its lines and its links end.
-use Rattle.std.proofs.Common.{◌≡◌, ◌≢◌, ◌∙◌, inl, inr, ℕ, List, [], ◌++◌, Option, Some, None, IfSome, Ok, Err, refl, sym, ap, subst, append-nil, arith, ◌∷◌, ◌&&◌, true}
+use Rattle.std.proofs.Common.{◌≡◌, ◌≢◌, ◌∙◌, ℕ, List, [], ◌++◌, Option, Some, None, IfSome, Ok, Err, refl, sym, ap, subst, append-nil, arith, ◌∷◌, ◌&&◌, true}
 use Rattle.std.specs.Prelude.{option_map, unwrap_or}
 use Rattle.std.specs.List.{list_all}
 use Rattle.clap.proofs.WalkLemmas.{both}
+use Rattle.unl_base.specs.Doors.{DoorState}
 use Rattle.unl_base.specs.Streams.{HasEnded, Sends, SendsFront, Takes}
 use Rattle.unl_base.proofs.Sending.{Sends_nothing}
 use Rattle.unl_core.specs.Board.{AreDifferent}
 use Rattle.unl_documents.specs.Reading.{Reading}
 use Rattle.unl_documents.specs.Texts.{is_name}
-use Rattle.unl_edge.specs.Scene.{Scene}
-use Rattle.unl_edge.specs.Status.{code_of, ending_status}
-use Rattle.unl_edge.specs.Upstreams.{Begins, IsUnserved, IsDecidedByLines, LinksEnd, RunsUpstream, ServesAfterLines, UpstreamEnds, UpstreamRuns, connections_line, hosting, obeying}
-use Rattle.unl_edge.specs.declared.status.Status.{Status}
-use Rattle.unl_edge.specs.declared.status.Status.TheVariants.{Done, TestFailed, BadWords, Refused, ReadFault, WriteFault, OutOfMemory, DoorFault}
+use Rattle.unl_edge.specs.Scene.{InputEnd, OutputEnd, Scene}
+use Rattle.unl_edge.specs.Status.{Caused, code_of, ending_status, upstream_status}
+use Rattle.unl_edge.specs.Upstreams.{Begins, IsDecidedByLines, LinksEnd, RunsUpstream, ServesAfterLines, ServesLinks}
+use Rattle.unl_edge.specs.Upstreams.{UpstreamEnds, UpstreamRuns, connections_line, obeying}
+use Rattle.unl_edge.specs.declared.ends.ServingEnd.{ServingEnd}
+use Rattle.unl_edge.specs.declared.ends.ServingEnd.TheVariants.{Closed, WriteFault, DoorFault, OutOfMemory}
+use Rattle.unl_edge.specs.declared.ends.UpstreamEnd.{UpstreamEnd}
+use Rattle.unl_edge.specs.declared.ends.UpstreamEnd.TheVariants.{OutOfMemory as NoMemory, Lines, Links}
+use Rattle.unl_edge.specs.declared.status.Status.TheVariants as status
 use Rattle.unl_lines.specs.Laws.{IsSilent}
 use Rattle.unl_lines.specs.Taken.{Ending, IsRefused, Outcome, Taken, done, outcome_of, refused}
-use Rattle.unl_lines.specs.Whole.{AnswersAll, IsRefusing}
+use Rattle.unl_lines.specs.declared.taking.LinesFault.{LinesFault}
+use Rattle.unl_lines.specs.declared.taking.LinesFault.TheVariants as lines
+use Rattle.unl_lines.specs.Whole.{AnswersAll, IsRefusing, TakesLines}
 use Rattle.unl_lines.proofs.Silent.{prints_cause_alone}
 use Rattle.unl_tokens.specs.declared.token.Token.{Token}
-use Rattle.unl_upstream.specs.Hosting.{Coming, Hosts}
+use Rattle.unl_exchange.specs.Answering.{Coming}
+use Rattle.unl_exchange.specs.Linked.{linking}
+use Rattle.unl_upstream.specs.Hosting.{Hosts}
 use Rattle.unl_upstream.specs.Lines.{obeyed_as, obeyed_by, obeyed_line}
 use Rattle.unl_upstream.specs.Upstream.{Obeyed, Obeying, UpstreamState, commanded}
 use Rattle.unl_upstream.specs.Command.{command_in}
@@ -61,100 +70,98 @@ nothing_sent old mid text none sends =
 -- ---- the links after the lines
 
 -- no link was handed out
-pub hosts_still : (up : UpstreamState) (coming coming_after : Coming) (given given_after back back_after : ℕ) (links links_after : Option (List (List ℕ)))
-    (returned returned_after : Option (List (List ℕ × ℕ))) → coming_after ≡ coming → given_after ≡ given → back_after ≡ back → links_after ≡ links
-    → returned_after ≡ returned
-    → Hosts (record { up = up; coming = coming; given = given; back = back; links = links; returned = returned })
-    (record { up = up; coming = coming_after; given = given_after; back = back_after; links = links_after; returned = returned_after }) 0
-hosts_still up coming coming_after given given_after back back_after links links_after returned returned_after same same_given same_back same_links same_returned = record {
-  given = same_given ∙ omega arith;
-  back = same_back ∙ omega arith;
+pub hosts_still : (up : UpstreamState) (coming coming_after : Coming) (door door_after : DoorState) → coming_after ≡ coming
+    → door_after.given ≡ door.given → door_after.back ≡ door.back → door_after.links ≡ door.links → door_after.returned ≡ door.returned
+    → Hosts (linking up coming door) (linking up coming_after door_after) 0
+hosts_still up coming coming_after door door_after same given back left returned = record {
+  given = given ∙ omega arith;
+  back = back ∙ omega arith;
   linked = λ all others told told_back. record {
     given_links = [];
     rest = all;
     backs = [];
     are = refl;
-    left = same_links ∙ told;
-    returned_after = same_returned ∙ told_back ∙ ap Some (sym (append-nil others));
+    left = left ∙ told;
+    returned_after = returned ∙ told_back ∙ ap Some (sym (append-nil others));
     counted = refl;
     linked = (refl, same);
   };
 }
 
--- how an upstream ends whose lines were all taken
-pub after_lines : (start up last : UpstreamState) (status : Status) (before after : Scene) (left sent : Option (List ℕ)) (input_faults output_faults : ℕ)
-    → AnswersAll obeying start up before.left left before.sent sent
-    → LinksEnd up last status (record before { left = left; sent = sent; input_faults = input_faults; output_faults = output_faults }) after
-    → after.left ≡ left → UpstreamEnds start before.coming status before after
-after_lines start up last status before after left sent input_faults output_faults lines links kept = by_status status links
+-- how an upstream ends whose lines were all taken, by what then stands
+pub after_lines : (start up last : UpstreamState) (end : ServingEnd) (before after : Scene) (input : InputEnd) (output : OutputEnd)
+    → AnswersAll obeying start up before.input.left input.left before.output.sent output.sent
+    → LinksEnd up last end (record before { input = input; output = output }) after → after.input ≡ input
+    → UpstreamEnds start before.draws (Links end) before after
+after_lines start up last end before after input output taken links kept = by_end end links
   where
-    same_sent : sent ≡ before.sent
-    same_sent = nothing_sent before.sent sent (outcome_of obeying start lines.read).text (prints_cause_alone obeying silent start lines.read) lines.answered.sent
+    same_sent : output.sent ≡ before.output.sent
+    same_sent =
+        nothing_sent before.output.sent output.sent (outcome_of obeying start taken.read).text
+        (prints_cause_alone obeying silent start taken.read) taken.answered.sent
 
-    serves : (served : ℕ) → Hosts (hosting up before.coming before) (hosting last after.coming after) served
-        → ServesAfterLines start before.coming before after served
+    kept_left : after.input.left ≡ input.left
+    kept_left = ap (λ (i : InputEnd). i.left) kept
+
+    serves : (served : ℕ) → ServesLinks up before.draws last (record before { input = input; output = output }) after served
+        → ServesAfterLines start before.draws before after served
     serves served hosts = record {
-      read = lines.read;
-      took = subst (λ (l : Option (List ℕ)). Takes before.left lines.read l) (sym kept) lines.took;
-      end = subst HasEnded (sym kept) lines.end;
+      read = taken.read;
+      took = subst (λ (l : Option (List ℕ)). Takes before.input.left taken.read l) (sym kept_left) taken.took;
+      end = subst HasEnded (sym kept_left) taken.end;
       up = up;
-      accepted = all_accepted start up lines.read lines.answered.ending lines.leaves;
+      accepted = all_accepted start up taken.read taken.answered.ending taken.leaves;
       last = last;
       hosts = hosts;
     }
 
-    by_status : (status : Status) → LinksEnd up last status (record before { left = left; sent = sent; input_faults = input_faults; output_faults = output_faults }) after
-        → UpstreamEnds start before.coming status before after
-    by_status Done links = (links.0, serves links.0 links.1, subst (λ (s : Option (List ℕ)). Sends s (connections_line links.0) after.sent) same_sent links.2, links.3)
-    by_status WriteFault links = inr (links.0, serves links.0 links.1, subst (λ (s : Option (List ℕ)). SendsFront s (connections_line links.0) after.sent) same_sent links.2, links.3)
-    by_status DoorFault links = (links.0, serves links.0 links.1, links.2 ∙ same_sent)
-    by_status OutOfMemory links = tt
-    by_status Refused links = absurd links
-    by_status ReadFault links = absurd links
-    by_status TestFailed links = absurd links
-    by_status BadWords links = absurd links
+    by_end : (end : ServingEnd) → LinksEnd up last end (record before { input = input; output = output }) after
+        → UpstreamEnds start before.draws (Links end) before after
+    by_end Closed links = (
+      links.0,
+      serves links.0 links.1,
+      subst (λ (s : Option (List ℕ)). Sends s (connections_line links.0) after.output.sent) same_sent links.2,
+      links.3,
+    )
+    by_end WriteFault links = (
+      links.0,
+      serves links.0 links.1,
+      subst (λ (s : Option (List ℕ)). SendsFront s (connections_line links.0) after.output.sent) same_sent links.2,
+      links.3,
+    )
+    by_end DoorFault links = (links.0, serves links.0 links.1, links.2 ∙ same_sent)
+    by_end OutOfMemory links = tt
 
 -- ---- the draw before
 
-unserved_from : (coming : Coming) (before after : Scene) → IsUnserved (record before { coming = coming }) after → IsUnserved before after
-unserved_from coming before after u = record { given = u.given; back = u.back; links = u.links; returned = u.returned }
-
 serves_from : (start : UpstreamState) (coming : Coming) (before after : Scene) (served : ℕ)
-    → ServesAfterLines start coming (record before { coming = coming }) after served → ServesAfterLines start coming before after served
+    → ServesAfterLines start coming (record before { draws = coming }) after served → ServesAfterLines start coming before after served
 serves_from start coming before after served s =
     record { read = s.read; took = s.took; end = s.end; up = s.up; accepted = s.accepted; last = s.last; hosts = s.hosts }
 
-ends_from : (start : UpstreamState) (coming : Coming) (status : Status) (before after : Scene)
-    → UpstreamEnds start coming status (record before { coming = coming }) after → UpstreamEnds start coming status before after
-ends_from start coming Done before after ends = (ends.0, serves_from start coming before after ends.0 ends.1, ends.2, ends.3)
-ends_from start coming Refused before after ends = (ends.0, unserved_from coming before after ends.1)
-ends_from start coming ReadFault before after ends = (ends.0, unserved_from coming before after ends.1)
-ends_from start coming WriteFault before after (inl ends) = inl (ends.0, unserved_from coming before after ends.1)
-ends_from start coming WriteFault before after (inr ends) = inr (ends.0, serves_from start coming before after ends.0 ends.1, ends.2, ends.3)
-ends_from start coming DoorFault before after ends = (ends.0, serves_from start coming before after ends.0 ends.1, ends.2)
-ends_from start coming OutOfMemory before after ends = tt
-ends_from start coming TestFailed before after ends = absurd ends
-ends_from start coming BadWords before after ends = absurd ends
+ends_from : (start : UpstreamState) (coming : Coming) (end : UpstreamEnd) (before after : Scene)
+    → UpstreamEnds start coming end (record before { draws = coming }) after → UpstreamEnds start coming end before after
+ends_from start coming NoMemory before after ends = tt
+ends_from start coming (Lines fault) before after ends = ends
+ends_from start coming (Links Closed) before after ends = (ends.0, serves_from start coming before after ends.0 ends.1, ends.2, ends.3)
+ends_from start coming (Links WriteFault) before after ends = (ends.0, serves_from start coming before after ends.0 ends.1, ends.2, ends.3)
+ends_from start coming (Links DoorFault) before after ends = (ends.0, serves_from start coming before after ends.0 ends.1, ends.2)
+ends_from start coming (Links OutOfMemory) before after ends = tt
 
 -- how an upstream ends that took a draw first
-pub runs_so : (secret : List ℕ) (environments : List (List ℕ)) (book : List Token) (epoch : ℕ) (status : Status) (before after : Scene) (start : UpstreamState)
-    (coming : Coming) → Begins secret environments book epoch before.coming start coming
-    → UpstreamEnds start coming status (record before { coming = coming }) after
-    → UpstreamRuns secret environments book epoch status before after
-runs_so secret environments book epoch status before after start coming begins ends = by_status status (ends_from start coming status before after ends)
+pub runs_so : (secret : List ℕ) (environments : List (List ℕ)) (book : List Token) (epoch : ℕ) (end : UpstreamEnd) (before after : Scene)
+    (start : UpstreamState) (coming : Coming) → Begins secret environments book epoch before.draws start coming
+    → UpstreamEnds start coming end (record before { draws = coming }) after
+    → UpstreamRuns secret environments book epoch end before after
+runs_so secret environments book epoch end before after start coming begins ends = by_end end (ends_from start coming end before after ends)
   where
-    runs : (status : Status) → UpstreamEnds start coming status before after → RunsUpstream secret environments book epoch status before after
-    runs status ends = record { start = start; coming = coming; begins = begins; ends = ends }
+    runs : (end : UpstreamEnd) → UpstreamEnds start coming end before after → RunsUpstream secret environments book epoch end before after
+    runs end ends = record { start = start; coming = coming; begins = begins; ends = ends }
 
-    by_status : (status : Status) → UpstreamEnds start coming status before after → UpstreamRuns secret environments book epoch status before after
-    by_status Done ends = runs Done ends
-    by_status TestFailed ends = runs TestFailed ends
-    by_status BadWords ends = runs BadWords ends
-    by_status Refused ends = runs Refused ends
-    by_status ReadFault ends = runs ReadFault ends
-    by_status WriteFault ends = runs WriteFault ends
-    by_status DoorFault ends = runs DoorFault ends
-    by_status OutOfMemory ends = tt
+    by_end : (end : UpstreamEnd) → UpstreamEnds start coming end before after → UpstreamRuns secret environments book epoch end before after
+    by_end NoMemory ends = tt
+    by_end (Lines fault) ends = runs (Lines fault) ends
+    by_end (Links end) ends = runs (Links end) ends
 
 -- ---- the environments
 
@@ -180,14 +187,21 @@ whole_read (Some bytes) (Some rest) read took end =
     ap (λ (o : Option (List ℕ)). unwrap_or o []) took ∙ ap (λ (r : List ℕ). read ++ r) end ∙ append-nil read
 
 -- a line that is refused ends them so
-pub refused_is : (ending : Ending) → IsRefused ending → ending_status ending ≡ Refused
+pub refused_is : (ending : Ending) → IsRefused ending → ending_status ending ≡ status.Refused
 refused_is done is = absurd is
 refused_is (refused k cause) is = refl
 
+-- where lines are refused they decide that
+pub refusing_decides : {D : Type 0} (outcome : List ℕ → Outcome D) (left old new : Option (List ℕ))
+    → IfSome left (λ bytes. IsRefusing (outcome bytes) old new) → IfSome left (λ bytes. 3 ≡ code_of (ending_status (outcome bytes).ending))
+refusing_decides outcome None old new is = tt
+refusing_decides outcome (Some bytes) old new is = ap code_of (sym (refused_is (outcome bytes).ending is.ending))
+
 -- where the lines were all accepted they decide 0
 lines_decide : (start : UpstreamState) (coming : Coming) (before after : Scene) (served : ℕ) → ServesAfterLines start coming before after served
-    → IfSome before.left (λ bytes. 0 ≡ code_of (ending_status (outcome_of obeying start bytes).ending))
-lines_decide start coming before after served serves = of_read before.left (whole_read before.left after.left serves.read serves.took serves.end)
+    → IfSome before.input.left (λ bytes. 0 ≡ code_of (ending_status (outcome_of obeying start bytes).ending))
+lines_decide start coming before after served serves =
+    of_read before.input.left (whole_read before.input.left after.input.left serves.read serves.took serves.end)
   where
     of_read : (left : Option (List ℕ)) → IfSome left (λ bytes. bytes ≡ serves.read)
         → IfSome left (λ bytes. 0 ≡ code_of (ending_status (outcome_of obeying start bytes).ending))
@@ -196,48 +210,39 @@ lines_decide start coming before after served serves = of_read before.left (whol
         subst (λ (bs : List ℕ). 0 ≡ code_of (ending_status (outcome_of obeying start bs).ending)) (sym is)
         (ap (λ (o : Outcome UpstreamState). code_of (ending_status o.ending)) (sym serves.accepted))
 
-ends_decided : (start : UpstreamState) (coming : Coming) (status : Status) (before after : Scene) → UpstreamEnds start coming status before after
-    → status ≢ ReadFault → status ≢ WriteFault → status ≢ DoorFault → status ≢ OutOfMemory
-    → IfSome before.left (λ bytes. code_of status ≡ code_of (ending_status (outcome_of obeying start bytes).ending))
-ends_decided start coming Done before after ends read write door memory = lines_decide start coming before after ends.0 ends.1
-ends_decided start coming Refused before after ends read write door memory = of_each before.left ends.0
-  where
-    of_each : (left : Option (List ℕ)) → IfSome left (λ bytes. IsRefusing (outcome_of obeying start bytes) before.sent after.sent)
-        → IfSome left (λ bytes. 3 ≡ code_of (ending_status (outcome_of obeying start bytes).ending))
-    of_each None is = tt
-    of_each (Some bytes) is = ap code_of (sym (refused_is (outcome_of obeying start bytes).ending is.ending))
-ends_decided start coming ReadFault before after ends read write door memory = absurd (read refl)
-ends_decided start coming WriteFault before after ends read write door memory = absurd (write refl)
-ends_decided start coming DoorFault before after ends read write door memory = absurd (door refl)
-ends_decided start coming OutOfMemory before after ends read write door memory = absurd (memory refl)
-ends_decided start coming TestFailed before after ends read write door memory = absurd ends
-ends_decided start coming BadWords before after ends read write door memory = absurd ends
+ends_decided : {Read Write Door : Type 0} (start : UpstreamState) (coming : Coming) (end : UpstreamEnd) (before after : Scene)
+    → UpstreamEnds start coming end before after → Caused (upstream_status end) Read Write Door → ¬ Read → ¬ Write → ¬ Door
+    → code_of (upstream_status end) ≢ 6
+    → IfSome before.input.left (λ bytes. code_of (upstream_status end) ≡ code_of (ending_status (outcome_of obeying start bytes).ending))
+ends_decided start coming NoMemory before after ends caused read write door memory = absurd (memory refl)
+ends_decided start coming (Lines lines.Bad) before after ends caused read write door memory =
+    refusing_decides (outcome_of obeying start) before.input.left before.output.sent after.output.sent ends.0
+ends_decided start coming (Lines lines.ReadFault) before after ends caused read write door memory = absurd (read caused)
+ends_decided start coming (Lines lines.WriteFault) before after ends caused read write door memory = absurd (write caused)
+ends_decided start coming (Lines lines.Memory) before after ends caused read write door memory = absurd (memory refl)
+ends_decided start coming (Links Closed) before after ends caused read write door memory = lines_decide start coming before after ends.0 ends.1
+ends_decided start coming (Links WriteFault) before after ends caused read write door memory = absurd (write caused)
+ends_decided start coming (Links DoorFault) before after ends caused read write door memory = absurd (door caused)
+ends_decided start coming (Links OutOfMemory) before after ends caused read write door memory = absurd (memory refl)
 
 -- the lines decide how an upstream ends
-pub upstream_decided : (secret : List ℕ) (environments : List (List ℕ)) (book : List Token) (epoch : ℕ) (status : Status) (before after : Scene)
-    → UpstreamRuns secret environments book epoch status before after
-    → status ≢ ReadFault → status ≢ WriteFault → status ≢ DoorFault → status ≢ OutOfMemory
-    → IsDecidedByLines secret environments book epoch (code_of status) before
-upstream_decided secret environments book epoch status before after runs read write door memory = by_status status runs read write door memory
+pub upstream_decided : {Read Write Door : Type 0} (secret : List ℕ) (environments : List (List ℕ)) (book : List Token) (epoch : ℕ) (end : UpstreamEnd)
+    (before after : Scene) → UpstreamRuns secret environments book epoch end before after → Caused (upstream_status end) Read Write Door
+    → ¬ Read → ¬ Write → ¬ Door → code_of (upstream_status end) ≢ 6
+    → IsDecidedByLines secret environments book epoch (code_of (upstream_status end)) before
+upstream_decided {Read} {Write} {Door} secret environments book epoch end before after runs caused read write door memory = by_end end runs caused memory
   where
-    decided : (status : Status) → RunsUpstream secret environments book epoch status before after
-        → status ≢ ReadFault → status ≢ WriteFault → status ≢ DoorFault → status ≢ OutOfMemory
-        → IsDecidedByLines secret environments book epoch (code_of status) before
-    decided status runs read write door memory = record {
+    decided : (end : UpstreamEnd) → RunsUpstream secret environments book epoch end before after → Caused (upstream_status end) Read Write Door
+        → code_of (upstream_status end) ≢ 6 → IsDecidedByLines secret environments book epoch (code_of (upstream_status end)) before
+    decided end runs caused memory = record {
       start = runs.start;
       coming = runs.coming;
       begins = runs.begins;
-      decided = ends_decided runs.start runs.coming status before after runs.ends read write door memory;
+      decided = ends_decided runs.start runs.coming end before after runs.ends caused read write door memory;
     }
 
-    by_status : (status : Status) → UpstreamRuns secret environments book epoch status before after
-        → status ≢ ReadFault → status ≢ WriteFault → status ≢ DoorFault → status ≢ OutOfMemory
-        → IsDecidedByLines secret environments book epoch (code_of status) before
-    by_status Done runs read write door memory = decided Done runs read write door memory
-    by_status TestFailed runs read write door memory = decided TestFailed runs read write door memory
-    by_status BadWords runs read write door memory = decided BadWords runs read write door memory
-    by_status Refused runs read write door memory = decided Refused runs read write door memory
-    by_status ReadFault runs read write door memory = decided ReadFault runs read write door memory
-    by_status WriteFault runs read write door memory = decided WriteFault runs read write door memory
-    by_status DoorFault runs read write door memory = decided DoorFault runs read write door memory
-    by_status OutOfMemory runs read write door memory = absurd (memory refl)
+    by_end : (end : UpstreamEnd) → UpstreamRuns secret environments book epoch end before after → Caused (upstream_status end) Read Write Door
+        → code_of (upstream_status end) ≢ 6 → IsDecidedByLines secret environments book epoch (code_of (upstream_status end)) before
+    by_end NoMemory runs caused memory = absurd (memory refl)
+    by_end (Lines fault) runs caused memory = decided (Lines fault) runs caused memory
+    by_end (Links end) runs caused memory = decided (Links end) runs caused memory

@@ -1,245 +1,330 @@
--- How the program ends, from how its parts end.
-use Rattle.std.proofs.Common.{◌≡◌, ◌≢◌, ◌<◌, ℕ, ◌==◌, List, [], ◌++◌, Bool, true, false, cond, length, Option, Some, None, IfSome, unwrap_or, inl, inr, Result, Ok, Err, refl, sym, subst, ap, ◌∙◌, arith, append-nil, length-append}
-use Rattle.std.specs.Prelude.{◌⊎◌}
-use Rattle.unl_base.specs.Streams.{HasEnded, Sends, SendsFront, Takes}
-use Rattle.unl_documents.specs.declared.fault.BadDocument.{BadDocument}
-use Rattle.unl_documents.specs.FaultText.{fault_text}
+-- How the program ends, from how its commands end.
+use Rattle.std.proofs.Common.{◌≡◌, ◌≢◌, ℕ, ◌==◌, List, Bool, true, false, cond, length, Option, Some, None, IfSome, Result, Ok, Err, refl, sym, subst, ap, ◌∙◌}
+use Rattle.std.specs.Prelude.{IsErrOf, OnOk}
+use Rattle.unl_base.specs.Streams.{Sends, SendsFront}
 use Rattle.unl_base.specs.declared.draws.Draw.{Draw}
+use Rattle.unl_documents.specs.Reading.{Reading}
 use Rattle.unl_documents.specs.Results.{Gives}
 use Rattle.unl_edge.specs.Edges.{EdgeEnds}
-use Rattle.unl_edge.specs.Ends.{CheckEnds, Ends, IsDecided, ReadsEnough, ReplayEnds, Said, SaysOfInput, refused_line, said_of}
+use Rattle.unl_edge.specs.Ends.{CheckEnds, Ended, Ends, IsDecided, SaysOfInput, explained_status, outcome_end, refused_end, report_end}
 use Rattle.unl_edge.specs.OwnBook.{own_book}
 use Rattle.unl_edge.specs.Scene.{Scene}
-use Rattle.unl_edge.specs.Status.{SendsLine, code_of, ending_status, status_of}
-use Rattle.unl_edge.proofs.Commands.{refused_is, upstream_decided}
+use Rattle.unl_edge.specs.Status.{Caused, check_status, code_of, ending_status, explain_status, lines_status, serving_status, upstream_status, words_status}
+use Rattle.unl_edge.proofs.Commands.{refusing_decides, upstream_decided}
+use Rattle.unl_edge.specs.declared.ends.CheckEnd.{CheckEnd}
+use Rattle.unl_edge.specs.declared.ends.CheckEnd.TheVariants as check
+use Rattle.unl_edge.specs.declared.ends.ServingEnd.{ServingEnd}
+use Rattle.unl_edge.specs.declared.ends.ServingEnd.TheVariants as serving
+use Rattle.unl_edge.specs.declared.ends.UpstreamEnd.TheVariants as upstream
+use Rattle.unl_edge.specs.declared.ends.WordsEnd.{WordsEnd}
+use Rattle.unl_edge.specs.declared.ends.WordsEnd.TheVariants as words
 use Rattle.unl_edge.specs.declared.status.Status.{Status}
 use Rattle.unl_edge.specs.declared.status.Status.TheVariants.{Done, TestFailed, BadWords, Refused, ReadFault, WriteFault, OutOfMemory, DoorFault}
-use Rattle.unl_replay.specs.Replay.{replay_of}
-use Rattle.unl_spec_runner.proofs.Ends.{refused_as_too_large}
-use Rattle.unl_spec_runner.specs.Check.{report_of, BreaksOff, RefusesAll, RefusesTooMuch, ReportsAll}
-use Rattle.unl_spec_runner.specs.Input.{longest}
+use Rattle.unl_explain.specs.Running.{Explains, SaysOfInput as SaysExplained, explained}
+use Rattle.unl_explain.specs.declared.running.ExplainFault.{ExplainFault}
+use Rattle.unl_explain.specs.declared.running.ExplainFault.TheVariants as explain
+use Rattle.unl_input.proofs.Outcomes.{decides, refusal_broken, refusal_said}
+use Rattle.unl_input.specs.Answer.{ComesTo, IsRefused, Outcome, Says, outcome_of}
+use Rattle.unl_input.specs.Refusal.{refusal_line}
+use Rattle.unl_input.specs.declared.refusal.InputRefusal.{InputRefusal}
+use Rattle.unl_input.specs.declared.refusal.SayFault.{SayFault}
+use Rattle.unl_input.specs.declared.refusal.SayFault.TheVariants as say
+use Rattle.unl_lines.specs.Whole.{TakesLines}
+use Rattle.unl_lines.specs.declared.taking.LinesFault.{LinesFault}
+use Rattle.unl_lines.specs.declared.taking.LinesFault.TheVariants as lines
+use Rattle.unl_replay.specs.Replay.{line_answer, opening, replay_of}
+use Rattle.unl_spec_runner.specs.Check.{ReportsAll, accepted, report_of, text_of}
 use Rattle.unl_spec_runner.specs.Report.{Report}
-use Rattle.unl_spec_runner.specs.declared.fault.CheckFault.{CheckFault}
-use Rattle.unl_spec_runner.specs.declared.fault.CheckFault.TheVariants.{BadFile, TooLarge}
 use Rattle.unl_spec_runner.specs.declared.fault.Summary.{Summary}
 use Rattle.unl_words.specs.Words.{WordsReading}
 use Rattle.unl_words.specs.declared.refusal.WordsRefusal.TheVariants.{Bad, Memory}
-use Rattle.unl_words.specs.declared.words.Words.TheVariants.{Replay, Check, Edge, Upstream}
+use Rattle.unl_words.specs.declared.words.Words.TheVariants.{Replay, Check, Edge, Explain, Follow, Upstream}
+
+-- ---- words
 
 -- want of memory is an ending of all words
-at_memory : (words : WordsReading) (before after : Scene) → Ends words OutOfMemory before after
-at_memory (Ok Replay) before after = tt
-at_memory (Ok (Check now word)) before after = tt
-at_memory (Ok (Edge port upstream upstream_tokens tokens host workers interval connections delta)) before after = tt
-at_memory (Ok (Upstream port secret environments client_tokens frontend_tokens connections epoch)) before after = tt
-at_memory (Err Bad) before after = tt
+at_memory : (reading : WordsReading) (before after : Scene) → Ends reading OutOfMemory before after
+at_memory (Ok Replay) before after = record { end = Err lines.Memory; is = refl; ends = tt }
+at_memory (Ok (Check now word)) before after = record { end = check.OutOfMemory; is = refl; ends = tt }
+at_memory (Ok Explain) before after = record { end = Err explain.Memory; is = refl; ends = tt }
+at_memory (Ok (Edge port upstream upstream_tokens tokens host workers interval connections delta)) before after =
+    record { end = serving.OutOfMemory; is = refl; ends = tt }
+at_memory (Ok (Upstream port secret environments client_tokens frontend_tokens connections epoch)) before after =
+    record { end = upstream.OutOfMemory; is = refl; ends = tt }
+at_memory (Ok (Follow address token feature context delta turns interval)) before after =
+    record { end = words.OutOfMemory; is = refl; ends = tt }
+at_memory (Err Bad) before after = record { end = words.OutOfMemory; is = refl; ends = tt }
 at_memory (Err Memory) before after = refl
 
 -- what was done by the words that were read was done by the words
-pub ends_by : (given words : WordsReading) (status : Status) (before after : Scene)
-    → Gives Memory given words → Ends given status before after → (given ≡ Err Memory → status ≡ OutOfMemory) → Ends words status before after
-ends_by (Ok x) words status before after gives ends none = subst (λ w. Ends w status before after) (sym gives) ends
-ends_by (Err Bad) words status before after gives ends none = subst (λ w. Ends w status before after) (sym (gives (λ same. absurd (cc same)))) ends
-ends_by (Err Memory) words status before after gives ends none = subst (λ s. Ends words s before after) (sym (none refl)) (at_memory words before after)
+pub ends_by : (given reading : WordsReading) (status : Status) (before after : Scene)
+    → Gives Memory given reading → Ends given status before after → (given ≡ Err Memory → status ≡ OutOfMemory) → Ends reading status before after
+ends_by (Ok x) reading status before after gives ends none = subst (λ w. Ends w status before after) (sym gives) ends
+ends_by (Err Bad) reading status before after gives ends none = subst (λ w. Ends w status before after) (sym (gives (λ same. absurd (cc same)))) ends
+ends_by (Err Memory) reading status before after gives ends none =
+    subst (λ s. Ends reading s before after) (sym (none refl)) (at_memory reading before after)
 
--- what was said of an input that is refused, where so many of its bytes were read
-refused_so : (draw : Draw) (status : Status) (left left_after old mid new : Option (List ℕ)) (bytes line : List ℕ) (refusal : Result Report CheckFault)
-    → ReadsEnough left bytes left_after → report_of draw bytes ≡ refusal → mid ≡ old → said_of refusal ≡ record { text = line; status = Refused }
-    → SendsLine line Refused status mid new → CheckEnds draw status left left_after old new
-refused_so draw OutOfMemory left left_after old mid new bytes line refusal read is silent said sends = tt
-refused_so draw ReadFault left left_after old mid new bytes line refusal read is silent said sends = let other = sends.0 in absurd (cc other)
-refused_so draw WriteFault left left_after old mid new bytes line refusal read is silent said sends = record {
-  bytes = bytes;
-  read = read;
-  says = subst (λ (s : Said). SendsFront old s.text new) (sym (ap said_of is ∙ said)) (subst (λ m. SendsFront m line new) silent sends);
-}
-refused_so draw Done left left_after old mid new bytes line refusal read is silent said sends = let other = sends.0 in absurd (cc other)
-refused_so draw TestFailed left left_after old mid new bytes line refusal read is silent said sends = let other = sends.0 in absurd (cc other)
-refused_so draw BadWords left left_after old mid new bytes line refusal read is silent said sends = let other = sends.0 in absurd (cc other)
-refused_so draw DoorFault left left_after old mid new bytes line refusal read is silent said sends = let other = sends.0 in absurd (cc other)
-refused_so draw Refused left left_after old mid new bytes line refusal read is silent said sends =
-    let told = ap said_of is ∙ said in record {
-      bytes = bytes;
-      read = read;
-      says = (sym (ap (λ (s : Said). s.status) told), subst (λ (t : List ℕ). Sends old t new) (sym (ap (λ (s : Said). s.text) told)) (subst (λ m. Sends m line new) silent sends.1));
-    }
+-- ---- causes
 
--- an input with a fault
-pub file_refused : (draw : Draw) (fault : BadDocument) (status : Status) (left left_after old mid new : Option (List ℕ))
-    → RefusesAll draw fault left left_after old mid → SendsLine (refused_line (fault_text fault)) Refused status mid new
-    → CheckEnds draw status left left_after old new
-file_refused draw fault status left left_after old mid new refuses sends =
-    refused_so draw status left left_after old mid new refuses.bytes (refused_line (fault_text fault)) (Err (BadFile fault))
-    (record { took = refuses.read.took; enough = inl refuses.read.end }) refuses.is refuses.silent refl sends
+-- a cause by other names
+pub caused_by : (status : Status) {Read Write Door Read' Write' Door' : Type 0} → (Read → Read') → (Write → Write') → (Door → Door')
+    → Caused status Read Write Door → Caused status Read' Write' Door'
+caused_by ReadFault read write door caused = read caused
+caused_by WriteFault read write door caused = write caused
+caused_by DoorFault read write door caused = door caused
+caused_by Done read write door caused = tt
+caused_by TestFailed read write door caused = tt
+caused_by BadWords read write door caused = tt
+caused_by Refused read write door caused = tt
+caused_by OutOfMemory read write door caused = tt
 
--- an input with too many bytes
-pub input_refused : (draw : Draw) (status : Status) (left left_after old mid new : Option (List ℕ)) (line : List ℕ)
-    → said_of (Err TooLarge) ≡ record { text = line; status = Refused } → RefusesTooMuch left left_after old mid → SendsLine line Refused status mid new
-    → CheckEnds draw status left left_after old new
-input_refused draw status left left_after old mid new line said refuses sends =
-    refused_so draw status left left_after old mid new refuses.bytes line (Err TooLarge)
-    (record { took = refuses.took; enough = inr refuses.long }) (refused_as_too_large draw refuses.bytes refuses.long) refuses.silent said sends
+-- the same of the status that an end gives
+pub caused_from : {E : Type 0} (status_of : E → Status) (end : E) (status : Status) {Read Write Door Read' Write' Door' : Type 0}
+    → status ≡ status_of end → (Read → Read') → (Write → Write') → (Door → Door') → Caused (status_of end) Read Write Door
+    → Caused status Read' Write' Door'
+caused_from status_of end status {Read} {Write} {Door} {Read'} {Write'} {Door'} is read write door caused =
+    subst (λ (s : Status). Caused s Read' Write' Door') (sym is) (caused_by (status_of end) {Read} {Write} {Door} read write door caused)
+
+-- lines that were taken, or not
+pub lines_caused : (end : Result Unit LinesFault) (status : Status) {Read Write Door : Type 0} → status ≡ lines_status end
+    → (IsErrOf end lines.ReadFault → Read) → (IsErrOf end lines.WriteFault → Write) → Caused status Read Write Door
+lines_caused end status {Read} {Write} {Door} is read write =
+    subst (λ (s : Status). Caused s Read Write Door) (sym is) (by_end end read write)
+  where
+    by_end : (end : Result Unit LinesFault) → (IsErrOf end lines.ReadFault → Read) → (IsErrOf end lines.WriteFault → Write)
+        → Caused (lines_status end) Read Write Door
+    by_end (Ok u) read write = tt
+    by_end (Err lines.Bad) read write = tt
+    by_end (Err lines.ReadFault) read write = read refl
+    by_end (Err lines.WriteFault) read write = write refl
+    by_end (Err lines.Memory) read write = tt
+
+-- an explanation
+pub explain_caused : (end : Result Unit ExplainFault) (status : Status) {Read Write Door : Type 0} → status ≡ explain_status end
+    → (IsErrOf end explain.ReadFault → Read) → (IsErrOf end explain.WriteFault → Write) → Caused status Read Write Door
+explain_caused end status {Read} {Write} {Door} is read write =
+    subst (λ (s : Status). Caused s Read Write Door) (sym is) (by_end end read write)
+  where
+    by_end : (end : Result Unit ExplainFault) → (IsErrOf end explain.ReadFault → Read) → (IsErrOf end explain.WriteFault → Write)
+        → Caused (explain_status end) Read Write Door
+    by_end (Ok u) read write = tt
+    by_end (Err (explain.BadInput fault)) read write = tt
+    by_end (Err explain.TooLarge) read write = tt
+    by_end (Err explain.ReadFault) read write = read refl
+    by_end (Err explain.WriteFault) read write = write refl
+    by_end (Err explain.Memory) read write = tt
+
+-- a check whose input is refused, by how that was said
+pub refused_caused : (told : Result Unit SayFault) (end : CheckEnd) {Read Write Door : Type 0} → end ≡ refused_end told
+    → (IsErrOf told say.WriteFault → Write) → Caused (check_status end) Read Write Door
+refused_caused told end {Read} {Write} {Door} is write =
+    subst (λ (e : CheckEnd). Caused (check_status e) Read Write Door) (sym is) (by_telling told write)
+  where
+    by_telling : (told : Result Unit SayFault) → (IsErrOf told say.WriteFault → Write) → Caused (check_status (refused_end told)) Read Write Door
+    by_telling (Ok u) write = tt
+    by_telling (Err say.WriteFault) write = write refl
+    by_telling (Err say.Memory) write = tt
+
+-- a check whose input has a report
+pub report_caused : (failed : ℕ) (end : CheckEnd) {Read Write Door : Type 0} → end ≡ report_end failed → Caused (check_status end) Read Write Door
+report_caused failed end {Read} {Write} {Door} is =
+    subst (λ (e : CheckEnd). Caused (check_status e) Read Write Door) (sym is) (by_count (failed == 0))
+  where
+    by_count : (none : Bool) → Caused (check_status (cond none check.Passed check.Failed)) Read Write Door
+    by_count true = tt
+    by_count false = tt
+
+-- the cause of a fault of the input, by its number
+pub read_cause : (status : Status) (code : ℕ) {Read Write Door : Type 0} → code ≡ code_of status → Caused status Read Write Door → code ≡ 4 → Read
+read_cause ReadFault code is caused four = caused
+read_cause Done code is caused four = absurd (cc (is, four))
+read_cause TestFailed code is caused four = absurd (cc (is, four))
+read_cause BadWords code is caused four = absurd (cc (is, four))
+read_cause Refused code is caused four = absurd (cc (is, four))
+read_cause WriteFault code is caused four = absurd (cc (is, four))
+read_cause OutOfMemory code is caused four = absurd (cc (is, four))
+read_cause DoorFault code is caused four = absurd (cc (is, four))
+
+-- that of a fault of the output
+pub write_cause : (status : Status) (code : ℕ) {Read Write Door : Type 0} → code ≡ code_of status → Caused status Read Write Door → code ≡ 5 → Write
+write_cause WriteFault code is caused five = caused
+write_cause Done code is caused five = absurd (cc (is, five))
+write_cause TestFailed code is caused five = absurd (cc (is, five))
+write_cause BadWords code is caused five = absurd (cc (is, five))
+write_cause Refused code is caused five = absurd (cc (is, five))
+write_cause ReadFault code is caused five = absurd (cc (is, five))
+write_cause OutOfMemory code is caused five = absurd (cc (is, five))
+write_cause DoorFault code is caused five = absurd (cc (is, five))
+
+-- that of a fault of the door
+pub door_cause : (status : Status) (code : ℕ) {Read Write Door : Type 0} → code ≡ code_of status → Caused status Read Write Door → code ≡ 7 → Door
+door_cause DoorFault code is caused seven = caused
+door_cause Done code is caused seven = absurd (cc (is, seven))
+door_cause TestFailed code is caused seven = absurd (cc (is, seven))
+door_cause BadWords code is caused seven = absurd (cc (is, seven))
+door_cause Refused code is caused seven = absurd (cc (is, seven))
+door_cause ReadFault code is caused seven = absurd (cc (is, seven))
+door_cause WriteFault code is caused seven = absurd (cc (is, seven))
+door_cause OutOfMemory code is caused seven = absurd (cc (is, seven))
+
+-- ---- a check
 
 -- an input whose report was sent
-pub reported_ends : (draw : Draw) (summary : Summary) (left left_after old new : Option (List ℕ))
-    → ReportsAll draw summary left left_after old new → CheckEnds draw (status_of summary.failed) left left_after old new
-reported_ends draw summary left left_after old new told = by_count (summary.failed == 0) (record {
-  bytes = told.bytes;
-  read = record { took = told.read.took; enough = inl told.read.end };
-  says = (
-    ap status_of told.reported.failed ∙ sym (ap (λ (s : Said). s.status) (ap said_of told.reported.is)),
-    subst (λ (t : List ℕ). Sends old t new) (sym (ap (λ (s : Said). s.text) (ap said_of told.reported.is))) told.reported.sent,
-  );
-})
+pub reported_ends : (draw : Draw) (summary : Summary) (end : CheckEnd) (left left_after old new : Option (List ℕ))
+    → end ≡ report_end summary.failed → ReportsAll draw summary left left_after old new → CheckEnds draw end left left_after old new
+reported_ends draw summary end left left_after old new is told =
+    subst (λ (e : CheckEnd). CheckEnds draw e left left_after old new) (sym is)
+    (by_count (summary.failed == 0) (record { outcome = Ok told.report; says = told.says; ends = ap report_end told.failed }))
   where
-    by_count : (none : Bool) → SaysOfInput draw (cond none Done TestFailed) left left_after old new
-        → CheckEnds draw (cond none Done TestFailed) left left_after old new
+    by_count : (none : Bool) → SaysOfInput draw (cond none check.Passed check.Failed) left left_after old new
+        → CheckEnds draw (cond none check.Passed check.Failed) left left_after old new
     by_count true told = told
     by_count false told = told
 
--- an input of whose report a front was sent
-pub broken_ends : (draw : Draw) (left left_after old new : Option (List ℕ))
-    → BreaksOff draw left left_after old new → CheckEnds draw WriteFault left left_after old new
-broken_ends draw left left_after old new told = record {
-  bytes = told.bytes;
-  read = record { took = told.read.took; enough = inl told.read.end };
-  says = subst (λ (t : List ℕ). SendsFront old t new) (sym (ap (λ (s : Said). s.text) (ap said_of told.broken.is))) told.broken.sent;
-}
+-- an input that is refused, by how that was said
+pub refused_ends : (draw : Draw) (refusal : InputRefusal) (told : Result Unit SayFault) (end : CheckEnd) (left left_after old mid new : Option (List ℕ))
+    → end ≡ refused_end told → IsRefused (accepted draw) refusal left left_after old mid
+    → OnOk told (Sends mid (refusal_line refusal) new) → (IsErrOf told say.WriteFault → SendsFront mid (refusal_line refusal) new)
+    → CheckEnds draw end left left_after old new
+refused_ends draw refusal told end left left_after old mid new is refused said broken =
+    subst (λ (e : CheckEnd). CheckEnds draw e left left_after old new) (sym is) (by_telling told said broken)
+  where
+    by_telling : (told : Result Unit SayFault) → OnOk told (Sends mid (refusal_line refusal) new)
+        → (IsErrOf told say.WriteFault → SendsFront mid (refusal_line refusal) new) → CheckEnds draw (refused_end told) left left_after old new
+    by_telling (Ok u) said broken = record {
+      outcome = Err refusal;
+      says = refusal_said (accepted draw) text_of refusal left left_after old mid new refused said;
+      ends = refl;
+    }
+    by_telling (Err say.WriteFault) said broken =
+        (Err refusal, refusal_broken (accepted draw) text_of refusal left left_after old mid new refused (broken refl))
+    by_telling (Err say.Memory) said broken = tt
 
 -- ---- what decides, where nothing fails and memory is found
 
--- the number of a fault of the input is that ending's alone
-pub code_of_read_fault : (status : Status) → code_of status ≡ 4 → status ≡ ReadFault
-code_of_read_fault Done same = absurd (cc same)
-code_of_read_fault TestFailed same = absurd (cc same)
-code_of_read_fault BadWords same = absurd (cc same)
-code_of_read_fault Refused same = absurd (cc same)
-code_of_read_fault ReadFault same = refl
-code_of_read_fault WriteFault same = absurd (cc same)
-code_of_read_fault OutOfMemory same = absurd (cc same)
-code_of_read_fault DoorFault same = absurd (cc same)
-
--- the number of a fault of the output is that ending's alone
-pub code_of_write_fault : (status : Status) → code_of status ≡ 5 → status ≡ WriteFault
-code_of_write_fault Done same = absurd (cc same)
-code_of_write_fault TestFailed same = absurd (cc same)
-code_of_write_fault BadWords same = absurd (cc same)
-code_of_write_fault Refused same = absurd (cc same)
-code_of_write_fault ReadFault same = absurd (cc same)
-code_of_write_fault WriteFault same = refl
-code_of_write_fault OutOfMemory same = absurd (cc same)
-code_of_write_fault DoorFault same = absurd (cc same)
-
--- the number of a fault of the door is that ending's alone
-pub code_of_door_fault : (status : Status) → code_of status ≡ 7 → status ≡ DoorFault
-code_of_door_fault Done same = absurd (cc same)
-code_of_door_fault TestFailed same = absurd (cc same)
-code_of_door_fault BadWords same = absurd (cc same)
-code_of_door_fault Refused same = absurd (cc same)
-code_of_door_fault ReadFault same = absurd (cc same)
-code_of_door_fault WriteFault same = absurd (cc same)
-code_of_door_fault OutOfMemory same = absurd (cc same)
-code_of_door_fault DoorFault same = refl
+-- what an input comes to decides what is told by it
+told_by : {T : Type 0} (reads : List ℕ → Reading T) (code : Outcome T → ℕ) (number : ℕ) (outcome : Outcome T) (left left_after : Option (List ℕ))
+    → ComesTo reads outcome left left_after → number ≡ code outcome → IfSome left (λ bytes. number ≡ code (outcome_of reads bytes))
+told_by reads code number outcome left left_after comes is = at_each left (decides reads outcome left left_after comes)
+  where
+    at_each : (l : Option (List ℕ)) → IfSome l (λ all. outcome_of reads all ≡ outcome) → IfSome l (λ bytes. number ≡ code (outcome_of reads bytes))
+    at_each None same = tt
+    at_each (Some all) same = is ∙ sym (ap code same)
 
 -- the lines decide how a replay ends
-replay_decided : (status : Status) (left left_after old new : Option (List ℕ)) → ReplayEnds status left left_after old new
-    → status ≢ ReadFault → status ≢ WriteFault → status ≢ OutOfMemory
-    → IfSome left (λ bytes. code_of status ≡ code_of (ending_status (replay_of bytes).ending))
-replay_decided status None left_after old new ends read write memory = tt
-replay_decided Done (Some bytes) left_after old new ends read write memory = ap (λ e. code_of (ending_status e)) (sym ends.ending)
-replay_decided TestFailed (Some bytes) left_after old new ends read write memory = absurd ends
-replay_decided BadWords (Some bytes) left_after old new ends read write memory = absurd ends
-replay_decided Refused (Some bytes) left_after old new ends read write memory = ap code_of (sym (refused_is (replay_of bytes).ending ends.ending))
-replay_decided ReadFault (Some bytes) left_after old new ends read write memory = absurd (read refl)
-replay_decided WriteFault (Some bytes) left_after old new ends read write memory = absurd (write refl)
-replay_decided OutOfMemory (Some bytes) left_after old new ends read write memory = absurd (memory refl)
-replay_decided DoorFault (Some bytes) left_after old new ends read write memory = absurd ends
+replay_decided : {Read Write Door : Type 0} (end : Result Unit LinesFault) (left left_after old new : Option (List ℕ))
+    → TakesLines line_answer opening end left left_after old new → Caused (lines_status end) Read Write Door → ¬ Read → ¬ Write
+    → code_of (lines_status end) ≢ 6 → IfSome left (λ bytes. code_of (lines_status end) ≡ code_of (ending_status (replay_of bytes).ending))
+replay_decided (Ok u) None left_after old new ends caused read write memory = tt
+replay_decided (Ok u) (Some bytes) left_after old new ends caused read write memory = ap (λ e. code_of (ending_status e)) (sym ends.ending)
+replay_decided (Err lines.Bad) left left_after old new ends caused read write memory = refusing_decides replay_of left old new ends
+replay_decided (Err lines.ReadFault) left left_after old new ends caused read write memory = absurd (read caused)
+replay_decided (Err lines.WriteFault) left left_after old new ends caused read write memory = absurd (write caused)
+replay_decided (Err lines.Memory) left left_after old new ends caused read write memory = absurd (memory refl)
 
--- all that were to come are those that were read and the rest
-all_is : (all bytes more : List ℕ) → Takes (Some all) bytes (Some more) → all ≡ bytes ++ more
-all_is all bytes more took = ap (λ (o : Option (List ℕ)). unwrap_or o []) took
+-- the number of how a check ends by what its input comes to
+check_code : Outcome Report → ℕ
+check_code outcome = code_of (check_status (outcome_end outcome))
 
-same_said : (draw : Draw) (all bytes : List ℕ) (rest : Option (List ℕ)) → Takes (Some all) bytes rest → HasEnded rest ⊎ (longest < length bytes)
-    → report_of draw all ≡ report_of draw bytes
-same_said draw all bytes None took enough = absurd (cc took)
-same_said draw all bytes (Some more) took (inl end) =
-    ap (report_of draw) (all_is all bytes more took ∙ ap (λ (m : List ℕ). bytes ++ m) end ∙ append-nil bytes)
-same_said draw all bytes (Some more) took (inr long) =
-    let longer : longest < length all = omega (arith, ap length (all_is all bytes more took), length-append bytes more, long) in
-    refused_as_too_large draw all longer ∙ sym (refused_as_too_large draw bytes long)
-
--- what is said of the bytes that were read is said of all that were to come
-said_of_all : (draw : Draw) (left left_after : Option (List ℕ)) (bytes : List ℕ) → ReadsEnough left bytes left_after
-    → IfSome left (λ all. report_of draw all ≡ report_of draw bytes)
-said_of_all draw None left_after bytes read = tt
-said_of_all draw (Some all) left_after bytes read = same_said draw all bytes left_after read.took read.enough
-
--- so is how it ends
-said_decides : (draw : Draw) (status : Status) (left left_after old new : Option (List ℕ)) → SaysOfInput draw status left left_after old new
-    → IfSome left (λ bytes. code_of status ≡ code_of (said_of (report_of draw bytes)).status)
-said_decides draw status left left_after old new told = at_each left (said_of_all draw left left_after told.bytes told.read)
-  where
-    at_each : (l : Option (List ℕ)) → IfSome l (λ all. report_of draw all ≡ report_of draw told.bytes)
-        → IfSome l (λ bytes. code_of status ≡ code_of (said_of (report_of draw bytes)).status)
-    at_each None same = tt
-    at_each (Some all) same = ap code_of (told.says.0 ∙ sym (ap (λ (r : Result Report CheckFault). (said_of r).status) same))
+-- what was said of the input decides
+said_decides : (draw : Draw) (end : CheckEnd) (left left_after old new : Option (List ℕ)) → SaysOfInput draw end left left_after old new
+    → IfSome left (λ bytes. code_of (check_status end) ≡ code_of (check_status (outcome_end (report_of draw bytes))))
+unfolding check_code
+said_decides draw end left left_after old new told =
+    told_by (accepted draw) check_code (code_of (check_status end)) told.outcome left left_after told.says.comes
+    (ap (λ (e : CheckEnd). code_of (check_status e)) told.ends)
 
 -- the input decides how a check ends
-check_decided : (draw : Draw) (status : Status) (left left_after old new : Option (List ℕ)) → CheckEnds draw status left left_after old new
-    → status ≢ ReadFault → status ≢ WriteFault → status ≢ OutOfMemory
-    → IfSome left (λ bytes. code_of status ≡ code_of (said_of (report_of draw bytes)).status)
-check_decided draw Done left left_after old new ends read write memory = said_decides draw Done left left_after old new ends
-check_decided draw TestFailed left left_after old new ends read write memory = said_decides draw TestFailed left left_after old new ends
-check_decided draw Refused left left_after old new ends read write memory = said_decides draw Refused left left_after old new ends
-check_decided draw ReadFault left left_after old new ends read write memory = absurd (read refl)
-check_decided draw WriteFault left left_after old new ends read write memory = absurd (write refl)
-check_decided draw OutOfMemory left left_after old new ends read write memory = absurd (memory refl)
-check_decided draw BadWords left left_after old new ends read write memory = absurd ends
-check_decided draw DoorFault left left_after old new ends read write memory = absurd ends
+check_decided : {Read Write Door : Type 0} (draw : Draw) (end : CheckEnd) (left left_after old new : Option (List ℕ))
+    → CheckEnds draw end left left_after old new → Caused (check_status end) Read Write Door → ¬ Read → ¬ Write → code_of (check_status end) ≢ 6
+    → IfSome left (λ bytes. code_of (check_status end) ≡ code_of (check_status (outcome_end (report_of draw bytes))))
+check_decided draw check.Passed left left_after old new ends caused read write memory = said_decides draw check.Passed left left_after old new ends
+check_decided draw check.Failed left left_after old new ends caused read write memory = said_decides draw check.Failed left left_after old new ends
+check_decided draw check.Refused left left_after old new ends caused read write memory = said_decides draw check.Refused left left_after old new ends
+check_decided draw check.ReadFault left left_after old new ends caused read write memory = absurd (read caused)
+check_decided draw check.WriteFault left left_after old new ends caused read write memory = absurd (write caused)
+check_decided draw check.OutOfMemory left left_after old new ends caused read write memory = absurd (memory refl)
+
+-- the number of how an explanation ends by what its input comes to
+explained_code : Outcome (List ℕ) → ℕ
+explained_code outcome = code_of (explained_status outcome)
+
+-- the input decides how an explanation ends
+explain_decided : {Read Write Door : Type 0} (end : Result Unit ExplainFault) (left left_after old new : Option (List ℕ))
+    → Explains end left left_after old new → Caused (explain_status end) Read Write Door → ¬ Read → ¬ Write → code_of (explain_status end) ≢ 6
+    → IfSome left (λ bytes. code_of (explain_status end) ≡ code_of (explained_status (outcome_of explained bytes)))
+unfolding explained_code
+explain_decided (Ok u) left left_after old new ends caused read write memory =
+    told_by explained explained_code 0 (Ok ends.0) left left_after ends.1.comes refl
+explain_decided (Err (explain.BadInput fault)) left left_after old new ends caused read write memory =
+    told_by explained explained_code 3 _ left left_after ends.comes refl
+explain_decided (Err explain.TooLarge) left left_after old new ends caused read write memory =
+    told_by explained explained_code 3 _ left left_after ends.comes refl
+explain_decided (Err explain.ReadFault) left left_after old new ends caused read write memory = absurd (read caused)
+explain_decided (Err explain.WriteFault) left left_after old new ends caused read write memory = absurd (write caused)
+explain_decided (Err explain.Memory) left left_after old new ends caused read write memory = absurd (memory refl)
 
 -- bad words decide by themselves
-bad_decided : (line : List ℕ) (status : Status) (old new : Option (List ℕ)) → SendsLine line BadWords status old new
-    → status ≢ WriteFault → status ≢ OutOfMemory → code_of status ≡ 2
-bad_decided line Done old new ends write memory = ap code_of ends.0
-bad_decided line TestFailed old new ends write memory = ap code_of ends.0
-bad_decided line BadWords old new ends write memory = refl
-bad_decided line Refused old new ends write memory = ap code_of ends.0
-bad_decided line ReadFault old new ends write memory = ap code_of ends.0
-bad_decided line WriteFault old new ends write memory = absurd (write refl)
-bad_decided line OutOfMemory old new ends write memory = absurd (memory refl)
-bad_decided line DoorFault old new ends write memory = ap code_of ends.0
+bad_decided : {Read Write Door : Type 0} (end : WordsEnd) → Caused (words_status end) Read Write Door → ¬ Write → code_of (words_status end) ≢ 6
+    → code_of (words_status end) ≡ 2
+bad_decided words.Bad caused write memory = refl
+bad_decided words.WriteFault caused write memory = absurd (write caused)
+bad_decided words.OutOfMemory caused write memory = absurd (memory refl)
 
 -- an edge ends with its door
-edge_decided : (slots : ℕ) (status : Status) (before after : Scene) → EdgeEnds slots status before after
-    → status ≢ WriteFault → status ≢ DoorFault → status ≢ OutOfMemory → code_of status ≡ 0
-edge_decided slots Done before after ends write door memory = refl
-edge_decided slots WriteFault before after ends write door memory = absurd (write refl)
-edge_decided slots DoorFault before after ends write door memory = absurd (door refl)
-edge_decided slots OutOfMemory before after ends write door memory = absurd (memory refl)
-edge_decided slots TestFailed before after ends write door memory = absurd ends
-edge_decided slots BadWords before after ends write door memory = absurd ends
-edge_decided slots Refused before after ends write door memory = absurd ends
-edge_decided slots ReadFault before after ends write door memory = absurd ends
+edge_decided : {Read Write Door : Type 0} (end : ServingEnd) → Caused (serving_status end) Read Write Door → ¬ Write → ¬ Door
+    → code_of (serving_status end) ≢ 6 → code_of (serving_status end) ≡ 0
+edge_decided serving.Closed caused write door memory = refl
+edge_decided serving.WriteFault caused write door memory = absurd (write caused)
+edge_decided serving.DoorFault caused write door memory = absurd (door caused)
+edge_decided serving.OutOfMemory caused write door memory = absurd (memory refl)
+
+-- what stands of the status of a command's end stands of it
+of_end : {E : Type 0} {status_of : E → Status} {EndsSo : E → Type 0} (status : Status) (Read Write Door : Type 0) (P : ℕ → Type 0)
+    (ended : Ended status_of EndsSo status) → Caused status Read Write Door → code_of status ≢ 6
+    → (Caused (status_of ended.end) Read Write Door → code_of (status_of ended.end) ≢ 6 → P (code_of (status_of ended.end))) → P (code_of status)
+of_end status Read Write Door P ended caused memory then =
+    subst (λ (s : Status). P (code_of s)) (sym ended.is)
+    (then (subst (λ (s : Status). Caused s Read Write Door) ended.is caused) (subst (λ (s : Status). code_of s ≢ 6) ended.is memory))
 
 -- the words and the input decide how the program ends
-by_words : (words : WordsReading) (status : Status) (before after : Scene) → Ends words status before after
-    → status ≢ ReadFault → status ≢ WriteFault → status ≢ DoorFault → status ≢ OutOfMemory → IsDecided words (code_of status) before
-by_words (Ok Replay) status before after ends read write door memory =
-    replay_decided status before.left after.left before.sent after.sent ends read write memory
-by_words (Ok (Check now word)) status before after ends read write door memory =
-    check_decided (record { now = now; word = word }) status before.left after.left before.sent after.sent ends read write memory
-by_words (Ok (Edge port upstream upstream_tokens tokens host workers interval connections delta)) status before after ends read write door memory =
-    edge_decided (length upstream_tokens) status before after ends write door memory
-by_words (Ok (Upstream port secret environments client_tokens frontend_tokens connections epoch)) status before after ends read write door memory =
-    upstream_decided secret environments (own_book client_tokens frontend_tokens) epoch status before after ends read write door memory
-by_words (Err Bad) status before after ends read write door memory = bad_decided _ status before.sent after.sent ends write memory
-by_words (Err Memory) status before after ends read write door memory = absurd (memory ends)
+by_words : {Read Write Door : Type 0} (reading : WordsReading) (status : Status) (before after : Scene) → Ends reading status before after
+    → Caused status Read Write Door → ¬ Read → ¬ Write → ¬ Door → code_of status ≢ 6 → IsDecided reading (code_of status) before
+by_words {Read} {Write} {Door} (Ok Replay) status before after ended caused read write door memory =
+    of_end status Read Write Door (λ code. IsDecided (Ok Replay) code before) ended caused memory
+    (λ cause some. replay_decided {Read} {Write} {Door} ended.end before.input.left after.input.left before.output.sent after.output.sent ended.ends cause
+    read write some)
+by_words {Read} {Write} {Door} (Ok (Check now word)) status before after ended caused read write door memory =
+    of_end status Read Write Door (λ code. IsDecided (Ok (Check now word)) code before) ended caused memory
+    (λ cause some. check_decided {Read} {Write} {Door} (record { now = now; word = word }) ended.end before.input.left after.input.left before.output.sent
+    after.output.sent ended.ends cause read write some)
+by_words {Read} {Write} {Door} (Ok Explain) status before after ended caused read write door memory =
+    of_end status Read Write Door (λ code. IsDecided (Ok Explain) code before) ended caused memory
+    (λ cause some. explain_decided {Read} {Write} {Door} ended.end before.input.left after.input.left before.output.sent after.output.sent ended.ends cause
+    read write some)
+by_words {Read} {Write} {Door} (Ok (Edge port address upstream_tokens tokens host workers interval connections delta)) status before after ended caused
+    read write door memory =
+    of_end status Read Write Door
+    (λ code. IsDecided (Ok (Edge port address upstream_tokens tokens host workers interval connections delta)) code before) ended caused memory
+    (λ cause some. edge_decided {Read} {Write} {Door} ended.end cause write door some)
+by_words {Read} {Write} {Door} (Ok (Upstream port secret environments client_tokens frontend_tokens connections epoch)) status before after ended caused
+    read write door memory =
+    of_end status Read Write Door
+    (λ code. IsDecided (Ok (Upstream port secret environments client_tokens frontend_tokens connections epoch)) code before) ended caused memory
+    (λ cause some. upstream_decided {Read} {Write} {Door} secret environments (own_book client_tokens frontend_tokens) epoch ended.end before after
+    ended.ends cause read write door some)
+by_words {Read} {Write} {Door} (Ok (Follow address token feature context delta turns interval)) status before after ended caused read write door memory =
+    of_end status Read Write Door (λ code. IsDecided (Ok (Follow address token feature context delta turns interval)) code before) ended caused memory
+    (λ cause some. bad_decided {Read} {Write} {Door} ended.end cause write some)
+by_words {Read} {Write} {Door} (Err Bad) status before after ended caused read write door memory =
+    of_end status Read Write Door (λ code. IsDecided (Err Bad) code before) ended caused memory
+    (λ cause some. bad_decided {Read} {Write} {Door} ended.end cause write some)
+by_words (Err Memory) status before after ends caused read write door memory = ap code_of ends
 
 -- so they decide its number, where no count rose and memory was found
-pub decided : (words : WordsReading) (status : Status) (code : ℕ) (before after : Scene) {Read Write Door : Type 0}
-    → code ≡ code_of status → Ends words status before after → (status ≡ ReadFault → Read) → (status ≡ WriteFault → Write) → (status ≡ DoorFault → Door)
-    → ¬ Read → ¬ Write → ¬ Door → code ≢ 6 → IsDecided words code before
-decided words status code before after is ends read write door no_read no_write no_door some =
-    subst (λ c. IsDecided words c before) (sym is)
-    (by_words words status before after ends (λ same. no_read (read same)) (λ same. no_write (write same)) (λ same. no_door (door same))
-    (λ same. some (is ∙ ap code_of same)))
+pub decided : {Read Write Door : Type 0} (reading : WordsReading) (status : Status) (code : ℕ) (before after : Scene)
+    → code ≡ code_of status → Ends reading status before after → Caused status Read Write Door
+    → ¬ Read → ¬ Write → ¬ Door → code ≢ 6 → IsDecided reading code before
+decided {Read} {Write} {Door} reading status code before after is ends caused read write door memory =
+    subst (λ c. IsDecided reading c before) (sym is)
+    (by_words {Read} {Write} {Door} reading status before after ends caused read write door (λ six. memory (is ∙ six)))

@@ -1,14 +1,14 @@
 -- How an edge ends: it asks its upstream, and serves the links of its door.
 use Rattle.std.specs.Prelude.{◌≡◌, ⊤, ℕ, ◌+◌, ◌≤◌, List, Option, option_map, drop}
+use Rattle.unl_base.specs.Doors.{IsClosed}
 use Rattle.unl_base.specs.Faults.{Rose}
 use Rattle.unl_base.specs.Streams.{Sends, SendsFront}
-use Rattle.unl_edge.specs.Scene.{IsClosed, Scene}
+use Rattle.unl_edge.specs.Scene.{Scene}
 use Rattle.unl_edge.specs.Upstreams.{connections_line}
 use Rattle.unl_edge.specs.declared.edges.Next.{Next}
-use Rattle.unl_edge.specs.declared.edges.Next.TheVariants.{Served, Closed}
-use Rattle.unl_edge.specs.declared.status.Status.{Status}
-use Rattle.unl_edge.specs.declared.status.Status.TheVariants.{Done, TestFailed, BadWords, Refused, ReadFault, WriteFault, OutOfMemory}
-use Rattle.unl_edge.specs.declared.status.Status.TheVariants.{DoorFault}
+use Rattle.unl_edge.specs.declared.edges.Next.TheVariants.{Served, Closed as NoMore}
+use Rattle.unl_edge.specs.declared.ends.ServingEnd.{ServingEnd}
+use Rattle.unl_edge.specs.declared.ends.ServingEnd.TheVariants.{Closed, WriteFault, DoorFault, OutOfMemory}
 
 -- A peer was connected to at least so often, each time for one of the replies that it has to come, unless it failed.
 pub record Connects
@@ -18,31 +18,28 @@ pub record Connects
 
 -- the same of what the program finds outside
 abbrev pub AsksPeer : ℕ → Scene → Scene → Type 0
-AsksPeer least before after = Connects least before.replies before.peer_faults after.replies after.peer_faults
+AsksPeer least before after = Connects least before.peer.state.replies before.peer.faults after.peer.state.replies after.peer.faults
 
 -- so many links were handed out, each was handed back, and nothing was read
 pub record HandsBack (served : ℕ) (before after : Scene) : Type 0 where
-  pub given : after.given ≡ before.given + served
-  pub back : after.back ≡ before.back + served
-  pub unread : after.left ≡ before.left
+  pub given : after.door.state.given ≡ before.door.state.given + served
+  pub back : after.door.state.back ≡ before.door.state.back + served
+  pub unread : after.input.left ≡ before.input.left
 
 -- How an edge of so many slots ends: the door is closed, and the last line was sent, or its front; or the door failed, and
 -- nothing was sent. Before the door is closed, the upstream was asked for the book and for each slot at least once.
-abbrev pub EdgeEnds : ℕ → Status → Scene → Scene → Type 0
-EdgeEnds slots Done before after =
+abbrev pub EdgeEnds : ℕ → ServingEnd → Scene → Scene → Type 0
+EdgeEnds slots Closed before after =
     (served : ℕ) × HandsBack served before after × AsksPeer (slots + 1) before after
-    × Sends before.sent (connections_line served) after.sent × IsClosed after
+    × Sends before.output.sent (connections_line served) after.output.sent × IsClosed after.door.state
 EdgeEnds slots WriteFault before after =
     (served : ℕ) × HandsBack served before after × AsksPeer (slots + 1) before after
-    × SendsFront before.sent (connections_line served) after.sent × IsClosed after
-EdgeEnds slots DoorFault before after = (served : ℕ) × HandsBack served before after × (after.sent ≡ before.sent)
+    × SendsFront before.output.sent (connections_line served) after.output.sent × IsClosed after.door.state
+EdgeEnds slots DoorFault before after =
+    (served : ℕ) × HandsBack served before after × (after.output.sent ≡ before.output.sent)
 EdgeEnds slots OutOfMemory before after = ⊤
-EdgeEnds slots TestFailed before after = ⊥
-EdgeEnds slots BadWords before after = ⊥
-EdgeEnds slots Refused before after = ⊥
-EdgeEnds slots ReadFault before after = ⊥
 
 -- how many links came of waiting for one
 abbrev pub links_of : Next → ℕ
 links_of Served = 1
-links_of Closed = 0
+links_of NoMore = 0

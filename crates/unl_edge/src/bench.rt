@@ -50,6 +50,22 @@ pub fn words_of(alloc: Global, line: &str) -> Result<Vec<String>, AllocError> {
     Ok(words)
 }
 
+/// A text whose lines that begin with four blanks go on the line before.
+pub fn joined(alloc: Global, text: &str) -> Option<String> {
+    let mut whole = String::new(alloc);
+    for (place, line) in text.split('\n').enumerate() {
+        match line.strip_prefix("    ") {
+            Some(more) => whole.push_str(more).ok()?,
+            None if place == 0 => whole.push_str(line).ok()?,
+            None => {
+                whole.push('\n').ok()?;
+                whole.push_str(line).ok()?;
+            }
+        }
+    }
+    Some(whole)
+}
+
 /// What the replay of an input prints, up to 65,536 bytes.
 pub fn printed<W: Wait>(alloc: Global, input: &str, rt: &W) -> Option<Vec<u8>> {
     let words = words_of(alloc, "replay").ok()?;

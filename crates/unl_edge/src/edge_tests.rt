@@ -1,5 +1,5 @@
 //! The command `edge`, over links and replies in memory.
-use crate::bench::{Bench, door_of_one, door_of_two, words_of};
+use crate::bench::{Bench, door_of_one, door_of_two, joined, words_of};
 use crate::run::run;
 use crate::world::World;
 use std::alloc::Global;
@@ -11,25 +11,35 @@ const DELTA: &str = "edge --upstream h:1 --upstream-tokens *:dev.c --tokens *:de
 
 const FEED: &str = "edge --upstream h:1 --upstream-tokens *:dev.c --tokens *:dev.f --mode feed";
 
-const BOOK: &str =
-    "HTTP/1.1 200 OK\r\n\r\n{\"tokens\":[{\"token\":\"*:dev.f\",\"type\":\"frontend\",\"projects\":[\"*\"]}]}";
+const BOOK: &str = r#"HTTP/1.1 200 OK
 
-const BATCH_A: &str =
-    "HTTP/1.1 200 OK\r\n\r\n{\"events\":[{\"type\":\"hydration\",\"eventId\":5,\"features\":[{\"name\":\"a\",\"project\":\"default\",\"enabled\":true,\"strategies\":[{\"name\":\"default\"}]}],\"segments\":[]}]}";
+{"tokens":[{"token":"*:dev.f","type":"frontend","projects":["*"]}]}"#;
 
-const FEED_A: &str =
-    "HTTP/1.1 200 OK\r\n\r\n{\"features\":[{\"name\":\"a\",\"project\":\"default\",\"enabled\":true,\"strategies\":[{\"name\":\"default\"}]}],\"meta\":{\"revisionId\":5}}";
+const BATCH_A: &str = r#"HTTP/1.1 200 OK
 
-const FEED_NONE: &str = "HTTP/1.1 200 OK\r\n\r\n{\"features\":[],\"meta\":{\"revisionId\":6}}";
+{"events":[{"type":"hydration","eventId":5,"features":[{"name":"a","enabled":true}],"segments":[]}]}"#;
+
+const FEED_A: &str = r#"HTTP/1.1 200 OK
+
+{"features":[{"name":"a","enabled":true}],"meta":{"revisionId":5}}"#;
+
+const FEED_NONE: &str = r#"HTTP/1.1 200 OK
+
+{"features":[],"meta":{"revisionId":6}}"#;
 
 const ASK: &str = "GET /api/frontend HTTP/1.1\r\nHost: x\r\nAuthorization: *:dev.f\r\n\r\n";
 
-const REPORT: &str =
-    "POST /api/frontend/client/metrics HTTP/1.1\r\nHost: x\r\nAuthorization: *:dev.f\r\nContent-Type: application/json\r\nContent-Length: 137\r\n\r\n{\"appName\":\"shop\",\"bucket\":{\"start\":\"2024-01-01T10:05:00Z\",\"stop\":\"2024-01-01T10:06:00Z\",\"toggles\":{\"a\":{\"yes\":2,\"no\":1,\"variants\":{}}}}}";
+const REPORT: &str = r#"POST /api/frontend/client/metrics HTTP/1.1
+Host: x
+Authorization: *:dev.f
+Content-Type: application/json
+Content-Length: 107
+
+{"appName":"shop","bucket":{"start":"2024-01-01T10:05:00Z","toggles":{"a":{"yes":2,"no":1,"variants":{}}}}}"#;
 
 /// The feature is on.
-const TOGGLES: &str =
-    "{\"toggles\":[{\"enabled\":true,\"impressionData\":false,\"name\":\"a\",\"variant\":{\"enabled\":false,\"feature_enabled\":true,\"name\":\"disabled\"}}]}";
+const TOGGLES: &str = r#"{"toggles":[{"enabled":true,"impressionData":false,"name":"a",
+    "variant":{"enabled":false,"feature_enabled":true,"name":"disabled"}}]}"#;
 
 /// What an edge is told and meets: its words, the replies of its upstream, and the calls that fail.
 #[derive(Clone, Copy)]
@@ -120,16 +130,42 @@ fn output_of<'w, W: Wait>(world: &'w Bench<&W>) -> Option<&'w str> {
     str::from_utf8(world.output.sent()).ok()
 }
 
+const BULK: &[u8] =
+    b"POST /api/client/metrics/bulk HTTP/1.0\r\nHost: h:1\r\nAuthorization: *:dev.c\r\n";
+
+const ALL_CALLS: [u64; 8] = [0, 1, 2, 3, 4, 5, 6, 7];
+
+/// A trial, what its one link asks, the line and the body of the reply, and a front of what the upstream was told last.
+type Row<'t> = (Trial<'t>, &'t str, &'t str, &'t str, &'t [u8]);
+
 #[test]
 fn an_edge_serves_what_its_upstream_has(rt: HostRuntime) -> Result<(), Fail> {
     let alloc = rt.alloc();
-    for (words, state) in [(DELTA, BATCH_A), (FEED, FEED_A)] {
-        let replies = [BOOK, state];
-        let trial = faultless(words, &replies);
-        let (status, world) = over_one(alloc, &trial, ASK, &rt).expect(&rt, "there is memory");
+    let delta = faultless(DELTA, &[BOOK, BATCH_A]);
+    let cut_off = Trial {
+        peer: &ALL_CALLS,
+        ..delta
+    };
+    let unknown = r#"{"error":"UnknownToken"}"#;
+    let table: [Row<'_>; 4] = [
+        (delta, ASK, "HTTP/1.1 200 OK", TOGGLES, b""),
+        (
+            faultless(FEED, &[BOOK, FEED_A]),
+            ASK,
+            "HTTP/1.1 200 OK",
+            TOGGLES,
+            b"",
+        ),
+        (delta, REPORT, "HTTP/1.1 202 Accepted", "", BULK),
+        (cut_off, ASK, "HTTP/1.1 403 Forbidden", unknown, b""),
+    ];
+    for (trial, asked, line, body, told) in table {
+        let (status, world) = over_one(alloc, &trial, asked, &rt).expect(&rt, "there is memory");
+        let body = joined(alloc, body).expect(&rt, "there is memory");
         assert_eq!(rt; status, 0);
         assert_eq!(rt; output_of(&world), Some("connections 1\n"));
-        assert_eq!(rt; reply_at(&world, 0), Some(("HTTP/1.1 200 OK", TOGGLES)));
+        assert_eq!(rt; reply_at(&world, 0), Some((line, body.as_str())));
+        assert!(rt; world.peer.sent().starts_with(told));
     }
     Ok(())
 }
@@ -142,44 +178,13 @@ fn an_edge_asks_again_before_each_link(rt: HostRuntime) -> Result<(), Fail> {
     let (status, world) = over_two(alloc, &trial, ASK, &rt).expect(&rt, "there is memory");
     assert_eq!(rt; status, 0);
     assert_eq!(rt; output_of(&world), Some("connections 2\n"));
-    assert_eq!(rt; reply_at(&world, 0), Some(("HTTP/1.1 200 OK", TOGGLES)));
-    assert_eq!(rt;
-        reply_at(&world, 1),
-        Some(("HTTP/1.1 200 OK", "{\"toggles\":[]}"))
-    );
-    Ok(())
-}
-
-const BULK: &[u8] =
-    b"POST /api/client/metrics/bulk HTTP/1.0\r\nHost: h:1\r\nAuthorization: *:dev.c\r\n";
-
-#[test]
-fn an_edge_tells_what_was_counted(rt: HostRuntime) -> Result<(), Fail> {
-    let alloc = rt.alloc();
-    let trial = faultless(DELTA, &[BOOK, BATCH_A]);
-    let (status, world) = over_one(alloc, &trial, REPORT, &rt).expect(&rt, "there is memory");
-    assert_eq!(rt; status, 0);
-    assert_eq!(rt; reply_at(&world, 0), Some(("HTTP/1.1 202 Accepted", "")));
-    assert!(rt; world.peer.sent().starts_with(BULK));
-    Ok(())
-}
-
-const ALL_CALLS: [u64; 8] = [0, 1, 2, 3, 4, 5, 6, 7];
-
-#[test]
-fn faults_of_the_upstream_end_nothing(rt: HostRuntime) -> Result<(), Fail> {
-    let alloc = rt.alloc();
-    let trial = Trial {
-        peer: &ALL_CALLS,
-        ..faultless(DELTA, &[BOOK, BATCH_A])
-    };
-    let (status, world) = over_one(alloc, &trial, ASK, &rt).expect(&rt, "there is memory");
-    assert_eq!(rt; status, 0);
-    assert_eq!(rt; output_of(&world), Some("connections 1\n"));
+    let toggles = joined(alloc, TOGGLES).expect(&rt, "there is memory");
+    let none = r#"{"toggles":[]}"#;
     assert_eq!(rt;
         reply_at(&world, 0),
-        Some(("HTTP/1.1 403 Forbidden", "{\"error\":\"UnknownToken\"}"))
+        Some(("HTTP/1.1 200 OK", toggles.as_str()))
     );
+    assert_eq!(rt; reply_at(&world, 1), Some(("HTTP/1.1 200 OK", none)));
     Ok(())
 }
 

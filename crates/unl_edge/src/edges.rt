@@ -2,16 +2,18 @@
 ghost use Rattle.std.specs.Prelude.{◌≡◌, ◌≢◌, ◌<◌, ◌≤◌, ◌+◌, [], ℕ, IfOk, IfSome, IsErrOf, OnErr, OnOk, length, true};
 ghost use Rattle.unl_base.specs.Faults.{HasCause, Rose};
 ghost use Rattle.unl_edge.specs.Edges.{Connects, EdgeEnds, links_of};
+ghost use Rattle.unl_edge.specs.Status.{Caused, serving_status};
 ghost use Rattle.unl_words.specs.Ranges.{IsEdge};
 
+use crate::ends::ServingEnd;
 use crate::replica::Replica;
-use crate::status::Status;
 use crate::upstreams::say_connections;
 use crate::world::World;
 use std::alloc::Global;
 use std::sync::Wait;
 use unl_base::{Door, Draws, Failed, Pace, Peer, Sink, Source};
 use unl_documents::{List, Memory, Text};
+use unl_input::SayFault;
 
 /// What came of waiting for a link.
 #[derive(Clone, Copy, Debug, PartialEq, Eq)]
@@ -33,17 +35,16 @@ pub fn run_edge<I: Source, O: Sink, D: Door, P: Peer, R: Draws, T: Pace, W: Wait
     host: &Text,
     delta: bool,
     world: &mut World<I, O, D, P, R, T, W>,
-) -> Status
+) -> ServingEnd
     requires { (workers : ℕ) × (interval : ℕ) × IsEdge port upstream.now upstream_tokens.now tokens.now host.now workers interval }
     ensures ends { EdgeEnds (length upstream_tokens.now) result world.old world.new }
-    ensures other { result ≢ Status.ReadFault }
-    ensures write { result ≡ Status.WriteFault → Rose world.old.output_faults world.new.output_faults }
-    ensures door { result ≡ Status.DoorFault → Rose world.old.door_faults world.new.door_faults }
+    ensures caused { Caused (serving_status result) ⊥ (Rose world.old.output.faults world.new.output.faults)
+        (Rose world.old.door.faults world.new.door.faults) }
 {
     let boot = world.draws.draw().word;
     match Replica::new(alloc, boot, upstream, upstream_tokens, tokens, host, delta) {
         Ok(mut replica) => serve_links(alloc, port, &mut replica, world),
-        Err(Memory) => Status::OutOfMemory,
+        Err(Memory) => ServingEnd::OutOfMemory,
     }
 }
 
@@ -53,21 +54,20 @@ fn serve_links<I: Source, O: Sink, D: Door, P: Peer, R: Draws, T: Pace, W: Wait>
     port: u16,
     replica: &mut Replica,
     world: &mut World<I, O, D, P, R, T, W>,
-) -> Status
+) -> ServingEnd
     requires front { replica.old.desk.front ≡ 0 }
     requires slots { length replica.old.feeders.items ≤ length replica.old.desk.places }
     requires few { length replica.old.feeders.items ≤ 8 }
     ensures ends { EdgeEnds (length replica.old.feeders.items) result world.old world.new }
-    ensures other { result ≢ Status.ReadFault }
-    ensures write { result ≡ Status.WriteFault → Rose world.old.output_faults world.new.output_faults }
-    ensures door { result ≡ Status.DoorFault → Rose world.old.door_faults world.new.door_faults }
+    ensures caused { Caused (serving_status result) ⊥ (Rose world.old.output.faults world.new.output.faults)
+        (Rose world.old.door.faults world.new.door.faults) }
 {
     if world.door.listen(port).is_err() {
-        return Status::DoorFault;
+        return ServingEnd::DoorFault;
     }
     match replica.turn(alloc, &mut world.peer) {
         Ok(()) => {}
-        Err(Memory) => return Status::OutOfMemory,
+        Err(Memory) => return ServingEnd::OutOfMemory,
     }
     match host(
         alloc,
@@ -77,8 +77,12 @@ fn serve_links<I: Source, O: Sink, D: Door, P: Peer, R: Draws, T: Pace, W: Wait>
         &mut world.peer,
         &mut world.draws,
     ) {
-        Ok(served) => say_connections(alloc, &mut world.output, served),
-        Err(_) => Status::DoorFault,
+        Ok(served) => match say_connections(alloc, &mut world.output, served) {
+            Ok(()) => ServingEnd::Closed,
+            Err(SayFault::WriteFault) => ServingEnd::WriteFault,
+            Err(SayFault::Memory) => ServingEnd::OutOfMemory,
+        },
+        Err(_) => ServingEnd::DoorFault,
     }
 }
 
@@ -101,7 +105,8 @@ fn host<D: Door, P: Peer, R: Draws, W: Wait>(
         × ((D.state door.new).back ≡ (D.state door.old).back + served)) }
     ensures closed { OnOk result ((D.state door.new).closed ≡ true) }
     ensures over { OnOk result (IfSome (D.state door.new).links (λ links. links ≡ [])) }
-    ensures connects { Connects 0 (P.state peer.old).replies (P.Source.faults peer.old) (P.state peer.new).replies (P.Source.faults peer.new) }
+    ensures connects { Connects 0
+        (P.state peer.old).replies (P.Source.faults peer.old) (P.state peer.new).replies (P.Source.faults peer.new) }
     ensures cause { HasCause (D.faults door.old) (D.faults door.new) result }
 {
     for served in 0..u64::MAX {
@@ -131,7 +136,8 @@ fn serve_next<D: Door, P: Peer, R: Draws>(
     ensures closed { IfOk result (λ next. next ≡ Next.Closed → (D.state door.new).closed ≡ true) }
     ensures over { IfOk result (λ next. next ≡ Next.Closed → IfSome (D.state door.new).links (λ links. links ≡ [])) }
     ensures listens { (D.state door.new).listening ≡ true }
-    ensures connects { Connects 0 (P.state peer.old).replies (P.Source.faults peer.old) (P.state peer.new).replies (P.Source.faults peer.new) }
+    ensures connects { Connects 0
+        (P.state peer.old).replies (P.Source.faults peer.old) (P.state peer.new).replies (P.Source.faults peer.new) }
     ensures cause { HasCause (D.faults door.old) (D.faults door.new) result }
 {
     match door.accept()? {

@@ -26,7 +26,8 @@ pub fn refresh_book<P: Peer>(
     ensures front { desk.new.front ≤ desk.old.front + 1 }
     ensures asks { desk.old.front < 2 ^ 64 - 1 → OnOk result (Connects 1
         (P.state peer.old).replies (P.Source.faults peer.old) (P.state peer.new).replies (P.Source.faults peer.new)) }
-    ensures connects { Connects 0 (P.state peer.old).replies (P.Source.faults peer.old) (P.state peer.new).replies (P.Source.faults peer.new) }
+    ensures connects { Connects 0
+        (P.state peer.old).replies (P.Source.faults peer.old) (P.state peer.new).replies (P.Source.faults peer.new) }
 {
     if desk.front() == u64::MAX {
         return Ok(());
@@ -48,7 +49,8 @@ pub fn refresh_slot<P: Peer>(
     ensures front { desk.new.front ≤ desk.old.front + 1 }
     ensures asks { desk.old.front < 2 ^ 64 - 1 → OnOk result (Connects 1
         (P.state peer.old).replies (P.Source.faults peer.old) (P.state peer.new).replies (P.Source.faults peer.new)) }
-    ensures connects { Connects 0 (P.state peer.old).replies (P.Source.faults peer.old) (P.state peer.new).replies (P.Source.faults peer.new) }
+    ensures connects { Connects 0
+        (P.state peer.old).replies (P.Source.faults peer.old) (P.state peer.new).replies (P.Source.faults peer.new) }
 {
     if desk.front() == u64::MAX {
         return Ok(());
@@ -86,7 +88,8 @@ pub fn feed_slot<P: Peer>(
     ensures front { desk.new.front ≤ desk.old.front + 1 }
     ensures asks { desk.old.front < 2 ^ 64 - 1 → OnOk result (Connects 1
         (P.state peer.old).replies (P.Source.faults peer.old) (P.state peer.new).replies (P.Source.faults peer.new)) }
-    ensures connects { Connects 0 (P.state peer.old).replies (P.Source.faults peer.old) (P.state peer.new).replies (P.Source.faults peer.new) }
+    ensures connects { Connects 0
+        (P.state peer.old).replies (P.Source.faults peer.old) (P.state peer.new).replies (P.Source.faults peer.new) }
 {
     match refresh_slot(alloc, desk, slot, feeder, peer) {
         Ok(()) => tell_metrics(alloc, book, feeder, peer),
@@ -105,7 +108,8 @@ pub fn feed_slots<P: Peer>(
     ensures asks { desk.old.front + length feeders.old < 2 ^ 64 - 1 → length feeders.old ≤ length desk.old.places
         → OnOk result (Connects (length feeders.old)
         (P.state peer.old).replies (P.Source.faults peer.old) (P.state peer.new).replies (P.Source.faults peer.new)) }
-    ensures connects { Connects 0 (P.state peer.old).replies (P.Source.faults peer.old) (P.state peer.new).replies (P.Source.faults peer.new) }
+    ensures connects { Connects 0
+        (P.state peer.old).replies (P.Source.faults peer.old) (P.state peer.new).replies (P.Source.faults peer.new) }
 {
     let count = desk.slots().min(feeders.len());
     for slot in 0..count {

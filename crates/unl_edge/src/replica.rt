@@ -31,7 +31,7 @@ pub struct Replica {
 
 impl Replica {
     /// A replica at front 0 with an empty slot for each of the upstream's tokens.
-    #[tactic(auto, using(crate::proofs::Fitting::address_fits, crate::proofs::Fitting::few_tokens, crate::proofs::Fitting::environments_differ))]
+    #[tactic(auto, using(crate::proofs::Fitting::address_fits, crate::proofs::Fitting::few_tokens, crate::proofs::Fitting::environments_differ,))]
     pub fn new(
         alloc: Global,
         boot: u64,
@@ -73,7 +73,8 @@ impl Replica {
             → length self.old.feeders.items ≤ 8
             → OnOk result (Connects (length self.old.feeders.items + 1)
             (P.state peer.old).replies (P.Source.faults peer.old) (P.state peer.new).replies (P.Source.faults peer.new)) }
-        ensures connects { Connects 0 (P.state peer.old).replies (P.Source.faults peer.old) (P.state peer.new).replies (P.Source.faults peer.new) }
+        ensures connects { Connects 0
+            (P.state peer.old).replies (P.Source.faults peer.old) (P.state peer.new).replies (P.Source.faults peer.new) }
     {
         match refresh_book(alloc, &mut self.desk, &self.known, &self.upstream, peer) {
             Ok(()) => feed_slots(

@@ -1,11 +1,16 @@
-//! How the program ends.
+//! The number with which the program exits.
 ghost use Rattle.std.specs.Prelude.{◌≡◌};
-ghost use Rattle.unl_edge.specs.Status.{code_of};
+ghost use Rattle.unl_edge.specs.Status.{check_status, code_of, explain_status, lines_status, serving_status};
+ghost use Rattle.unl_edge.specs.Status.{upstream_status, words_status};
 
-/// How a command ended.
+use crate::ends::{CheckEnd, ServingEnd, UpstreamEnd, WordsEnd};
+use unl_explain::ExplainFault;
+use unl_lines::LinesFault;
+
+/// How the program ends.
 #[derive(Clone, Copy, Debug, PartialEq, Eq)]
 pub enum Status {
-    /// The input was answered to its end; a check's tests all passed.
+    /// The input was answered to its end; a check's tests all passed; a door was closed.
     Done,
     /// A test of a check failed.
     TestFailed,
@@ -37,6 +42,81 @@ impl Status {
             Status::WriteFault => 5,
             Status::OutOfMemory => 6,
             Status::DoorFault => 7,
+        }
+    }
+
+    /// That of lines that were taken, or not.
+    pub fn of_lines(end: Result<(), LinesFault>) -> Status
+        ensures { result ≡ lines_status end }
+    {
+        match end {
+            Ok(()) => Status::Done,
+            Err(LinesFault::Bad) => Status::Refused,
+            Err(LinesFault::ReadFault) => Status::ReadFault,
+            Err(LinesFault::WriteFault) => Status::WriteFault,
+            Err(LinesFault::Memory) => Status::OutOfMemory,
+        }
+    }
+
+    /// That of a check.
+    pub fn of_check(end: CheckEnd) -> Status
+        ensures { result ≡ check_status end }
+    {
+        match end {
+            CheckEnd::Passed => Status::Done,
+            CheckEnd::Failed => Status::TestFailed,
+            CheckEnd::Refused => Status::Refused,
+            CheckEnd::ReadFault => Status::ReadFault,
+            CheckEnd::WriteFault => Status::WriteFault,
+            CheckEnd::OutOfMemory => Status::OutOfMemory,
+        }
+    }
+
+    /// That of an explanation.
+    pub fn of_explanation(end: Result<(), ExplainFault>) -> Status
+        ensures { result ≡ explain_status end }
+    {
+        match end {
+            Ok(()) => Status::Done,
+            Err(ExplainFault::BadInput(_fault)) => Status::Refused,
+            Err(ExplainFault::TooLarge) => Status::Refused,
+            Err(ExplainFault::ReadFault) => Status::ReadFault,
+            Err(ExplainFault::WriteFault) => Status::WriteFault,
+            Err(ExplainFault::Memory) => Status::OutOfMemory,
+        }
+    }
+
+    /// That of links that were served.
+    pub fn of_serving(end: ServingEnd) -> Status
+        ensures { result ≡ serving_status end }
+    {
+        match end {
+            ServingEnd::Closed => Status::Done,
+            ServingEnd::WriteFault => Status::WriteFault,
+            ServingEnd::DoorFault => Status::DoorFault,
+            ServingEnd::OutOfMemory => Status::OutOfMemory,
+        }
+    }
+
+    /// That of an upstream.
+    pub fn of_upstream(end: UpstreamEnd) -> Status
+        ensures { result ≡ upstream_status end }
+    {
+        match end {
+            UpstreamEnd::OutOfMemory => Status::OutOfMemory,
+            UpstreamEnd::Lines(fault) => Status::of_lines(Err(fault)),
+            UpstreamEnd::Links(end) => Status::of_serving(end),
+        }
+    }
+
+    /// That of words that ask for nothing.
+    pub fn of_words(end: WordsEnd) -> Status
+        ensures { result ≡ words_status end }
+    {
+        match end {
+            WordsEnd::Bad => Status::BadWords,
+            WordsEnd::WriteFault => Status::WriteFault,
+            WordsEnd::OutOfMemory => Status::OutOfMemory,
         }
     }
 }

@@ -1,5 +1,5 @@
 //! The command `upstream`, over lines of commands and links in memory.
-use crate::bench::{Bench, door_of_two, printed, silent_peer, words_of};
+use crate::bench::{Bench, door_of_two, joined, printed, silent_peer, words_of};
 use crate::run::run;
 use crate::world::World;
 use std::alloc::Global;
@@ -11,11 +11,16 @@ const WORDS: &str =
     "upstream --secret s --environments dev --client-tokens *:dev.c --frontend-tokens *:dev.f";
 
 const PUT_A: &str =
-    "{\"command\":\"put-feature\",\"environment\":\"dev\",\"feature\":{\"name\":\"a\",\"enabled\":true,\"strategies\":[{\"name\":\"default\"}]}}\n";
+    r#"{"command":"put-feature","environment":"dev","feature":{"name":"a","enabled":true,"strategies":[{"name":"default"}]}}
+"#;
 
 /// A feature is put, and then asked for.
-const PUT_B: &str =
-    "POST /commands HTTP/1.1\r\nHost: x\r\nAuthorization: s\r\nContent-Length: 117\r\n\r\n{\"command\":\"put-feature\",\"environment\":\"dev\",\"feature\":{\"name\":\"b\",\"enabled\":true,\"strategies\":[{\"name\":\"default\"}]}}";
+const PUT_B: &str = r#"POST /commands HTTP/1.1
+Host: x
+Authorization: s
+Content-Length: 117
+
+{"command":"put-feature","environment":"dev","feature":{"name":"b","enabled":true,"strategies":[{"name":"default"}]}}"#;
 
 const ASK: &str = "GET /api/frontend HTTP/1.1\r\nHost: x\r\nAuthorization: *:dev.f\r\n\r\n";
 
@@ -60,18 +65,14 @@ fn served<'a, W: Wait>(
     Some((status, world))
 }
 
+const REMOVE_4: &str = r#"{"command":"remove-segment","environment":"dev","id":4}"#;
+
 /// Lines, calls that fail, the status, what is printed, and how many links were served.
 const CASES: [(&str, Failing, u8, &str, usize); 9] = [
     ("", NONE, 0, "connections 2\n", 2),
     (PUT_A, NONE, 0, "connections 2\n", 2),
     ("{}\n", NONE, 3, "refused: line 1: Missing command\n", 0),
-    (
-        "{\"command\":\"remove-segment\",\"environment\":\"dev\",\"id\":4}\n",
-        NONE,
-        3,
-        "refused: line 1: NoSuchSegment\n",
-        0,
-    ),
+    (REMOVE_4, NONE, 3, "refused: line 1: NoSuchSegment\n", 0),
     (PUT_A, (Some(1), None, None), 4, "", 0),
     (PUT_A, (None, Some(0), None), 5, "", 2),
     ("{}\n", (None, Some(0), None), 5, "", 0),
@@ -100,7 +101,9 @@ const NUMBER_2: &str =
 
 /// Both features are on.
 const TOGGLES: &str =
-    "{\"toggles\":[{\"enabled\":true,\"impressionData\":false,\"name\":\"a\",\"variant\":{\"enabled\":false,\"feature_enabled\":true,\"name\":\"disabled\"}},{\"enabled\":true,\"impressionData\":false,\"name\":\"b\",\"variant\":{\"enabled\":false,\"feature_enabled\":true,\"name\":\"disabled\"}}]}";
+    r#"{"toggles":[{"enabled":true,"impressionData":false,"name":"a","variant":{"enabled":false,"feature_enabled":true,
+    "name":"disabled"}},{"enabled":true,"impressionData":false,"name":"b","variant":{"enabled":false,"feature_enabled":true,
+    "name":"disabled"}}]}"#;
 
 /// The body of the reply that a link was sent.
 fn body_at<'a, W: Wait>(world: &'a Bench<&W>, place: usize) -> Option<&'a str> {
@@ -117,24 +120,22 @@ fn lines_and_links_change_one_upstream(rt: HostRuntime) -> Result<(), Fail> {
     );
     assert_eq!(rt; status, 0);
     assert!(rt; world.door.sent(0) == Some(NUMBER_2.as_bytes()));
-    assert_eq!(rt; body_at(&world, 1), Some(TOGGLES));
+    let toggles = joined(alloc, TOGGLES).expect(&rt, "there is memory");
+    assert_eq!(rt; body_at(&world, 1), Some(toggles.as_str()));
     Ok(())
 }
 
+const TOKENS_LINE: &str = r#"{"op":"tokens","tokens":[{"token":"*:dev.f","type":"frontend"}]}"#;
+
+const ASK_LINE: &str = r#"{"op":"ask","token":"*:dev.f","target":"/api/frontend"}"#;
+
 /// What a replay prints that takes what an upstream gave, as a line's key and value, and is then asked.
 fn asked_after<W: Wait>(alloc: Global, op: &str, given: &str, rt: &W) -> Option<Vec<u8>> {
-    let mut input = String::from_str(
-        alloc,
-        "{\"op\":\"tokens\",\"tokens\":[{\"token\":\"*:dev.f\",\"type\":\"frontend\"}]}\n",
-    )
-    .ok()?;
-    let line = format!(in alloc;
-        "{{\"op\":\"{op}\",\"environment\":\"dev\",\"{op}\":{given}}}\n"
-    ).ok()?;
-    input.push_str(line.as_str()).ok()?;
-    input
-        .push_str("{\"op\":\"ask\",\"token\":\"*:dev.f\",\"target\":\"/api/frontend\"}\n")
-        .ok()?;
+    let line = format!(in alloc; r#"{{"op":"{op}","environment":"dev","{op}":{given}}}"#).ok()?;
+    let mut input = String::from_str(alloc, TOKENS_LINE).ok()?;
+    for text in ["\n", line.as_str(), "\n", ASK_LINE] {
+        input.push_str(text).ok()?;
+    }
     printed(alloc, input.as_str(), rt)
 }
 
@@ -145,7 +146,7 @@ fn expected(alloc: Global) -> Option<String> {
         "1: tokens generation 1 front 1\n2: apply number 2 front 2\n3: front 2 status 200 tag - body ",
     )
     .ok()?;
-    text.push_str(TOGGLES).ok()?;
+    text.push_str(joined(alloc, TOGGLES)?.as_str()).ok()?;
     text.push('\n').ok()?;
     Some(text)
 }
@@ -155,7 +156,7 @@ fn expected(alloc: Global) -> Option<String> {
 fn a_feed_and_a_hydration_agree(rt: HostRuntime) -> Result<(), Fail> {
     let alloc = rt.alloc();
     let mut lines = String::from_str(alloc, PUT_A)?;
-    lines.push_str(PUT_A.replace(alloc, "\"a\"", "\"b\"")?.as_str())?;
+    lines.push_str(PUT_A.replace(alloc, r#""a""#, r#""b""#)?.as_str())?;
     let (_, world) = served(alloc, lines.as_str(), [FEED, DELTA], NONE, &rt).expect(
         &rt,
         "there is memory",

@@ -1,20 +1,22 @@
 //! The command `upstream`: it takes the commands of its input, and then serves the links of its door.
-ghost use Rattle.std.specs.Prelude.{◌≡◌, ◌≢◌, ◌≤◌, ℕ, IfOk, string_bytes};
+ghost use Rattle.std.specs.Prelude.{◌≡◌, ◌≤◌, ℕ, IfOk, IsErrOf, OnOk, string_bytes};
 ghost use Rattle.unl_base.specs.Faults.{Rose};
+ghost use Rattle.unl_base.specs.Streams.{Sends, SendsFront};
 ghost use Rattle.unl_edge.specs.OwnBook.{own_book};
-ghost use Rattle.unl_edge.specs.Status.{SendsLine};
+ghost use Rattle.unl_edge.specs.Status.{Caused, serving_status, upstream_status};
 ghost use Rattle.unl_edge.specs.Upstreams.{LinksEnd, UpstreamEnds, UpstreamRuns, connections_line};
 ghost use Rattle.unl_upstream.specs.Upstream.{opening};
 ghost use Rattle.unl_words.specs.Ranges.{IsUpstream};
 
+use crate::ends::{ServingEnd, UpstreamEnd};
 use crate::own_book::own_book;
-use crate::status::Status;
 use crate::world::World;
 use std::alloc::{AllocError, Global};
 use std::sync::Wait;
 use unl_base::{Door, Draws, Pace, Peer, Sink, Source, write_all};
 use unl_documents::{List, Memory, Text};
-use unl_lines::{LinesFault, take_lines};
+use unl_input::SayFault;
+use unl_lines::take_lines;
 use unl_upstream::{CommandLines, Upstream};
 
 /// Begins an upstream, whose boot number is the word of a draw, takes the commands of the input's lines, and then serves
@@ -28,12 +30,12 @@ pub fn run_upstream<I: Source, O: Sink, D: Door, P: Peer, R: Draws, T: Pace, W: 
     frontend_tokens: &List<Text>,
     epoch: u64,
     world: &mut World<I, O, D, P, R, T, W>,
-) -> Status
+) -> UpstreamEnd
     requires { IsUpstream port secret.now environments.now client_tokens.now frontend_tokens.now }
-    ensures runs { UpstreamRuns secret.now environments.now (own_book client_tokens.now frontend_tokens.now) epoch result world.old world.new }
-    ensures read { result ≡ Status.ReadFault → Rose world.old.input_faults world.new.input_faults }
-    ensures write { result ≡ Status.WriteFault → Rose world.old.output_faults world.new.output_faults }
-    ensures door { result ≡ Status.DoorFault → Rose world.old.door_faults world.new.door_faults }
+    ensures runs { UpstreamRuns secret.now environments.now (own_book client_tokens.now frontend_tokens.now) epoch result
+        world.old world.new }
+    ensures caused { Caused (upstream_status result) (Rose world.old.input.faults world.new.input.faults)
+        (Rose world.old.output.faults world.new.output.faults) (Rose world.old.door.faults world.new.door.faults) }
 {
     let boot = world.draws.draw().word;
     match begin(
@@ -46,7 +48,7 @@ pub fn run_upstream<I: Source, O: Sink, D: Door, P: Peer, R: Draws, T: Pace, W: 
         epoch,
     ) {
         Ok(mut up) => take_commands(alloc, port, &mut up, world),
-        Err(Memory) => Status::OutOfMemory,
+        Err(Memory) => UpstreamEnd::OutOfMemory,
     }
 }
 
@@ -73,18 +75,14 @@ fn take_commands<I: Source, O: Sink, D: Door, P: Peer, R: Draws, T: Pace, W: Wai
     port: u16,
     up: &mut Upstream,
     world: &mut World<I, O, D, P, R, T, W>,
-) -> Status
-    ensures ends { UpstreamEnds up.old world.old.coming result world.old world.new }
-    ensures read { result ≡ Status.ReadFault → Rose world.old.input_faults world.new.input_faults }
-    ensures write { result ≡ Status.WriteFault → Rose world.old.output_faults world.new.output_faults }
-    ensures door { result ≡ Status.DoorFault → Rose world.old.door_faults world.new.door_faults }
+) -> UpstreamEnd
+    ensures ends { UpstreamEnds up.old world.old.draws result world.old world.new }
+    ensures caused { Caused (upstream_status result) (Rose world.old.input.faults world.new.input.faults)
+        (Rose world.old.output.faults world.new.output.faults) (Rose world.old.door.faults world.new.door.faults) }
 {
     match take_lines::<CommandLines, I, O>(alloc, up, &mut world.input, &mut world.output) {
-        Ok(()) => serve_links(alloc, port, up, world),
-        Err(LinesFault::Bad) => Status::Refused,
-        Err(LinesFault::ReadFault) => Status::ReadFault,
-        Err(LinesFault::WriteFault) => Status::WriteFault,
-        Err(LinesFault::Memory) => Status::OutOfMemory,
+        Ok(()) => UpstreamEnd::Links(serve_links(alloc, port, up, world)),
+        Err(fault) => UpstreamEnd::Lines(fault),
     }
 }
 
@@ -94,33 +92,44 @@ fn serve_links<I: Source, O: Sink, D: Door, P: Peer, R: Draws, T: Pace, W: Wait>
     port: u16,
     up: &mut Upstream,
     world: &mut World<I, O, D, P, R, T, W>,
-) -> Status
+) -> ServingEnd
     ensures ends { LinksEnd up.old up.new result world.old world.new }
-    ensures same { world.new.left ≡ world.old.left }
-    ensures same_count { world.new.input_faults ≡ world.old.input_faults }
-    ensures write { result ≡ Status.WriteFault → Rose world.old.output_faults world.new.output_faults }
-    ensures door { result ≡ Status.DoorFault → Rose world.old.door_faults world.new.door_faults }
+    ensures same { world.new.input ≡ world.old.input }
+    ensures caused { Caused (serving_status result) ⊥ (Rose world.old.output.faults world.new.output.faults)
+        (Rose world.old.door.faults world.new.door.faults) }
 {
     if world.door.listen(port).is_err() {
-        return Status::DoorFault;
+        return ServingEnd::DoorFault;
     }
     match up.host(&world.rt, alloc, &mut world.door, &mut world.draws) {
-        Ok(served) => say_connections(alloc, &mut world.output, served),
-        Err(_) => Status::DoorFault,
+        Ok(served) => match say_connections(alloc, &mut world.output, served) {
+            Ok(()) => ServingEnd::Closed,
+            Err(SayFault::WriteFault) => ServingEnd::WriteFault,
+            Err(SayFault::Memory) => ServingEnd::OutOfMemory,
+        },
+        Err(_) => ServingEnd::DoorFault,
     }
 }
 
 /// Says how many links were served.
-pub(crate) fn say_connections<O: Sink>(alloc: Global, output: &mut O, served: u64) -> Status
-    ensures said { SendsLine (connections_line served) Status.Done result (O.sent output.old) (O.sent output.new) }
-    ensures write { result ≡ Status.WriteFault → Rose (O.faults output.old) (O.faults output.new) }
+///
+/// # Errors
+/// `WriteFault` where the output failed, and a front of the line was sent; `Memory` where memory ran out.
+pub(crate) fn say_connections<O: Sink>(
+    alloc: Global,
+    output: &mut O,
+    served: u64,
+) -> Result<(), SayFault>
+    ensures said { OnOk result (Sends (O.sent output.old) (connections_line served) (O.sent output.new)) }
+    ensures broken { IsErrOf result SayFault.WriteFault → SendsFront (O.sent output.old) (connections_line served) (O.sent output.new) }
+    ensures write { IsErrOf result SayFault.WriteFault → Rose (O.faults output.old) (O.faults output.new) }
 {
     let Ok(line) = connections_line(alloc, served) else {
-        return Status::OutOfMemory;
+        return Err(SayFault::Memory);
     };
     match write_all(output, line.as_bytes()) {
-        Ok(()) => Status::Done,
-        Err(_) => Status::WriteFault,
+        Ok(()) => Ok(()),
+        Err(_) => Err(SayFault::WriteFault),
     }
 }
 

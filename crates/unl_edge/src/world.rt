@@ -23,18 +23,10 @@ impl<I: Source, O: Sink, D: Door, P: Peer, R: Draws, T: Pace, W: Wait> Model
     ghost Value = { Scene };
 
     ghost view = { λ world. record {
-      left = I.left world.input;
-      sent = O.sent world.output;
-      closed = (D.state world.door).closed;
-      given = (D.state world.door).given;
-      back = (D.state world.door).back;
-      links = (D.state world.door).links;
-      returned = (D.state world.door).returned;
-      coming = R.coming world.draws;
-      replies = (P.state world.peer).replies;
-      input_faults = I.faults world.input;
-      output_faults = O.faults world.output;
-      door_faults = D.faults world.door;
-      peer_faults = P.Source.faults world.peer;
+      input = record { left = I.left world.input; faults = I.faults world.input };
+      output = record { sent = O.sent world.output; faults = O.faults world.output };
+      door = record { state = D.state world.door; faults = D.faults world.door };
+      draws = R.coming world.draws;
+      peer = record { state = P.state world.peer; faults = P.Source.faults world.peer };
     } };
 }

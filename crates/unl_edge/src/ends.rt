@@ -1,0 +1,54 @@
+//! How a command ends.
+use unl_lines::LinesFault;
+
+/// How a check ended.
+#[derive(Clone, Copy, Debug, PartialEq, Eq)]
+pub enum CheckEnd {
+    /// All tests passed.
+    Passed,
+    /// A test failed.
+    Failed,
+    /// The input is refused, and the cause was said.
+    Refused,
+    /// The input failed.
+    ReadFault,
+    /// The output failed.
+    WriteFault,
+    /// Memory ran out.
+    OutOfMemory,
+}
+
+/// How the links of a door were served.
+#[derive(Clone, Copy, Debug, PartialEq, Eq)]
+pub enum ServingEnd {
+    /// Until the door was closed, and the count of the links was said.
+    Closed,
+    /// Until the door was closed, and then the output failed.
+    WriteFault,
+    /// Until the door failed.
+    DoorFault,
+    /// Memory ran out.
+    OutOfMemory,
+}
+
+/// How an upstream ended.
+#[derive(Clone, Copy, Debug, PartialEq, Eq)]
+pub enum UpstreamEnd {
+    /// Memory ran out before it began.
+    OutOfMemory,
+    /// Not all lines of its input were taken.
+    Lines(LinesFault),
+    /// All lines were taken, and then links were served.
+    Links(ServingEnd),
+}
+
+/// How it ended that words ask for nothing.
+#[derive(Clone, Copy, Debug, PartialEq, Eq)]
+pub enum WordsEnd {
+    /// The words are bad, and that was said.
+    Bad,
+    /// The output failed.
+    WriteFault,
+    /// Memory ran out.
+    OutOfMemory,
+}
