@@ -1,0 +1,252 @@
+-- The turns of a run, one after another.
+use Rattle.std.proofs.Common.{◌≡◌, ◌<◌, ◌≤◌, ◌+◌, ◌-◌, ◌^◌, ◌++◌, ◌∙◌, ◌⊎◌, ℕ, min, Bool, List, [], ◌∷◌, drop, length, Option, Some, None, Result, Ok, Err, true, false, true≢false, zero, suc, nat_lt, ap, append_assoc, append-nil, arith, inl, inr, refl, subst, sym}
+use Rattle.std.proofs.lemmas.Bool.Decides.{nat_tests}
+use Rattle.std.proofs.lemmas.List.{drop-drop}
+use Rattle.std.specs.Prelude.{IfSome}
+use Rattle.std.specs.Option.{option_map}
+use Rattle.unl_base.specs.declared.draws.Draw.{Draw}
+use Rattle.unl_base.specs.Doors.{next_of}
+use Rattle.unl_base.specs.Draws.{TakesDraw}
+use Rattle.unl_base.specs.Faults.{Rose}
+use Rattle.unl_base.specs.Streams.{Sends, SendsFront}
+use Rattle.unl_refresh.specs.Exchange.{IsRead}
+use Rattle.unl_follow.specs.Replica.{Subject}
+use Rattle.unl_follow.specs.declared.fault.FollowFault.{FollowFault}
+use Rattle.unl_follow.specs.declared.fault.FollowFault.TheVariants.{WriteFault, Memory}
+use Rattle.unl_refresh.specs.declared.outcome.Outcome.{Outcome}
+use Rattle.unl_follow.specs.Run.{AreAsMany, AsksOnce, Ends, Follows, Meets, RoseBy, Runs, TakesTurn}
+use Rattle.unl_follow.specs.Turns.{Came, Comes, HaveDrawn, HaveTurned, Stand, Turn, Turned, first_stand, follow_text, reply_at, stand_after, turn_line, turned_to}
+
+-- ---- what is sent
+
+Sends_nothing : (sent : Option (List ℕ)) → Sends sent [] sent
+Sends_nothing None = refl
+Sends_nothing (Some bytes) = ap Some (sym (append-nil bytes))
+
+Sends_more : (old mid new : Option (List ℕ)) (a b : List ℕ) → Sends old a mid → Sends mid b new → Sends old (a ++ b) new
+Sends_more None mid new a b first next = next ∙ ap (λ (o : Option (List ℕ)). option_map (λ sent. sent ++ b) o) first
+Sends_more (Some bytes) mid new a b first next =
+    next ∙ ap (λ (o : Option (List ℕ)). option_map (λ sent. sent ++ b) o) first ∙ ap Some (append_assoc bytes a b)
+
+front_more : (old mid new : Option (List ℕ)) (a b : List ℕ) → Sends old a mid → SendsFront mid b new → SendsFront old (a ++ b) new
+front_more old mid new a b first next = record {
+  part = a ++ next.part;
+  after = next.after;
+  split = ap (λ (bytes : List ℕ). a ++ bytes) next.split ∙ sym (append_assoc a next.part next.after);
+  sends = Sends_more old mid new a next.part first next.sends;
+}
+
+-- ---- replies that are taken
+
+taken_more : (replies : Option (List (List ℕ))) (j : ℕ)
+    → option_map (λ list. drop 1 list) (option_map (λ list. drop j list) replies) ≡ option_map (λ list. drop (j + 1) list) replies
+taken_more None j = refl
+taken_more (Some list) j = ap Some (drop_one list j)
+  where
+    drop_one : (list : List (List ℕ)) (j : ℕ) → drop 1 (drop j list) ≡ drop (j + 1) list
+    drop_one list j = drop-drop 1 j list
+
+next_is : (replies : Option (List (List ℕ))) (j : ℕ) → option_map next_of (option_map (λ list. drop j list) replies) ≡ reply_at replies j
+next_is None j = refl
+next_is (Some list) j = refl
+
+-- ---- one turn more
+
+-- the turn of what came, after turns that took so many replies and had so many faults
+record Came_on (came : Came) (replies : Option (List (List ℕ))) (i k before : ℕ) (replies_after : Option (List (List ℕ))) (after : ℕ) : Type 0 where
+  taken : ℕ
+  failed : ℕ
+  comes : Comes replies came i k taken failed
+  left : replies_after ≡ option_map (λ list. drop taken list) replies
+  counted : RoseBy failed before after
+
+later_still : (k before mid after : ℕ) → RoseBy k before mid → mid ≤ after → RoseBy k before after
+later_still k before mid after rose later = omega (arith, rose, later)
+
+one_more : (k before mid after : ℕ) → RoseBy k before mid → Rose mid after → RoseBy (k + 1) before after
+one_more k before mid after rose more = omega (arith, rose, more)
+
+came_on : (came : Came) (replies between replies_after : Option (List (List ℕ))) (i k before mid after : ℕ)
+    → between ≡ option_map (λ list. drop i list) replies → RoseBy k before mid
+    → Meets came between mid replies_after after → Came_on came replies i k before replies_after after
+came_on (Some reading) replies between replies_after i k before mid after left counted meets = record {
+  taken = i + 1;
+  failed = k;
+  comes = (subst (λ (o : Option (List ℕ)). IsRead o reading) (ap (option_map next_of) left ∙ next_is replies i) meets.0, refl, refl);
+  left = meets.1 ∙ ap (option_map (λ list. drop 1 list)) left ∙ taken_more replies i;
+  counted = later_still k before mid after counted meets.2;
+}
+came_on None replies between replies_after i k before mid after left counted (inl same, rose) = record {
+  taken = i;
+  failed = k + 1;
+  comes = (inl refl, refl);
+  left = same ∙ left;
+  counted = one_more k before mid after counted rose;
+}
+came_on None replies between replies_after i k before mid after left counted (inr one, rose) = record {
+  taken = i + 1;
+  failed = k + 1;
+  comes = (inr refl, refl);
+  left = one ∙ ap (option_map (λ list. drop 1 list)) left ∙ taken_more replies i;
+  counted = one_more k before mid after counted rose;
+}
+
+-- ---- the run so far
+
+-- so many turns were made, and this stands after them
+pub record Reached (delta : Bool) (subject : Subject) (start : Ends) (count : ℕ) (stand : Stand) (now : Ends) : Type 0 where
+  pub turns : List Turn
+  pub many : length turns ≡ count
+  pub stands : stand ≡ stand_after delta turns
+  pub follows : Follows Sends delta subject start turns now
+
+pub Reached_begin : (delta : Bool) (subject : Subject) (start : Ends) (stand : Stand) → stand ≡ first_stand
+    → Reached delta subject start 0 stand start
+unfolding stand_after follow_text
+Reached_begin delta subject start stand first = record {
+  turns = [];
+  many = refl;
+  stands = first;
+  follows = record {
+    taken = 0;
+    failed = 0;
+    turned = (refl, refl);
+    left = same_replies start.replies;
+    counted = omega arith;
+    drawn = refl;
+    sends = Sends_nothing start.sent;
+  };
+}
+  where
+    same_replies : (replies : Option (List (List ℕ))) → replies ≡ option_map (λ list. drop 0 list) replies
+    same_replies None = refl
+    same_replies (Some list) = refl
+
+-- the turns with one more, of which a text was sent by a relation that goes on after what was sent whole
+turns_more : (Sent : Option (List ℕ) → List ℕ → Option (List ℕ) → Type 0)
+    → ((old mid new : Option (List ℕ)) (a b : List ℕ) → Sends old a mid → Sent mid b new → Sent old (a ++ b) new)
+    → (delta : Bool) (subject : Subject) (start mid now : Ends) (count : ℕ) (stand next : Stand) (reached : Reached delta subject start count stand mid)
+    → (takes : TakesTurn Sent delta subject (count + 1) stand mid next now) → Follows Sent delta subject start (takes.turn ∷ reached.turns) now
+unfolding follow_text
+turns_more Sent goes_on delta subject start mid now count stand next reached takes =
+    let on = came_on takes.turn.came start.replies mid.replies now.replies reached.follows.taken reached.follows.failed start.faults mid.faults now.faults
+    reached.follows.left reached.follows.counted takes.meets in
+    record {
+      taken = on.taken;
+      failed = on.failed;
+      turned = (reached.follows.taken, reached.follows.failed, reached.follows.turned, on.comes);
+      left = on.left;
+      counted = on.counted;
+      drawn = (mid.coming, reached.follows.drawn, takes.drawn);
+      sends = goes_on start.sent mid.sent now.sent (follow_text delta subject reached.turns) _ reached.follows.sends
+          (subst (λ (k : ℕ). Sent mid.sent (turn_line subject (k + 1) takes.turn.draw (turned_to delta (stand_after delta reached.turns) takes.turn.came)) now.sent) (sym reached.many)
+          (subst (λ (s : Stand). Sent mid.sent (turn_line subject (count + 1) takes.turn.draw (turned_to delta s takes.turn.came)) now.sent) reached.stands takes.sends));
+    }
+
+-- one turn more
+pub Reached_more : (delta : Bool) (subject : Subject) (start mid now : Ends) (count : ℕ) (stand next : Stand) → Reached delta subject start count stand mid
+    → TakesTurn Sends delta subject (count + 1) stand mid next now → Reached delta subject start (count + 1) next now
+unfolding stand_after
+Reached_more delta subject start mid now count stand next reached takes = record {
+  turns = takes.turn ∷ reached.turns;
+  many = omega (arith, reached.many);
+  stands = takes.stands ∙ ap (λ (s : Stand). (turned_to delta s takes.turn.came).stand) reached.stands;
+  follows = turns_more Sends Sends_more delta subject start mid now count stand next reached takes;
+}
+
+-- one turn more, of whose line a front was sent
+pub Reached_cut : (delta : Bool) (subject : Subject) (start mid now : Ends) (count : ℕ) (stand next : Stand) → Reached delta subject start count stand mid
+    → TakesTurn SendsFront delta subject (count + 1) stand mid next now → (turns : List Turn) × Follows SendsFront delta subject start turns now
+Reached_cut delta subject start mid now count stand next reached takes =
+    (takes.turn ∷ reached.turns, turns_more SendsFront front_more delta subject start mid now count stand next reached takes)
+
+-- ---- the pace
+
+-- so many turns were made at this pace: each but the first took one of its own
+pub record Paced (start now : Option ℕ) (made : ℕ) : Type 0 where
+  pub left : now ≡ option_map (λ n. n - (made - 1)) start
+  pub most : IfSome start (λ n. made ≤ n + 1)
+
+pub Paced_begin : (start : Option ℕ) → Paced start start 0
+Paced_begin None = record { left = refl; most = tt }
+Paced_begin (Some n) = let number : n ≡ n - (0 - 1) = omega arith in record { left = ap Some number; most = omega arith }
+
+pub Paced_first : (start mid now : Option ℕ) (made : ℕ) → Paced start mid made → made ≡ 0 → now ≡ mid → Paced start now (made + 1)
+Paced_first None mid now made paced first same = record { left = same ∙ paced.left; most = tt }
+Paced_first (Some n) mid now made paced first same =
+    let number : n - (made - 1) ≡ n - (made + 1 - 1) = omega (arith, first) in
+    record { left = same ∙ paced.left ∙ ap Some number; most = omega (arith, first) }
+
+pub Paced_more : (start mid now : Option ℕ) (made : ℕ) → Paced start mid made → 0 < made
+    → now ≡ option_map (λ n. n - 1) mid → IfSome mid (λ n. true ≡ nat_lt 0 n) → Paced start now (made + 1)
+Paced_more None mid now made paced later takes told = record { left = takes ∙ ap (option_map (λ n. n - 1)) paced.left; most = tt }
+Paced_more (Some n) mid now made paced later takes told =
+    let number : n - (made - 1) - 1 ≡ n - (made + 1 - 1) = omega (arith, later) in
+    let more : true ≡ nat_lt 0 (n - (made - 1)) = subst (λ (o : Option ℕ). IfSome o (λ n. true ≡ nat_lt 0 n)) paced.left told in
+    let few : made + 1 ≤ n + 1 = grind (arith, nat_tests) in
+    record { left = takes ∙ ap (option_map (λ n. n - 1)) paced.left ∙ ap Some number; most = few }
+
+-- all turns that were asked for were made
+pub all_made : (asked made : ℕ) (start now : Option ℕ) (turns : List Turn) → Paced start now made → length turns ≡ made → made ≡ asked
+    → AreAsMany asked start turns
+all_made asked made None now turns paced many all = omega (arith, many, all)
+all_made asked made (Some n) now turns paced many all = omega (arith, many, all, paced.most)
+
+-- the pace had no more
+pub pace_ended : (asked made : ℕ) (start mid : Option ℕ) (turns : List Turn) → Paced start mid made → length turns ≡ made → made < asked
+    → 0 < made → IfSome mid (λ n. false ≡ nat_lt 0 n) → AreAsMany asked start turns
+pace_ended asked made None mid turns paced many few later told = omega (arith, many, few)
+pace_ended asked made (Some n) mid turns paced many few later told =
+    let none : false ≡ nat_lt 0 (n - (made - 1)) = subst (λ (o : Option ℕ). IfSome o (λ n. false ≡ nat_lt 0 n)) paced.left told in
+    let most : made ≤ n + 1 = paced.most in
+    let over : n + 1 ≤ made = grind (arith, nat_tests) in
+    omega (arith, many, few, most, over)
+
+-- each turn but the first had one of the pace
+pub went_on : (start mid now : Option ℕ) (made : ℕ) → Paced start mid made → (made ≡ 0 → (true ≡ true) × (now ≡ mid))
+    → (0 < made → now ≡ option_map (λ n. n - 1) mid) → (0 < made → IfSome mid (λ n. true ≡ nat_lt 0 n)) → Paced start now (made + 1)
+went_on start mid now zero paced first takes told = Paced_first start mid now zero paced refl (first refl).1
+went_on start mid now (suc made) paced first takes told =
+    let later : 0 < suc made = omega arith in Paced_more start mid now (suc made) paced later (takes later) (told later)
+
+-- the run stopped where the pace had no more
+pub stopped : (asked made : ℕ) (start mid now : Option ℕ) (turns : List Turn) → Paced start mid made → length turns ≡ made → made < asked
+    → (made ≡ 0 → (false ≡ true) × (now ≡ mid)) → (0 < made → IfSome mid (λ n. false ≡ nat_lt 0 n)) → AreAsMany asked start turns
+stopped asked zero start mid now turns paced many few first told = absurd (true≢false (sym (first refl).0))
+stopped asked (suc made) start mid now turns paced many few first told =
+    let later : 0 < suc made = omega arith in pace_ended asked (suc made) start mid turns paced many few later (told later)
+
+-- ---- one turn of the code
+
+pub turn_taken : (Sent : Option (List ℕ) → List ℕ → Option (List ℕ) → Type 0) (delta : Bool) (subject : Subject) (number : ℕ)
+    (stand next : Stand) (before after : Ends) (draw : Draw) (outcome : Option Outcome) (line : List ℕ)
+    → TakesDraw before.coming draw after.coming
+    → AsksOnce delta stand before.replies before.faults (record { outcome = outcome; stand = next }) after.replies after.faults
+    → line ≡ turn_line subject number draw (record { outcome = outcome; stand = next })
+    → Sent before.sent line after.sent → TakesTurn Sent delta subject number stand before next after
+turn_taken Sent delta subject number stand next before after draw outcome line drawn asks same sends = record {
+  turn = record { draw = draw; came = asks.came };
+  drawn = drawn;
+  meets = asks.meets;
+  stands = ap (λ (t : Turned). t.stand) asks.turned_so;
+  sends = subst (λ (bytes : List ℕ). Sent before.sent bytes after.sent)
+      (same ∙ ap (λ (t : Turned). turn_line subject number draw t) asks.turned_so) sends;
+}
+
+-- one turn more, which asked as the run does
+pub Reached_next : (delta asked : Bool) → asked ≡ delta → (subject : Subject) (start mid now : Ends) (count : ℕ) (stand next : Stand)
+    → Reached delta subject start count stand mid → TakesTurn Sends asked subject (count + 1) stand mid next now
+    → Reached delta subject start (count + 1) next now
+Reached_next delta asked same subject start mid now count stand next reached takes =
+    Reached_more delta subject start mid now count stand next reached
+    (subst (λ (d : Bool). TakesTurn Sends d subject (count + 1) stand mid next now) same takes)
+
+-- the run after a turn that failed
+pub cut_runs : {T : Type 0} (delta asked : Bool) → asked ≡ delta → (subject : Subject) (start mid now : Ends) (count : ℕ) (stand next : Stand)
+    (most : ℕ) (pace : Option ℕ) (result : Result T FollowFault) (fault : FollowFault) → Reached delta subject start count stand mid
+    → result ≡ Err fault → (result ≡ Err WriteFault → TakesTurn SendsFront asked subject (count + 1) stand mid next now)
+    → Runs {T = T} most pace delta subject start (Err fault) now
+cut_runs delta asked same subject start mid now count stand next most pace result WriteFault reached is cut =
+    Reached_cut delta subject start mid now count stand next reached
+    (subst (λ (d : Bool). TakesTurn SendsFront d subject (count + 1) stand mid next now) same (cut is))
+cut_runs delta asked same subject start mid now count stand next most pace result Memory reached is cut = tt

@@ -1,0 +1,4 @@
+pub mod Line
+pub mod Replica
+pub mod Run
+pub mod Turns

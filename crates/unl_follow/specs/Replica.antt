@@ -1,0 +1,49 @@
+-- What is known of a replica, and what it evaluates.
+use Rattle.std.specs.Prelude.{◌≡◌, ℕ, Bool, List, [], ◌∷◌, Option, Some, None, Result, Ok, Err}
+use Rattle.unl_context.specs.Context.{Fields}
+use Rattle.unl_delta.specs.declared.batch.Batch.{Batch}
+use Rattle.unl_delta.specs.declared.version.EnvVersion.{EnvVersion}
+use Rattle.unl_delta.specs.declared.version.Place.{Place}
+use Rattle.unl_delta.specs.Batch.{empty_place}
+use Rattle.unl_delta.specs.History.{Era, IsSent}
+use Rattle.unl_delta.specs.Installing.{Installed}
+use Rattle.unl_delta.specs.View.{Sees}
+use Rattle.unl_dependencies.specs.declared.evaluation.Evaluation.{Evaluation}
+use Rattle.unl_dependencies.specs.Evaluation.{evaluation_of}
+use Rattle.unl_http_api.specs.declared.got.Got.{Got}
+use Rattle.unl_refresh.specs.Exchange.{IsRead}
+use Rattle.unl_refresh.specs.Refresh.{batch_in, number_held}
+use Rattle.unl_strategies.specs.Moment.{Moment}
+use Rattle.unl_tokens.specs.declared.token.Token.{Token}
+use Rattle.unl_follow.specs.declared.fault.ReplicaRefusal.{ReplicaRefusal}
+use Rattle.unl_follow.specs.declared.fault.ReplicaRefusal.TheVariants.{NotReady}
+
+-- the one place, the number of publications, and the book
+pub record Kept : Type 0 where
+  pub place : Place
+  pub front : ℕ
+  pub book : List Token
+
+-- what a replica keeps before its first ask
+abbrev pub new_replica : Kept
+new_replica = record { place = empty_place; front = 0; book = [] }
+
+-- the same as of one who keeps places: the slot 0 alone
+abbrev pub installed_by : Kept → Installed
+installed_by kept = record { places = kept.place ∷ []; front = kept.front; book = kept.book }
+
+-- the feature that a run tells of, and the context that it is evaluated in
+pub record Subject : Type 0 where
+  pub feature : List ℕ
+  pub context : Fields
+
+-- the evaluation over the state of a version; without a version there is none
+abbrev pub found_in : Option EnvVersion → List ℕ → Fields → Moment → Result (Option Evaluation) ReplicaRefusal
+found_in None name context moment = Err NotReady
+found_in (Some version) name context moment = Ok (evaluation_of version.state name context moment)
+
+-- each batch that the bytes to come, or any bytes where these are not told, bring to the place is sent of the line
+abbrev pub Brings : List Era → Sees → Bool → Place → Option (List ℕ) → Type 0
+Brings line sees delta place coming =
+    (got : Got) (batch : Batch) → IsRead coming (Ok got) → got.status ≡ 200
+    → batch_in delta (number_held place) got.body ≡ Ok batch → IsSent line sees batch

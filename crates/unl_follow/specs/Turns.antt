@@ -1,0 +1,97 @@
+-- What a replica prints of its turns. Turns stand with the last one first.
+use Rattle.std.specs.Prelude.{◌≡◌, ℕ, ◌+◌, ◌⊎◌, Bool, List, [], ◌∷◌, ◌++◌, drop, length, Option, Some, None, option_map, Result}
+use Rattle.unl_base.specs.declared.draws.Draw.{Draw}
+use Rattle.unl_base.specs.Doors.{next_of}
+use Rattle.unl_base.specs.Draws.{TakesDraw}
+use Rattle.unl_delta.specs.declared.version.EnvVersion.{EnvVersion}
+use Rattle.unl_delta.specs.Installing.{Installed, place_of}
+use Rattle.unl_http_api.specs.declared.got.BadReply.{BadReply}
+use Rattle.unl_http_api.specs.declared.got.Got.{Got}
+use Rattle.unl_refresh.specs.declared.outcome.Outcome.{Outcome}
+use Rattle.unl_refresh.specs.Exchange.{IsRead}
+use Rattle.unl_refresh.specs.Refresh.{Refreshed, after_reading}
+use Rattle.unl_strategies.specs.Moment.{Moment}
+use Rattle.unl_follow.specs.Line.{line_of, number_text, on_text, word_of}
+use Rattle.unl_follow.specs.Replica.{Subject, found_in, installed_by, new_replica}
+
+-- what came of an ask: a reply, by what it was read as, or a fault of the peer
+abbrev pub Came : Type 0
+Came = Option (Result Got BadReply)
+
+-- a turn: its draw, and what came
+pub record Turn : Type 0 where
+  pub draw : Draw
+  pub came : Came
+
+-- what stands between two turns: what is kept, and the tag of the next ask
+pub record Stand : Type 0 where
+  pub installed : Installed
+  pub tag : Option (List ℕ)
+
+-- what a turn comes to: its outcome, or none at a fault, and what stands then
+pub record Turned : Type 0 where
+  pub outcome : Option Outcome
+  pub stand : Stand
+
+-- what stands before the first turn
+abbrev pub first_stand : Stand
+first_stand = record { installed = installed_by new_replica; tag = None }
+
+-- what a refresh comes to
+abbrev pub turned_by : Refreshed → Turned
+turned_by after = record { outcome = Some after.outcome; stand = record { installed = after.installed; tag = after.tag } }
+
+-- by what came: a fault takes nothing, and the next ask has no tag
+unfoldable pub turned_to : Bool → Stand → Came → Turned
+turned_to delta before None = record { outcome = None; stand = record { installed = before.installed; tag = None } }
+turned_to delta before (Some reading) = turned_by (after_reading 0 delta before.tag before.installed reading)
+
+-- what stands after these turns
+unfoldable pub stand_after : Bool → List Turn → Stand
+stand_after delta [] = first_stand
+stand_after delta (turn ∷ earlier) = (turned_to delta (stand_after delta earlier) turn.came).stand
+
+-- the version of the place
+abbrev pub version_in : Stand → Option EnvVersion
+version_in stand = (place_of stand.installed 0).version
+
+-- the moment of a draw, on a host without a name
+abbrev pub moment_of : Draw → Moment
+moment_of draw = record { now = draw.now; word = draw.word; host = [] }
+
+-- the line of the turn of a number, by its draw and what it came to
+unfoldable pub turn_line : Subject → ℕ → Draw → Turned → List ℕ
+turn_line subject k draw turned =
+    line_of k (word_of turned.outcome) (number_text (version_in turned.stand))
+    (on_text (found_in (version_in turned.stand) subject.feature subject.context (moment_of draw)))
+
+-- what is printed of these turns, asked for deltas or for whole feeds: one line for each, in order
+unfoldable pub follow_text : Bool → Subject → List Turn → List ℕ
+follow_text delta subject [] = []
+follow_text delta subject (turn ∷ earlier) =
+    follow_text delta subject earlier
+    ++ turn_line subject (length earlier + 1) turn.draw (turned_to delta (stand_after delta earlier) turn.came)
+
+-- ---- where the turns come from
+
+-- what the connect after so many others gives to read, where it is told
+abbrev pub reply_at : Option (List (List ℕ)) → ℕ → Option (List ℕ)
+reply_at replies j = option_map (λ list. next_of (drop j list)) replies
+
+-- A turn came after others that took so many replies and had so many faults. A reply is the next one, and takes it. A fault
+-- is one more, and may have taken one.
+abbrev pub Comes : Option (List (List ℕ)) → Came → ℕ → ℕ → ℕ → ℕ → Type 0
+Comes replies (Some reading) i k j m = IsRead (reply_at replies i) reading × (j ≡ i + 1) × (m ≡ k)
+Comes replies None i k j m = ((j ≡ i) ⊎ (j ≡ i + 1)) × (m ≡ k + 1)
+
+-- these turns took j of the replies and had m faults
+abbrev pub HaveTurned : Option (List (List ℕ)) → List Turn → ℕ → ℕ → Type 0
+HaveTurned replies [] j m = (j ≡ 0) × (m ≡ 0)
+HaveTurned replies (turn ∷ earlier) j m =
+    (i : ℕ) × (k : ℕ) × HaveTurned replies earlier i k × Comes replies turn.came i k j m
+
+-- these turns took their draws one after another
+abbrev pub HaveDrawn : Option (List Draw × Draw) → List Turn → Option (List Draw × Draw) → Type 0
+HaveDrawn coming [] after = after ≡ coming
+HaveDrawn coming (turn ∷ earlier) after =
+    (between : Option (List Draw × Draw)) × HaveDrawn coming earlier between × TakesDraw between turn.draw after

@@ -1,0 +1,63 @@
+//! Why a replica evaluates nothing, and why a run ended early.
+ghost use Rattle.std.specs.Prelude.{◌≡◌};
+ghost use Rattle.unl_follow.specs.declared.fault.FollowFault.TheVariants.{Memory as want, WriteFault as write_fault};
+ghost use Rattle.unl_follow.specs.declared.fault.ReplicaRefusal.TheVariants.{Memory as no_memory};
+
+use std::alloc::AllocError;
+use thiserror::Error;
+use unl_base::Failed;
+use unl_documents as documents;
+
+/// Why a replica evaluates nothing.
+#[derive(Clone, Copy, Debug, PartialEq, Eq, Error)]
+pub enum ReplicaRefusal {
+    /// The place has no version yet.
+    #[error("nothing stands yet")]
+    NotReady,
+    /// Memory ran out.
+    #[error("out of memory")]
+    Memory,
+}
+
+impl From<documents::Memory> for ReplicaRefusal {
+    ghost from_gives = { λ _ refusal. refusal ≡ no_memory };
+
+    fn from(_: documents::Memory) -> ReplicaRefusal {
+        ReplicaRefusal::Memory
+    }
+}
+
+/// Why a run ended before its last turn was told.
+#[derive(Clone, Copy, Debug, PartialEq, Eq, Error)]
+pub enum FollowFault {
+    /// The sink failed, which has counted it.
+    #[error("the output failed")]
+    WriteFault,
+    /// Memory ran out.
+    #[error("out of memory")]
+    Memory,
+}
+
+impl From<Failed> for FollowFault {
+    ghost from_gives = { λ _ fault. fault ≡ write_fault };
+
+    fn from(_: Failed) -> FollowFault {
+        FollowFault::WriteFault
+    }
+}
+
+impl From<documents::Memory> for FollowFault {
+    ghost from_gives = { λ _ fault. fault ≡ want };
+
+    fn from(_: documents::Memory) -> FollowFault {
+        FollowFault::Memory
+    }
+}
+
+impl From<AllocError> for FollowFault {
+    ghost from_gives = { λ _ fault. fault ≡ want };
+
+    fn from(_: AllocError) -> FollowFault {
+        FollowFault::Memory
+    }
+}

@@ -1,0 +1,87 @@
+//! Turn by turn.
+ghost use Rattle.std.specs.Prelude.{◌≡◌, ◌<◌, ◌≤◌, ◌-◌, true, None, IfSome, IsTrue, Err, nat_lt, option_map};
+ghost use Rattle.unl_base.specs.Faults.{Rose};
+ghost use Rattle.unl_follow.specs.Run.{Runs};
+ghost use Rattle.unl_http_api.specs.RequestText.{fits_line};
+
+use crate::fault::FollowFault;
+use crate::replica::Replica;
+use crate::subject::Subject;
+use crate::turn::turn;
+use std::alloc::Global;
+use unl_base::{Draws, Pace, Peer, Sink};
+use unl_refresh::Ask;
+
+/// Follows a server with a new replica for so many turns, and tells of a feature at each. Each turn but the first waits
+/// for the pace; where that has no further turn, the run ends. A turn takes one draw, asks once, and prints
+/// `turn K W number N on B`: K counts from 1; W is `published`, `unchanged`, `repeat`, `old`, `gap`, `held`, `refused` and
+/// a status, `bad` or `fault`; N is where the place stands then, or `-`; B is `true`, `false`, or `-` where there is no
+/// version or no such feature. The evaluation is at the draw's moment, on a host without a name.
+///
+/// # Errors
+/// `WriteFault` where the sink fails, after a front of the turns' text, or want of memory. A fault of the peer ends no run.
+pub fn follow<P: Peer, R: Draws, T: Pace, K: Sink>(
+    alloc: Global,
+    subject: &Subject<'_>,
+    mut ask: Ask,
+    turns: u32,
+    peer: &mut P,
+    draws: &mut R,
+    pace: &mut T,
+    sink: &mut K,
+) -> Result<(), FollowFault>
+    requires host { IsTrue (fits_line ask.host) }
+    requires token { IsTrue (fits_line ask.token) }
+    requires new { ask.tag ≡ None }
+    // As many turns were made as were asked for and the pace had, of the replies and draws that came, and their text was
+    // sent; at a failed write a front of it.
+    ensures runs { Runs turns (T.turns pace.old) ask.delta subject.now
+        (record {
+          replies = (P.state peer.old).replies;
+          faults = P.Source.faults peer.old;
+          coming = R.coming draws.old;
+          sent = K.sent sink.old;
+        })
+        result
+        (record {
+          replies = (P.state peer.new).replies;
+          faults = P.Source.faults peer.new;
+          coming = R.coming draws.new;
+          sent = K.sent sink.new;
+        }) }
+    ensures later { K.faults sink.old ≤ K.faults sink.new }
+    ensures cause { result ≡ Err FollowFault.WriteFault → Rose (K.faults sink.old) (K.faults sink.new) }
+{
+    let mut replica = Replica::new(alloc);
+    for made in 0..turns {
+        if !goes_on(made, pace) {
+            return Ok(());
+        }
+        match turn(
+            alloc,
+            made + 1,
+            subject,
+            &mut replica,
+            &mut ask,
+            peer,
+            draws,
+            sink,
+        ) {
+            Ok(()) => (),
+            Err(fault) => return Err(fault),
+        }
+    }
+    Ok(())
+}
+
+/// Whether there is a turn after so many: there is a first one, and each other one waits for the pace.
+fn goes_on<T: Pace>(made: u32, pace: &mut T) -> bool
+    ensures first { made ≡ 0 → (result ≡ true) × (T.turns pace.new ≡ T.turns pace.old) }
+    ensures takes { 0 < made → T.turns pace.new ≡ option_map (λ n. n - 1) (T.turns pace.old) }
+    ensures told { 0 < made → IfSome (T.turns pace.old) (λ n. result ≡ nat_lt 0 n) }
+{
+    if made == 0 {
+        return true;
+    }
+    pace.more()
+}

@@ -1,0 +1,20 @@
+//! What a run tells of.
+use std::marker::Model;
+use unl_context::Context;
+
+/// The feature that a run tells of, and the context that it is evaluated in.
+#[derive(Debug, Drop)]
+pub struct Subject<'a> {
+    /// The name of the feature.
+    pub feature: &'a str,
+    /// The context, in its environment.
+    pub context: &'a Context,
+}
+
+impl<'a> Model for Subject<'a> {
+    ghost use Rattle.unl_follow.specs.Replica.{Subject as Plain};
+
+    ghost Value = { Plain };
+
+    ghost view = { λ subject. record { feature = subject.feature.now; context = subject.context.now } };
+}

@@ -1,0 +1,126 @@
+//! One turn: an ask, and the line that tells of it.
+ghost use Rattle.std.specs.Prelude.{◌≡◌, ℕ, ◌<◌, ◌≤◌, ◌+◌, ◌-◌, ◌^◌, List, Option, Err, IfOk, IsTrue, OnOk, string_bytes};
+ghost use Rattle.unl_base.specs.Faults.{Rose};
+ghost use Rattle.unl_base.specs.Streams.{Sends, SendsFront};
+ghost use Rattle.unl_follow.specs.Replica.{installed_by};
+ghost use Rattle.unl_follow.specs.Run.{AsksOnce, TakesTurn};
+ghost use Rattle.unl_follow.specs.Turns.{moment_of, turn_line};
+ghost use Rattle.unl_http_api.specs.RequestText.{fits_if_any, fits_line};
+ghost use Rattle.unl_refresh.specs.Refresh.{with_tag};
+
+use crate::fault::FollowFault;
+use crate::line::line;
+use crate::once::follow_once;
+use crate::replica::Replica;
+use crate::subject::Subject;
+use std::alloc::Global;
+use unl_base::{Draw, Draws, Peer, Sink, write_all};
+use unl_documents::Memory;
+use unl_refresh::{Ask, Outcome, RefreshFault};
+use unl_strategies::Moment;
+
+/// Makes the turn of a number: takes one draw, asks once, and sends the line of what came of it.
+pub(crate) fn turn<P: Peer, R: Draws, K: Sink>(
+    alloc: Global,
+    number: u32,
+    subject: &Subject<'_>,
+    replica: &mut Replica,
+    ask: &mut Ask,
+    peer: &mut P,
+    draws: &mut R,
+    sink: &mut K,
+) -> Result<(), FollowFault>
+    requires front { replica.old.front < 2 ^ 64 - 1 }
+    requires host { IsTrue (fits_line ask.old.host) }
+    requires token { IsTrue (fits_line ask.old.token) }
+    requires tag { IsTrue (fits_if_any ask.old.tag) }
+    ensures turn { OnOk result (TakesTurn Sends ask.old.delta subject.now number
+        (record { installed = installed_by replica.old; tag = ask.old.tag })
+        (record {
+          replies = (P.state peer.old).replies;
+          faults = P.Source.faults peer.old;
+          coming = R.coming draws.old;
+          sent = K.sent sink.old;
+        })
+        (record { installed = installed_by replica.new; tag = ask.new.tag })
+        (record {
+          replies = (P.state peer.new).replies;
+          faults = P.Source.faults peer.new;
+          coming = R.coming draws.new;
+          sent = K.sent sink.new;
+        })) }
+    ensures cut { result ≡ Err FollowFault.WriteFault → TakesTurn SendsFront ask.old.delta subject.now number
+        (record { installed = installed_by replica.old; tag = ask.old.tag })
+        (record {
+          replies = (P.state peer.old).replies;
+          faults = P.Source.faults peer.old;
+          coming = R.coming draws.old;
+          sent = K.sent sink.old;
+        })
+        (record { installed = installed_by replica.new; tag = ask.new.tag })
+        (record {
+          replies = (P.state peer.new).replies;
+          faults = P.Source.faults peer.new;
+          coming = R.coming draws.new;
+          sent = K.sent sink.new;
+        }) }
+    ensures same_ask { ask.new ≡ with_tag ask.new.tag ask.old }
+    ensures next_tag { IsTrue (fits_if_any ask.new.tag) }
+    ensures next_front { replica.new.front ≤ replica.old.front + 1 }
+    ensures later { K.faults sink.old ≤ K.faults sink.new }
+    ensures cause { result ≡ Err FollowFault.WriteFault → Rose (K.faults sink.old) (K.faults sink.new) }
+{
+    let draw = draws.draw();
+    let outcome = ask_once(alloc, replica, ask, peer)?;
+    let line = told(alloc, number, &outcome, replica, subject, &draw)?;
+    write_all(sink, line.as_bytes())?;
+    Ok(())
+}
+
+/// Asks once. A fault of the peer has no outcome, and want of memory is the one fault that is told.
+fn ask_once<P: Peer>(
+    alloc: Global,
+    replica: &mut Replica,
+    ask: &mut Ask,
+    peer: &mut P,
+) -> Result<Option<Outcome>, Memory>
+    requires front { replica.old.front < 2 ^ 64 - 1 }
+    requires host { IsTrue (fits_line ask.old.host) }
+    requires token { IsTrue (fits_line ask.old.token) }
+    requires tag { IsTrue (fits_if_any ask.old.tag) }
+    ensures asks { IfOk result (λ outcome. AsksOnce ask.old.delta
+        (record { installed = installed_by replica.old; tag = ask.old.tag })
+        (P.state peer.old).replies (P.Source.faults peer.old)
+        (record { outcome = outcome; stand = record { installed = installed_by replica.new; tag = ask.new.tag } })
+        (P.state peer.new).replies (P.Source.faults peer.new)) }
+    ensures same_ask { ask.new ≡ with_tag ask.new.tag ask.old }
+    ensures next_tag { IsTrue (fits_if_any ask.new.tag) }
+    ensures next_front { replica.new.front ≤ replica.old.front + 1 }
+{
+    match follow_once(alloc, replica, ask, peer) {
+        Ok(outcome) => Ok(Some(outcome)),
+        Err(RefreshFault::PeerFault) => Ok(None),
+        Err(RefreshFault::Memory) => Err(Memory),
+    }
+}
+
+/// The line of a turn, by its draw.
+#[tactic(auto, unfolding(crate::specs::Turns::turn_line))]
+fn told(
+    alloc: Global,
+    number: u32,
+    outcome: &Option<Outcome>,
+    replica: &Replica,
+    subject: &Subject<'_>,
+    draw: &Draw,
+) -> Result<String, Memory>
+    ensures { (tag : Option (List ℕ)) → IfOk result (λ line. string_bytes line ≡ turn_line subject.now number draw.entry.now
+        (record { outcome = outcome.now; stand = record { installed = installed_by replica.now; tag = tag } })) }
+{
+    let moment = Moment {
+        now: draw.now,
+        word: draw.word,
+        host: "",
+    };
+    line(alloc, number, outcome, replica, subject, &moment)
+}
