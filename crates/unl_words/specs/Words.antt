@@ -6,7 +6,8 @@ use Rattle.clap.specs.Words.{App, Kinds, Row, Rule, Text, fault_of, first_of, ma
 use Rattle.clap.specs.declared.builder.action.ArgAction.TheVariants.{Set}
 use Rattle.unl_documents.specs.Results.{◌>>=◌, Gives}
 use Rattle.unl_words.specs.Lists.{are_environments, are_own_tokens, are_tokens, are_upstream_tokens, fit_one_book, items_of, token_of}
-use Rattle.unl_words.specs.Values.{address_of, context_by, line_of, mode_or_delta, name_of, number_or, or_empty, passed, required, secret_of}
+use Rattle.unl_words.specs.Values.{address_of, context_by, line_of, mode_or_delta, name_of, number_or, or_empty, passed, required}
+use Rattle.unl_words.specs.Values.{secret_of}
 use Rattle.unl_words.specs.declared.refusal.WordsRefusal.{WordsRefusal}
 use Rattle.unl_words.specs.declared.refusal.WordsRefusal.TheVariants.{Bad, Memory}
 use Rattle.unl_words.specs.declared.words.Words.{Words}

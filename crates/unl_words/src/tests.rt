@@ -262,16 +262,9 @@ fn follow_words(rt: HostRuntime) -> Result<(), Fail> {
     let defaults = follow(alloc, "*:dev.s", "", true, 1, 15)?;
     let line = "follow --upstream up:1 --token *:dev.s --feature f";
     assert!(rt; reads(alloc, line, &Ok(defaults)) == Some(true));
-    let all = follow(
-        alloc,
-        "[]:dev.s",
-        "userId=7&plan=a+b",
-        false,
-        1_000_000,
-        3600,
-    )?;
+    let all = follow(alloc, "[]:dev.s", "a=b+c", false, 1_000_000, 3600)?;
     let line =
-        "follow --interval 3600 --turns=1000000 --mode feed --context userId=7&plan=a+b         --feature f --token=[]:dev.s --upstream up:1";
+        "follow --interval 3600 --turns=1000000 --mode feed --context a=b+c --feature f --token=[]:dev.s --upstream up:1";
     assert!(rt; reads(alloc, line, &Ok(all)) == Some(true));
     let (up, token, feature) = ("--upstream=up:1", "--token=*:dev.s", "--feature=f");
     let table = [

@@ -48,10 +48,11 @@ loop-made-preserved g c =
 pub returns-then-not-goes_on-clause-runs : goal.returns-then-not-goes_on-clause-runs
 returns-then-not-goes_on-clause-runs g c =
     let so_far = c.loop-made.invariant in
-    let paces = c.if-not-goes_on.ensures in
-    (so_far.reached.turns,
-    stopped _ _ _ _ _ _ so_far.paced so_far.reached.many c.loop-made-test.true paces.first paces.told,
-    so_far.reached.follows)
+    let paces = c.if-not-goes_on.ensures in (
+      so_far.reached.turns,
+      stopped _ _ _ _ _ _ so_far.paced so_far.reached.many c.loop-made-test.true paces.first paces.told,
+      so_far.reached.follows,
+    )
 
 pub returns-then-not-goes_on-clause-later : goal.returns-then-not-goes_on-clause-later
 returns-then-not-goes_on-clause-later g c = c.loop-made.invariant.later
@@ -70,10 +71,11 @@ returns-in-Err-clause-cause g c is = omega (arith, c.loop-made.invariant.later, 
 
 pub returns-clause-runs : goal.returns-clause-runs
 returns-clause-runs g c =
-    let so_far = c.loop-made.invariant in
-    (so_far.reached.turns,
-    all_made _ _ _ _ _ so_far.paced so_far.reached.many (omega (arith, c.loop-made.auto.made-end, c.loop-made-test.false)),
-    so_far.reached.follows)
+    let so_far = c.loop-made.invariant in (
+      so_far.reached.turns,
+      all_made _ _ _ _ _ so_far.paced so_far.reached.many (omega (arith, c.loop-made.auto.made-end, c.loop-made-test.false)),
+      so_far.reached.follows,
+    )
 
 pub returns-clause-later : goal.returns-clause-later
 returns-clause-later g c = c.loop-made.invariant.later
