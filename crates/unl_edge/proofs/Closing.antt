@@ -1,13 +1,16 @@
 -- How an edge ends that has taken its first draw.
-use Rattle.std.proofs.Common.{◌≡◌, ◌+◌, ℕ, List, Option, sym, subst}
+use Rattle.std.proofs.Common.{◌≡◌, ◌+◌, ℕ, List, Option, Result, Ok, Err, refl, sym, subst}
+use Rattle.std.specs.Prelude.{OnOk, IsErrOf}
 use Rattle.unl_base.specs.Doors.{IsClosed}
 use Rattle.unl_base.specs.Streams.{Sends, SendsFront}
 use Rattle.unl_base.specs.declared.draws.Draw.{Draw}
 use Rattle.unl_edge.specs.Edges.{AsksPeer, EdgeEnds, HandsBack}
 use Rattle.unl_edge.specs.Scene.{Scene}
-use Rattle.unl_edge.specs.Upstreams.{connections_line}
+use Rattle.unl_edge.specs.Upstreams.{connections_line, line_end}
 use Rattle.unl_edge.specs.declared.ends.ServingEnd.{ServingEnd}
 use Rattle.unl_edge.specs.declared.ends.ServingEnd.TheVariants.{Closed, WriteFault, DoorFault, OutOfMemory}
+use Rattle.unl_input.specs.declared.refusal.SayFault.{SayFault}
+use Rattle.unl_input.specs.declared.refusal.SayFault.TheVariants as say
 
 -- a draw changes nothing of how an edge ends
 drawn_ends : (slots : ℕ) (end : ServingEnd) (before after : Scene) (draws : Option (List Draw × Draw))
@@ -48,3 +51,19 @@ broken_ends slots served before middle after same hands asks sent closed =
   where
     ends : EdgeEnds slots WriteFault middle after
     ends = (served, hands, asks, sent, closed)
+
+-- the same, by how the line was sent
+pub told_ends : (slots served : ℕ) (told : Result Unit SayFault) (end : ServingEnd) (before middle after : Scene)
+    → end ≡ line_end told → before ≡ middle → HandsBack served middle after → AsksPeer (slots + 1) middle after
+    → OnOk told (Sends middle.output.sent (connections_line served) after.output.sent)
+    → (IsErrOf told say.WriteFault → SendsFront middle.output.sent (connections_line served) after.output.sent)
+    → IsClosed after.door.state → EdgeEnds slots end before after
+told_ends slots served told end before middle after is same hands asks sent broken closed =
+    subst (λ (e : ServingEnd). EdgeEnds slots e before after) (sym is) (by_told told sent broken)
+  where
+    by_told : (told : Result Unit SayFault) → OnOk told (Sends middle.output.sent (connections_line served) after.output.sent)
+        → (IsErrOf told say.WriteFault → SendsFront middle.output.sent (connections_line served) after.output.sent)
+        → EdgeEnds slots (line_end told) before after
+    by_told (Ok u) sent broken = closed_ends slots served before middle after same hands asks sent closed
+    by_told (Err say.WriteFault) sent broken = broken_ends slots served before middle after same hands asks (broken refl) closed
+    by_told (Err say.Memory) sent broken = tt

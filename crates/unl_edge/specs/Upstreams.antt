@@ -1,5 +1,5 @@
 -- How an upstream ends: it takes the commands of its input's lines, and then serves the links of its door.
-use Rattle.std.specs.Prelude.{◌≡◌, ⊤, ℕ, List, [], ◌++◌, codes, decimal, IfSome, Err}
+use Rattle.std.specs.Prelude.{◌≡◌, ⊤, ℕ, List, [], ◌++◌, codes, decimal, IfSome, Result, Ok, Err}
 use Rattle.unl_base.specs.Doors.{IsClosed}
 use Rattle.unl_base.specs.Draws.{TakesDraw}
 use Rattle.unl_base.specs.Streams.{HasEnded, Sends, SendsFront, Takes}
@@ -10,6 +10,8 @@ use Rattle.unl_edge.specs.declared.ends.ServingEnd.TheVariants.{Closed, WriteFau
 use Rattle.unl_edge.specs.declared.ends.UpstreamEnd.{UpstreamEnd}
 use Rattle.unl_edge.specs.declared.ends.UpstreamEnd.TheVariants.{OutOfMemory as NoMemory, Lines, Links}
 use Rattle.unl_edge.specs.Status.{code_of, ending_status}
+use Rattle.unl_input.specs.declared.refusal.SayFault.{SayFault}
+use Rattle.unl_input.specs.declared.refusal.SayFault.TheVariants as say
 use Rattle.unl_lines.specs.Taken.{Taking, done, outcome_of}
 use Rattle.unl_lines.specs.Whole.{TakesLines}
 use Rattle.unl_tokens.specs.declared.token.Token.{Token}
@@ -26,6 +28,12 @@ obeying number up line = obeyed_line up line
 -- what is printed once the door is closed
 abbrev pub connections_line : ℕ → List ℕ
 connections_line served = codes "connections " ++ (decimal served ++ codes "\n")
+
+-- how serving ends once the door is closed, by how the count of its links was said
+abbrev pub line_end : Result (Unit {0}) SayFault → ServingEnd
+line_end (Ok u) = Closed
+line_end (Err say.WriteFault) = WriteFault
+line_end (Err say.Memory) = OutOfMemory
 
 -- an upstream begins, and takes a draw for its boot number
 pub record Begins

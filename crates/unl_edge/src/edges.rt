@@ -13,7 +13,6 @@ use std::alloc::Global;
 use std::sync::Wait;
 use unl_base::{Door, Draws, Failed, Pace, Peer, Sink, Source};
 use unl_documents::{List, Memory, Text};
-use unl_input::SayFault;
 
 /// What came of waiting for a link.
 #[derive(Clone, Copy, Debug, PartialEq, Eq)]
@@ -77,11 +76,7 @@ fn serve_links<I: Source, O: Sink, D: Door, P: Peer, R: Draws, T: Pace, W: Wait>
         &mut world.peer,
         &mut world.draws,
     ) {
-        Ok(served) => match say_connections(alloc, &mut world.output, served) {
-            Ok(()) => ServingEnd::Closed,
-            Err(SayFault::WriteFault) => ServingEnd::WriteFault,
-            Err(SayFault::Memory) => ServingEnd::OutOfMemory,
-        },
+        Ok(served) => ServingEnd::of_line(say_connections(alloc, &mut world.output, served)),
         Err(_) => ServingEnd::DoorFault,
     }
 }

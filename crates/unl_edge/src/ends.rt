@@ -1,4 +1,8 @@
 //! How a command ends.
+ghost use Rattle.std.specs.Prelude.{◌≡◌};
+ghost use Rattle.unl_edge.specs.Upstreams.{line_end};
+
+use unl_input::SayFault;
 use unl_lines::LinesFault;
 
 /// How a check ended.
@@ -29,6 +33,19 @@ pub enum ServingEnd {
     DoorFault,
     /// Memory ran out.
     OutOfMemory,
+}
+
+impl ServingEnd {
+    /// That of a closed door, by how the count of its links was said.
+    pub fn of_line(told: Result<(), SayFault>) -> ServingEnd
+        ensures { result ≡ line_end told }
+    {
+        match told {
+            Ok(()) => ServingEnd::Closed,
+            Err(SayFault::WriteFault) => ServingEnd::WriteFault,
+            Err(SayFault::Memory) => ServingEnd::OutOfMemory,
+        }
+    }
 }
 
 /// How an upstream ended.
