@@ -132,6 +132,15 @@ after_lines start up last end before after input output taken links kept = by_en
     by_end DoorFault links = (links.0, serves links.0 links.1, links.2 ∙ same_sent)
     by_end OutOfMemory links = tt
 
+-- the same, where what stood before is known by its parts
+pub after_lines_from : (start up last : UpstreamState) (end : ServingEnd) (before parts after : Scene) (input : InputEnd) (output : OutputEnd)
+    → parts ≡ before → AnswersAll obeying start up parts.input.left input.left parts.output.sent output.sent
+    → LinksEnd up last end (record parts { input = input; output = output }) after → after.input ≡ input
+    → UpstreamEnds start before.draws (Links end) before after
+after_lines_from start up last end before parts after input output same taken links kept =
+    subst (λ (scene : Scene). UpstreamEnds start scene.draws (Links end) scene after) same
+    (after_lines start up last end parts after input output taken links kept)
+
 -- ---- the draw before
 
 serves_from : (start : UpstreamState) (coming : Coming) (before after : Scene) (served : ℕ)

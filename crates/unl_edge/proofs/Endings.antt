@@ -66,139 +66,41 @@ ends_by (Err Memory) reading status before after gives ends none =
 
 -- ---- causes
 
--- a cause by other names
-pub caused_by : (status : Status) {Read Write Door Read' Write' Door' : Type 0} → (Read → Read') → (Write → Write') → (Door → Door')
-    → Caused status Read Write Door → Caused status Read' Write' Door'
-caused_by ReadFault read write door caused = read caused
-caused_by WriteFault read write door caused = write caused
-caused_by DoorFault read write door caused = door caused
-caused_by Done read write door caused = tt
-caused_by TestFailed read write door caused = tt
-caused_by BadWords read write door caused = tt
-caused_by Refused read write door caused = tt
-caused_by OutOfMemory read write door caused = tt
-
--- the same of the status that an end gives
-pub caused_from : {E : Type 0} (status_of : E → Status) (end : E) (status : Status) {Read Write Door Read' Write' Door' : Type 0}
-    → status ≡ status_of end → (Read → Read') → (Write → Write') → (Door → Door') → Caused (status_of end) Read Write Door
-    → Caused status Read' Write' Door'
-caused_from status_of end status {Read} {Write} {Door} {Read'} {Write'} {Door'} is read write door caused =
-    subst (λ (s : Status). Caused s Read' Write' Door') (sym is) (caused_by (status_of end) {Read} {Write} {Door} read write door caused)
-
--- lines that were taken, or not
-pub lines_caused : (end : Result Unit LinesFault) (status : Status) {Read Write Door : Type 0} → status ≡ lines_status end
-    → (IsErrOf end lines.ReadFault → Read) → (IsErrOf end lines.WriteFault → Write) → Caused status Read Write Door
-lines_caused end status {Read} {Write} {Door} is read write =
-    subst (λ (s : Status). Caused s Read Write Door) (sym is) (by_end end read write)
-  where
-    by_end : (end : Result Unit LinesFault) → (IsErrOf end lines.ReadFault → Read) → (IsErrOf end lines.WriteFault → Write)
-        → Caused (lines_status end) Read Write Door
-    by_end (Ok u) read write = tt
-    by_end (Err lines.Bad) read write = tt
-    by_end (Err lines.ReadFault) read write = read refl
-    by_end (Err lines.WriteFault) read write = write refl
-    by_end (Err lines.Memory) read write = tt
-
--- an explanation
-pub explain_caused : (end : Result Unit ExplainFault) (status : Status) {Read Write Door : Type 0} → status ≡ explain_status end
-    → (IsErrOf end explain.ReadFault → Read) → (IsErrOf end explain.WriteFault → Write) → Caused status Read Write Door
-explain_caused end status {Read} {Write} {Door} is read write =
-    subst (λ (s : Status). Caused s Read Write Door) (sym is) (by_end end read write)
-  where
-    by_end : (end : Result Unit ExplainFault) → (IsErrOf end explain.ReadFault → Read) → (IsErrOf end explain.WriteFault → Write)
-        → Caused (explain_status end) Read Write Door
-    by_end (Ok u) read write = tt
-    by_end (Err (explain.BadInput fault)) read write = tt
-    by_end (Err explain.TooLarge) read write = tt
-    by_end (Err explain.ReadFault) read write = read refl
-    by_end (Err explain.WriteFault) read write = write refl
-    by_end (Err explain.Memory) read write = tt
-
--- a check whose input is refused, by how that was said
-pub refused_caused : (told : Result Unit SayFault) (end : CheckEnd) {Read Write Door : Type 0} → end ≡ refused_end told
-    → (IsErrOf told say.WriteFault → Write) → Caused (check_status end) Read Write Door
-refused_caused told end {Read} {Write} {Door} is write =
-    subst (λ (e : CheckEnd). Caused (check_status e) Read Write Door) (sym is) (by_telling told write)
-  where
-    by_telling : (told : Result Unit SayFault) → (IsErrOf told say.WriteFault → Write) → Caused (check_status (refused_end told)) Read Write Door
-    by_telling (Ok u) write = tt
-    by_telling (Err say.WriteFault) write = write refl
-    by_telling (Err say.Memory) write = tt
-
--- a check whose input has a report
-pub report_caused : (failed : ℕ) (end : CheckEnd) {Read Write Door : Type 0} → end ≡ report_end failed → Caused (check_status end) Read Write Door
-report_caused failed end {Read} {Write} {Door} is =
-    subst (λ (e : CheckEnd). Caused (check_status e) Read Write Door) (sym is) (by_count (failed == 0))
-  where
-    by_count : (none : Bool) → Caused (check_status (cond none check.Passed check.Failed)) Read Write Door
-    by_count true = tt
-    by_count false = tt
-
 -- the cause of a fault of the input, by its number
-pub read_cause : (status : Status) (code : ℕ) {Read Write Door : Type 0} → code ≡ code_of status → Caused status Read Write Door → code ≡ 4 → Read
-read_cause ReadFault code is caused four = caused
-read_cause Done code is caused four = absurd (cc (is, four))
-read_cause TestFailed code is caused four = absurd (cc (is, four))
-read_cause BadWords code is caused four = absurd (cc (is, four))
-read_cause Refused code is caused four = absurd (cc (is, four))
-read_cause WriteFault code is caused four = absurd (cc (is, four))
-read_cause OutOfMemory code is caused four = absurd (cc (is, four))
-read_cause DoorFault code is caused four = absurd (cc (is, four))
+pub read_cause : (status : Status) (code : ℕ) (Read Write Door : Type 0) → code ≡ code_of status
+    → Caused status Read Write Door → code ≡ 4 → Read
+read_cause ReadFault code Read Write Door is caused four = caused
+read_cause Done code Read Write Door is caused four = absurd (cc (is, four))
+read_cause TestFailed code Read Write Door is caused four = absurd (cc (is, four))
+read_cause BadWords code Read Write Door is caused four = absurd (cc (is, four))
+read_cause Refused code Read Write Door is caused four = absurd (cc (is, four))
+read_cause WriteFault code Read Write Door is caused four = absurd (cc (is, four))
+read_cause OutOfMemory code Read Write Door is caused four = absurd (cc (is, four))
+read_cause DoorFault code Read Write Door is caused four = absurd (cc (is, four))
 
 -- that of a fault of the output
-pub write_cause : (status : Status) (code : ℕ) {Read Write Door : Type 0} → code ≡ code_of status → Caused status Read Write Door → code ≡ 5 → Write
-write_cause WriteFault code is caused five = caused
-write_cause Done code is caused five = absurd (cc (is, five))
-write_cause TestFailed code is caused five = absurd (cc (is, five))
-write_cause BadWords code is caused five = absurd (cc (is, five))
-write_cause Refused code is caused five = absurd (cc (is, five))
-write_cause ReadFault code is caused five = absurd (cc (is, five))
-write_cause OutOfMemory code is caused five = absurd (cc (is, five))
-write_cause DoorFault code is caused five = absurd (cc (is, five))
+pub write_cause : (status : Status) (code : ℕ) (Read Write Door : Type 0) → code ≡ code_of status
+    → Caused status Read Write Door → code ≡ 5 → Write
+write_cause WriteFault code Read Write Door is caused five = caused
+write_cause Done code Read Write Door is caused five = absurd (cc (is, five))
+write_cause TestFailed code Read Write Door is caused five = absurd (cc (is, five))
+write_cause BadWords code Read Write Door is caused five = absurd (cc (is, five))
+write_cause Refused code Read Write Door is caused five = absurd (cc (is, five))
+write_cause ReadFault code Read Write Door is caused five = absurd (cc (is, five))
+write_cause OutOfMemory code Read Write Door is caused five = absurd (cc (is, five))
+write_cause DoorFault code Read Write Door is caused five = absurd (cc (is, five))
 
 -- that of a fault of the door
-pub door_cause : (status : Status) (code : ℕ) {Read Write Door : Type 0} → code ≡ code_of status → Caused status Read Write Door → code ≡ 7 → Door
-door_cause DoorFault code is caused seven = caused
-door_cause Done code is caused seven = absurd (cc (is, seven))
-door_cause TestFailed code is caused seven = absurd (cc (is, seven))
-door_cause BadWords code is caused seven = absurd (cc (is, seven))
-door_cause Refused code is caused seven = absurd (cc (is, seven))
-door_cause ReadFault code is caused seven = absurd (cc (is, seven))
-door_cause WriteFault code is caused seven = absurd (cc (is, seven))
-door_cause OutOfMemory code is caused seven = absurd (cc (is, seven))
-
--- ---- a check
-
--- an input whose report was sent
-pub reported_ends : (draw : Draw) (summary : Summary) (end : CheckEnd) (left left_after old new : Option (List ℕ))
-    → end ≡ report_end summary.failed → ReportsAll draw summary left left_after old new → CheckEnds draw end left left_after old new
-reported_ends draw summary end left left_after old new is told =
-    subst (λ (e : CheckEnd). CheckEnds draw e left left_after old new) (sym is)
-    (by_count (summary.failed == 0) (record { outcome = Ok told.report; says = told.says; ends = ap report_end told.failed }))
-  where
-    by_count : (none : Bool) → SaysOfInput draw (cond none check.Passed check.Failed) left left_after old new
-        → CheckEnds draw (cond none check.Passed check.Failed) left left_after old new
-    by_count true told = told
-    by_count false told = told
-
--- an input that is refused, by how that was said
-pub refused_ends : (draw : Draw) (refusal : InputRefusal) (told : Result Unit SayFault) (end : CheckEnd) (left left_after old mid new : Option (List ℕ))
-    → end ≡ refused_end told → IsRefused (accepted draw) refusal left left_after old mid
-    → OnOk told (Sends mid (refusal_line refusal) new) → (IsErrOf told say.WriteFault → SendsFront mid (refusal_line refusal) new)
-    → CheckEnds draw end left left_after old new
-refused_ends draw refusal told end left left_after old mid new is refused said broken =
-    subst (λ (e : CheckEnd). CheckEnds draw e left left_after old new) (sym is) (by_telling told said broken)
-  where
-    by_telling : (told : Result Unit SayFault) → OnOk told (Sends mid (refusal_line refusal) new)
-        → (IsErrOf told say.WriteFault → SendsFront mid (refusal_line refusal) new) → CheckEnds draw (refused_end told) left left_after old new
-    by_telling (Ok u) said broken = record {
-      outcome = Err refusal;
-      says = refusal_said (accepted draw) text_of refusal left left_after old mid new refused said;
-      ends = refl;
-    }
-    by_telling (Err say.WriteFault) said broken =
-        (Err refusal, refusal_broken (accepted draw) text_of refusal left left_after old mid new refused (broken refl))
-    by_telling (Err say.Memory) said broken = tt
+pub door_cause : (status : Status) (code : ℕ) (Read Write Door : Type 0) → code ≡ code_of status
+    → Caused status Read Write Door → code ≡ 7 → Door
+door_cause DoorFault code Read Write Door is caused seven = caused
+door_cause Done code Read Write Door is caused seven = absurd (cc (is, seven))
+door_cause TestFailed code Read Write Door is caused seven = absurd (cc (is, seven))
+door_cause BadWords code Read Write Door is caused seven = absurd (cc (is, seven))
+door_cause Refused code Read Write Door is caused seven = absurd (cc (is, seven))
+door_cause ReadFault code Read Write Door is caused seven = absurd (cc (is, seven))
+door_cause WriteFault code Read Write Door is caused seven = absurd (cc (is, seven))
+door_cause OutOfMemory code Read Write Door is caused seven = absurd (cc (is, seven))
 
 -- ---- what decides, where nothing fails and memory is found
 
@@ -212,15 +114,15 @@ told_by reads code number outcome left left_after comes is = at_each left (decid
     at_each (Some all) same = is ∙ sym (ap code same)
 
 -- the lines decide how a replay ends
-replay_decided : {Read Write Door : Type 0} (end : Result Unit LinesFault) (left left_after old new : Option (List ℕ))
+replay_decided : (Read Write Door : Type 0) (end : Result Unit LinesFault) (left left_after old new : Option (List ℕ))
     → TakesLines line_answer opening end left left_after old new → Caused (lines_status end) Read Write Door → ¬ Read → ¬ Write
     → code_of (lines_status end) ≢ 6 → IfSome left (λ bytes. code_of (lines_status end) ≡ code_of (ending_status (replay_of bytes).ending))
-replay_decided (Ok u) None left_after old new ends caused read write memory = tt
-replay_decided (Ok u) (Some bytes) left_after old new ends caused read write memory = ap (λ e. code_of (ending_status e)) (sym ends.ending)
-replay_decided (Err lines.Bad) left left_after old new ends caused read write memory = refusing_decides replay_of left old new ends
-replay_decided (Err lines.ReadFault) left left_after old new ends caused read write memory = absurd (read caused)
-replay_decided (Err lines.WriteFault) left left_after old new ends caused read write memory = absurd (write caused)
-replay_decided (Err lines.Memory) left left_after old new ends caused read write memory = absurd (memory refl)
+replay_decided Read Write Door (Ok u) None left_after old new ends caused read write memory = tt
+replay_decided Read Write Door (Ok u) (Some bytes) left_after old new ends caused read write memory = ap (λ e. code_of (ending_status e)) (sym ends.ending)
+replay_decided Read Write Door (Err lines.Bad) left left_after old new ends caused read write memory = refusing_decides replay_of left old new ends
+replay_decided Read Write Door (Err lines.ReadFault) left left_after old new ends caused read write memory = absurd (read caused)
+replay_decided Read Write Door (Err lines.WriteFault) left left_after old new ends caused read write memory = absurd (write caused)
+replay_decided Read Write Door (Err lines.Memory) left left_after old new ends caused read write memory = absurd (memory refl)
 
 -- the number of how a check ends by what its input comes to
 check_code : Outcome Report → ℕ
@@ -235,49 +137,49 @@ said_decides draw end left left_after old new told =
     (ap (λ (e : CheckEnd). code_of (check_status e)) told.ends)
 
 -- the input decides how a check ends
-check_decided : {Read Write Door : Type 0} (draw : Draw) (end : CheckEnd) (left left_after old new : Option (List ℕ))
+check_decided : (Read Write Door : Type 0) (draw : Draw) (end : CheckEnd) (left left_after old new : Option (List ℕ))
     → CheckEnds draw end left left_after old new → Caused (check_status end) Read Write Door → ¬ Read → ¬ Write → code_of (check_status end) ≢ 6
     → IfSome left (λ bytes. code_of (check_status end) ≡ code_of (check_status (outcome_end (report_of draw bytes))))
-check_decided draw check.Passed left left_after old new ends caused read write memory = said_decides draw check.Passed left left_after old new ends
-check_decided draw check.Failed left left_after old new ends caused read write memory = said_decides draw check.Failed left left_after old new ends
-check_decided draw check.Refused left left_after old new ends caused read write memory = said_decides draw check.Refused left left_after old new ends
-check_decided draw check.ReadFault left left_after old new ends caused read write memory = absurd (read caused)
-check_decided draw check.WriteFault left left_after old new ends caused read write memory = absurd (write caused)
-check_decided draw check.OutOfMemory left left_after old new ends caused read write memory = absurd (memory refl)
+check_decided Read Write Door draw check.Passed left left_after old new ends caused read write memory = said_decides draw check.Passed left left_after old new ends
+check_decided Read Write Door draw check.Failed left left_after old new ends caused read write memory = said_decides draw check.Failed left left_after old new ends
+check_decided Read Write Door draw check.Refused left left_after old new ends caused read write memory = said_decides draw check.Refused left left_after old new ends
+check_decided Read Write Door draw check.ReadFault left left_after old new ends caused read write memory = absurd (read caused)
+check_decided Read Write Door draw check.WriteFault left left_after old new ends caused read write memory = absurd (write caused)
+check_decided Read Write Door draw check.OutOfMemory left left_after old new ends caused read write memory = absurd (memory refl)
 
 -- the number of how an explanation ends by what its input comes to
 explained_code : Outcome (List ℕ) → ℕ
 explained_code outcome = code_of (explained_status outcome)
 
 -- the input decides how an explanation ends
-explain_decided : {Read Write Door : Type 0} (end : Result Unit ExplainFault) (left left_after old new : Option (List ℕ))
+explain_decided : (Read Write Door : Type 0) (end : Result Unit ExplainFault) (left left_after old new : Option (List ℕ))
     → Explains end left left_after old new → Caused (explain_status end) Read Write Door → ¬ Read → ¬ Write → code_of (explain_status end) ≢ 6
     → IfSome left (λ bytes. code_of (explain_status end) ≡ code_of (explained_status (outcome_of explained bytes)))
 unfolding explained_code
-explain_decided (Ok u) left left_after old new ends caused read write memory =
+explain_decided Read Write Door (Ok u) left left_after old new ends caused read write memory =
     told_by explained explained_code 0 (Ok ends.0) left left_after ends.1.comes refl
-explain_decided (Err (explain.BadInput fault)) left left_after old new ends caused read write memory =
+explain_decided Read Write Door (Err (explain.BadInput fault)) left left_after old new ends caused read write memory =
     told_by explained explained_code 3 _ left left_after ends.comes refl
-explain_decided (Err explain.TooLarge) left left_after old new ends caused read write memory =
+explain_decided Read Write Door (Err explain.TooLarge) left left_after old new ends caused read write memory =
     told_by explained explained_code 3 _ left left_after ends.comes refl
-explain_decided (Err explain.ReadFault) left left_after old new ends caused read write memory = absurd (read caused)
-explain_decided (Err explain.WriteFault) left left_after old new ends caused read write memory = absurd (write caused)
-explain_decided (Err explain.Memory) left left_after old new ends caused read write memory = absurd (memory refl)
+explain_decided Read Write Door (Err explain.ReadFault) left left_after old new ends caused read write memory = absurd (read caused)
+explain_decided Read Write Door (Err explain.WriteFault) left left_after old new ends caused read write memory = absurd (write caused)
+explain_decided Read Write Door (Err explain.Memory) left left_after old new ends caused read write memory = absurd (memory refl)
 
 -- bad words decide by themselves
-bad_decided : {Read Write Door : Type 0} (end : WordsEnd) → Caused (words_status end) Read Write Door → ¬ Write → code_of (words_status end) ≢ 6
+bad_decided : (Read Write Door : Type 0) (end : WordsEnd) → Caused (words_status end) Read Write Door → ¬ Write → code_of (words_status end) ≢ 6
     → code_of (words_status end) ≡ 2
-bad_decided words.Bad caused write memory = refl
-bad_decided words.WriteFault caused write memory = absurd (write caused)
-bad_decided words.OutOfMemory caused write memory = absurd (memory refl)
+bad_decided Read Write Door words.Bad caused write memory = refl
+bad_decided Read Write Door words.WriteFault caused write memory = absurd (write caused)
+bad_decided Read Write Door words.OutOfMemory caused write memory = absurd (memory refl)
 
 -- an edge ends with its door
-edge_decided : {Read Write Door : Type 0} (end : ServingEnd) → Caused (serving_status end) Read Write Door → ¬ Write → ¬ Door
+edge_decided : (Read Write Door : Type 0) (end : ServingEnd) → Caused (serving_status end) Read Write Door → ¬ Write → ¬ Door
     → code_of (serving_status end) ≢ 6 → code_of (serving_status end) ≡ 0
-edge_decided serving.Closed caused write door memory = refl
-edge_decided serving.WriteFault caused write door memory = absurd (write caused)
-edge_decided serving.DoorFault caused write door memory = absurd (door caused)
-edge_decided serving.OutOfMemory caused write door memory = absurd (memory refl)
+edge_decided Read Write Door serving.Closed caused write door memory = refl
+edge_decided Read Write Door serving.WriteFault caused write door memory = absurd (write caused)
+edge_decided Read Write Door serving.DoorFault caused write door memory = absurd (door caused)
+edge_decided Read Write Door serving.OutOfMemory caused write door memory = absurd (memory refl)
 
 -- what stands of the status of a command's end stands of it
 of_end : {E : Type 0} {status_of : E → Status} {EndsSo : E → Type 0} (status : Status) (Read Write Door : Type 0) (P : ℕ → Type 0)
@@ -292,33 +194,33 @@ by_words : {Read Write Door : Type 0} (reading : WordsReading) (status : Status)
     → Caused status Read Write Door → ¬ Read → ¬ Write → ¬ Door → code_of status ≢ 6 → IsDecided reading (code_of status) before
 by_words {Read} {Write} {Door} (Ok Replay) status before after ended caused read write door memory =
     of_end status Read Write Door (λ code. IsDecided (Ok Replay) code before) ended caused memory
-    (λ cause some. replay_decided {Read} {Write} {Door} ended.end before.input.left after.input.left before.output.sent after.output.sent ended.ends cause
+    (λ cause some. replay_decided Read Write Door ended.end before.input.left after.input.left before.output.sent after.output.sent ended.ends cause
     read write some)
 by_words {Read} {Write} {Door} (Ok (Check now word)) status before after ended caused read write door memory =
     of_end status Read Write Door (λ code. IsDecided (Ok (Check now word)) code before) ended caused memory
-    (λ cause some. check_decided {Read} {Write} {Door} (record { now = now; word = word }) ended.end before.input.left after.input.left before.output.sent
+    (λ cause some. check_decided Read Write Door (record { now = now; word = word }) ended.end before.input.left after.input.left before.output.sent
     after.output.sent ended.ends cause read write some)
 by_words {Read} {Write} {Door} (Ok Explain) status before after ended caused read write door memory =
     of_end status Read Write Door (λ code. IsDecided (Ok Explain) code before) ended caused memory
-    (λ cause some. explain_decided {Read} {Write} {Door} ended.end before.input.left after.input.left before.output.sent after.output.sent ended.ends cause
+    (λ cause some. explain_decided Read Write Door ended.end before.input.left after.input.left before.output.sent after.output.sent ended.ends cause
     read write some)
 by_words {Read} {Write} {Door} (Ok (Edge port address upstream_tokens tokens host workers interval connections delta)) status before after ended caused
     read write door memory =
     of_end status Read Write Door
     (λ code. IsDecided (Ok (Edge port address upstream_tokens tokens host workers interval connections delta)) code before) ended caused memory
-    (λ cause some. edge_decided {Read} {Write} {Door} ended.end cause write door some)
+    (λ cause some. edge_decided Read Write Door ended.end cause write door some)
 by_words {Read} {Write} {Door} (Ok (Upstream port secret environments client_tokens frontend_tokens connections epoch)) status before after ended caused
     read write door memory =
     of_end status Read Write Door
     (λ code. IsDecided (Ok (Upstream port secret environments client_tokens frontend_tokens connections epoch)) code before) ended caused memory
-    (λ cause some. upstream_decided {Read} {Write} {Door} secret environments (own_book client_tokens frontend_tokens) epoch ended.end before after
+    (λ cause some. upstream_decided secret environments (own_book client_tokens frontend_tokens) epoch ended.end before after
     ended.ends cause read write door some)
 by_words {Read} {Write} {Door} (Ok (Follow address token feature context delta turns interval)) status before after ended caused read write door memory =
     of_end status Read Write Door (λ code. IsDecided (Ok (Follow address token feature context delta turns interval)) code before) ended caused memory
-    (λ cause some. bad_decided {Read} {Write} {Door} ended.end cause write some)
+    (λ cause some. bad_decided Read Write Door ended.end cause write some)
 by_words {Read} {Write} {Door} (Err Bad) status before after ended caused read write door memory =
     of_end status Read Write Door (λ code. IsDecided (Err Bad) code before) ended caused memory
-    (λ cause some. bad_decided {Read} {Write} {Door} ended.end cause write some)
+    (λ cause some. bad_decided Read Write Door ended.end cause write some)
 by_words (Err Memory) status before after ends caused read write door memory = ap code_of ends
 
 -- so they decide its number, where no count rose and memory was found
@@ -327,4 +229,4 @@ pub decided : {Read Write Door : Type 0} (reading : WordsReading) (status : Stat
     → ¬ Read → ¬ Write → ¬ Door → code ≢ 6 → IsDecided reading code before
 decided {Read} {Write} {Door} reading status code before after is ends caused read write door memory =
     subst (λ c. IsDecided reading c before) (sym is)
-    (by_words {Read} {Write} {Door} reading status before after ends caused read write door (λ six. memory (is ∙ six)))
+    (by_words reading status before after ends caused read write door (λ six. memory (is ∙ six)))

@@ -11,18 +11,18 @@ returns-clause-decided g c =
 
 pub returns-clause-read : goal.returns-clause-read
 returns-clause-read g c =
-    read_cause c.outcome.result c.code.result {Read = Rose c.args.world.now.input.faults c.outcome.new.world.input.faults}
-    {Write = Rose c.args.world.now.output.faults c.outcome.new.world.output.faults}
-    {Door = Rose c.args.world.now.door.faults c.outcome.new.world.door.faults} c.code.ensures c.outcome.ensures.caused
+    read_cause c.outcome.result c.code.result (Rose c.args.world.now.input.faults c.outcome.new.world.input.faults)
+    (Rose c.args.world.now.output.faults c.outcome.new.world.output.faults)
+    (Rose c.args.world.now.door.faults c.outcome.new.world.door.faults) c.code.ensures c.outcome.ensures.caused
 
 pub returns-clause-write : goal.returns-clause-write
 returns-clause-write g c =
-    write_cause c.outcome.result c.code.result {Read = Rose c.args.world.now.input.faults c.outcome.new.world.input.faults}
-    {Write = Rose c.args.world.now.output.faults c.outcome.new.world.output.faults}
-    {Door = Rose c.args.world.now.door.faults c.outcome.new.world.door.faults} c.code.ensures c.outcome.ensures.caused
+    write_cause c.outcome.result c.code.result (Rose c.args.world.now.input.faults c.outcome.new.world.input.faults)
+    (Rose c.args.world.now.output.faults c.outcome.new.world.output.faults)
+    (Rose c.args.world.now.door.faults c.outcome.new.world.door.faults) c.code.ensures c.outcome.ensures.caused
 
 pub returns-clause-door : goal.returns-clause-door
 returns-clause-door g c =
-    door_cause c.outcome.result c.code.result {Read = Rose c.args.world.now.input.faults c.outcome.new.world.input.faults}
-    {Write = Rose c.args.world.now.output.faults c.outcome.new.world.output.faults}
-    {Door = Rose c.args.world.now.door.faults c.outcome.new.world.door.faults} c.code.ensures c.outcome.ensures.caused
+    door_cause c.outcome.result c.code.result (Rose c.args.world.now.input.faults c.outcome.new.world.input.faults)
+    (Rose c.args.world.now.output.faults c.outcome.new.world.output.faults)
+    (Rose c.args.world.now.door.faults c.outcome.new.world.door.faults) c.code.ensures c.outcome.ensures.caused
