@@ -6,7 +6,6 @@ use crate::{EdgeReader, EdgeWriter, begin};
 use std::alloc::Global;
 use std::sync::Wait;
 use std::test::Fail;
-use std::thread::{Threads, join};
 use unl_base::Draw;
 use unl_core::{Board, Desk, Install};
 use unl_delta::{Installer, Verdict, read_batch_bytes, verdict};
@@ -147,53 +146,5 @@ fn a_told_reader_sees_what_was_published(rt: HostRuntime) -> Result<(), Fail> {
         assert!(rt; last <= front && front <= told as u64 && status == STATUSES[front as usize]);
         last = front;
     }
-    Ok(())
-}
-
-/// Publishes a book again and again.
-fn publish_many<W: Wait>(alloc: Global, writer: &mut EdgeWriter<'_, W>) -> bool {
-    let mut good = true;
-    for _ in 0..20 {
-        good = publish_book(alloc, writer).is_ok() && good;
-    }
-    good && writer.front() == 20
-}
-
-/// Each answer is of the board at its front, and no front is below the one before.
-fn answer_many(alloc: Global, reader: EdgeReader) -> Result<bool, Memory> {
-    let mut reader = reader;
-    let mut last = 0;
-    let mut good = true;
-    for _ in 0..200 {
-        let (front, status) = ask(alloc, &mut reader)?;
-        good = good && last <= front && front <= 20 && status == STATUSES[front.min(1) as usize];
-        last = front;
-    }
-    Ok(good)
-}
-
-/// A writer publishes while two readers answer, each in a thread of its own.
-fn side_by_side<R: Threads + Wait + Sync>(rt: &R, alloc: Global) -> Result<bool, Memory> {
-    let (mut writer, mut readers) = begun(rt, alloc)?;
-    let one = readers.pop();
-    let two = readers.pop();
-    let (published, answered) = join(
-        rt,
-        || publish_many(alloc, &mut writer),
-        || {
-            join(
-                rt,
-                || one.map(|reader| answer_many(alloc, reader)),
-                || two.map(|reader| answer_many(alloc, reader)),
-            )
-        },
-    );
-    writer.end();
-    Ok(published && matches!(answered, (Some(Ok(true)), Some(Ok(true)))))
-}
-
-#[test]
-fn a_writer_publishes_beside_readers(rt: HostRuntime) -> Result<(), Fail> {
-    assert!(rt; side_by_side(&rt, rt.alloc())?);
     Ok(())
 }
