@@ -1,6 +1,7 @@
 //! The one way in which a slot takes a batch.
-ghost use Rattle.std.specs.Prelude.{◌≡◌, ◌<◌, ◌-◌, ◌^◌, IfOk, OnErr, length};
+ghost use Rattle.std.specs.Prelude.{◌≡◌, ◌<◌, ◌-◌, ◌^◌, IfOk, OnErr, OnOk, length};
 ghost use Rattle.unl_delta.specs.Batch.{verdict_of};
+ghost use Rattle.unl_delta.specs.History.{FollowsLines};
 ghost use Rattle.unl_delta.specs.Installing.{ByVerdict, after_batch, place_of};
 ghost use Rattle.unl_delta.specs.Valid.{IsValidBatch};
 
@@ -11,12 +12,34 @@ use std::alloc::Global;
 use unl_documents::Memory;
 
 /// A slot takes a batch, and the answer is the verdict of its place: what applies is published by one install, a gap holds
-/// the slot, and all else leaves everything as it was.
+/// the slot, and all else leaves everything as it was. Where the slot's version stands for a line of histories and the batch is
+/// sent of it, the version that the slot has then does.
 ///
 /// # Errors
 ///
 /// Want of memory, which changes nothing.
 pub fn take_batch<I: Installer>(
+    alloc: Global,
+    to: &mut I,
+    slot: usize,
+    batch: &Batch,
+) -> Result<Verdict, Memory>
+    requires slot { slot < length (I.installed to.old).places }
+    requires front { (I.installed to.old).front < 2 ^ 64 - 1 }
+    requires batch { IsValidBatch batch.now }
+    ensures verdict { IfOk result (λ v. v ≡ verdict_of (place_of (I.installed to.old) slot) batch.now) }
+    ensures taken { IfOk result (λ v. I.installed to.new ≡ after_batch v slot batch.now (I.installed to.old)) }
+    ensures whole { IfOk result (λ v. ByVerdict v (I.installs slot batch.now to.old to.new) (I.holds slot to.old to.new) (to.new
+        ≡ to.old)) }
+    ensures stands { OnOk result (FollowsLines (place_of (I.installed to.old) slot).version batch.now
+        (place_of (I.installed to.new) slot).version) }
+    ensures memory { OnErr result (I.installed to.new ≡ I.installed to.old) }
+{
+    take(alloc, to, slot, batch)
+}
+
+/// Does what the verdict says.
+fn take<I: Installer>(
     alloc: Global,
     to: &mut I,
     slot: usize,

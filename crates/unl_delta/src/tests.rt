@@ -264,6 +264,33 @@ fn a_newer_epoch_comes_by_a_hydration(rt: HostRuntime) {
     assert!(rt; given.as_str() == news);
 }
 
+const M_BACK_IN_A: &str =
+    r#"{"after":2,"events":[{"type":"feature-updated","eventId":3,"feature":{"name":"m","project":"A","enabled":true}}]}"#;
+
+#[test]
+fn a_lost_batch_changes_nothing(rt: HostRuntime) {
+    let alloc = rt.alloc();
+    let server = place_after(alloc, &[M_IN_A, M_IN_B, M_BACK_IN_A]).expect(&rt, "all apply");
+    let back = answered(alloc, &server, Some(2), "A").expect(&rt, "there is memory");
+    let all = answered(alloc, &server, None, "A").expect(&rt, "there is memory");
+    let table = [
+        (back.as_str(), Verdict::Gap, true, (0, 1)),
+        (back.as_str(), Verdict::Held, true, (0, 1)),
+        (M_IN_A, Verdict::Apply, false, (0, 1)),
+        (all.as_str(), Verdict::Apply, false, (0, 3)),
+        (M_IN_A, Verdict::Old, false, (0, 3)),
+    ];
+    let mut place = place_after(alloc, &[M_IN_A]).expect(&rt, "it applies");
+    for (text, expected, held, stands) in table {
+        let before = answered(alloc, &place, None, "A").expect(&rt, "there is memory");
+        let (after, does) = taken(alloc, place, text).expect(&rt, "it is a batch");
+        let now = answered(alloc, &after, None, "A").expect(&rt, "there is memory");
+        assert!(rt; does == expected && after.held == held && revision(&after) == Some(stands));
+        assert!(rt; does == Verdict::Apply || now.as_str() == before.as_str());
+        place = after;
+    }
+}
+
 /// Events on nothing, the first of that number and each of the others one above the one before it.
 fn run(alloc: Global, first: u64, count: u64, events: &mut List<Event>) -> Option<()> {
     for more in 0..count {

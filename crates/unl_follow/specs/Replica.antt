@@ -1,18 +1,12 @@
 -- What is known of a replica, and what it evaluates.
-use Rattle.std.specs.Prelude.{◌≡◌, ℕ, Bool, List, [], ◌∷◌, Option, Some, None, Result, Ok, Err}
+use Rattle.std.specs.Prelude.{ℕ, List, [], ◌∷◌, Option, Some, None, Result, Ok, Err}
 use Rattle.unl_context.specs.Context.{Fields}
-use Rattle.unl_delta.specs.declared.batch.Batch.{Batch}
 use Rattle.unl_delta.specs.declared.version.EnvVersion.{EnvVersion}
 use Rattle.unl_delta.specs.declared.version.Place.{Place}
 use Rattle.unl_delta.specs.Batch.{empty_place}
-use Rattle.unl_delta.specs.History.{Era, IsSent}
 use Rattle.unl_delta.specs.Installing.{Installed}
-use Rattle.unl_delta.specs.View.{Sees}
 use Rattle.unl_dependencies.specs.declared.evaluation.Evaluation.{Evaluation}
 use Rattle.unl_dependencies.specs.Evaluation.{evaluation_of}
-use Rattle.unl_http_api.specs.declared.got.Got.{Got}
-use Rattle.unl_refresh.specs.Exchange.{IsRead}
-use Rattle.unl_refresh.specs.Refresh.{batch_in, number_held}
 use Rattle.unl_strategies.specs.Moment.{Moment}
 use Rattle.unl_tokens.specs.declared.token.Token.{Token}
 use Rattle.unl_follow.specs.declared.fault.ReplicaRefusal.{ReplicaRefusal}
@@ -41,9 +35,3 @@ pub record Subject : Type 0 where
 abbrev pub found_in : Option EnvVersion → List ℕ → Fields → Moment → Result (Option Evaluation) ReplicaRefusal
 found_in None name context moment = Err NotReady
 found_in (Some version) name context moment = Ok (evaluation_of version.state name context moment)
-
--- each batch that the bytes to come, or any bytes where these are not told, bring to the place is sent of the line
-abbrev pub Brings : List Era → Sees → Bool → Place → Option (List ℕ) → Type 0
-Brings line sees delta place coming =
-    (got : Got) (batch : Batch) → IsRead coming (Ok got) → got.status ≡ 200
-    → batch_in delta (number_held place) got.body ≡ Ok batch → IsSent line sees batch

@@ -9,14 +9,14 @@ ghost use Rattle.unl_delta.specs.Batch.{verdict_of};
 ghost use Rattle.unl_delta.specs.History.{Era, IsLine, IsNotBelow, PlaceStandsFor};
 ghost use Rattle.unl_delta.specs.Installing.{after_install};
 ghost use Rattle.unl_delta.specs.View.{Sees};
-ghost use Rattle.unl_follow.specs.Replica.{Brings, installed_by};
+ghost use Rattle.unl_follow.specs.Replica.{installed_by};
 ghost use Rattle.unl_http_api.specs.declared.got.BadReply.{BadReply};
 ghost use Rattle.unl_http_api.specs.declared.got.Got.{Got};
 ghost use Rattle.unl_http_api.specs.Received.{IsReply};
 ghost use Rattle.unl_http_api.specs.RequestText.{fits_if_any, fits_line};
 ghost use Rattle.unl_refresh.specs.Exchange.{Asks, AsksAtMostOnce};
 ghost use Rattle.unl_refresh.specs.Named.{IsNamedOutcome};
-ghost use Rattle.unl_refresh.specs.Refresh.{Refreshes, after_reading, batch_in, number_held, refresh_request, with_tag};
+ghost use Rattle.unl_refresh.specs.Refresh.{Brings, Refreshes, after_reading, batch_in, number_held, refresh_request, with_tag};
 
 use crate::replica::Replica;
 use std::alloc::Global;

@@ -6,8 +6,10 @@ use Rattle.unl_delta.specs.declared.batch.Verdict.{Verdict}
 use Rattle.unl_delta.specs.declared.batch.Verdict.TheVariants as verdict
 use Rattle.unl_delta.specs.declared.version.Place.{Place}
 use Rattle.unl_delta.specs.Batch.{verdict_of}
+use Rattle.unl_delta.specs.History.{Era, IsSent}
 use Rattle.unl_delta.specs.Installing.{Installed, after_batch as taken_by, place_of}
 use Rattle.unl_delta.specs.Reading.{BatchReading, batch_of_bytes, batch_of_feed}
+use Rattle.unl_delta.specs.View.{Sees}
 use Rattle.unl_documents.specs.declared.feed.Feed.{Feed as TheFeed}
 use Rattle.unl_documents.specs.Reading.{Reading}
 use Rattle.unl_documents.specs.States.{feed_in}
@@ -115,3 +117,11 @@ pub record Refreshes (slot : ℕ) (ask : Ask) (before : Installed) (coming : Opt
   pub reading : Result Got BadReply
   pub is_read : IsRead coming reading
   pub gives : after ≡ after_reading slot ask.delta ask.tag before reading
+
+-- ---- where it comes from
+
+-- each batch that the bytes to come, or any bytes where these are not told, bring to the place is sent of the line
+abbrev pub Brings : List Era → Sees → Bool → Place → Option (List ℕ) → Type 0
+Brings line sees delta place coming =
+    (got : Got) (batch : TheBatch) → IsRead coming (Ok got) → got.status ≡ 200
+    → batch_in delta (number_held place) got.body ≡ Ok batch → IsSent line sees batch

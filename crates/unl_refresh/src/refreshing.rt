@@ -6,14 +6,16 @@ ghost use Rattle.unl_base.specs.Faults.{Rose};
 ghost use Rattle.unl_delta.specs.declared.batch.Batch.{Batch};
 ghost use Rattle.unl_delta.specs.declared.batch.Verdict.TheVariants.{Apply};
 ghost use Rattle.unl_delta.specs.Batch.{verdict_of};
+ghost use Rattle.unl_delta.specs.History.{Era, IsLine, IsNotBelow, PlaceStandsFor};
 ghost use Rattle.unl_delta.specs.Installing.{after_install, place_of};
+ghost use Rattle.unl_delta.specs.View.{Sees};
 ghost use Rattle.unl_http_api.specs.declared.got.BadReply.{BadReply};
 ghost use Rattle.unl_http_api.specs.declared.got.Got.{Got};
 ghost use Rattle.unl_http_api.specs.Received.{IsReply};
 ghost use Rattle.unl_http_api.specs.RequestText.{fits_if_any, fits_line};
 ghost use Rattle.unl_refresh.specs.Exchange.{Asks, AsksAtMostOnce};
 ghost use Rattle.unl_refresh.specs.Named.{IsNamedOutcome};
-ghost use Rattle.unl_refresh.specs.Refresh.{Refreshes, after_reading, batch_in, number_held, refresh_request, with_tag};
+ghost use Rattle.unl_refresh.specs.Refresh.{Brings, Refreshes, after_reading, batch_in, number_held, refresh_request, with_tag};
 
 use crate::ask::{Ask, request_of};
 use crate::exchange::exchange;
@@ -63,6 +65,13 @@ pub fn refresh_once<I: Installer, P: Peer>(
         → ¬ (Rose (P.Source.faults peer.old) (P.Source.faults peer.new)) → result ≢ Err RefreshFault.Memory
         → (result ≡ Ok (Outcome.Published ((I.installed to.old).front + 1)))
         × (I.installed to.new ≡ after_install slot batch (I.installed to.old)) }
+
+    // Whatever is lost, doubled or out of order: behind a server that sends of a line of histories, the slot has one
+    // revision of it, as it is seen, and its epoch and number don't fall.
+    ensures delivery { (line : List Era) (sees : Sees) → IsLine line → PlaceStandsFor line sees (place_of (I.installed to.old) slot)
+        → Brings line sees ask.old.delta (place_of (I.installed to.old) slot) (option_map next_of (P.state peer.old).replies)
+        → PlaceStandsFor line sees (place_of (I.installed to.new) slot)
+        × IsNotBelow (place_of (I.installed to.old) slot).version (place_of (I.installed to.new) slot).version }
 
     // Want of memory stands in no outcome.
     ensures named { IfOk result IsNamedOutcome }

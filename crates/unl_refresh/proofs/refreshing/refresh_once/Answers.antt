@@ -1,3 +1,4 @@
+use Rattle.unl_refresh.proofs.Leaving.{delivered}
 use Rattle.unl_refresh.proofs.Telling.{applies, completes, refreshed_told, takes_one}
 use Rattle.unl_refresh.proofs.refreshing.refresh_once.Goals as goal
 
@@ -12,3 +13,7 @@ returns-clause-complete g c list got batch told is status batch_is verdict calm 
 pub returns-clause-one_reply : goal.returns-clause-one_reply
 returns-clause-one_reply g c calm found =
     takes_one _ _ _ _ _ _ _ c.refresh.ensures.asks c.refresh.ensures.cause calm found
+
+pub returns-clause-delivery : goal.returns-clause-delivery
+returns-clause-delivery g c line sees is_line stands brings =
+    delivered _ _ _ _ _ _ _ line sees c.requires.slot c.refresh.ensures.takes c.refresh.ensures.fault is_line stands brings

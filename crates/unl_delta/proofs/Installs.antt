@@ -1,0 +1,66 @@
+-- What an install, a hold and a batch leave at a slot.
+use Rattle.std.proofs.Common.{◌≡◌, ℕ, zero, suc, ◌<◌, arith, List, [], ◌∷◌, length, true, false, unwrap_or, Option, Some, Result, Ok, Err, OnOk, IfOk, refl, sym, ap, subst, ◌∙◌}
+use Rattle.std.specs.Prelude.{◌≢◌, slice_get, slice_set}
+use Rattle.std.proofs.lemmas.List.{get_or-set_same, get_or-set_other}
+use Rattle.std.proofs.lemmas.Option.{unwrap_or-slice_get}
+use Rattle.unl_delta.specs.declared.batch.Batch.{Batch}
+use Rattle.unl_delta.specs.declared.batch.Verdict.{Verdict}
+use Rattle.unl_delta.specs.declared.batch.Verdict.TheVariants.{Apply, Repeat, Old, Gap, Held}
+use Rattle.unl_delta.specs.declared.version.EnvVersion.{EnvVersion}
+use Rattle.unl_delta.specs.declared.version.Place.{Place}
+use Rattle.unl_delta.specs.Batch.{empty_place, next_version, verdict_of, after_verdict}
+use Rattle.unl_delta.specs.History.{FollowsLines}
+use Rattle.unl_delta.specs.Installing.{Installed, place_of, with_place, after_install, after_hold, after_batch}
+use Rattle.unl_delta.proofs.Delivery.{taken_follows, next_follows}
+
+-- the place that was put at a slot
+pub placed : (slot : ℕ) (place : Place) (now : Installed) → slot < length now.places → place_of (with_place slot place now) slot ≡ place
+placed slot place now low = unwrap_or-slice_get (slice_set now.places slot place) slot empty_place ∙ get_or-set_same now.places slot place empty_place low
+
+-- the places of the other slots stay
+pub elsewhere : (slot other : ℕ) (place : Place) (now : Installed) → other ≢ slot → place_of (with_place slot place now) other ≡ place_of now other
+elsewhere slot other place now differ =
+    unwrap_or-slice_get (slice_set now.places slot place) other empty_place ∙ get_or-set_other now.places slot other place empty_place differ
+    ∙ sym (unwrap_or-slice_get now.places other empty_place)
+
+-- the place of one who keeps one place
+pub only_place : (slot : ℕ) (places : List Place) (place : Place) → slot < length places → places ≡ place ∷ [] → unwrap_or (slice_get places slot) empty_place ≡ place
+only_place zero places place low is = ap (λ (ps : List Place). unwrap_or (slice_get ps 0) empty_place) is
+only_place (suc slot) places place low is = absurd (omega (arith, low, ap length is))
+
+-- a batch that applies was published
+pub installed_follows : (slot : ℕ) (batch : Batch) (old new : Installed) → slot < length old.places → verdict_of (place_of old slot) batch ≡ Apply
+    → new ≡ after_install slot batch old → FollowsLines (place_of old slot).version batch (place_of new slot).version
+installed_follows slot batch old new low applies is =
+    let v : EnvVersion = next_version (place_of old slot) batch in
+    let here : (place_of new slot).version ≡ Some v =
+    ap (λ (now : Installed). (place_of now slot).version) is ∙ ap (λ (p : Place). p.version) (placed slot (record { version = Some v; held = false }) old low) in
+    subst (λ (o : Option EnvVersion). FollowsLines (place_of old slot).version batch o) (sym here) (next_follows (place_of old slot) batch v applies refl)
+
+-- or nothing was
+pub install_follows : {E : Type 0} (r : Result ℕ E) (slot : ℕ) (batch : Batch) (old new : Installed) → slot < length old.places → verdict_of (place_of old slot) batch ≡ Apply
+    → OnOk r (new ≡ after_install slot batch old) → OnOk r (FollowsLines (place_of old slot).version batch (place_of new slot).version)
+install_follows (Err e) slot batch old new low applies is = tt
+install_follows (Ok front) slot batch old new low applies is = installed_follows slot batch old new low applies is
+
+-- a slot was held
+pub hold_keeps : (slot : ℕ) (old new : Installed) → slot < length old.places → new ≡ after_hold slot old → (place_of new slot).version ≡ (place_of old slot).version
+hold_keeps slot old new low is =
+    ap (λ (now : Installed). (place_of now slot).version) is
+    ∙ ap (λ (p : Place). p.version) (placed slot (record { version = (place_of old slot).version; held = true }) old low)
+
+-- a slot does with a batch what its place does
+pub batch_placed : (verdict : Verdict) (slot : ℕ) (batch : Batch) (now : Installed) → slot < length now.places → place_of (after_batch verdict slot batch now) slot ≡ after_verdict verdict (place_of now slot) batch
+batch_placed Apply slot batch now low = placed slot (record { version = Some (next_version (place_of now slot) batch); held = false }) now low
+batch_placed Gap slot batch now low = placed slot (record { version = (place_of now slot).version; held = true }) now low
+batch_placed Repeat slot batch now low = refl
+batch_placed Old slot batch now low = refl
+batch_placed Held slot batch now low = refl
+
+-- a slot took a batch
+pub batch_follows : {E : Type 0} (r : Result Verdict E) (slot : ℕ) (batch : Batch) (old new : Installed) → slot < length old.places → IfOk r (λ v. v ≡ verdict_of (place_of old slot) batch)
+    → IfOk r (λ v. new ≡ after_batch v slot batch old) → OnOk r (FollowsLines (place_of old slot).version batch (place_of new slot).version)
+batch_follows (Err e) slot batch old new low does is = tt
+batch_follows (Ok verdict) slot batch old new low does is =
+    let here : place_of new slot ≡ after_verdict verdict (place_of old slot) batch = ap (λ (now : Installed). place_of now slot) is ∙ batch_placed verdict slot batch old low in
+    subst (λ (p : Place). FollowsLines (place_of old slot).version batch p.version) (sym here) (taken_follows (place_of old slot) batch verdict does)
