@@ -1,4 +1,5 @@
 pub mod Coding
 pub mod NoFloats
 pub mod Finding
+mod InPlace
 pub mod Projects

@@ -4,6 +4,7 @@
 mod feature;
 mod index;
 mod parts;
+mod placing;
 mod seen;
 mod segment;
 mod snapshot;

@@ -1,16 +1,19 @@
 //! All features and segments of a version, compiled.
-ghost use Rattle.std.specs.Prelude.{◌≡◌, Some, IfOk, IsSome, option_map};
+ghost use Rattle.std.specs.Prelude.{◌≡◌, Some, IfOk, IsSome, nat_lt, option_map, if◌then◌else◌};
+ghost use Rattle.std.specs.List.{AllByRecursion};
 ghost use Rattle.unl_compiled.specs.Next.{state_after};
 ghost use Rattle.unl_compiled.specs.Places.{strategy_at};
 ghost use Rattle.unl_delta.specs.State as told;
+ghost use Rattle.unl_delta.specs.Valid.{IsValidEvent};
 
 use crate::feature::CompiledFeature;
+use crate::placing::put_in_place;
 use crate::segment::CompiledSegment;
 use std::alloc::Global;
 use std::marker::Model;
 use unl_constraints::Compiled;
 use unl_delta::Event;
-use unl_delta::keyed::{put, without};
+use unl_delta::keyed::without;
 use unl_documents::{Copied, Feature, List, Memory, Segment, Shared, State};
 
 /// The features by their names and the segments by their ids. Contracts see the state that they
@@ -72,6 +75,8 @@ impl Parts {
     /// no event names is shared.
     #[tactic(auto, unfolding(crate::specs::Next::state_after))]
     pub(crate) fn next(&self, alloc: Global, number: u64, events: &[Event]) -> Result<Parts, Memory>
+        requires order { told.IsInOrder self.now }
+        requires events { AllByRecursion IsValidEvent events.now }
         ensures { IfOk result (λ p. p ≡ state_after number events.now self.now) }
     {
         match events {
@@ -112,6 +117,8 @@ fn compiled_segments(
 
 /// The parts after all of the events.
 fn follow_all(alloc: Global, parts: Parts, events: &[Event]) -> Result<Parts, Memory>
+    requires order { told.IsInOrder parts }
+    requires events { AllByRecursion IsValidEvent events.now }
     ensures { IfOk result (λ p. p ≡ told.fold_events events.now parts) }
 {
     let mut now = parts;
@@ -124,19 +131,31 @@ fn follow_all(alloc: Global, parts: Parts, events: &[Event]) -> Result<Parts, Me
 /// The parts after the events above a number.
 #[tactic(auto, unfolding(unl_delta::specs::State::later))]
 fn follow(alloc: Global, parts: Parts, events: &[Event], above: u64) -> Result<Parts, Memory>
+    requires order { told.IsInOrder parts }
+    requires events { AllByRecursion IsValidEvent events.now }
     ensures { IfOk result (λ p. p ≡ told.fold_events (told.later told.number_of above events.now) parts) }
 {
     let mut now = parts;
     for event in events {
-        if event.number() > above {
-            now = step(alloc, now, event)?;
-        }
+        now = step_above(alloc, now, event, above)?;
     }
     Ok(now)
 }
 
+/// The parts after an event, if it is above a number.
+fn step_above(alloc: Global, parts: Parts, event: &Event, above: u64) -> Result<Parts, Memory>
+    requires { told.IsInOrder parts }
+    ensures { IfOk result (λ p. p ≡ (if nat_lt above (told.number_of event.now) then told.step event.now parts else parts)) }
+{
+    if event.number() > above {
+        return step(alloc, parts, event);
+    }
+    Ok(parts)
+}
+
 /// The parts after one event, of which only the one that it names is compiled anew.
 fn step(alloc: Global, parts: Parts, event: &Event) -> Result<Parts, Memory>
+    requires { told.IsInOrder parts }
     ensures { IfOk result (λ p. p ≡ told.step event.now parts) }
 {
     match event {
@@ -144,7 +163,7 @@ fn step(alloc: Global, parts: Parts, event: &Event) -> Result<Parts, Memory>
         Event::FeatureUpdated { feature, .. } => {
             let compiled = Shared::new(alloc, CompiledFeature::new(alloc, feature)?)?;
             Ok(Parts {
-                features: put(alloc, &compiled, &parts.features)?,
+                features: put_in_place(alloc, compiled, parts.features)?,
                 segments: parts.segments,
             })
         }
@@ -155,7 +174,7 @@ fn step(alloc: Global, parts: Parts, event: &Event) -> Result<Parts, Memory>
         Event::SegmentUpdated { segment, .. } => {
             let compiled = Shared::new(alloc, CompiledSegment::new(alloc, segment)?)?;
             Ok(Parts {
-                segments: put(alloc, &compiled, &parts.segments)?,
+                segments: put_in_place(alloc, compiled, parts.segments)?,
                 features: parts.features,
             })
         }

@@ -1,0 +1,8 @@
+use Rattle.unl_compiled.proofs.InPlace.{step_above_more}
+use Rattle.unl_compiled.proofs.parts.follow.Goals as goal
+
+pub loop-event-preserved : goal.loop-event-preserved
+loop-event-preserved c =
+    let more = step_above_more c.args.above c.args.events.now _ c.loop-event.now c.in_ok-now.now c.loop-event.event-index c.event-item.result
+    c.loop-event-test.true c.event-item.is c.requires.events c.loop-event.invariant.order c.in_ok-now.ensures c.loop-event.invariant.rest in
+    record { order = more.0; rest = more.1 }
