@@ -16,11 +16,11 @@ apart a b not = go (bytes_eq a b) refl
 -- another first word names none
 pub unnamed : {X : Type 0} (text : X → Text) (words : List X) (first : X) (name : Text) → Some first ≡ slice_get words 0 → name ≡ text first
     → (name ≡ codes "replay" → ⊥) → (name ≡ codes "check" → ⊥) → (name ≡ codes "edge" → ⊥) → (name ≡ codes "upstream" → ⊥)
-    → (name ≡ codes "follow" → ⊥) → (name ≡ codes "explain" → ⊥)
+    → (name ≡ codes "follow" → ⊥) → (name ≡ codes "explain" → ⊥) → (name ≡ codes "load" → ⊥)
     → command_of (map text words) ≡ None
 unfolding command_of
-unnamed text [] first name is named replay check edge upstream follow explain = refl
-unnamed text (word ∷ words) first name is named replay check edge upstream follow explain =
+unnamed text [] first name is named replay check edge upstream follow explain load = refl
+unnamed text (word ∷ words) first name is named replay check edge upstream follow explain load =
     let same : name ≡ text word = cc in
     rw (
       ← same,
@@ -30,6 +30,7 @@ unnamed text (word ∷ words) first name is named replay check edge upstream fol
       apart name (codes "upstream") upstream,
       apart name (codes "follow") follow,
       apart name (codes "explain") explain,
+      apart name (codes "load") load,
     ) refl
 
 -- what is none is no command

@@ -1,7 +1,7 @@
 -- The commands are simple, and no option of theirs has a rule on another.
 use Rattle.std.proofs.Common.{◌≡◌, true, refl}
 use Rattle.clap.specs.Words.{is_simple_and_free}
-use Rattle.unl_words.specs.Words.{check_app, edge_app, explain_app, follow_app, replay_app, upstream_app}
+use Rattle.unl_words.specs.Words.{check_app, edge_app, explain_app, follow_app, load_app, replay_app, upstream_app}
 
 pub replay_simple : is_simple_and_free replay_app ≡ true
 unfolding replay_app
@@ -26,3 +26,7 @@ follow_simple = refl
 pub explain_simple : is_simple_and_free explain_app ≡ true
 unfolding explain_app
 explain_simple = refl
+
+pub load_simple : is_simple_and_free load_app ≡ true
+unfolding load_app
+load_simple = refl

@@ -5,7 +5,7 @@ use Rattle.unl_words.specs.declared.words.Words.{Words}
 use Rattle.unl_context.specs.Context.{Fields}
 use Rattle.unl_context.specs.Limits.{is_within_limits}
 use Rattle.unl_documents.specs.Texts.{is_name}
-use Rattle.unl_words.specs.declared.words.Words.TheVariants.{Replay, Check, Edge, Upstream, Follow, Explain}
+use Rattle.unl_words.specs.declared.words.Words.TheVariants.{Replay, Check, Edge, Upstream, Follow, Explain, Load}
 use Rattle.unl_words.specs.Lists.{are_environments, are_own_tokens, are_tokens, are_upstream_tokens, fit_one_book, is_token}
 use Rattle.unl_words.specs.Values.{is_address, is_line, is_secret}
 
@@ -41,6 +41,10 @@ pub record IsFollow (upstream token feature : Text) (context : Fields) (turns in
   pub ends : IsWithin 1 1000000 turns
   pub seconds : IsWithin 1 3600 interval
 
+-- the values of `load` are in their ranges
+abbrev pub IsLoad : ℕ → Type 0
+IsLoad count = IsWithin 1 1000000 count
+
 -- the values are in their ranges
 abbrev pub IsInRange : Words → Type 0
 IsInRange Replay = ⊤
@@ -51,3 +55,4 @@ IsInRange (Upstream port secret environments client_tokens frontend_tokens conne
     IsUpstream port secret environments client_tokens frontend_tokens
 IsInRange (Follow upstream token feature context delta turns interval) = IsFollow upstream token feature context turns interval
 IsInRange Explain = ⊤
+IsInRange (Load seed count) = IsLoad count

@@ -1,5 +1,6 @@
 -- What the values of options are read as: numbers, texts and a context.
-use Rattle.std.specs.Prelude.{◌&&◌, ◌==◌, not, is_ok, ℕ, Bool, true, false, length, nat_le, nat_lt, codes, if◌then◌else◌, Option, Result}
+use Rattle.std.specs.Prelude.{◌&&◌, ◌==◌, not, is_ok, ℕ, Bool, true, false, length, nat_le, nat_lt, codes}
+use Rattle.std.specs.Prelude.{if◌then◌else◌, Option, Some, Result}
 use Rattle.std.specs.Prelude.{Ok, Err, unwrap_or}
 use Rattle.std.specs.List.{list_all}
 use Rattle.std.specs.Option.{option_map_or}
@@ -106,3 +107,7 @@ context_in (Err fault) = Err (refusal_by fault)
 -- the context that a query sets
 abbrev pub context_by : Text → Value Fields
 context_by query = context_in (query_context query)
+
+-- the context in an environment, whatever it says itself
+abbrev pub placed : Text → Fields → Fields
+placed environment context = record context { environment = Some environment }

@@ -5,13 +5,14 @@ use Rattle.std.specs.Str.{bytes_eq}
 use Rattle.clap.specs.Words.{App, Kinds, Row, Rule, Text, fault_of, first_of, matches_of, new_app, new_rule, takes, with_rule}
 use Rattle.clap.specs.declared.builder.action.ArgAction.TheVariants.{Set}
 use Rattle.unl_documents.specs.Results.{◌>>=◌, Gives}
-use Rattle.unl_words.specs.Lists.{are_environments, are_own_tokens, are_tokens, are_upstream_tokens, fit_one_book, items_of, token_of}
-use Rattle.unl_words.specs.Values.{address_of, context_by, line_of, mode_or_delta, name_of, number_or, or_empty, passed, required}
-use Rattle.unl_words.specs.Values.{secret_of}
+use Rattle.unl_words.specs.Lists.{are_environments, are_own_tokens, are_tokens, are_upstream_tokens, environment_of, fit_one_book, items_of}
+use Rattle.unl_words.specs.Lists.{token_of}
+use Rattle.unl_words.specs.Values.{address_of, context_by, line_of, mode_or_delta, name_of, number_or, number_within, or_empty, passed}
+use Rattle.unl_words.specs.Values.{placed, required, secret_of}
 use Rattle.unl_words.specs.declared.refusal.WordsRefusal.{WordsRefusal}
 use Rattle.unl_words.specs.declared.refusal.WordsRefusal.TheVariants.{Bad, Memory}
 use Rattle.unl_words.specs.declared.words.Words.{Words}
-use Rattle.unl_words.specs.declared.words.Words.TheVariants.{Replay, Check, Edge, Upstream, Follow, Explain}
+use Rattle.unl_words.specs.declared.words.Words.TheVariants.{Replay, Check, Edge, Upstream, Follow, Explain, Load}
 
 -- what the words ask for, or why they can't be taken
 abbrev pub WordsReading : Type 0
@@ -139,7 +140,7 @@ follow_app = with_options (codes "follow") (required_named (codes "upstream") �
     ∷ required_named (codes "feature") ∷ option_named (codes "context") ∷ option_named (codes "mode")
     ∷ option_named (codes "turns") ∷ option_named (codes "interval") ∷ [])
 
--- what `follow` is to do
+-- what `follow` is to do; its context is in the environment of its token
 unfoldable pub asks_follow : List Row → WordsReading
 asks_follow rows = do
   upstream ← required address_of (first_of (codes "upstream") rows)
@@ -149,7 +150,7 @@ asks_follow rows = do
   delta ← mode_or_delta (first_of (codes "mode") rows)
   turns ← number_or 1 1 1000000 (first_of (codes "turns") rows)
   interval ← number_or 15 1 3600 (first_of (codes "interval") rows)
-  Ok (Follow upstream token feature context delta turns interval)
+  Ok (Follow upstream token feature (placed (environment_of token) context) delta turns interval)
 
 -- follows an upstream, and tells at each turn whether one feature is on
 abbrev pub follow : Command
@@ -165,6 +166,23 @@ explain_app = new_app (codes "explain")
 abbrev pub explain : Command
 explain = record { app = explain_app; asks = λ rows. Ok Explain }
 
+-- ---- load
+
+-- `load` must be told both of its numbers
+unfoldable pub load_app : App
+load_app = with_options (codes "load") (required_named (codes "seed") ∷ required_named (codes "count") ∷ [])
+
+-- what `load` is to do
+unfoldable pub asks_load : List Row → WordsReading
+asks_load rows = do
+  seed ← required (number_within 0 last_number) (first_of (codes "seed") rows)
+  count ← required (number_within 1 1000000) (first_of (codes "count") rows)
+  Ok (Load seed count)
+
+-- asks a large input that it makes from a number
+abbrev pub load : Command
+load = record { app = load_app; asks = asks_load }
+
 -- ---- the first word
 
 -- the command that the first word names
@@ -176,7 +194,8 @@ command_of (name ∷ words) =
     else (if bytes_eq name (codes "edge") then Some edge
     else (if bytes_eq name (codes "upstream") then Some upstream
     else (if bytes_eq name (codes "follow") then Some follow
-    else (if bytes_eq name (codes "explain") then Some explain else None)))))
+    else (if bytes_eq name (codes "explain") then Some explain
+    else (if bytes_eq name (codes "load") then Some load else None))))))
 
 -- ---- readings
 

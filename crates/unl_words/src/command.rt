@@ -1,8 +1,8 @@
 //! The commands, as clap takes them: one table of options a command.
 ghost use Rattle.std.specs.Prelude.{◌≡◌, ◌≢◌, true, false, map, IfOk, IfErr, Ok, Err, string_bytes};
 ghost use Rattle.clap.specs.Words.{app_of, found_of, is_simple_and_free, matches_of, rows_of, rule_of, takes};
-ghost use Rattle.unl_words.specs.Words.{check_app, edge_app, explain_app, follow_app, matched, option_named, replay_app, upstream_app};
-ghost use Rattle.unl_words.specs.Words.{with_option, with_required};
+ghost use Rattle.unl_words.specs.Words.{check_app, edge_app, explain_app, follow_app, load_app, matched, option_named};
+ghost use Rattle.unl_words.specs.Words.{replay_app, upstream_app, with_option, with_required};
 ghost use Rattle.unl_words.specs.declared.refusal.WordsRefusal.TheVariants.{Memory};
 
 use crate::WordsRefusal;
@@ -76,6 +76,15 @@ pub(crate) fn explain<'a>(alloc: Global) -> Command<'a>
     ensures { app_of result ≡ explain_app }
 {
     Command::new(alloc, "explain")
+}
+
+/// `load` must be told both of its numbers.
+#[tactic(auto, unfolding(crate::specs::Words::load_app))]
+pub(crate) fn load<'a>(alloc: Global) -> Result<Command<'a>, AllocError>
+    ensures { IfOk result (λ command. app_of command ≡ load_app) }
+{
+    let command = with_required(alloc, Command::new(alloc, "load"), "seed")?;
+    with_required(alloc, command, "count")
 }
 
 /// The command with one more option, which takes one value behind its long name.

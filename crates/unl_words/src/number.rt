@@ -3,7 +3,7 @@ ghost use Rattle.std.specs.Prelude.{◌≡◌, ◌≤◌, IfOk, option_copied};
 ghost use Rattle.std.specs.List.{list_all};
 ghost use Rattle.std.specs.Char.{is_ascii_digit};
 ghost use Rattle.unl_words.specs.Ranges.{IsWithin};
-ghost use Rattle.unl_words.specs.Values.{is_number, is_port, number_or, number_within, within};
+ghost use Rattle.unl_words.specs.Values.{is_number, is_port, number_or, number_within, required, within};
 
 use crate::WordsRefusal;
 
@@ -21,6 +21,21 @@ pub(crate) fn number_or(
     match given {
         Some(text) => number_within(text, least, most),
         None => Ok(default),
+    }
+}
+
+/// The number of an option that must be given, between two bounds.
+pub(crate) fn required_number(
+    given: Option<&str>,
+    least: u64,
+    most: u64,
+) -> Result<u64, WordsRefusal>
+    ensures gives { result ≡ required (number_within least most) (option_copied given.entry) }
+    ensures range { IfOk result (IsWithin least most) }
+{
+    match given {
+        Some(text) => number_within(text, least, most),
+        None => Err(WordsRefusal::Bad),
     }
 }
 

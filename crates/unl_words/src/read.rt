@@ -3,12 +3,13 @@ ghost use Rattle.std.specs.Prelude.{◌≡◌, Some, IfOk, map, string_bytes};
 ghost use Rattle.clap.specs.Words.{found_of, rows_of};
 ghost use Rattle.unl_documents.specs.Results.{Gives};
 ghost use Rattle.unl_words.specs.Ranges.{IsInRange};
-ghost use Rattle.unl_words.specs.Words.{AnswersTaken, Command, asked_of, asks_check, asks_edge, asks_follow, asks_upstream, command_of};
-ghost use Rattle.unl_words.specs.Words.{check as check_command, edge as edge_command, explain as explain_command};
-ghost use Rattle.unl_words.specs.Words.{follow as follow_command, replay as replay_command, upstream as upstream_command, words_of};
+ghost use Rattle.unl_words.specs.Words.{AnswersTaken, Command, asked_of, asks_check, asks_edge, asks_follow, asks_load, asks_upstream};
+ghost use Rattle.unl_words.specs.Words.{check as check_command, command_of, edge as edge_command, explain as explain_command};
+ghost use Rattle.unl_words.specs.Words.{follow as follow_command, load as load_command, replay as replay_command};
+ghost use Rattle.unl_words.specs.Words.{upstream as upstream_command, words_of};
 ghost use Rattle.unl_words.specs.declared.refusal.WordsRefusal.TheVariants.{Memory};
 
-use crate::number::number_or;
+use crate::number::{number_or, required_number};
 use crate::value::given;
 use crate::{Words, WordsRefusal, command, items, value};
 use clap::ArgMatches;
@@ -34,8 +35,9 @@ const LAST_MOMENT: u64 = 100_000_000_000_000;
 ///   given.
 /// - `follow` takes `--upstream` `HOST:PORT`, `--token`, `--feature`, a name, `--context`, a query that
 ///   `Context::read_query` takes (empty), `--mode` as `edge`, `--turns`, 1 to 1,000,000 (1), and `--interval` as `edge`.
-///   The first three must be given.
+///   The first three must be given. The context is put into the environment of the token.
 /// - `explain` takes no options.
+/// - `load` takes `--seed`, an unsigned number of 64 bits, and `--count`, 1 to 1,000,000. Both must be given.
 ///
 /// A port is 1 to 65535. A token's text has at most 512 bytes, is read by `Scope::read`, and its environment and project
 /// are names. No carriage return, line feed or NUL stands in a host, a secret or a token.
@@ -65,6 +67,7 @@ pub fn read_words(alloc: Global, words: &[String]) -> Result<Words, WordsRefusal
         "upstream" => read_upstream(alloc, words),
         "follow" => read_follow(alloc, words),
         "explain" => read_explain(alloc, words),
+        "load" => read_load(alloc, words),
         _ => Err(WordsRefusal::Bad),
     }
 }
@@ -127,6 +130,16 @@ fn read_explain(alloc: Global, words: &[String]) -> Result<Words, WordsRefusal>
 {
     command::matched(command::explain(alloc), words)?;
     Ok(Words::Explain)
+}
+
+/// Reads the words of `load`.
+fn read_load(alloc: Global, words: &[String]) -> Result<Words, WordsRefusal>
+    ensures exact { Gives Memory result (asked_of load_command (map string_bytes words.now)) }
+    ensures taken { AnswersTaken load_command (map string_bytes words.now) result }
+    ensures valid { IfOk result IsInRange }
+{
+    let matches = command::matched(command::load(alloc)?, words)?;
+    asked_load(&matches)
 }
 
 /// What `check` is to do, by the values that were found.
@@ -208,6 +221,7 @@ fn asked_follow(alloc: Global, matches: &ArgMatches<'_>) -> Result<Words, WordsR
     let delta = value::mode_or_delta(given(matches, "mode"))?;
     let turns = number_or(given(matches, "turns"), 1, 1, 1_000_000)?;
     let interval = number_or(given(matches, "interval"), 15, 1, 3600)?;
+    let context = value::placed(alloc, context, &token)?;
     Ok(Words::Follow {
         upstream,
         token,
@@ -217,4 +231,15 @@ fn asked_follow(alloc: Global, matches: &ArgMatches<'_>) -> Result<Words, WordsR
         turns: turns as u32,
         interval: interval as u32,
     })
+}
+
+/// What `load` is to do, by the values that were found.
+#[tactic(auto, unfolding(crate::specs::Words::asks_load))]
+fn asked_load(matches: &ArgMatches<'_>) -> Result<Words, WordsRefusal>
+    ensures gives { result ≡ asks_load (rows_of (found_of matches.now)) }
+    ensures valid { IfOk result IsInRange }
+{
+    let seed = required_number(given(matches, "seed"), 0, u64::MAX)?;
+    let count = required_number(given(matches, "count"), 1, 1_000_000)?;
+    Ok(Words::Load { seed, count })
 }

@@ -26,6 +26,11 @@ fn refuses(alloc: Global, line: &str) -> bool {
     matches!(read(alloc, line), Some(Err(WordsRefusal::Bad)))
 }
 
+/// `load` with these values.
+fn load(seed: u64, count: u64) -> Result<Words, WordsRefusal> {
+    Ok(Words::Load { seed, count })
+}
+
 /// `check` with these values.
 fn check(now: u64, word: u64) -> Result<Words, WordsRefusal> {
     Ok(Words::Check { now, word })
@@ -46,6 +51,12 @@ fn words_good_and_bad(rt: HostRuntime) {
         (
             "check --now 007 --word 00000000000000000000000000000001",
             check(7, 1),
+        ),
+        ("load --seed 1 --count 10000", load(1, 10_000)),
+        ("load --count=1 --seed=0", load(0, 1)),
+        (
+            "load --count 1000000 --seed 18446744073709551615",
+            load(u64::MAX, 1_000_000),
         ),
         ("", Err(WordsRefusal::Bad)),
         ("edges", Err(WordsRefusal::Bad)),
@@ -68,6 +79,17 @@ fn words_good_and_bad(rt: HostRuntime) {
         ("check --now 100000000000001", Err(WordsRefusal::Bad)),
         ("check --word 18446744073709551616", Err(WordsRefusal::Bad)),
         ("check --words 1", Err(WordsRefusal::Bad)),
+        ("load", Err(WordsRefusal::Bad)),
+        ("load --seed 1", Err(WordsRefusal::Bad)),
+        ("load --count 1", Err(WordsRefusal::Bad)),
+        ("load --seed 1 --count 0", Err(WordsRefusal::Bad)),
+        ("load --seed 1 --count 1000001", Err(WordsRefusal::Bad)),
+        (
+            "load --seed 18446744073709551616 --count 1",
+            Err(WordsRefusal::Bad),
+        ),
+        ("load --seed -1 --count 1", Err(WordsRefusal::Bad)),
+        ("load --seed= --count 1", Err(WordsRefusal::Bad)),
     ];
     for (line, expected) in table {
         assert!(rt; reads(rt.alloc(), line, &expected) == Some(true), "{line}");
@@ -236,7 +258,7 @@ fn upstream_words_out_of_range(rt: HostRuntime) {
     }
 }
 
-/// `follow` by these values, which are in their ranges.
+/// `follow` by these values, which are in their ranges, with a token of the environment `dev`.
 fn follow(
     alloc: Global,
     token: &str,
@@ -245,11 +267,13 @@ fn follow(
     turns: u32,
     interval: u32,
 ) -> Result<Words, Fail> {
+    let mut context = Context::read_query(alloc, query.as_bytes())?;
+    context.set_environment(alloc, "dev")?;
     Ok(Words::Follow {
         upstream: Text::new(alloc, "up:1")?,
         token: Text::new(alloc, token)?,
         feature: Text::new(alloc, "f")?,
-        context: Context::read_query(alloc, query.as_bytes())?,
+        context,
         delta,
         turns,
         interval,
@@ -266,6 +290,9 @@ fn follow_words(rt: HostRuntime) -> Result<(), Fail> {
     let line =
         "follow --interval 3600 --turns=1000000 --mode feed --context a=b+c --feature f --token=[]:dev.s --upstream up:1";
     assert!(rt; reads(alloc, line, &Ok(all)) == Some(true));
+    let own = follow(alloc, "*:dev.s", "environment=qa", true, 1, 15)?;
+    let line = "follow --context environment=qa --upstream up:1 --token *:dev.s --feature f";
+    assert!(rt; reads(alloc, line, &Ok(own)) == Some(true));
     let (up, token, feature) = ("--upstream=up:1", "--token=*:dev.s", "--feature=f");
     let table = [
         ("", token, feature, ""),

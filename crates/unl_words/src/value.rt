@@ -1,19 +1,19 @@
 //! Texts among the values of options.
-ghost use Rattle.std.specs.Prelude.{◌≡◌, ◌<◌, true, IfOk, option_copied, option_map};
+ghost use Rattle.std.specs.Prelude.{◌≡◌, ◌<◌, true, Ok, IfOk, option_copied, option_map};
 ghost use Rattle.std.specs.List.{list_all};
 ghost use Rattle.std.specs.Path.{rsplit_once};
 ghost use Rattle.clap.specs.Words.{first_of, found_of, rows_of};
 ghost use Rattle.unl_context.specs.Limits.{is_within_limits};
 ghost use Rattle.unl_documents.specs.Results.{Gives};
 ghost use Rattle.unl_documents.specs.Texts.{is_name};
-ghost use Rattle.unl_words.specs.Lists.{is_token, token_of};
+ghost use Rattle.unl_words.specs.Lists.{environment_of, is_token, token_of};
 ghost use Rattle.unl_words.specs.Values.{address_of, context_by, goes_on, is_address, is_line, is_secret, line_of, mode_or_delta, mode_of};
-ghost use Rattle.unl_words.specs.Values.{name_of, or_empty, passed, required, secret_of};
+ghost use Rattle.unl_words.specs.Values.{name_of, or_empty, passed, placed, required, secret_of};
 ghost use Rattle.unl_words.specs.declared.refusal.WordsRefusal.TheVariants.{Memory};
 
 use crate::WordsRefusal;
 use crate::number::is_port;
-use crate::token::is_token;
+use crate::token::{is_token, token_environment};
 use clap::ArgMatches;
 use std::alloc::Global;
 use unl_context::Context;
@@ -42,6 +42,22 @@ pub(crate) fn context_or_none(alloc: Global, given: Option<&str>) -> Result<Cont
     ensures valid { IfOk result (λ context. is_within_limits context ≡ true) }
 {
     Ok(Context::read_query(alloc, given.unwrap_or("").as_bytes())?)
+}
+
+/// The context in the environment of a token, whatever the context says itself.
+pub(crate) fn placed(
+    alloc: Global,
+    mut context: Context,
+    token: &Text,
+) -> Result<Context, WordsRefusal>
+    requires token { is_token true token.now ≡ true }
+    requires within { is_within_limits context ≡ true }
+    ensures gives { Gives Memory result (Ok (placed (environment_of token.now) context)) }
+    ensures valid { IfOk result (λ context. is_within_limits context ≡ true) }
+{
+    let environment = token_environment(alloc, token.as_str())?;
+    context.set_environment(alloc, environment.as_str())?;
+    Ok(context)
 }
 
 /// The name of a feature.

@@ -60,7 +60,7 @@ pub enum Words {
         token: Text,
         /// The name of the feature.
         feature: Text,
-        /// The context that the feature is evaluated in, as the query says it.
+        /// The context that the feature is evaluated in: what the query says, in the environment of the token.
         context: Context,
         /// Whether the upstream is asked for changes, or for whole feeds.
         delta: bool,
@@ -71,4 +71,11 @@ pub enum Words {
     },
     /// Tells why a feature is on or off.
     Explain,
+    /// Asks a large input that it makes from a number.
+    Load {
+        /// The number that the input is made from.
+        seed: u64,
+        /// How often a feature is asked for: 1 to 1,000,000.
+        count: u64,
+    },
 }

@@ -8,12 +8,12 @@ unfolding words_of
 returns-in_default-as_str-clause-exact c not =
     let none = unnamed string_bytes c.args.words.now c.in-Some.name.now c.as_str.result.now c.in-Some.ensures.value c.as_str.ensures.value
     c.in_default-as_str.not-replay c.in_default-as_str.not-check c.in_default-as_str.not-edge c.in_default-as_str.not-upstream
-    c.in_default-as_str.not-follow c.in_default-as_str.not-explain in
+    c.in_default-as_str.not-follow c.in_default-as_str.not-explain c.in_default-as_str.not-load in
     rw none refl
 
 pub returns-in_default-as_str-clause-taken : goal.returns-in_default-as_str-clause-taken
 returns-in_default-as_str-clause-taken c command named takes not =
     let none = unnamed string_bytes c.args.words.now c.in-Some.name.now c.as_str.result.now c.in-Some.ensures.value c.as_str.ensures.value
     c.in_default-as_str.not-replay c.in_default-as_str.not-check c.in_default-as_str.not-edge c.in_default-as_str.not-upstream
-    c.in_default-as_str.not-follow c.in_default-as_str.not-explain in
+    c.in_default-as_str.not-follow c.in_default-as_str.not-explain c.in_default-as_str.not-load in
     absurd (none_named (command_of (map string_bytes c.args.words.now)) command none named)
