@@ -1,0 +1,4 @@
+mod Counting
+mod Made
+mod Names
+mod Users

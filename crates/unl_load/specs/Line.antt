@@ -1,0 +1,18 @@
+-- The line of a load.
+use Rattle.std.specs.Prelude.{ℕ, ◌-◌, List, ◌++◌, codes, decimal}
+use Rattle.std.specs.List.{count_by}
+use Rattle.unl_load.specs.Input.{asks_of, is_on, state_of}
+
+-- the line of so many asks, of which so many are on
+unfoldable pub line_of : ℕ → ℕ → List ℕ
+line_of count on =
+    codes "features 1000 asks "
+    ++ (decimal count ++ (codes " on " ++ (decimal on ++ (codes " off " ++ (decimal (count - on) ++ codes "\n")))))
+
+-- how many of so many asks of a seed are on
+abbrev pub on_of : ℕ → ℕ → ℕ
+on_of seed count = count_by (is_on (state_of seed)) (asks_of seed count)
+
+-- what is written of so many asks of a seed
+abbrev pub load_line : ℕ → ℕ → List ℕ
+load_line seed count = line_of count (on_of seed count)

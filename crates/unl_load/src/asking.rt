@@ -1,0 +1,91 @@
+//! The asks of a load.
+ghost use Rattle.std.specs.Prelude.{◌≡◌, ◌≤◌, ◌<◌, ◌+◌, ◌^◌, false, codes, IfOk, if◌then◌else◌};
+ghost use Rattle.std.specs.List.{count_by};
+ghost use Rattle.std.specs.Option.{option_map_or};
+ghost use Rattle.serde_json.specs.Data.{member, no_members, object, string};
+ghost use Rattle.serde_json.specs.View.{view};
+ghost use Rattle.unl_load.specs.Input.{asks, context_of, is_on};
+
+use crate::documents::{FEATURES, decimal_text, name};
+use crate::words::take;
+use rand_pcg::Lcg64Xsh32;
+use serde_json::{Value, json};
+use std::alloc::{AllocError, Global};
+use unl_compiled::Snapshot;
+use unl_context::Context;
+use unl_dependencies::Evaluation;
+use unl_documents::Memory;
+use unl_strategies::Moment;
+use unl_tokens::Projects;
+
+/// How many of so many asks, which the next words make, are on.
+pub(crate) fn count_on(
+    alloc: Global,
+    snapshot: &Snapshot,
+    words: &mut Lcg64Xsh32,
+    count: u64,
+) -> Result<u64, Memory>
+    ensures on { IfOk result (λ on. on ≡ count_by (is_on snapshot.now.state) (asks count words.old)) }
+    ensures most { IfOk result (λ on. on ≤ count) }
+{
+    let mut on = 0;
+    for asked in 0..count {
+        let feature = take(words) % FEATURES;
+        let user = take(words);
+        on = counted(on, is_on(alloc, snapshot, feature, user)?);
+    }
+    Ok(on)
+}
+
+/// One more, where it counts.
+fn counted(count: u64, counts: bool) -> u64
+    requires { count + 1 < 2 ^ 64 }
+    ensures { result ≡ (if counts then 1 + count else count) }
+{
+    if counts { count + 1 } else { count }
+}
+
+/// Whether the feature at a place is on for the user of a number.
+#[tactic(auto, unfolding(crate::specs::Input::is_on))]
+fn is_on(alloc: Global, snapshot: &Snapshot, feature: u32, user: u32) -> Result<bool, Memory>
+    ensures { IfOk result (λ on. on ≡ is_on snapshot.now.state (record { feature = feature; user = user })) }
+{
+    let name = name(alloc, feature)?;
+    let context = context(alloc, user)?;
+    let moment = Moment {
+        now: 0,
+        word: 0,
+        host: "",
+    };
+    let found = snapshot.evaluate(alloc, name.as_str(), &Projects::All, &context, &moment)?;
+    Ok(found_on(&found))
+}
+
+/// Whether there is an evaluation, and it is on.
+fn found_on(found: &Option<Evaluation>) -> bool
+    ensures { result ≡ option_map_or (λ e. e.on) found.now false }
+{
+    match found {
+        Some(evaluation) => evaluation.on,
+        None => false,
+    }
+}
+
+/// The context of the user of a number.
+fn context(alloc: Global, user: u32) -> Result<Context, Memory>
+    ensures { IfOk result (λ context. context ≡ context_of user) }
+{
+    let number = decimal_text(alloc, user)?;
+    let value = user_value(alloc, number.as_str())?;
+    match Context::read_json(alloc, &value) {
+        Ok(context) => Ok(context),
+        Err(_) => Err(Memory),
+    }
+}
+
+/// The context of a user, in JSON.
+fn user_value(alloc: Global, user: &str) -> Result<Value, AllocError>
+    ensures { IfOk result (λ value. view value ≡ object (member (codes "userId") (string user.now) no_members)) }
+{
+    json!(in alloc; {"userId": user})
+}

@@ -1,0 +1,43 @@
+//! Why a load has no line.
+ghost use Rattle.std.specs.Prelude.{◌≡◌};
+ghost use Rattle.unl_load.specs.declared.fault.LoadFault.TheVariants.{Memory as want, WriteFault as write_fault};
+
+use std::alloc::AllocError;
+use thiserror::Error;
+use unl_base::Failed;
+use unl_documents as documents;
+
+/// Why a load ended before its line was written.
+#[derive(Clone, Copy, Debug, PartialEq, Eq, Error)]
+pub enum LoadFault {
+    /// The sink failed, which has counted it.
+    #[error("the output failed")]
+    WriteFault,
+    /// Memory ran out.
+    #[error("out of memory")]
+    Memory,
+}
+
+impl From<Failed> for LoadFault {
+    ghost from_gives = { λ _ fault. fault ≡ write_fault };
+
+    fn from(_: Failed) -> LoadFault {
+        LoadFault::WriteFault
+    }
+}
+
+impl From<documents::Memory> for LoadFault {
+    ghost from_gives = { λ _ fault. fault ≡ want };
+
+    fn from(_: documents::Memory) -> LoadFault {
+        LoadFault::Memory
+    }
+}
+
+impl From<AllocError> for LoadFault {
+    ghost from_gives = { λ _ fault. fault ≡ want };
+
+    fn from(_: AllocError) -> LoadFault {
+        LoadFault::Memory
+    }
+}

@@ -1,0 +1,56 @@
+//! The load, from its seed to its line.
+ghost use Rattle.std.specs.Prelude.{◌≡◌, ◌≤◌, IfOk, IsErrOf, OnOk, string_bytes};
+ghost use Rattle.unl_base.specs.Faults.{Rose};
+ghost use Rattle.unl_base.specs.Streams.{Sends, SendsFront};
+ghost use Rattle.unl_load.specs.Line.{line_of, load_line};
+
+use crate::asking::count_on;
+use crate::documents::{installed, state};
+use crate::fault::LoadFault;
+use crate::words::generator;
+use std::alloc::{AllocError, Global};
+use unl_base::{Sink, write_all};
+use unl_documents::Memory;
+
+/// Asks a large input that it makes from a seed, and writes one line: how many features there are, how often one was asked
+/// for, and of these asks how many found it on and how many off. The program asks 1 to 1,000,000 times.
+///
+/// The words of a generator of the seed make first 1,000 features, which are installed as one hydration, and then two words
+/// make each ask: for a feature and a user, at the moment 0 with the random word 0. One seed and one count always give the
+/// same line.
+///
+/// # Errors
+/// `WriteFault` where the sink failed: a front of the line was written. `Memory` where memory ran out.
+pub fn load<K: Sink>(alloc: Global, seed: u64, count: u64, sink: &mut K) -> Result<(), LoadFault>
+    ensures ok { OnOk result (Sends (K.sent sink.old) (load_line seed count) (K.sent sink.new)) }
+    ensures broken { IsErrOf result LoadFault.WriteFault → SendsFront (K.sent sink.old) (load_line seed count) (K.sent sink.new) }
+    ensures write { IsErrOf result LoadFault.WriteFault → Rose (K.faults sink.old) (K.faults sink.new) }
+    ensures later { K.faults sink.old ≤ K.faults sink.new }
+{
+    let line = load_line(alloc, seed, count)?;
+    match write_all(sink, line.as_bytes()) {
+        Ok(()) => Ok(()),
+        Err(_) => Err(LoadFault::WriteFault),
+    }
+}
+
+/// The line of so many asks of a seed.
+fn load_line(alloc: Global, seed: u64, count: u64) -> Result<String, Memory>
+    ensures { IfOk result (λ line. string_bytes line ≡ load_line seed count) }
+{
+    let mut words = generator(seed);
+    let state = state(alloc, &mut words)?;
+    let snapshot = installed(alloc, state)?;
+    let on = count_on(alloc, &snapshot, &mut words, count)?;
+    Ok(line_of(alloc, count, on)?)
+}
+
+/// The line of so many asks, of which so many are on.
+#[tactic(auto, unfolding(crate::specs::Line::line_of))]
+fn line_of(alloc: Global, count: u64, on: u64) -> Result<String, AllocError>
+    requires { on ≤ count }
+    ensures { IfOk result (λ line. string_bytes line ≡ line_of count on) }
+{
+    let off = count - on;
+    format!(in alloc; "features 1000 asks {count} on {on} off {off}\n")
+}

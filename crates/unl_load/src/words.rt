@@ -1,0 +1,23 @@
+//! The words that a load is made from.
+ghost use Rattle.std.specs.Prelude.{◌≡◌};
+ghost use Rattle.unl_load.specs.Words.{first, generator, next};
+
+use rand_pcg::Lcg64Xsh32;
+use rand_pcg::rand_core::utils::NextWord;
+
+/// The generator of a seed.
+#[tactic(auto, unfolding(crate::specs::Words::generator))]
+pub(crate) fn generator(seed: u64) -> Lcg64Xsh32
+    ensures { result ≡ generator seed }
+{
+    Lcg64Xsh32::new(seed, 1)
+}
+
+/// The next word, which is taken.
+#[tactic(auto, unfolding(crate::specs::Words::first, crate::specs::Words::next))]
+pub(crate) fn take(words: &mut Lcg64Xsh32) -> u32
+    ensures word { result ≡ first words.old }
+    ensures next { words.new ≡ next words.old }
+{
+    words.next_word()
+}

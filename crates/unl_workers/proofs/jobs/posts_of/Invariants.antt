@@ -1,0 +1,11 @@
+use Rattle.std.proofs.Common.{◌≡◌, ◌≤◌, ◌++◌}
+use Rattle.std.specs.Prelude.{filter_map, length, vec_capacity}
+use Rattle.unl_workers.specs.Beside.{post_of}
+use Rattle.unl_workers.proofs.jobs.posts_of.Given as goal
+
+-- the posts so far and those to come are all, for which there is room
+abbrev pub invariant-loop-job : goal.invariant-loop-job
+invariant-loop-job g l = record {
+  all : l.posts.items ++ filter_map post_of l.job-iterator.rest.items ≡ filter_map post_of l.initial.job-iterator.rest.items;
+  room : length (filter_map post_of l.initial.job-iterator.rest.items) ≤ vec_capacity l.posts;
+}

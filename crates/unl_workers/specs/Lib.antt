@@ -1,0 +1,4 @@
+pub mod Accepting
+pub mod Beside
+pub mod Serving
+pub mod Turning

@@ -1,0 +1,77 @@
+//! What accepts links.
+ghost use Rattle.std.specs.Prelude.{◌≡◌, true};
+ghost use Rattle.unl_base.specs.Doors.{Accepts, DoorState};
+ghost use Rattle.unl_base.specs.Faults.{HasCause};
+ghost use Rattle.unl_workers.specs.Accepting.{AcceptsAll};
+
+use crate::ever::wait_for_ever;
+use std::sync::Wait;
+use unl_base::{Door, Failed, Job};
+use unl_links::LinkQueue;
+
+/// Accepts the links of a door that listens, and puts them where workers take them.
+pub(crate) struct Acceptor<'a, D: Door, W> {
+    pub door: &'a mut D,
+    pub queue: &'a LinkQueue<D::L>,
+    pub rt: &'a W,
+    /// How many links were put there, or that the door failed.
+    pub outcome: Result<u64, Failed>,
+    ghost listens: { (D.state door.now).listening ≡ true },
+}
+
+impl<'a, D: Door, W> Acceptor<'a, D, W> {
+    /// What has accepted no link yet.
+    pub fn new(rt: &'a W, queue: &'a LinkQueue<D::L>, door: &'a mut D) -> Self
+        requires { (D.state door.old).listening ≡ true }
+        ensures same { result.door.ghost_name ≡ door.entry.ghost_name }
+        ensures door { result.door.now ≡ door.old }
+    {
+        Acceptor {
+            door,
+            queue,
+            rt,
+            outcome: Err(Failed),
+        }
+    }
+}
+
+impl<'a, D: Door, W: Wait> Job for Acceptor<'a, D, W> {
+    ghost worked = { λ before after. (after.door.ghost_name ≡ before.door.ghost_name)
+        × AcceptsAll after.outcome (D.state before.door.now) (D.state after.door.now)
+        × HasCause (D.faults before.door.now) (D.faults after.door.now) after.outcome };
+
+    ghost cancelled = { λ before after. (after.door.ghost_name ≡ before.door.ghost_name) × (after.door.now ≡ before.door.now) };
+
+    fn work(&mut self) {
+        self.outcome = accept_all(self.rt, self.queue, self.door);
+        self.queue.close(self.rt);
+    }
+
+    fn cancel(&mut self) {
+        self.queue.close(self.rt);
+    }
+}
+
+/// Accepts links until the door is closed, and answers how many these were.
+///
+/// # Errors
+/// `Failed`: the door could hand out no link, which it counted.
+fn accept_all<D: Door, W: Wait>(
+    rt: &W,
+    queue: &LinkQueue<D::L>,
+    door: &mut D,
+) -> Result<u64, Failed>
+    requires { (D.state door.old).listening ≡ true }
+    ensures accepts { AcceptsAll result (D.state door.old) (D.state door.new) }
+    ensures cause { HasCause (D.faults door.old) (D.faults door.new) result }
+    ensures listens { (D.state door.new).listening ≡ true }
+{
+    for count in 0..u64::MAX {
+        match door.accept() {
+            Ok(Some(link)) => queue.put(rt, link),
+            Ok(None) => return Ok(count),
+            Err(failed) => return Err(failed),
+        }
+    }
+    wait_for_ever(rt)
+}

@@ -1,0 +1,136 @@
+//! What is done in threads beside the one that accepts links.
+ghost use Rattle.std.specs.Prelude.{◌≡◌, ◌<◌, ◌≤◌, ◌+◌, ◌++◌, [], IfOk, OnErr, OnOk};
+ghost use Rattle.std.specs.Prelude.{filter_map, length, option_to_list, vec_capacity, vec_len};
+ghost use Rattle.std.specs.List.{AllZip};
+ghost use Rattle.unl_base.specs.Faults.{HasCause};
+ghost use Rattle.unl_workers.specs.Beside.{BesideWorked, post_of};
+ghost use Rattle.unl_workers.specs.Serving.{Attends};
+
+use crate::with_last::with_last;
+use crate::worker::{Attendant, Post, Worker, serve_all};
+use std::alloc::{AllocError, Global};
+use std::sync::Wait;
+use unl_base::{Draws, Failed, Job, Link, Spawner};
+use unl_links::LinkQueue;
+
+/// A job in a thread of its own: a worker, or another.
+#[derive(Drop)]
+pub(crate) enum BesideJob<'a, S, R, L, W, B> {
+    Worker(Worker<'a, S, R, L, W>),
+    Other(B),
+}
+
+impl<'a, S: Attendant, R: Draws, L: Link + Drop, W: Wait, B: Job> Job
+    for BesideJob<'a, S, R, L, W, B> {
+    ghost worked = { BesideWorked (Attends S.serves S.keeps R.coming) B.worked };
+
+    ghost cancelled = { λ before after. Unit {0} };
+
+    fn work(&mut self) {
+        match self {
+            BesideJob::Worker(worker) => serve_all(worker),
+            BesideJob::Other(job) => job.work(),
+        }
+    }
+
+    fn cancel(&mut self) {}
+}
+
+/// A worker for each post, with room for one more job; and room for as many posts.
+pub(crate) fn workers_of<'a, S, R, L, W, B>(
+    alloc: Global,
+    rt: &'a W,
+    queue: &'a LinkQueue<L>,
+    posts: Vec<Post<S, R>>,
+) -> Result<(Vec<BesideJob<'a, S, R, L, W, B>>, Vec<Post<S, R>>), AllocError>
+where
+    S: Drop,
+    R: Drop,
+    B: Drop,
+    ensures workers { IfOk result (λ made. filter_map post_of made.0.items ≡ posts.items) }
+    ensures more { IfOk result (λ made. vec_len made.0 < vec_capacity made.0) }
+    ensures room { IfOk result (λ made. length posts.items ≤ vec_capacity made.1) }
+    ensures empty { IfOk result (λ made. made.1.items ≡ []) }
+{
+    let room = Vec::with_capacity(alloc, posts.len())?;
+    let mut jobs = Vec::new(alloc);
+    for post in posts {
+        jobs.push(BesideJob::Worker(Worker {
+            post,
+            queue,
+            rt,
+            alloc,
+        }))?;
+    }
+    jobs.reserve_exact(1)?;
+    Ok((jobs, room))
+}
+
+/// Runs workers and another job beside one another and `here` on this thread, and hands back the posts, in the room given, and
+/// that job.
+///
+/// # Errors
+/// `Failed`: a job couldn't be started, which the spawner counted.
+pub(crate) fn work_beside<S, R, L, W, P: Spawner, B: Job, M: Job>(
+    spawner: &mut P,
+    workers: Vec<BesideJob<'_, S, R, L, W, B>>,
+    other: B,
+    here: M,
+    room: Vec<Post<S, R>>,
+) -> (M, Result<(Vec<Post<S, R>>, B), Failed>)
+where
+    S: Attendant + Drop + Send,
+    R: Draws + Drop + Send,
+    L: Link + Drop + Send,
+    W: Wait + Sync,
+    B: Drop + Send,
+    requires more { vec_len workers < vec_capacity workers }
+    requires room { length (filter_map post_of workers.items) ≤ vec_capacity room }
+    requires empty { room.items ≡ [] }
+    ensures here { OnOk result.1 (M.worked here result.0) }
+    ensures posts { IfOk result.1 (λ done.
+        AllZip (Attends S.serves S.keeps R.coming) (filter_map post_of workers.entry.items) done.0.items) }
+    ensures other { IfOk result.1 (λ done. B.worked other done.1) }
+    ensures cancelled { OnErr result.1 (M.cancelled here result.0) }
+    ensures cause { HasCause (P.faults spawner.old) (P.faults spawner.new) result.1 }
+{
+    let (here, done) = with_last(spawner, workers, BesideJob::Other(other), here);
+    match done {
+        Ok((workers, last)) => match last {
+            BesideJob::Other(other) => (here, Ok((posts_of(workers, room), other))),
+            BesideJob::Worker(_) => unreachable!(),
+        },
+        Err(failed) => (here, Err(failed)),
+    }
+}
+
+/// The posts of workers, in the room given.
+fn posts_of<S: Drop, R: Drop, L, W, B: Drop>(
+    jobs: Vec<BesideJob<'_, S, R, L, W, B>>,
+    room: Vec<Post<S, R>>,
+) -> Vec<Post<S, R>>
+    requires room { length (filter_map post_of jobs.items) ≤ vec_capacity room }
+    requires empty { room.items ≡ [] }
+    ensures { result.items ≡ filter_map post_of jobs.entry.items }
+{
+    let mut posts = room;
+    for job in jobs {
+        keep(&mut posts, job);
+    }
+    posts
+}
+
+/// Puts the post of a worker behind the others, for which there is room.
+fn keep<S: Drop, R: Drop, L, W, B: Drop>(
+    posts: &mut Vec<Post<S, R>>,
+    job: BesideJob<'_, S, R, L, W, B>,
+)
+    requires { vec_len posts.old + length (option_to_list (post_of job)) ≤ vec_capacity posts.old }
+    ensures items { posts.new.items ≡ posts.old.items ++ option_to_list (post_of job.entry) }
+    ensures room { vec_capacity posts.old ≤ vec_capacity posts.new }
+{
+    match job {
+        BesideJob::Worker(worker) => posts.push(worker.post).unwrap(),
+        BesideJob::Other(_) => {}
+    }
+}

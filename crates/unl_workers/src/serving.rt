@@ -1,0 +1,112 @@
+//! The links of a door, served side by side.
+ghost use Rattle.std.specs.Prelude.{◌≡◌, IfOk, true};
+ghost use Rattle.std.specs.List.{AllZip};
+ghost use Rattle.unl_workers.specs.Beside.{Accepted, HasCauses};
+ghost use Rattle.unl_workers.specs.Serving.{Attends};
+ghost use Rattle.unl_workers.specs.Turning.{MakesTurns};
+
+use crate::acceptor::Acceptor;
+use crate::jobs::{work_beside, workers_of};
+use crate::refresher::{Refresher, Turn};
+use crate::worker::{Attendant, Post};
+use std::alloc::Global;
+use std::sync::Wait;
+use thiserror::Error;
+use unl_base::{Door, Draws, Pace, Spawner};
+use unl_links::LinkQueue;
+
+/// What was done beside one another until the door was closed.
+#[derive(Drop)]
+pub struct Beside<S, R> {
+    /// How many links the door handed out.
+    pub links: u64,
+    /// How many turns were made.
+    pub turns: u64,
+    /// The posts, in their order, each with the count of the links that were served there.
+    pub posts: Vec<Post<S, R>>,
+}
+
+/// Why serving ended before the door was closed.
+#[derive(Clone, Copy, Debug, Error, PartialEq, Eq)]
+pub enum BesideFault {
+    /// The door could hand out no link, which it counted.
+    #[error("the door failed")]
+    Door,
+    /// A thread couldn't be started, which the spawner counted.
+    #[error("a thread could not be started")]
+    Spawner,
+    /// Memory ran out, before any link was accepted.
+    #[error("out of memory")]
+    Memory,
+}
+
+/// Accepts the links of a door on this thread until it is closed. Beside it, each in a thread of its own, a worker for each
+/// post serves them, and turns are made at a pace until there is none any more or the door is closed. It may wait.
+///
+/// # Errors
+/// `Door` where the door failed, `Spawner` where a job couldn't be started, `Memory` where memory for the queue or the jobs ran
+/// out. The posts and the turn are then dropped.
+pub fn serve_beside<S, R, D: Door, N, T, P: Spawner, W: Wait + Sync>(
+    alloc: Global,
+    rt: &W,
+    spawner: &mut P,
+    door: &mut D,
+    pace: &mut T,
+    turn: N,
+    posts: Vec<Post<S, R>>,
+) -> Result<(Beside<S, R>, N), BesideFault>
+where
+    S: Attendant + Drop + Send,
+    R: Draws + Drop + Send,
+    D::L: Drop + Send,
+    N: Turn + Drop + Send,
+    T: Pace + Send,
+    requires { (D.state door.old).listening ≡ true }
+    ensures accepts { Accepted result (D.state door.old) (D.state door.new) }
+    ensures posts { IfOk result (λ done. AllZip (Attends S.serves S.keeps R.coming) posts.items done.0.posts.items) }
+    ensures turns { IfOk result (λ done. MakesTurns N.turned N.keeps done.0.turns turn done.1 (T.turns pace.old) (T.turns pace.new)) }
+    ensures causes { HasCauses result (D.faults door.old) (D.faults door.new) (P.faults spawner.old) (P.faults spawner.new) }
+{
+    let Ok(queue) = LinkQueue::new(alloc) else {
+        return Err(BesideFault::Memory);
+    };
+    let Ok((workers, room)) = workers_of(alloc, rt, &queue, posts) else {
+        return Err(BesideFault::Memory);
+    };
+    let acceptor = Acceptor::new(rt, &queue, door);
+    let refresher = Refresher::new(alloc, rt, &queue, pace, turn);
+    let (acceptor, done) = work_beside(spawner, workers, refresher, acceptor, room);
+    let Acceptor {
+        door: lent,
+        queue: _,
+        rt: _,
+        outcome,
+    } = acceptor;
+    take_back(lent);
+    let Ok((posts, refresher)) = done else {
+        return Err(BesideFault::Spawner);
+    };
+    let Refresher {
+        turn,
+        pace: lent,
+        turns,
+        ..
+    } = refresher;
+    take_back(lent);
+    match outcome {
+        Ok(links) => {
+            let beside = Beside {
+                links,
+                turns,
+                posts,
+            };
+            Ok((beside, turn))
+        }
+        Err(_) => Err(BesideFault::Door),
+    }
+}
+
+/// Does nothing. It ties a reference, for the borrow checker, to the variable that it was lent from.
+fn take_back<T>(x: &mut T)
+    ensures { x.new ≡ x.old }
+{}
