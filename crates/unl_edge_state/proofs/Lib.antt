@@ -1,3 +1,4 @@
 pub mod GoingOn
 pub mod Boards
 pub mod Writings
+pub mod Sent

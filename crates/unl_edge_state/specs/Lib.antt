@@ -2,3 +2,4 @@ pub mod Editions
 pub mod Reading
 pub mod Writing
 pub mod Orderly
+pub mod Crossing

@@ -3,6 +3,7 @@
 #![tactic(auto)]
 
 mod beginning;
+mod crossing;
 mod edition;
 pub mod laws;
 mod reader;
@@ -11,6 +12,7 @@ mod tests;
 mod writer;
 
 pub use beginning::begin;
+pub use crossing::readers_cross;
 pub use edition::Edition;
 pub use reader::{EdgeReader, Told};
 pub use writer::EdgeWriter;

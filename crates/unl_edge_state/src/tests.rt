@@ -2,11 +2,12 @@ ghost use Rattle.std.specs.Prelude.{◌≡◌, ◌<◌, All, length, IfOk, IfSom
 ghost use Rattle.unl_edge_state.specs.Reading.{HasBegun, next_of};
 ghost use Rattle.unl_published.specs.Looking.{SameOrigin};
 
-use crate::{EdgeReader, EdgeWriter, begin};
+use crate::{EdgeReader, EdgeWriter, begin, readers_cross};
 use std::alloc::Global;
 use std::sync::Wait;
 use std::test::Fail;
-use unl_base::Draw;
+use std::thread::Threads;
+use unl_base::{Draw, Job, RealSpawner, Spawner};
 use unl_core::{Board, Desk, Install};
 use unl_delta::{Installer, Verdict, read_batch_bytes, verdict};
 use unl_documents::{List, Memory, Shared, Text};
@@ -146,5 +147,121 @@ fn a_told_reader_sees_what_was_published(rt: HostRuntime) -> Result<(), Fail> {
         assert!(rt; last <= front && front <= told as u64 && status == STATUSES[front as usize]);
         last = front;
     }
+    Ok(())
+}
+
+/// Publishes a book again and again.
+struct Publishing<'a, 'w, W: Wait> {
+    writer: &'a mut EdgeWriter<'w, W>,
+    alloc: Global,
+    good: bool,
+}
+
+impl<W: Wait> Job for Publishing<'_, '_, W> {
+    ghost use Rattle.std.specs.Prelude.{⊤};
+
+    ghost worked = { λ before after. ⊤ };
+
+    ghost cancelled = { λ before after. ⊤ };
+
+    fn work(&mut self) {
+        let mut good = true;
+        for _ in 0..20 {
+            good = publish_book(self.alloc, self.writer).is_ok() && good;
+        }
+        self.good = good && self.writer.front() == 20;
+    }
+
+    fn cancel(&mut self) {}
+}
+
+/// Asks again and again: each answer is of the board at its front, and no front is below the one before.
+#[derive(Drop)]
+struct Asking {
+    reader: EdgeReader,
+    alloc: Global,
+    good: bool,
+}
+
+impl Job for Asking {
+    ghost use Rattle.std.specs.Prelude.{⊤};
+
+    ghost worked = { λ before after. ⊤ };
+
+    ghost cancelled = { λ before after. ⊤ };
+
+    fn work(&mut self) {
+        let mut last = 0;
+        let mut good = true;
+        for _ in 0..200 {
+            match ask(self.alloc, &mut self.reader) {
+                Ok((front, status)) => {
+                    good = good
+                        && last <= front
+                        && front <= 20
+                        && status == STATUSES[front.min(1) as usize];
+                    last = front;
+                }
+                Err(_) => good = false,
+            }
+        }
+        self.good = good;
+    }
+
+    fn cancel(&mut self) {}
+}
+
+/// So many jobs that ask, one for each reader.
+fn askers(alloc: Global, readers: Vec<EdgeReader>) -> Result<Vec<Asking>, Memory> {
+    let mut asking = Vec::new(alloc);
+    for reader in readers {
+        asking.push(Asking {
+            reader,
+            alloc,
+            good: false,
+        })?;
+    }
+    Ok(asking)
+}
+
+/// Publishes on this thread while the readers ask, each in a thread of its own.
+fn publish_beside<R: Threads + Wait>(
+    rt: &R,
+    alloc: Global,
+    writer: &mut EdgeWriter<'_, R>,
+    asking: Vec<Asking>,
+) -> bool {
+    let publishing = Publishing {
+        writer,
+        alloc,
+        good: false,
+    };
+    let mut spawner = RealSpawner::new(rt);
+    readers_cross();
+    let (publishing, asked) = spawner.with(asking, publishing);
+    let Publishing {
+        writer: _,
+        alloc: _,
+        good,
+    } = publishing;
+    match asked {
+        Ok(asked) => good && asked.iter().all(|one| one.good),
+        Err(_) => false,
+    }
+}
+
+fn side_by_side<R: Threads + Wait>(rt: &R, alloc: Global) -> Result<bool, Memory> {
+    let (mut writer, readers) = begun(rt, alloc)?;
+    let good = match askers(alloc, readers) {
+        Ok(asking) => publish_beside(rt, alloc, &mut writer, asking),
+        Err(Memory) => false,
+    };
+    writer.end();
+    Ok(good)
+}
+
+#[test]
+fn a_writer_publishes_beside_readers(rt: HostRuntime) -> Result<(), Fail> {
+    assert!(rt; side_by_side(&rt, rt.alloc())?);
     Ok(())
 }

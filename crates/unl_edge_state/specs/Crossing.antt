@@ -1,0 +1,26 @@
+-- What it means of the parts of a reader that they may be handed to another thread.
+use denote.RattleType.{RattleType}
+use Rattle.left_right.specs.contracts.reader.Reader as Seat
+use Rattle.std.specs.contracts.alloc.Global as Global
+use Rattle.std.specs.contracts.impls.GlobalAllocator.TheImpl as global
+use Rattle.unl_core.specs.contracts.board.Install as Install
+use Rattle.unl_edge_state.specs.contracts.edition.Edition as Edition
+use Rattle.unl_edge_state.specs.contracts.edition.EditionAbsorbInstall.TheImpl as absorb
+use Rattle.unl_edge_state.specs.contracts.edition.EditionCountedInstall.TheImpl as counted
+use Rattle.unl_published.specs.contracts.knowledge.Knowledge as Knowledge
+use Rattle.unl_published.specs.contracts.reader.Reader as Reader
+use Rattle.unl_published.specs.contracts.rule.Ruled as Ruled
+use Rattle.unl_published.specs.contracts.rule.RuledProtocolKnowledgeState.TheImpl as ruled
+
+-- the seat of a reader of editions, as the logic's type
+abbrev pub seat_type : RattleType
+seat_type =
+    Seat.the_row Edition.the_row (Knowledge.the_row Edition.the_row Install.the_row) (Ruled.the_row Install.the_row) Global.the_row
+    (ruled.ghosts Edition.the_row Install.the_row Edition.the_row counted.ghosts ruled.no_dict absorb.ghosts ruled.no_dict ruled.no_dict)
+    global.ghosts
+
+-- a reader of editions by installs, as the logic's type
+abbrev pub reader_type : RattleType
+reader_type =
+    Reader.the_row Edition.the_row Install.the_row (Ruled.the_row Install.the_row) Edition.the_row counted.ghosts absorb.ghosts
+    (ruled.ghosts Edition.the_row Install.the_row Edition.the_row counted.ghosts ruled.no_dict absorb.ghosts ruled.no_dict ruled.no_dict)
