@@ -143,7 +143,7 @@ fn calls_fail_where_they_are_named(rt: HostRuntime) -> Result<(), Fail> {
     Ok(())
 }
 
-/// What opening a keeper over a table answers that was made by these statements, and then what its row 2 is.
+/// What opening a keeper over a table answers that was made by these statements, and then what its second row is.
 fn over(alloc: Global, sql: &str) -> Result<(u64, Option<Text>), KeepRefusal> {
     let mut connection = Connection::open_in_memory(alloc)?;
     if fill(&mut connection, sql).is_err() {

@@ -1,5 +1,5 @@
 -- The commands that requests give, and what they do.
-use Rattle.std.proofs.Common.{◌≡◌, ℕ, List, Bool, true, false, cond, Option, Some, None, Ok, Err, refl}
+use Rattle.std.proofs.Common.{◌≡◌, ℕ, List, Bool, true, false, cond, Option, Some, None, Ok, Err, refl, ap, ◌∙◌}
 use Rattle.std.specs.Prelude.{◌&&◌, option_to_list}
 use Rattle.std.specs.Str.{bytes_eq}
 use Rattle.unl_base.specs.declared.draws.Draw.{Draw}
@@ -8,43 +8,60 @@ use Rattle.unl_documents.specs.Reading.{Reading}
 use Rattle.unl_http_api.specs.declared.request.Request.{Request}
 use Rattle.unl_http_api.specs.Route.{is_post, route_of}
 use Rattle.unl_upstream.specs.declared.command.Command.{Command}
-use Rattle.unl_upstream.specs.Answer.{Answered, by_body, by_command, by_token, names_commands, told, unchanged, upstream_answer}
+use Rattle.unl_upstream.specs.declared.order.Order.{Order}
+use Rattle.unl_upstream.specs.declared.order.Order.TheVariants.{Obey, Reply}
+use Rattle.unl_upstream.specs.Answer.{done, names_commands, order_at, order_in, order_of, order_with, told, upstream_answer}
 use Rattle.unl_upstream.specs.Command.{command_in}
 use Rattle.unl_upstream.specs.History.{after_commands, up_after}
 use Rattle.unl_upstream.specs.Requests.{command_given, if_read, shown_with}
 use Rattle.unl_upstream.specs.Upstream.{Obeyed, Obeying, UpstreamState, commanded}
 
--- where an answer leads, and what a command that may be given does
-Leads : UpstreamState → Answered → Option Command → Type 0
-Leads up answered given = answered.up ≡ after_commands (option_to_list given) up
+-- the command of an order
+abbrev pub ordered : Order → Option Command
+ordered (Obey command) = Some command
+ordered (Reply reply) = None
 
-either : (t : Bool) (up : UpstreamState) (x y : Answered) (c d : Option Command) → Leads up x c → Leads up y d → Leads up (cond t x y) (cond t c d)
-either true up x y c d p q = p
-either false up x y c d p q = q
+-- an order has this command, or none
+Has : Order → Option Command → Type 0
+Has order given = ordered order ≡ given
+
+either : (t : Bool) (x y : Order) (c d : Option Command) → Has x c → Has y d → Has (cond t x y) (cond t c d)
+either true x y c d p q = p
+either false x y c d p q = q
+
+body_has : (reading : Reading Command) → Has (order_in reading) (if_read reading)
+unfolding Has
+body_has (Ok command) = refl
+body_has (Err fault) = refl
+
+token_has : (up : UpstreamState) (q : Request) (token : Option (List ℕ)) → Has (order_with up q token) (shown_with up.secret q token)
+unfolding Has
+token_has up q None = refl
+token_has up q (Some token) = either (bytes_eq token up.secret) _ _ (if_read (command_in q.body)) None (body_has (command_in q.body)) refl
+
+command_has : (up : UpstreamState) (q : Request) → Has (order_at up q) (cond (is_post q.method) (shown_with up.secret q q.token) None)
+unfolding Has
+command_has up q = either (is_post q.method) _ _ (shown_with up.secret q q.token) None (token_has up q q.token) refl
+
+-- a request orders the command that it gives
+pub order_has : (up : UpstreamState) (q : Request) (draw : Draw) → ordered (order_of up q draw) ≡ command_given up.secret q
+unfolding order_of Has
+order_has up q draw = decided (names_commands (route_of q.target)) (command_has up q)
+  where
+    decided : (t : Bool) → Has (order_at up q) (cond (is_post q.method) (shown_with up.secret q q.token) None)
+        → Has (cond t (order_at up q) (Reply (answer_of up.board q draw).reply)) (cond (t && is_post q.method) (shown_with up.secret q q.token) None)
+    decided true has = has
+    decided false has = refl
 
 told_leads : (up : UpstreamState) (obeying : Obeying Obeyed) → (told up obeying).up ≡ up_after up obeying
 told_leads up (Ok obeyed) = refl
 told_leads up (Err cause) = refl
 
-body_leads : (up : UpstreamState) (reading : Reading Command) → Leads up (by_body up reading) (if_read reading)
-unfolding Leads
-body_leads up (Ok command) = told_leads up (commanded command up)
-body_leads up (Err fault) = refl
-
-token_leads : (up : UpstreamState) (q : Request) (token : Option (List ℕ)) → Leads up (by_token up q token) (shown_with up.secret q token)
-unfolding Leads
-token_leads up q None = refl
-token_leads up q (Some token) = either (bytes_eq token up.secret) up _ _ (if_read (command_in q.body)) None (body_leads up (command_in q.body)) refl
-
-command_leads : (up : UpstreamState) (q : Request) → Leads up (by_command up q) (cond (is_post q.method) (shown_with up.secret q q.token) None)
-unfolding Leads
-command_leads up q = either (is_post q.method) up _ _ (shown_with up.secret q q.token) None (token_leads up q q.token) refl
+done_leads : (up : UpstreamState) (order : Order) → (done up order).up ≡ after_commands (option_to_list (ordered order)) up
+done_leads up (Obey command) = told_leads up (commanded command up)
+done_leads up (Reply reply) = refl
 
 pub answer_leads : (up : UpstreamState) (q : Request) (draw : Draw) → (upstream_answer up q draw).up ≡ after_commands (option_to_list (command_given up.secret q)) up
-unfolding upstream_answer Leads
-answer_leads up q draw = decided (names_commands (route_of q.target)) (command_leads up q)
-  where
-    decided : (t : Bool) → Leads up (by_command up q) (cond (is_post q.method) (shown_with up.secret q q.token) None)
-        → (cond t (by_command up q) (unchanged up (answer_of up.board q draw).reply)).up ≡ after_commands (option_to_list (cond (t && is_post q.method) (shown_with up.secret q q.token) None)) up
-    decided true leads = leads
-    decided false leads = refl
+unfolding upstream_answer
+answer_leads up q draw =
+    done_leads up (order_of up q draw) ∙ ap (λ (given : Option Command). after_commands (option_to_list given) up) (order_has up q draw)

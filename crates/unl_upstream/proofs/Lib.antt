@@ -9,4 +9,12 @@ pub mod Linking
 pub mod Spelled
 pub mod Asked
 pub mod Naming
+pub mod Depths
 pub mod Written
+pub mod Leading
+pub mod Elsewhere
+pub mod Carrying
+pub mod Reopened
+pub mod KeptServed
+pub mod KeptLinking
+pub mod KeptNaming

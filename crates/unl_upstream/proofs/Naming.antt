@@ -1,19 +1,19 @@
 -- What links hand on, by the commands that were accepted and by how many draws are gone.
-use Rattle.std.proofs.Common.{◌≡◌, ℕ, ◌+◌, ◌⊎◌, inl, inr, List, [], ◌∷◌, ◌++◌, length, Some, Ok, Err, refl, sym, ap, ◌∙◌, subst, arith}
+use Rattle.std.proofs.Common.{◌≡◌, ℕ, ◌+◌, ◌⊎◌, inl, inr, List, [], ◌∷◌, ◌++◌, length, Some, refl, sym, ap, ◌∙◌, subst, arith}
 use Rattle.unl_http_api.specs.declared.end.End.TheVariants as ends
 use Rattle.unl_http_api.specs.declared.request.Request.{Request}
 use Rattle.unl_upstream.specs.declared.command.Command.{Command}
-use Rattle.unl_upstream.specs.History.{accepted, after_commands, if_accepted, up_after}
+use Rattle.unl_upstream.specs.History.{accepted, after_commands}
 use Rattle.unl_exchange.specs.Answering.{Coming}
 use Rattle.unl_upstream.specs.Hosting.{LinkServed, Linked}
 use Rattle.unl_upstream.specs.Laws.{LinksAddAccepted, LinksNameCommands}
 use Rattle.unl_upstream.specs.Linked.{LinkNames, LinkedBy, LinksName, draws_after}
-use Rattle.unl_upstream.specs.Serving.{Lacks, Serving, Step, commands_given, serving}
-use Rattle.unl_upstream.specs.Upstream.{Obeyed, Obeying, UpstreamState, commanded}
+use Rattle.unl_upstream.specs.Serving.{Gives, Lacks, Serving, Step, commands_given, serving}
+use Rattle.unl_upstream.specs.Upstream.{UpstreamState}
 use Rattle.unl_exchange.proofs.AskedLemmas.{Asks, asks}
 use Rattle.unl_upstream.proofs.Asked.{answered_counts, answered_draws, draws_both, draws_one}
 use Rattle.unl_upstream.proofs.Served.{after_both, requests_up}
-use Rattle.unl_upstream.proofs.Standing.{others_are_accepted, others_lead_there}
+use Rattle.unl_upstream.proofs.Standing.{accepted_both, others_are_accepted, others_lead_there}
 
 -- ---- one link
 
@@ -38,10 +38,10 @@ link_names up coming bytes back up_after coming_after served = by_next asked.nex
         ∙ sym (others_lead_there (commands_given up.secret asked.requests) up)
 
     counts : asked.reached.count ≡ 0 + length asked.requests
-    counts = answered_counts 0 asked.requests asked.text (serving up 0 coming) asked.reached asked.answered
+    counts = answered_counts Gives 0 asked.requests asked.text (serving up 0 coming) asked.reached asked.answered
 
     draws : asked.reached.coming ≡ draws_after (length asked.requests) coming
-    draws = answered_draws 0 asked.requests asked.text (serving up 0 coming) asked.reached asked.answered
+    draws = answered_draws Gives 0 asked.requests asked.text (serving up 0 coming) asked.reached asked.answered
 
     named : (taken : ℕ) → up_after ≡ asked.reached.state → served.count ≡ asked.reached.count → coming_after ≡ draws_after taken coming
         → (taken ≡ served.count) ⊎ ((served.end ≡ ends.Memory) × (taken ≡ served.count + 1)) → HasNames up coming bytes back up_after coming_after
@@ -119,16 +119,6 @@ pub links_are_named : LinksNameCommands
 links_are_named start coming commands gone links backs last coming_last linked = links_name links backs start coming commands gone last coming_last linked
 
 -- ---- all accepted
-
-accepted_both : (first second : List Command) (up : UpstreamState) → accepted (first ++ second) up ≡ accepted first up ++ accepted second (after_commands first up)
-accepted_both [] second up = refl
-accepted_both (command ∷ first) second up = decided (commanded command up) (accepted_both first second)
-  where
-    decided : (r : Obeying Obeyed) → ((now : UpstreamState) → accepted (first ++ second) now ≡ accepted first now ++ accepted second (after_commands first now))
-        → if_accepted command r (accepted (first ++ second) (up_after up r))
-        ≡ if_accepted command r (accepted first (up_after up r)) ++ accepted second (after_commands first (up_after up r))
-    decided (Err refusal) others = others up
-    decided (Ok obeyed) others = ap (λ (cs : List Command). command ∷ cs) (others obeyed.up)
 
 -- a link adds accepted commands alone
 adds_accepted : (start : UpstreamState) (commands more given : List Command) → more ≡ accepted given (after_commands commands start)

@@ -1,14 +1,18 @@
 -- The slots of an upstream, and the version of an environment among them.
-use Rattle.std.proofs.Common.{◌≡◌, ℕ, zero, suc, ◌≤◌, ◌+◌, List, [], ◌∷◌, length, Bool, true, false, cond, Option, Some, map, ap, refl, sym, subst, ◌∙◌, arith}
-use Rattle.std.specs.Prelude.{◌||◌, find, is_some, option_and_then}
-use Rattle.std.specs.List.{list_any, position_from}
+use Rattle.std.proofs.Common.{◌≡◌, ℕ, zero, suc, ◌≤◌, ◌+◌, List, [], ◌∷◌, length, Bool, true, false, cond, Option, Some, map, All, ap, refl, sym, subst, ◌∙◌, arith}
+use Rattle.std.specs.Prelude.{◌||◌, find, is_some, nat_le, nat_lt, option_and_then}
+use Rattle.std.specs.List.{list_all, list_any, position_from}
+use Rattle.std.proofs.lemmas.Bool.Decides.{nat_tests}
 use Rattle.std.proofs.lemmas.List.{length-map}
+use Rattle.std.proofs.lemmas.List.Elements.{All-cons, All-head, All-nil, All-tail}
 use Rattle.unl_core.specs.declared.board.Slot.{Slot}
-use Rattle.unl_core.specs.Board.{AreDifferent, AreSlots, is_named, names_of, same_text, snapshot_in, taking}
-use Rattle.unl_core.proofs.Same.{text_same}
+use Rattle.unl_core.specs.Board.{AreDifferent, AreSlots, is_named, names_of, same_text, slot_of, snapshot_in, taking}
+use Rattle.unl_core.proofs.Same.{and_parts, text_same}
 use Rattle.unl_delta.specs.declared.version.EnvVersion.{EnvVersion}
 use Rattle.unl_delta.specs.Batch.{empty_at}
-use Rattle.unl_upstream.specs.Upstream.{opening_slot}
+use Rattle.unl_documents.specs.Limits.{IsName}
+use Rattle.unl_documents.specs.Texts.{is_name}
+use Rattle.unl_upstream.specs.Upstream.{AreNamed, opening_slot}
 
 -- the version of the slot that was found
 abbrev version_of : Option Slot → Option EnvVersion
@@ -108,3 +112,41 @@ taken_elsewhere environment other n (suc k) (x ∷ xs) v is apart = decided (is_
         → snapshot_in other (taking (suc k) v (x ∷ xs)) ≡ snapshot_in other (x ∷ xs)
     decided true found others = let same : n ≡ suc k + n = cc in absurd (omega arith)
     decided false more others = more_kept (is_named other x) (others (more ∙ ap Some (omega arith)))
+
+-- ---- their names
+
+within : (name : List ℕ) → is_name name ≡ true → IsName name
+within name is =
+    and_parts (nat_lt 0 (length name)) (nat_le (length name) 255) is (λ some few. (grind (arith, nat_tests, some), grind (arith, nat_tests, few)))
+
+all_within : (names : List (List ℕ)) → list_all is_name names ≡ true → All IsName names
+all_within [] is = All-nil IsName
+all_within (x ∷ xs) is = and_parts (is_name x) (list_all is_name xs) is (λ first others. All-cons IsName x xs (within x first) (all_within xs others))
+
+-- slots of names that are names
+pub named_opened : (epoch : ℕ) (slots : List Slot) (names : List (List ℕ)) → slots ≡ map (opening_slot epoch) names → list_all is_name names ≡ true → AreNamed slots
+named_opened epoch slots names are named =
+    subst AreNamed (sym are) (subst (All IsName) (sym (names_of-opening epoch names)) (all_within names named))
+
+names_kept : (slot : ℕ) (v : EnvVersion) (slots : List Slot) → names_of (taking slot v slots) ≡ names_of slots
+names_kept slot v [] = refl
+names_kept zero v (x ∷ xs) = refl
+names_kept (suc slot) v (x ∷ xs) = ap (λ names. x.environment ∷ names) (names_kept slot v xs)
+
+-- a version that was published changes no name
+pub named_after : (slot : ℕ) (v : EnvVersion) (slots slots_after : List Slot) → AreNamed slots → slots_after ≡ taking slot v slots → AreNamed slots_after
+named_after slot v slots slots_after named are = subst AreNamed (sym are) (subst (All IsName) (sym (names_kept slot v slots)) named)
+
+named_from : (environment : List ℕ) (n k : ℕ) (slots : List Slot) → AreNamed slots → position_from (is_named environment) n slots ≡ Some k → IsName environment
+named_from environment n k [] named is = absurd cc
+named_from environment n k (x ∷ xs) named is = decided (is_named environment x) refl is (named_from environment (n + 1) k xs (All-tail IsName x.environment (names_of xs) named))
+  where
+    decided : (t : Bool) → is_named environment x ≡ t → cond t (Some n) (position_from (is_named environment) (n + 1) xs) ≡ Some k
+        → (position_from (is_named environment) (n + 1) xs ≡ Some k → IsName environment) → IsName environment
+    decided true here found others =
+        subst IsName (text_same x.environment environment here) (All-head IsName x.environment (names_of xs) named)
+    decided false here more others = others more
+
+-- an environment that stands has a name
+pub named_at : (environment : List ℕ) (slot : ℕ) (slots : List Slot) → AreNamed slots → slot_of environment slots ≡ Some slot → IsName environment
+named_at environment slot slots named is = named_from environment 0 slot slots named is

@@ -2,6 +2,7 @@
 use Rattle.std.proofs.Common.{◌≡◌, ℕ, List, [], ◌∷◌, ◌++◌, Bool, true, false, cond, Option, Some, None, Ok, Err, ap, refl, sym, subst, ◌∙◌, arith, append_assoc}
 use Rattle.std.specs.Prelude.{is_some, ok_or}
 use Rattle.std.proofs.lemmas.List.{append-nil}
+use Rattle.unl_core.specs.declared.board.Slot.{Slot}
 use Rattle.unl_core.specs.Board.{same_text, slot_of, snapshot_in}
 use Rattle.unl_core.proofs.Same.{text_same}
 use Rattle.unl_delta.specs.declared.event.Event.{Event}
@@ -12,11 +13,10 @@ use Rattle.unl_delta.specs.State.{number_of}
 use Rattle.unl_documents.specs.Results.{◌>>=◌}
 use Rattle.unl_tokens.specs.declared.token.Token.{Token}
 use Rattle.unl_upstream.specs.declared.command.Command.{Command}
-use Rattle.unl_upstream.specs.declared.ready.Ready.{Ready}
 use Rattle.unl_upstream.specs.declared.refusal.CommandRefusal.{CommandRefusal}
 use Rattle.unl_upstream.specs.declared.refusal.CommandRefusal.TheVariants.{NoSuchEnvironment}
 use Rattle.unl_upstream.specs.Command.{environment_of}
-use Rattle.unl_upstream.specs.Upstream.{Obeyed, Obeying, UpstreamState, commanded, committed, event_of, opening, prepared, version_after}
+use Rattle.unl_upstream.specs.Upstream.{Obeyed, Obeying, Prepared, UpstreamState, commanded, committed, event_of, opening, prepared, version_after}
 use Rattle.unl_upstream.specs.History.{accepted, after_command, after_commands, for_environment, history_of, if_accepted, up_after}
 use Rattle.unl_upstream.specs.Laws.{EnvironmentsStay, VersionsStand, VersionsStandInLines, line_of}
 use Rattle.unl_upstream.proofs.Events.{Follows, is_history, nothing_follows, one_follows}
@@ -24,38 +24,38 @@ use Rattle.unl_upstream.proofs.Slots.{opened_empty, opened_names, taken_elsewher
 
 -- ---- one accepted command
 
-abbrev ready_with : ℕ → EnvVersion → Event → Ready
-ready_with slot version event = record { slot = slot; number = number_of event; snapshot = version_after version event }
+abbrev pub ready_with : ℕ → EnvVersion → Event → List Slot → Prepared
+ready_with slot version event slots = record { slot = slot; number = number_of event; snapshot = version_after version event; from = slots }
 
-abbrev obeyed_with : Ready → UpstreamState → Obeyed
+abbrev pub obeyed_with : Prepared → UpstreamState → Obeyed
 obeyed_with ready up = record { up = committed ready up; number = ready.number }
 
 -- a command was accepted, and came to an event at its environment's version
-record IsObeyed (command : Command) (up : UpstreamState) (obeyed : Obeyed) : Type 0 where
+pub record IsObeyed (command : Command) (up : UpstreamState) (obeyed : Obeyed) : Type 0 where
   pub slot : ℕ
   pub version : EnvVersion
   pub event : Event
   pub at : slot_of (environment_of command) up.board.slots ≡ Some slot
   pub stood : snapshot_in (environment_of command) up.board.slots ≡ Some version
   pub told : event_of command version ≡ Ok event
-  pub is : obeyed.up ≡ committed (ready_with slot version event) up
+  pub is : obeyed.up ≡ committed (ready_with slot version event up.board.slots) up
 
-obeyed_by : (command : Command) (up : UpstreamState) (obeyed : Obeyed) → commanded command up ≡ Ok obeyed → IsObeyed command up obeyed
+pub obeyed_by : (command : Command) (up : UpstreamState) (obeyed : Obeyed) → commanded command up ≡ Ok obeyed → IsObeyed command up obeyed
 unfolding commanded prepared
 obeyed_by command up obeyed is = at_slot (slot_of (environment_of command) up.board.slots) (snapshot_in (environment_of command) up.board.slots) refl refl is
   where
     at_event : (slot : ℕ) (version : EnvVersion) (r : Obeying Event) → slot_of (environment_of command) up.board.slots ≡ Some slot
         → snapshot_in (environment_of command) up.board.slots ≡ Some version → event_of command version ≡ r
-        → ((r >>= λ (event : Event). Ok (ready_with slot version event)) >>= λ (ready : Ready). Ok (obeyed_with ready up)) ≡ Ok obeyed
+        → ((r >>= λ (event : Event). Ok (ready_with slot version event up.board.slots)) >>= λ (ready : Prepared). Ok (obeyed_with ready up)) ≡ Ok obeyed
         → IsObeyed command up obeyed
     at_event slot version (Err refusal) at stood told none = absurd cc
     at_event slot version (Ok event) at stood told all =
-        let same : obeyed_with (ready_with slot version event) up ≡ obeyed = cc in
+        let same : obeyed_with (ready_with slot version event up.board.slots) up ≡ obeyed = cc in
         record { slot = slot; version = version; event = event; at = at; stood = stood; told = told; is = sym (ap (λ (o : Obeyed). o.up) same) }
 
     at_slot : (o : Option ℕ) (w : Option EnvVersion) → slot_of (environment_of command) up.board.slots ≡ o → snapshot_in (environment_of command) up.board.slots ≡ w
         → ((ok_or o NoSuchEnvironment >>= λ (slot : ℕ). ok_or w NoSuchEnvironment >>= λ (version : EnvVersion).
-        event_of command version >>= λ (event : Event). Ok (ready_with slot version event)) >>= λ (ready : Ready). Ok (obeyed_with ready up)) ≡ Ok obeyed
+        event_of command version >>= λ (event : Event). Ok (ready_with slot version event up.board.slots)) >>= λ (ready : Prepared). Ok (obeyed_with ready up)) ≡ Ok obeyed
         → IsObeyed command up obeyed
     at_slot None w at stood none = absurd cc
     at_slot (Some slot) None at stood none = absurd cc
@@ -198,3 +198,14 @@ others_are_accepted (command ∷ commands) up = decided (commanded command up) r
     decided (Ok obeyed) is others =
         ap (λ (x : Obeying Obeyed). if_accepted command x (accepted (accepted commands obeyed.up) (up_after up x))) is
         ∙ ap (λ (cs : List Command). command ∷ cs) (others obeyed.up)
+
+-- what is accepted of some commands and then of others
+pub accepted_both : (first second : List Command) (up : UpstreamState) → accepted (first ++ second) up ≡ accepted first up ++ accepted second (after_commands first up)
+accepted_both [] second up = refl
+accepted_both (command ∷ first) second up = decided (commanded command up) (accepted_both first second)
+  where
+    decided : (r : Obeying Obeyed) → ((now : UpstreamState) → accepted (first ++ second) now ≡ accepted first now ++ accepted second (after_commands first now))
+        → if_accepted command r (accepted (first ++ second) (up_after up r))
+        ≡ if_accepted command r (accepted first (up_after up r)) ++ accepted second (after_commands first (up_after up r))
+    decided (Err refusal) others = others up
+    decided (Ok obeyed) others = ap (λ (cs : List Command). command ∷ cs) (others obeyed.up)

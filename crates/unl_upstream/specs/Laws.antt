@@ -22,7 +22,8 @@ line_of epoch commands = record { epoch = epoch; history = history_of commands }
 -- each environment's version stands for the history of its accepted commands, in the epoch of the opening
 abbrev pub VersionsStand : Type 0
 VersionsStand =
-    (boot : ℕ) (secret : List ℕ) (environments : List (List ℕ)) (book : List Token) (epoch : ℕ) (commands : List Command) (environment : List ℕ) (v : EnvVersion)
+    (boot : ℕ) (secret : List ℕ) (environments : List (List ℕ)) (book : List Token) (epoch : ℕ) (commands : List Command)
+    (environment : List ℕ) (v : EnvVersion)
     → snapshot_in environment (after_commands commands (opening boot secret environments book epoch)).board.slots ≡ Some v
     → IsHistoryOf epoch (for_environment environment (accepted commands (opening boot secret environments book epoch))) v
 
@@ -34,7 +35,8 @@ VersionsStandInLines = (epoch : ℕ) (commands : List Command) (v : EnvVersion) 
 -- an environment has a version exactly where the upstream began with it
 abbrev pub EnvironmentsStay : Type 0
 EnvironmentsStay =
-    (boot : ℕ) (secret : List ℕ) (environments : List (List ℕ)) (book : List Token) (epoch : ℕ) (commands : List Command) (environment : List ℕ)
+    (boot : ℕ) (secret : List ℕ) (environments : List (List ℕ)) (book : List Token) (epoch : ℕ) (commands : List Command)
+    (environment : List ℕ)
     → is_some (snapshot_in environment (after_commands commands (opening boot secret environments book epoch)).board.slots)
     ≡ list_any (λ name. same_text name environment) environments
 

@@ -6,6 +6,10 @@ pub mod Answer
 pub mod Lines
 pub mod Serving
 pub mod Requests
+pub mod Kept
+pub mod Reopening
+pub mod KeptServing
 pub mod Hosting
 pub mod Linked
+pub mod KeptHosting
 pub mod Laws

@@ -1,11 +1,11 @@
 -- An upstream: how it begins, and what each command does to it. The limits and the refusals are chosen by this project.
 use Rattle.std.specs.Prelude.{◌≡◌, true, false, ℕ, ◌+◌, ◌-◌, ◌^◌, ◌==◌, ◌||◌, nat_lt, List, [], ◌∷◌, length, map, Bool, if◌then◌else◌}
-use Rattle.std.specs.Prelude.{Some, is_some, ok_or, Result, Ok, Err}
+use Rattle.std.specs.Prelude.{All, Some, is_some, ok_or, Result, Ok, Err}
 use Rattle.std.specs.List.{list_any}
 use Rattle.std.specs.Str.{bytes_eq}
 use Rattle.unl_core.specs.declared.board.Board.{Board}
 use Rattle.unl_core.specs.declared.board.Slot.{Slot}
-use Rattle.unl_core.specs.Board.{slot_of, snapshot_in, with_snapshot, with_tokens}
+use Rattle.unl_core.specs.Board.{names_of, slot_of, snapshot_in, with_snapshot, with_tokens}
 use Rattle.unl_delta.specs.declared.batch.Batch.{Batch}
 use Rattle.unl_delta.specs.declared.event.Event.{Event}
 use Rattle.unl_delta.specs.declared.event.Event.TheVariants.{FeatureUpdated, FeatureRemoved, SegmentUpdated, SegmentRemoved}
@@ -16,19 +16,25 @@ use Rattle.unl_delta.specs.State.{is_change, number_of, project_of}
 use Rattle.unl_delta.specs.Valid.{IsValidEvent}
 use Rattle.unl_documents.specs.declared.feature.Feature.{Feature}
 use Rattle.unl_documents.specs.declared.segment.Segment.{Segment}
+use Rattle.unl_documents.specs.Limits.{IsName}
 use Rattle.unl_documents.specs.Results.{◌>>=◌}
 use Rattle.unl_tokens.specs.declared.token.Token.{Token}
 use Rattle.unl_upstream.specs.declared.command.Command.{Command}
 use Rattle.unl_upstream.specs.declared.command.Command.TheVariants.{PutFeature, RemoveFeature, PutSegment, RemoveSegment}
-use Rattle.unl_upstream.specs.declared.ready.Ready.{Ready}
 use Rattle.unl_upstream.specs.declared.refusal.CommandRefusal.{CommandRefusal}
-use Rattle.unl_upstream.specs.declared.refusal.CommandRefusal.TheVariants.{NoSuchEnvironment, NoSuchFeature, NoSuchSegment, TooMany}
+use Rattle.unl_upstream.specs.declared.refusal.CommandRefusal.TheVariants.{NoSuchEnvironment, NoSuchFeature, NoSuchSegment, TooMany, Memory}
+use Rattle.unl_upstream.specs.declared.refusal.KeepCommandRefusal.{KeepCommandRefusal}
+use Rattle.unl_upstream.specs.declared.refusal.KeepCommandRefusal.TheVariants as keep
 use Rattle.unl_upstream.specs.Command.{environment_of}
 
 -- the board that is answered over, and what shows that a command may be given
 pub record UpstreamState : Type 0 where
   pub board : Board
   pub secret : List ℕ
+
+-- the environments of slots have names within the limits
+abbrev pub AreNamed : List Slot → Type 0
+AreNamed slots = All IsName (names_of slots)
 
 -- ---- how it begins
 
@@ -142,16 +148,23 @@ batch_of v event = record { epoch = v.epoch; after = Some v.number; events = eve
 abbrev pub version_after : EnvVersion → Event → EnvVersion
 version_after v event = next_version (place_with v) (batch_of v event)
 
--- the slot, the number and the version that a command comes to
-unfoldable pub prepared : Command → UpstreamState → Obeying Ready
+-- the slot, the number and the version that a command comes to, and the slots that these were made from
+pub record Prepared : Type 0 where
+  pub slot : ℕ
+  pub number : ℕ
+  pub snapshot : EnvVersion
+  pub from : List Slot
+
+-- what a command comes to at an upstream
+unfoldable pub prepared : Command → UpstreamState → Obeying Prepared
 prepared command up = do
   slot ← ok_or (slot_of (environment_of command) up.board.slots) NoSuchEnvironment
   version ← ok_or (snapshot_in (environment_of command) up.board.slots) NoSuchEnvironment
   event ← event_of command version
-  Ok (record { slot = slot; number = number_of event; snapshot = version_after version event })
+  Ok (record { slot = slot; number = number_of event; snapshot = version_after version event; from = up.board.slots })
 
 -- the version is published at its slot; all else stays
-abbrev pub committed : Ready → UpstreamState → UpstreamState
+abbrev pub committed : Prepared → UpstreamState → UpstreamState
 committed ready up = record up { board = with_snapshot ready.slot ready.snapshot up.board }
 
 -- the upstream after a command, and the new number of the command's environment
@@ -164,3 +177,11 @@ unfoldable pub commanded : Command → UpstreamState → Obeying Obeyed
 commanded command up = do
   ready ← prepared command up
   Ok (record { up = committed ready up; number = ready.number })
+
+-- a refusal of a command, where it is to be kept
+abbrev pub refused_as : CommandRefusal → KeepCommandRefusal
+refused_as NoSuchEnvironment = keep.NoSuchEnvironment
+refused_as NoSuchFeature = keep.NoSuchFeature
+refused_as NoSuchSegment = keep.NoSuchSegment
+refused_as (TooMany n) = keep.TooMany n
+refused_as Memory = keep.Memory

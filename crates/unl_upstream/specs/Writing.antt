@@ -1,11 +1,13 @@
 -- What a command is written as. A `put` keeps the keys in byte order.
 use Rattle.std.specs.Prelude.{ℕ, List, codes}
 use Rattle.serde_json.specs.Data.{Data, Members, no_members, object, string}
+use Rattle.serde_json.specs.Written.{compact_text}
 use Rattle.unl_documents.specs.declared.field.Field.TheVariants as field
 use Rattle.unl_documents.specs.Limits.{IsName}
 use Rattle.unl_documents.specs.Writing.{count, feature_data, segment_data, with}
 use Rattle.unl_upstream.specs.declared.command.Command.{Command}
 use Rattle.unl_upstream.specs.declared.command.Command.TheVariants.{PutFeature, RemoveFeature, PutSegment, RemoveSegment}
+use Rattle.unl_upstream.specs.Command.{environment_of}
 
 -- the word of a command and its environment, put into what else it has
 abbrev pub with_head : List ℕ → List ℕ → Members → Members
@@ -22,9 +24,17 @@ command_data (PutSegment environment segment) =
 command_data (RemoveSegment environment id) =
     object (with_head (codes "remove-segment") environment (with field.Id (count id) no_members))
 
+-- the text that a command is kept as: what it is written as, in JSON
+unfoldable pub command_text : Command → List ℕ
+command_text command = compact_text (command_data command)
+
+-- the name that is removed, where one is, is a name within the limits
+abbrev pub RemovesName : Command → Type 0
+RemovesName (PutFeature environment feature) = Unit {0}
+RemovesName (RemoveFeature environment name) = IsName name
+RemovesName (PutSegment environment segment) = Unit {0}
+RemovesName (RemoveSegment environment id) = Unit {0}
+
 -- the environment, and the name that is removed, are names within the limits
 abbrev pub HasNames : Command → Type 0
-HasNames (PutFeature environment feature) = IsName environment
-HasNames (RemoveFeature environment name) = IsName environment × IsName name
-HasNames (PutSegment environment segment) = IsName environment
-HasNames (RemoveSegment environment id) = IsName environment
+HasNames command = IsName (environment_of command) × RemovesName command

@@ -6,13 +6,15 @@ ghost use Rattle.unl_core.specs.Answer.{refusal};
 ghost use Rattle.unl_documents.specs.declared.field.Field.TheVariants as field;
 ghost use Rattle.unl_documents.specs.Writing.{count, with};
 ghost use Rattle.unl_http_api.specs.Route.{route_of};
-ghost use Rattle.unl_upstream.specs.Answer.{by_body, by_command, names_commands, numbered, refused, told, upstream_answer};
+ghost use Rattle.unl_upstream.specs.Answer.{IsValidOrder, names_commands, numbered, order_at, order_in, order_of};
+ghost use Rattle.unl_upstream.specs.Answer.{refused, told, upstream_answer};
 ghost use Rattle.unl_upstream.specs.Command.{IsValidCommand, command_in};
 ghost use Rattle.unl_upstream.specs.Upstream.{commanded};
 
 use crate::command::Command;
+use crate::order::Order;
 use crate::reading::read_command_bytes;
-use crate::refusal::CommandRefusal;
+use crate::refusal::{CommandRefusal, KeepCommandRefusal};
 use crate::upstream::Upstream;
 use http::StatusCode;
 use serde_json::{Map, Value};
@@ -36,40 +38,45 @@ impl Upstream {
             ≡ record { reply = reply; up = self.new }) }
         ensures same { OnErr result (self.new ≡ self.old) }
     {
+        match self.order_of(alloc, request, draw)? {
+            Order::Obey(command) => self.obey(alloc, &command),
+            Order::Reply(reply) => Ok(reply),
+        }
+    }
+
+    /// What a request orders.
+    #[tactic(auto, unfolding(crate::specs::Answer::order_of))]
+    pub(crate) fn order_of(
+        &self,
+        alloc: Global,
+        request: &Request,
+        draw: &Draw,
+    ) -> Result<Order, Memory>
+        ensures order { IfOk result (λ order. order ≡ order_of self.now request.now draw.entry.now) }
+        ensures valid { IfOk result IsValidOrder }
+    {
         if names_commands(alloc, request.target.as_slice())? {
-            return self.by_command(alloc, request);
+            return self.order_at(alloc, request);
         }
         let answer = answer(alloc, self.board(), request, draw)?;
-        Ok(answer.reply)
+        Ok(Order::Reply(answer.reply))
     }
 
-    /// Answers a request at the route of commands.
-    fn by_command(&mut self, alloc: Global, request: &Request) -> Result<Reply, Memory>
-        ensures answer { IfOk result (λ reply. by_command self.old request.now ≡ record { reply = reply; up = self.new }) }
-        ensures same { OnErr result (self.new ≡ self.old) }
+    /// What a request at the route of commands orders.
+    fn order_at(&self, alloc: Global, request: &Request) -> Result<Order, Memory>
+        ensures order { IfOk result (λ order. order ≡ order_at self.now request.now) }
+        ensures valid { IfOk result IsValidOrder }
     {
         if !is_post(request.method) {
-            return refuse_method(alloc, &Route::Commands);
+            return Ok(Order::Reply(refuse_method(alloc, &Route::Commands)?));
         }
         let Some(token) = &request.token else {
-            return refuse(alloc, StatusCode::UNAUTHORIZED, "NoToken");
+            return Ok(Order::Reply(refuse(alloc, StatusCode::UNAUTHORIZED, "NoToken")?));
         };
         if !self.is_secret(token.as_slice()) {
-            return refuse(alloc, StatusCode::FORBIDDEN, "UnknownToken");
+            return Ok(Order::Reply(refuse(alloc, StatusCode::FORBIDDEN, "UnknownToken")?));
         }
-        self.by_body(alloc, request.body.as_slice())
-    }
-
-    /// Obeys the command that a body spells.
-    fn by_body(&mut self, alloc: Global, body: &[u8]) -> Result<Reply, Memory>
-        ensures answer { IfOk result (λ reply. by_body self.old (command_in body.now) ≡ record { reply = reply; up = self.new }) }
-        ensures same { OnErr result (self.new ≡ self.old) }
-    {
-        match read_command_bytes(alloc, body) {
-            Ok(command) => self.obey(alloc, &command),
-            Err(BadDocument::Memory) => Err(Memory),
-            Err(_) => refuse(alloc, StatusCode::BAD_REQUEST, "BadBody"),
-        }
+        order_in(alloc, request.body.as_slice())
     }
 
     /// Obeys a command once its reply is made.
@@ -81,13 +88,25 @@ impl Upstream {
     {
         match self.prepare(alloc, command) {
             Ok(ready) => {
-                let reply = numbered(alloc, ready.number)?;
+                let reply = numbered(alloc, ready.number())?;
                 self.commit(ready);
                 Ok(reply)
             }
             Err(CommandRefusal::Memory) => Err(Memory),
-            Err(refusal) => refused(alloc, refusal),
+            Err(refusal) => refused(alloc, KeepCommandRefusal::from(refusal)),
         }
+    }
+}
+
+/// What the body of a request that shows the secret orders.
+fn order_in(alloc: Global, body: &[u8]) -> Result<Order, Memory>
+    ensures order { IfOk result (λ order. order ≡ order_in (command_in body.now)) }
+    ensures valid { IfOk result IsValidOrder }
+{
+    match read_command_bytes(alloc, body) {
+        Ok(command) => Ok(Order::Obey(command)),
+        Err(BadDocument::Memory) => Err(Memory),
+        Err(_) => Ok(Order::Reply(refuse(alloc, StatusCode::BAD_REQUEST, "BadBody")?)),
     }
 }
 
@@ -102,7 +121,7 @@ fn names_commands(alloc: Global, target: &[u8]) -> Result<bool, Memory>
 }
 
 /// The reply with the new number of an environment.
-fn numbered(alloc: Global, number: u64) -> Result<Reply, Memory>
+pub(crate) fn numbered(alloc: Global, number: u64) -> Result<Reply, Memory>
     ensures { IfOk result (λ reply. reply ≡ numbered number) }
 {
     let body = number_object(alloc, number)?;
@@ -117,17 +136,21 @@ fn number_object(alloc: Global, number: u64) -> Result<Value, Memory>
     Ok(Value::Object(members))
 }
 
-/// The reply to a command that is refused.
-fn refused(alloc: Global, refusal: CommandRefusal) -> Result<Reply, Memory>
+/// The reply to a command that is refused or not kept.
+pub(crate) fn refused(alloc: Global, refusal: KeepCommandRefusal) -> Result<Reply, Memory>
     ensures { IfOk result (λ reply. reply ≡ refused refusal) }
 {
     match refusal {
-        CommandRefusal::NoSuchEnvironment => {
+        KeepCommandRefusal::NoSuchEnvironment => {
             refuse(alloc, StatusCode::NOT_FOUND, "NoSuchEnvironment")
         }
-        CommandRefusal::NoSuchFeature => refuse(alloc, StatusCode::NOT_FOUND, "NoSuchFeature"),
-        CommandRefusal::NoSuchSegment => refuse(alloc, StatusCode::NOT_FOUND, "NoSuchSegment"),
-        CommandRefusal::TooMany(_) => refuse(alloc, StatusCode::CONFLICT, "TooMany"),
-        CommandRefusal::Memory => Err(Memory),
+        KeepCommandRefusal::NoSuchFeature => refuse(alloc, StatusCode::NOT_FOUND, "NoSuchFeature"),
+        KeepCommandRefusal::NoSuchSegment => refuse(alloc, StatusCode::NOT_FOUND, "NoSuchSegment"),
+        KeepCommandRefusal::TooMany(_) => refuse(alloc, StatusCode::CONFLICT, "TooMany"),
+        KeepCommandRefusal::KeeperFull(_) => refuse(alloc, StatusCode::CONFLICT, "TooMany"),
+        KeepCommandRefusal::KeeperFault => {
+            refuse(alloc, StatusCode::SERVICE_UNAVAILABLE, "KeeperFault")
+        }
+        KeepCommandRefusal::Memory => Err(Memory),
     }
 }

@@ -1,13 +1,15 @@
 //! The event that a command comes to at a version.
-ghost use Rattle.std.specs.Prelude.{◌≡◌, IfOk, find, option_copied, option_map};
+ghost use Rattle.std.specs.Prelude.{◌≡◌, IfOk, OnOk, find, option_copied, option_map};
 ghost use Rattle.unl_delta.specs.State.{project_of};
 ghost use Rattle.unl_delta.specs.Valid.{IsValidVersion};
+ghost use Rattle.unl_documents.specs.Limits.{IsName};
 ghost use Rattle.unl_documents.specs.Results.{Gives};
 ghost use Rattle.unl_documents.specs.Valid.{IsValidFeature, IsValidSegment};
 ghost use Rattle.unl_upstream.specs.declared.refusal.CommandRefusal.TheVariants.{Memory as memory};
 ghost use Rattle.unl_upstream.specs.Command.{IsValidCommand};
 ghost use Rattle.unl_upstream.specs.Upstream.{IsNext, event_of, feature_put, feature_removed, has_feature, has_segment, is_named};
 ghost use Rattle.unl_upstream.specs.Upstream.{number_after, segment_put, segment_removed};
+ghost use Rattle.unl_upstream.specs.Writing.{RemovesName};
 
 use crate::command::Command;
 use crate::refusal::CommandRefusal;
@@ -31,6 +33,7 @@ pub(crate) fn event_of(
     requires version { IsValidVersion version.now }
     ensures gives { Gives memory result (event_of command.now version.now) }
     ensures next { IfOk result (IsNext version.now) }
+    ensures named { OnOk result (RemovesName command.now) }
 {
     match command {
         Command::PutFeature { feature, .. } => put_feature(alloc, feature, version),
@@ -64,6 +67,7 @@ fn remove_feature(alloc: Global, name: &str, version: &EnvVersion) -> Result<Eve
     requires { IsValidVersion version.now }
     ensures gives { Gives memory result (feature_removed name.now version.now) }
     ensures next { IfOk result (IsNext version.now) }
+    ensures named { OnOk result (IsName name.now) }
 {
     let Some(project) = project_of(name, version.state.features.as_slice()) else {
         return Err(CommandRefusal::NoSuchFeature);

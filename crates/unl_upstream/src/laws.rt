@@ -9,6 +9,9 @@ ghost use Rattle.unl_upstream.specs.Upstream.{UpstreamState, commanded};
 ghost use Rattle.unl_upstream.specs.Answer.{upstream_answer};
 ghost use Rattle.unl_upstream.specs.Requests.{command_given};
 ghost use Rattle.unl_upstream.specs.History.{accepted, after_command, after_commands, history_of};
+ghost use Rattle.unl_upstream.specs.Kept.{KeepingCarries, KeepingGoesOn};
+ghost use Rattle.unl_upstream.specs.KeptHosting.{KeptLinksNameCommands};
+ghost use Rattle.unl_upstream.specs.Reopening.{ReopeningGivesBack};
 ghost use Rattle.unl_upstream.specs.Laws.{EnvironmentsStay, LinesGiveCommands, LinksAddAccepted, LinksNameCommands, VersionsStand};
 ghost use Rattle.unl_upstream.specs.Laws.{VersionsStandInLines};
 
@@ -52,4 +55,26 @@ pub fn lines_give_commands()
 pub fn links_name_commands()
     ensures names { LinksNameCommands }
     ensures accepted { LinksAddAccepted }
+{}
+
+/// Whatever commands are to be kept, one after another, and whatever faults come: the upstream is still the opening one after
+/// the kept commands, of which the acknowledged ones are all that were added; and past them stands at most one, whose put
+/// failed.
+pub fn keeping_carries()
+    ensures carries { KeepingCarries }
+    ensures goes_on { KeepingGoesOn }
+{}
+
+/// A keeper that is reopened, with an opening upstream of the same environments and epoch, gives back the kept commands, or
+/// these and one more whose put failed since the last that was written. Nothing but a fault or want of memory keeps it from
+/// that.
+pub fn reopening_gives_back()
+    ensures { ReopeningGivesBack }
+{}
+
+/// Links that were served by an upstream that keeps its commands lead where the commands before them and then the kept ones
+/// of their answered requests lead, and its keeper keeps as many more; a draw is gone for each request, and at want of memory
+/// perhaps one more.
+pub fn kept_links_name_commands()
+    ensures { KeptLinksNameCommands }
 {}

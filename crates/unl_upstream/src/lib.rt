@@ -5,22 +5,34 @@ mod answering;
 mod command;
 mod event;
 mod hosting;
+mod keeping;
+mod keeping_host;
+mod keeping_server;
 pub mod laws;
 mod lines;
+mod order;
 mod reading;
 mod ready;
 mod refusal;
+mod reopening;
 mod serving;
 mod upstream;
 mod writing;
 
 pub use command::Command;
+pub use keeping::keep;
+pub use keeping_host::host_kept;
+pub use keeping_server::{answer_kept, serve_kept};
 pub use lines::CommandLines;
 pub use reading::read_command;
-pub use refusal::CommandRefusal;
+pub use ready::Ready;
+pub use refusal::{CommandRefusal, KeepCommandRefusal};
+pub use reopening::{ReopenFault, reopen};
 pub use upstream::Upstream;
 pub use writing::write_command;
 
+#[cfg(test)]
+mod keeping_tests;
 #[cfg(test)]
 mod limit_tests;
 #[cfg(test)]

@@ -3,12 +3,13 @@ ghost use Rattle.unl_delta.specs.Valid.{IsValidBatch};
 
 use crate::reading::read_command_bytes;
 use crate::ready::Ready;
+use crate::tests::upstream_of_dev;
 use crate::{CommandRefusal, Upstream};
 use std::alloc::Global;
 use std::test::Fail;
 use unl_compiled::Snapshot;
 use unl_delta::{Batch, Place, Verdict, apply, read_batch_bytes, verdict};
-use unl_documents::{List, Memory, Shared, Text};
+use unl_documents::{Memory, Shared};
 use unl_tokens::Book;
 
 /// A hydration of so many features.
@@ -48,16 +49,11 @@ fn snapshot_of(alloc: Global, batch: &Batch) -> Result<Option<Shared<Snapshot>>,
 fn filled(alloc: Global, batch: &Batch) -> Option<Upstream>
     requires { IsValidBatch batch.now }
 {
-    let mut environments = List::new(alloc);
-    environments.push(Text::new(alloc, "dev").ok()?).ok()?;
-    let mut up = Upstream::new(alloc, 0, "s", &environments, Book::new(alloc), 0).ok()?;
+    let mut up = upstream_of_dev(alloc, "s", Book::new(alloc)).ok()?;
     match snapshot_of(alloc, batch) {
         Ok(Some(snapshot)) => {
-            up.commit(Ready {
-                slot: 0,
-                number: 5,
-                snapshot,
-            });
+            let ready = Ready::at(&up.board().slots, 0, 5, snapshot);
+            up.commit(ready);
             Some(up)
         }
         Ok(None) => None,

@@ -1,18 +1,72 @@
 //! What a command comes to, before it is published.
 ghost use Rattle.std.specs.Prelude.{◌≡◌, IfOk};
+ghost use Rattle.unl_core.specs.declared.board.Install.TheVariants as installs;
 ghost use Rattle.unl_upstream.specs.Upstream.{IsNext, version_after};
 
 use std::alloc::Global;
+use std::marker::Model;
+use std::snapshot;
 use unl_compiled::Snapshot;
+use unl_core::{Install, Slot};
 use unl_delta::{Batch, Event, Place};
 use unl_documents::{List, Memory, Shared};
 
-/// The slot, the number and the version that a command comes to.
+/// What a command comes to at an upstream, before it is published there: a slot, a number and a version. Contracts see
+/// beside them the slots that these were made from, which take no bytes.
 #[derive(Drop)]
-pub(crate) struct Ready {
-    pub slot: usize,
-    pub number: u64,
-    pub snapshot: Shared<Snapshot>,
+pub struct Ready {
+    slot: usize,
+    number: u64,
+    snapshot: Shared<Snapshot>,
+    from: snapshot::Snapshot<List<Slot>>,
+}
+
+impl Model for Ready {
+    ghost use Rattle.unl_upstream.specs.Upstream.{Prepared};
+
+    ghost Value = { Prepared };
+
+    ghost view = { λ r. record { slot = r.slot; number = r.number; snapshot = r.snapshot; from = r.from.value } };
+}
+
+impl Ready {
+    /// What comes to this at these slots.
+    pub(crate) fn at(
+        slots: &List<Slot>,
+        slot: usize,
+        number: u64,
+        snapshot: Shared<Snapshot>,
+    ) -> Ready
+        ensures { result ≡ record { slot = slot; number = number; snapshot = snapshot; from = slots.now } }
+    {
+        let from = snapshot::Snapshot::of(slots);
+        Ready {
+            slot,
+            number,
+            snapshot,
+            from,
+        }
+    }
+
+    /// What is installed of it.
+    pub(crate) fn into_install(self) -> Install
+        ensures { result ≡ installs.Env self.slot self.snapshot }
+    {
+        let Ready {
+            slot,
+            number: _,
+            snapshot,
+            from: _,
+        } = self;
+        Install::Env(slot, snapshot)
+    }
+
+    /// The number that the command's environment gets. Takes no memory.
+    pub fn number(&self) -> u64
+        ensures { result ≡ self.now.number }
+    {
+        self.number
+    }
 }
 
 /// The snapshot of the version after the next event.

@@ -1,7 +1,10 @@
 ghost use Rattle.std.specs.Prelude.{◌≡◌};
 ghost use Rattle.unl_upstream.specs.declared.refusal.CommandRefusal.TheVariants.{Memory as memory};
+ghost use Rattle.unl_upstream.specs.declared.refusal.KeepCommandRefusal.TheVariants.{Memory as want};
+ghost use Rattle.unl_upstream.specs.Upstream.{refused_as};
 
 use std::alloc::AllocError;
+use thiserror::Error;
 use unl_documents::Memory;
 
 /// Why a command is refused: the first of these that fits; or that memory is wanting.
@@ -33,5 +36,54 @@ impl From<AllocError> for CommandRefusal {
 
     fn from(_e: AllocError) -> CommandRefusal {
         CommandRefusal::Memory
+    }
+}
+
+/// Why a command is not kept: the first of these that fits; or that the keeper failed, or memory is wanting.
+#[derive(Clone, Copy, Debug, PartialEq, Eq, Error)]
+pub enum KeepCommandRefusal {
+    /// The upstream has no environment of that name.
+    #[error("there is no such environment")]
+    NoSuchEnvironment,
+    /// No feature of the name that is to be removed stands.
+    #[error("there is no such feature")]
+    NoSuchFeature,
+    /// No segment of the id that is to be removed stands.
+    #[error("there is no such segment")]
+    NoSuchSegment,
+    /// As many features or segments stand as there may be, or the environment's number is the last one: the count or the
+    /// number is carried.
+    #[error("there are {0} already")]
+    TooMany(u64),
+    /// The keeper keeps 10,000,000 commands or more: their count is carried.
+    #[error("{0} commands are kept already")]
+    KeeperFull(u64),
+    /// The keeper failed, which has counted it.
+    #[error("the keeper failed")]
+    KeeperFault,
+    /// Memory ran out.
+    #[error("out of memory")]
+    Memory,
+}
+
+impl From<CommandRefusal> for KeepCommandRefusal {
+    ghost from_gives = { λ refusal e. e ≡ refused_as refusal };
+
+    fn from(refusal: CommandRefusal) -> KeepCommandRefusal {
+        match refusal {
+            CommandRefusal::NoSuchEnvironment => KeepCommandRefusal::NoSuchEnvironment,
+            CommandRefusal::NoSuchFeature => KeepCommandRefusal::NoSuchFeature,
+            CommandRefusal::NoSuchSegment => KeepCommandRefusal::NoSuchSegment,
+            CommandRefusal::TooMany(count) => KeepCommandRefusal::TooMany(count),
+            CommandRefusal::Memory => KeepCommandRefusal::Memory,
+        }
+    }
+}
+
+impl From<Memory> for KeepCommandRefusal {
+    ghost from_gives = { λ _ e. e ≡ want };
+
+    fn from(_e: Memory) -> KeepCommandRefusal {
+        KeepCommandRefusal::Memory
     }
 }

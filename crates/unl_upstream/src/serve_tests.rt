@@ -1,18 +1,16 @@
 //! An upstream on a connection, and over the lines of an input.
+use crate::tests::upstream_of_dev;
 use crate::{CommandLines, Upstream};
 use std::alloc::Global;
 use std::test::Fail;
 use unl_base::{ListDraws, MemoryLink, MemorySink, MemorySource};
-use unl_documents::{List, Text};
 use unl_http_api::End;
 use unl_lines::{LinesFault, take_lines};
 use unl_tokens::Book;
 
 /// An upstream of one environment.
 fn upstream(alloc: Global) -> Option<Upstream> {
-    let mut environments = List::new(alloc);
-    environments.push(Text::new(alloc, "dev").ok()?).ok()?;
-    Upstream::new(alloc, 0, "s", &environments, Book::new(alloc), 0).ok()
+    upstream_of_dev(alloc, "s", Book::new(alloc)).ok()
 }
 
 /// A command that is obeyed, one that is refused, and a request.

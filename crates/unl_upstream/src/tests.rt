@@ -1,9 +1,12 @@
+ghost use Rattle.std.specs.Prelude.{◌≡◌, [], ◌∷◌, codes, IfOk};
+ghost use Rattle.unl_upstream.specs.Upstream.{opening};
+
 use crate::{Command, CommandRefusal, Upstream, read_command, write_command};
 use std::alloc::Global;
 use std::test::Fail;
 use unl_base::Draw;
 use unl_documents::json::read_json;
-use unl_documents::{BadDocument, Field, List, Segment, Text};
+use unl_documents::{BadDocument, Field, List, Memory, Segment, Text};
 use unl_http_api::{Bytes, Method, Request};
 use unl_tokens::Book;
 
@@ -12,12 +15,19 @@ const TOKENS: &str =
 
 const SECRET: &str = "upstream-secret";
 
-/// An upstream with the environment `dev`.
-fn upstream(alloc: Global) -> Option<Upstream> {
+/// An upstream with the environment `dev`, in the epoch 0.
+pub(crate) fn upstream_of_dev(alloc: Global, secret: &str, book: Book) -> Result<Upstream, Memory>
+    ensures { IfOk result (λ up. up ≡ opening 0 secret.now (codes "dev" ∷ []) book 0) }
+{
     let mut environments = List::new(alloc);
-    environments.push(Text::new(alloc, "dev").ok()?).ok()?;
+    environments.push(Text::new(alloc, "dev")?)?;
+    Upstream::new(alloc, 0, secret, &environments, book, 0)
+}
+
+/// An upstream with the environment `dev`, which knows two tokens.
+fn upstream(alloc: Global) -> Option<Upstream> {
     let book = Book::read(alloc, TOKENS.as_bytes()).ok()?;
-    Upstream::new(alloc, 0, SECRET, &environments, book, 0).ok()
+    upstream_of_dev(alloc, SECRET, book).ok()
 }
 
 /// The command that a text spells, or its fault.

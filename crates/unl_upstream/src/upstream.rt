@@ -1,10 +1,13 @@
-ghost use Rattle.std.specs.Prelude.{◌≡◌, ◌≢◌, ◌≤◌, IfErr, IfOk, OnErr, Ok, Err, length, map};
+ghost use Rattle.std.specs.Prelude.{◌≡◌, ◌≢◌, ◌≤◌, true, IfErr, IfOk, OnErr, OnOk, Ok, Err, length, map};
+ghost use Rattle.std.specs.List.{list_all};
 ghost use Rattle.std.specs.Str.{bytes_eq};
 ghost use Rattle.unl_core.specs.Board.{AreDifferent, AreSlots};
 ghost use Rattle.unl_documents.specs.Results.{Gives};
+ghost use Rattle.unl_documents.specs.Texts.{is_name};
 ghost use Rattle.unl_upstream.specs.declared.refusal.CommandRefusal.TheVariants.{Memory as memory};
 ghost use Rattle.unl_upstream.specs.Command.{IsValidCommand};
 ghost use Rattle.unl_upstream.specs.Upstream.{commanded, committed, opening, opening_slot, prepared};
+ghost use Rattle.unl_upstream.specs.Writing.{HasNames};
 
 use crate::command::Command;
 use crate::event::event_of;
@@ -27,20 +30,20 @@ pub struct Upstream {
 
 impl Model for Upstream {
     ghost use Rattle.unl_core.specs.Board.{AreSlots};
-    ghost use Rattle.unl_upstream.specs.Upstream.{UpstreamState};
+    ghost use Rattle.unl_upstream.specs.Upstream.{AreNamed, UpstreamState};
 
     ghost Value = { UpstreamState };
 
     ghost view = { λ up. record { board = up.board; secret = up.secret } };
 
-    ghost invariant = { λ up. AreSlots up.board.slots };
+    ghost invariant = { λ up. AreSlots up.board.slots × AreNamed up.board.slots };
 }
 
 impl Upstream {
     /// An upstream of up to eight environments of different names, each empty and at the number 0 of the epoch, on whose board
     /// the book was published once. An upstream that lost what it had begins with a higher epoch than before, so that those
     /// behind it take what it has.
-    #[tactic(auto, using(crate::proofs::Slots::slots_opened))]
+    #[tactic(auto, using(crate::proofs::Slots::slots_opened, crate::proofs::Slots::named_opened))]
     pub fn new(
         alloc: Global,
         boot: u64,
@@ -51,6 +54,7 @@ impl Upstream {
     ) -> Result<Upstream, Memory>
         requires few { length environments.now ≤ 8 }
         requires different { AreDifferent environments.now }
+        requires named { list_all is_name environments.now ≡ true }
         ensures { IfOk result (λ up. up ≡ opening boot secret.now environments.now book epoch) }
     {
         let mut board = Board::new(alloc, boot, "", environments)?;
@@ -92,11 +96,17 @@ impl Upstream {
         Ok(self.commit(ready))
     }
 
-    /// What a command comes to.
-    #[tactic(auto, unfolding(crate::specs::Upstream::prepared))]
-    pub(crate) fn prepare(&self, alloc: Global, command: &Command) -> Result<Ready, CommandRefusal>
+    /// What a command comes to here. A command that comes to something names an environment that stands, and a feature that
+    /// stands where it removes one, so its names are within the limits.
+    ///
+    /// # Errors
+    /// The first refusal that fits, or want of memory.
+    #[tactic(auto, unfolding(crate::specs::Upstream::prepared), using(crate::proofs::Slots::named_at))]
+    pub fn prepare(&self, alloc: Global, command: &Command) -> Result<Ready, CommandRefusal>
         requires { IsValidCommand command.now }
-        ensures { Gives memory result (prepared command.now self.now) }
+        ensures gives { Gives memory result (prepared command.now self.now) }
+        ensures from { IfOk result (λ ready. ready.from ≡ self.now.board.slots) }
+        ensures named { OnOk result (HasNames command.now) }
     {
         let environment = command.environment();
         let Some(slot) = place_in(&self.board.slots, environment) else {
@@ -108,20 +118,19 @@ impl Upstream {
         let event = event_of(alloc, command, snapshot.version())?;
         let number = event.number();
         let snapshot = snapshot_after(alloc, snapshot, event)?;
-        Ok(Ready {
-            slot,
-            number,
-            snapshot,
-        })
+        Ok(Ready::at(&self.board.slots, slot, number, snapshot))
     }
 
-    /// Publishes what a command comes to, and answers its number. Takes no memory.
-    pub(crate) fn commit(&mut self, ready: Ready) -> u64
+    /// Publishes what a command comes to, and answers its number. It was prepared at the versions that stand. Takes no
+    /// memory.
+    #[tactic(auto, using(crate::proofs::Slots::named_after))]
+    pub fn commit(&mut self, ready: Ready) -> u64
+        requires { ready.from ≡ self.old.board.slots }
         ensures number { result ≡ ready.number }
         ensures committed { self.new ≡ committed ready self.old }
     {
-        let number = ready.number;
-        install(&mut self.board, Install::Env(ready.slot, ready.snapshot));
+        let number = ready.number();
+        install(&mut self.board, ready.into_install());
         number
     }
 }

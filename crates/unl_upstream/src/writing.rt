@@ -3,8 +3,8 @@ ghost use Rattle.std.specs.Prelude.{◌≡◌, IfOk, Ok, OnOk};
 ghost use Rattle.serde_json.specs.View.{members_view, view};
 ghost use Rattle.unl_documents.specs.Kinds.{document};
 ghost use Rattle.unl_upstream.specs.declared.command.Command.TheVariants as command;
-ghost use Rattle.unl_upstream.specs.Command.{IsValidCommand, command_of};
-ghost use Rattle.unl_upstream.specs.Writing.{HasNames, command_data, with_head};
+ghost use Rattle.unl_upstream.specs.Command.{IsValidCommand, command_in, command_of};
+ghost use Rattle.unl_upstream.specs.Writing.{HasNames, command_data, command_text, with_head};
 
 use crate::command::Command;
 use serde_json::{Map, Value};
@@ -22,6 +22,17 @@ pub fn write_command(alloc: Global, command: &Command) -> Result<Value, Memory>
         → IfOk result (λ value. document command_of (view value) ≡ Ok command.now) }
 {
     command_value(alloc, command)
+}
+
+/// The text that a command is kept as: what it is written as, in JSON.
+pub(crate) fn command_text(alloc: Global, command: &Command) -> Result<Text, Memory>
+    ensures text { IfOk result (λ text. text ≡ command_text command.now) }
+    ensures reads_back { IsValidCommand command.now → HasNames command.now
+        → OnOk result (command_in (command_text command.now) ≡ Ok command.now) }
+{
+    let value = write_command(alloc, command)?;
+    let text = value.to_string(alloc)?;
+    Ok(Text::from(text))
 }
 
 fn command_value(alloc: Global, command: &Command) -> Result<Value, Memory>

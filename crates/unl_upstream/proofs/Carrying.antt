@@ -1,0 +1,436 @@
+-- What keeping commands carries on.
+use Rattle.std.proofs.Common.{◌≡◌, ◌≢◌, ◌<◌, ◌≤◌, ◌⊎◌, inl, inr, ℕ, ◌+◌, ◌-◌, ◌^◌, Bool, true, false, cond, List, [], ◌∷◌, ◌++◌, take, drop, length, length-append, Option, Some, None, Result, Ok, Err, IsOk, IfErr, option_map, IfSome, refl, sym, ap, ◌∙◌, subst, arith, append_assoc, append-nil}
+use Rattle.std.specs.Prelude.{nat_lt}
+use Rattle.std.specs.Result.{IsErrAnd}
+use Rattle.std.proofs.lemmas.Bool.{le-ltb, lt-ltb}
+use Rattle.std.proofs.lemmas.List.{drop_all, length-take-le}
+use Rattle.unl_keeper.specs.declared.refusal.KeepRefusal.{KeepRefusal}
+use Rattle.unl_keeper.specs.declared.refusal.KeepRefusal.TheVariants as fault
+use Rattle.unl_keeper.specs.Rows.{kept, with_row}
+use Rattle.unl_keeper.proofs.Kept.{kept_more, kept_same, past_is}
+use Rattle.unl_documents.specs.Results.{◌>>=◌}
+use Rattle.unl_upstream.specs.declared.command.Command.{Command}
+use Rattle.unl_upstream.specs.declared.refusal.CommandRefusal.{CommandRefusal}
+use Rattle.unl_upstream.specs.declared.refusal.CommandRefusal.TheVariants as command_refusal
+use Rattle.unl_upstream.specs.declared.refusal.KeepCommandRefusal.{KeepCommandRefusal}
+use Rattle.unl_upstream.specs.declared.refusal.KeepCommandRefusal.TheVariants.{NoSuchEnvironment, NoSuchFeature, NoSuchSegment, TooMany, KeeperFull, KeeperFault, Memory}
+use Rattle.unl_upstream.specs.Command.{command_in}
+use Rattle.unl_upstream.specs.History.{accepted, after_commands, if_accepted, up_after}
+use Rattle.unl_upstream.specs.Kept.{Acknowledges, AreLeft, Carries, FailsToKeep, HasKept, IsFailed, IsLeft, IsWritten, KeeperState, Keeps, KeepsAll, KeptState, LeadTo, LeavesOne, Moves, Puts, Tried, acknowledged, commands_in, failed_after, faults_among, if_kept, keepable, kept_commands, kept_rows, most_rows, past_rows, with_room}
+use Rattle.unl_upstream.specs.Upstream.{Obeyed, Obeying, Prepared, UpstreamState, commanded, committed, prepared, refused_as}
+use Rattle.unl_upstream.specs.Writing.{command_text}
+use Rattle.unl_upstream.proofs.Leading.{command_one, commands_both, lead_more}
+use Rattle.unl_upstream.proofs.Served.{after_both}
+use Rattle.unl_upstream.proofs.Standing.{accepted_both}
+
+-- ---- what was ready
+
+-- what was ready is obeyed so
+abbrev obeyed_with : Prepared → UpstreamState → Obeyed
+obeyed_with ready up = record { up = committed ready up; number = ready.number }
+
+-- a command for which there was room is obeyed so
+room_obeyed : (count : ℕ) (r : Obeying Prepared) (up : UpstreamState) (ready : Prepared) → with_room count r ≡ Ok ready
+    → with_room count (r >>= λ made. Ok (obeyed_with made up)) ≡ Ok (obeyed_with ready up)
+room_obeyed count (Err refusal) up ready is = absurd cc
+room_obeyed count (Ok made) up ready is = decided (nat_lt count most_rows) is
+  where
+    decided : (t : Bool) → cond t (Ok made) (Err (KeeperFull count)) ≡ Ok ready
+        → cond t (Ok (obeyed_with made up)) (Err (KeeperFull count)) ≡ Ok (obeyed_with ready up)
+    decided true is = let same : made ≡ ready = cc in ap (λ (p : Prepared). Ok (obeyed_with p up)) same
+    decided false is = absurd cc
+
+pub keepable_is : (command : Command) (before : KeptState) (ready : Prepared) → with_room before.keeper.count (prepared command before.up) ≡ Ok ready
+    → keepable command before ≡ Ok (record { up = committed ready before.up; number = ready.number })
+unfolding commanded
+keepable_is command before ready is = room_obeyed before.keeper.count (prepared command before.up) before.up ready is
+
+-- there is room for one more
+room : {T : Type 0} (count : ℕ) (x : T) → count < 10000000 → with_room count (Ok x) ≡ Ok x
+room count x low = let yes : nat_lt count most_rows ≡ true = lt-ltb count most_rows low in rw yes refl
+
+-- or there is none
+no_room : {T : Type 0} (count : ℕ) (x : T) → 10000000 ≤ count → with_room count (Ok x) ≡ Err (KeeperFull count)
+no_room count x high = let no : nat_lt count most_rows ≡ false = le-ltb count most_rows high in rw no refl
+
+pub awaited : (count : ℕ) (command : Command) (up : UpstreamState) (ready : Prepared) → prepared command up ≡ Ok ready → count < 10000000
+    → with_room count (prepared command up) ≡ Ok ready
+awaited count command up ready is low = ap (with_room count) is ∙ room count ready low
+
+pub full : (count : ℕ) (command : Command) (up : UpstreamState) (ready : Prepared) → prepared command up ≡ Ok ready → 10000000 ≤ count
+    → with_room count (commanded command up) ≡ Err (KeeperFull count)
+unfolding commanded
+full count command up ready is high =
+    ap (λ (r : Obeying Prepared). with_room count (r >>= λ made. Ok (obeyed_with made up))) is ∙ no_room count (obeyed_with ready up) high
+
+pub refused_so : (count : ℕ) (command : Command) (up : UpstreamState) (refusal : CommandRefusal) (e : KeepCommandRefusal) → e ≡ refused_as refusal
+    → (refusal ≢ command_refusal.Memory → prepared command up ≡ Err refusal) → e ≢ Memory → with_room count (commanded command up) ≡ Err e
+unfolding commanded
+refused_so count command up refusal e is told some =
+    let here : prepared command up ≡ Err refusal = told (λ wanting. some (is ∙ ap refused_as wanting)) in
+    ap (λ (r : Obeying Prepared). with_room count (r >>= λ made. Ok (obeyed_with made up))) here ∙ ap Err (sym is)
+
+-- the same where the refusal was passed on
+pub passed_on : {T : Type 0} (r : Result T KeepCommandRefusal) (count : ℕ) (command : Command) (up : UpstreamState) (refusal : CommandRefusal)
+    → IsErrAnd r (λ e. e ≡ refused_as refusal) → (refusal ≢ command_refusal.Memory → prepared command up ≡ Err refusal)
+    → IfErr r (λ e. e ≢ Memory → with_room count (commanded command up) ≡ Err e)
+passed_on (Ok x) count command up refusal is told = absurd is
+passed_on (Err e) count command up refusal is told = refused_so count command up refusal e is told
+
+-- a keeper's fault is no refusal of a command
+no_fault : (count : ℕ) (r : Obeying Obeyed) → with_room count r ≡ Err KeeperFault → ⊥
+no_fault count (Ok obeyed) is = decided (nat_lt count most_rows) is
+  where
+    decided : (t : Bool) → cond t (Ok obeyed) (Err (KeeperFull count)) ≡ Err KeeperFault → ⊥
+    decided true is = cc
+    decided false is = cc
+no_fault count (Err command_refusal.NoSuchEnvironment) is = cc
+no_fault count (Err command_refusal.NoSuchFeature) is = cc
+no_fault count (Err command_refusal.NoSuchSegment) is = cc
+no_fault count (Err (command_refusal.TooMany n)) is = cc
+no_fault count (Err command_refusal.Memory) is = cc
+
+-- a command that was refused is not kept, and nothing changes
+pub refuses_so : (command : Command) (state : KeptState) (e : KeepCommandRefusal) → (e ≢ Memory → keepable command state ≡ Err e) → Keeps command state (Err e) state
+refuses_so command state NoSuchEnvironment told = record { cause = told (λ m. cc); same = refl }
+refuses_so command state NoSuchFeature told = record { cause = told (λ m. cc); same = refl }
+refuses_so command state NoSuchSegment told = record { cause = told (λ m. cc); same = refl }
+refuses_so command state (TooMany n) told = record { cause = told (λ m. cc); same = refl }
+refuses_so command state (KeeperFull n) told = record { cause = told (λ m. cc); same = refl }
+refuses_so command state KeeperFault told = absurd (no_fault state.keeper.count (commanded command state.up) (told (λ m. cc)))
+refuses_so command state Memory told = refl
+
+-- what putting a text came to, as keeping a command
+abbrev pub kept_as : Result ℕ KeepRefusal → Result ℕ KeepCommandRefusal
+kept_as (Ok number) = Ok number
+kept_as (Err fault.Fault) = Err KeeperFault
+kept_as (Err fault.Memory) = Err Memory
+
+is_ok : {T E : Type 0} (r : Result T E) (x : T) → r ≡ Ok x → IsOk r
+is_ok (Ok y) x is = refl
+is_ok (Err e) x is = absurd cc
+
+pub kept_so : (command : Command) (before after : KeptState) (ready : Prepared) (text : List ℕ) (result : Result ℕ KeepRefusal)
+    → with_room before.keeper.count (prepared command before.up) ≡ Ok ready → text ≡ command_text command → command_in (command_text command) ≡ Ok command
+    → Puts ready text before result after → Keeps command before (kept_as result) after
+kept_so command before after ready text (Ok number) awaits is spelled puts =
+    let obeyed : keepable command before ≡ Ok (obeyed_with ready before.up) = keepable_is command before ready awaits in record {
+      obeyed = obeyed ∙ (λ i. Ok (record { up = sym puts.up i; number = sym puts.is i }));
+      spelled = spelled;
+      row = subst (λ (t : List ℕ). IsWritten t before.keeper after.keeper) is puts.row;
+    }
+kept_so command before after ready text (Err fault.Fault) awaits is spelled puts =
+    let obeyed : keepable command before ≡ Ok (obeyed_with ready before.up) = keepable_is command before ready awaits in record {
+      obeyed = is_ok (keepable command before) (obeyed_with ready before.up) obeyed;
+      spelled = spelled;
+      up = puts.up;
+      row = subst (λ (t : List ℕ). IsFailed t before.keeper after.keeper) is puts.row;
+    }
+kept_so command before after ready text (Err fault.Memory) awaits is spelled puts = puts
+
+-- what could be kept is accepted
+pub accepted_kept : (command : Command) (before : KeptState) (obeyed : Obeyed) → keepable command before ≡ Ok obeyed → commanded command before.up ≡ Ok obeyed
+accepted_kept command before obeyed is = decided (commanded command before.up) refl is
+  where
+    same : (made : Obeyed) (t : Bool) → cond t (Ok made) (Err (KeeperFull before.keeper.count)) ≡ Ok obeyed → made ≡ obeyed
+    same made true is = cc
+    same made false is = absurd cc
+
+    decided : (r : Obeying Obeyed) → commanded command before.up ≡ r → with_room before.keeper.count r ≡ Ok obeyed → commanded command before.up ≡ Ok obeyed
+    decided (Ok made) here is = here ∙ ap Ok (same made (nat_lt before.keeper.count most_rows) is)
+    decided (Err refusal) here is = absurd cc
+
+-- ---- the rows
+
+-- nothing stands past a row that was written
+past_none : (count : ℕ) (text : List ℕ) (rows : Option (List (List ℕ))) → IfSome rows (λ list. count ≤ length list)
+    → option_map (λ list. drop (count + 1) list) (with_row count text rows) ≡ option_map (λ list. []) rows
+past_none count text None has = refl
+past_none count text (Some list) has =
+    let here : length (take count list) ≡ count = length-take-le count list has in
+    let all : length (take count list ++ text ∷ []) ≡ length (take count list) + 1 = length-append (take count list) (text ∷ []) in
+    ap Some (drop_all (count + 1) (take count list ++ text ∷ []) (omega (arith, here, all)))
+
+-- a keeper has the rows that it keeps, after a row was put and after one failed to be
+has_row : (count : ℕ) (text : List ℕ) (rows : Option (List (List ℕ))) → IfSome rows (λ list. count ≤ length list)
+    → IfSome (with_row count text rows) (λ list. count + 1 ≤ length list)
+has_row count text None has = tt
+has_row count text (Some list) has =
+    let here : length (take count list) ≡ count = length-take-le count list has in
+    let all : length (take count list ++ text ∷ []) ≡ length (take count list) + 1 = length-append (take count list) (text ∷ []) in
+    omega (arith, here, all)
+
+fewer : (count : ℕ) (rows : Option (List (List ℕ))) → IfSome rows (λ list. count + 1 ≤ length list) → IfSome rows (λ list. count ≤ length list)
+fewer count None has = tt
+fewer count (Some list) has = omega (arith, has)
+
+-- a text was written down behind the kept rows
+rows_written : (text : List ℕ) (before after : KeeperState) → HasKept before → IsWritten text before after
+    → kept_rows after ≡ option_map (λ list. list ++ text ∷ []) (kept_rows before)
+rows_written text before after has row = (λ i. kept (row.counted i) (row.rows i)) ∙ kept_more before.count text before.rows has
+
+past_written : (text : List ℕ) (before after : KeeperState) → HasKept before → IsWritten text before after
+    → past_rows after ≡ option_map (λ list. []) before.rows
+past_written text before after has row =
+    (λ i. option_map (λ list. drop (row.counted i) list) (row.rows i)) ∙ past_none before.count text before.rows has
+
+-- the keeper failed
+rows_failed : (text : List ℕ) (before after : KeeperState) → HasKept before → IsFailed text before after → kept_rows after ≡ kept_rows before
+rows_failed text before after has row = by_rows row.rows
+  where
+    by_rows : (after.rows ≡ before.rows) ⊎ (after.rows ≡ with_row before.count text before.rows) → kept_rows after ≡ kept_rows before
+    by_rows (inl same) = λ i. kept (row.counted i) (same i)
+    by_rows (inr left) = (λ i. kept (row.counted i) (left i)) ∙ kept_same before.count text before.rows has
+
+-- a keeper has the rows that it keeps, whatever came of one more
+has_written : (text : List ℕ) (before after : KeeperState) → HasKept before → IsWritten text before after → HasKept after
+has_written text before after has row =
+    subst (λ (rows : Option (List (List ℕ))). IfSome rows (λ list. after.count ≤ length list)) (sym row.rows)
+    (subst (λ (n : ℕ). IfSome (with_row before.count text before.rows) (λ list. n ≤ length list)) (sym row.counted) (has_row before.count text before.rows has))
+
+has_failed : (text : List ℕ) (before after : KeeperState) → HasKept before → IsFailed text before after → HasKept after
+has_failed text before after has row = by_rows row.rows
+  where
+    of_rows : (rows : Option (List (List ℕ))) → after.rows ≡ rows → IfSome rows (λ list. before.count ≤ length list) → HasKept after
+    of_rows rows are enough =
+        subst (λ (o : Option (List (List ℕ))). IfSome o (λ list. after.count ≤ length list)) (sym are)
+        (subst (λ (n : ℕ). IfSome rows (λ list. n ≤ length list)) (sym row.counted) enough)
+
+    by_rows : (after.rows ≡ before.rows) ⊎ (after.rows ≡ with_row before.count text before.rows) → HasKept after
+    by_rows (inl same) = of_rows before.rows same has
+    by_rows (inr left) =
+        of_rows (with_row before.count text before.rows) left
+        (fewer before.count (with_row before.count text before.rows) (has_row before.count text before.rows has))
+
+-- ---- what changed
+
+moves_same : (one : Tried) → acknowledged (one ∷ []) ≡ [] → (before after : KeptState) → after ≡ before → Moves (one ∷ []) before after
+moves_same one none before after same =
+    let zero_more : length (acknowledged (one ∷ [])) ≡ 0 = ap (λ (cs : List Command). length cs) none in
+    subst (λ (s : KeptState). Moves (one ∷ []) before s) (sym same) (record {
+      leads = ap (λ (cs : List Command). after_commands cs before.up) (sym none);
+      all_accepted = ap (λ (cs : List Command). accepted cs before.up) none ∙ sym none;
+      counted = omega (arith, zero_more);
+    })
+
+moves_written : (command : Command) (before : KeptState) (number : ℕ) (after : KeptState) → Acknowledges command before number after
+    → Moves (record { command = command; result = Ok number } ∷ []) before after
+moves_written command before number after told =
+    let accepts : commanded command before.up ≡ Ok (record { up = after.up; number = number }) =
+    accepted_kept command before (record { up = after.up; number = number }) told.obeyed in record {
+      leads = sym (ap (up_after before.up) accepts);
+      all_accepted = ap (λ (r : Obeying Obeyed). if_accepted command r []) accepts;
+      counted = told.row.counted;
+    }
+
+moves_failed : (command : Command) (before after : KeptState) → FailsToKeep command before after
+    → Moves (record { command = command; result = Err KeeperFault } ∷ []) before after
+moves_failed command before after told = record { leads = told.up; all_accepted = refl; counted = told.row.counted ∙ omega arith }
+
+moves_one : (command : Command) (before : KeptState) (result : Result ℕ KeepCommandRefusal) (after : KeptState) → Keeps command before result after
+    → Moves (record { command = command; result = result } ∷ []) before after
+moves_one command before (Ok number) after keeps = moves_written command before number after keeps
+moves_one command before (Err NoSuchEnvironment) after keeps = moves_same (record { command = command; result = Err NoSuchEnvironment }) refl before after keeps.same
+moves_one command before (Err NoSuchFeature) after keeps = moves_same (record { command = command; result = Err NoSuchFeature }) refl before after keeps.same
+moves_one command before (Err NoSuchSegment) after keeps = moves_same (record { command = command; result = Err NoSuchSegment }) refl before after keeps.same
+moves_one command before (Err (TooMany n)) after keeps = moves_same (record { command = command; result = Err (TooMany n) }) refl before after keeps.same
+moves_one command before (Err (KeeperFull n)) after keeps = moves_same (record { command = command; result = Err (KeeperFull n) }) refl before after keeps.same
+moves_one command before (Err KeeperFault) after keeps = moves_failed command before after keeps
+moves_one command before (Err Memory) after keeps = moves_same (record { command = command; result = Err Memory }) refl before after keeps
+
+if_kept_both : (command : Command) (result : Result ℕ KeepCommandRefusal) (others : List Command) → if_kept command result [] ++ others ≡ if_kept command result others
+if_kept_both command (Ok number) others = refl
+if_kept_both command (Err refusal) others = refl
+
+moves_more : (one : Tried) (others : List Tried) (before middle after : KeptState) → Moves (one ∷ []) before middle → Moves others middle after
+    → Moves (one ∷ others) before after
+moves_more one others before middle after first second =
+    let both : acknowledged (one ∷ []) ++ acknowledged others ≡ acknowledged (one ∷ others) = if_kept_both one.command one.result (acknowledged others) in
+    let lengths : length (acknowledged (one ∷ others)) ≡ length (acknowledged (one ∷ [])) + length (acknowledged others) =
+    sym (ap (λ (cs : List Command). length cs) both) ∙ length-append (acknowledged (one ∷ [])) (acknowledged others) in record {
+      leads = second.leads ∙ ap (after_commands (acknowledged others)) first.leads
+          ∙ sym (after_both (acknowledged (one ∷ [])) (acknowledged others) before.up) ∙ ap (λ (cs : List Command). after_commands cs before.up) both;
+      all_accepted = sym (ap (λ (cs : List Command). accepted cs before.up) both)
+          ∙ accepted_both (acknowledged (one ∷ [])) (acknowledged others) before.up
+          ∙ (λ i. first.all_accepted i ++ accepted (acknowledged others) (sym first.leads i))
+          ∙ ap (λ (cs : List Command). acknowledged (one ∷ []) ++ cs) second.all_accepted ∙ both;
+      counted = omega (arith, first.counted, second.counted, lengths);
+    }
+
+-- what keeping commands, one after another, changes
+pub moves_all : (tried : List Tried) (before after : KeptState) → KeepsAll tried before after → Moves tried before after
+moves_all [] before after keeps =
+    subst (λ (s : KeptState). Moves [] before s) (sym keeps) (record { leads = refl; all_accepted = refl; counted = omega arith })
+moves_all (one ∷ others) before after keeps =
+    moves_more one others before keeps.0 after (moves_one one.command before one.result keeps.0 keeps.1) (moves_all others keeps.0 after keeps.2)
+
+-- ---- one command
+
+-- nothing more
+append_none : (o : Option (List Command)) → option_map (λ commands. commands ++ []) o ≡ o
+append_none None = refl
+append_none (Some commands) = ap Some (append-nil commands)
+
+carries_same : (one : Tried) → acknowledged (one ∷ []) ≡ [] → faults_among (one ∷ []) ≡ 0 → ((failed : List Command) → failed_after failed (one ∷ []) ≡ failed)
+    → (before after : KeptState) → after ≡ before → Carries (one ∷ []) before after
+carries_same one none calm as_before before after same =
+    subst (λ (s : KeptState). Carries (one ∷ []) before s) (sym same) (record {
+      stands = λ opening holds. holds;
+      moves = moves_same one none before before refl;
+      appended = sym (append_none (kept_commands before.keeper))
+          ∙ ap (λ (cs : List Command). option_map (λ commands. commands ++ cs) (kept_commands before.keeper)) (sym none);
+      left = λ failed left. subst (LeavesOne before) (sym (as_before failed)) left;
+      faults = omega (arith, calm);
+    })
+
+-- the rows lead one further
+lead_further : (opening : UpstreamState) (text : List ℕ) (command : Command) (up : UpstreamState) (obeyed : Obeyed) → command_in text ≡ Ok command
+    → commanded command up ≡ Ok obeyed → (o : Option (List (List ℕ))) → IfSome o (λ texts. LeadTo opening texts up)
+    → IfSome (option_map (λ list. list ++ text ∷ []) o) (λ texts. LeadTo opening texts obeyed.up)
+lead_further opening text command up obeyed spelled accepts None holds = tt
+lead_further opening text command up obeyed spelled accepts (Some texts) holds = lead_more texts text opening up command obeyed spelled accepts holds
+
+commands_more : (text : List ℕ) (command : Command) → command_in text ≡ Ok command → (o : Option (List (List ℕ)))
+    → option_map commands_in (option_map (λ list. list ++ text ∷ []) o) ≡ option_map (λ commands. commands ++ command ∷ []) (option_map commands_in o)
+commands_more text command spelled None = refl
+commands_more text command spelled (Some texts) =
+    ap Some (commands_both texts (text ∷ []) ∙ ap (λ (cs : List Command). commands_in texts ++ cs) (command_one text command spelled))
+
+none_left : (rows : Option (List (List ℕ))) (up : UpstreamState) (failed : List Command) → IfSome (option_map (λ list. []) rows) (AreLeft up failed)
+none_left None up failed = tt
+none_left (Some list) up failed = tt
+
+carries_written : (command : Command) (before : KeptState) (number : ℕ) (after : KeptState) → HasKept before.keeper → Acknowledges command before number after
+    → Carries (record { command = command; result = Ok number } ∷ []) before after
+carries_written command before number after has told =
+    let text : List ℕ = command_text command in
+    let obeyed : Obeyed = record { up = after.up; number = number } in
+    let accepts : commanded command before.up ≡ Ok obeyed = accepted_kept command before obeyed told.obeyed in
+    let rows : kept_rows after.keeper ≡ option_map (λ list. list ++ text ∷ []) (kept_rows before.keeper) =
+    rows_written text before.keeper after.keeper has told.row in record {
+      stands = λ opening holds. subst (λ (o : Option (List (List ℕ))). IfSome o (λ texts. LeadTo opening texts after.up)) (sym rows)
+          (lead_further opening text command before.up obeyed told.spelled accepts (kept_rows before.keeper) holds);
+      moves = moves_written command before number after told;
+      appended = ap (option_map commands_in) rows ∙ commands_more text command told.spelled (kept_rows before.keeper);
+      left = λ failed left. subst (λ (o : Option (List (List ℕ))). IfSome o (AreLeft after.up [])) (sym (past_written text before.keeper after.keeper has told.row))
+          (none_left before.keeper.rows after.up []);
+      faults = omega (arith, told.row.later);
+    }
+
+one_more : (up : UpstreamState) (command : Command) (failed : List Command) (texts : List (List ℕ)) → AreLeft up failed texts → AreLeft up (command ∷ failed) texts
+one_more up command failed [] left = tt
+one_more up command failed (text ∷ []) left = record { command = left.command; spelled = left.spelled; accepts = left.accepts; one = inr left.one }
+one_more up command failed (text ∷ other ∷ texts) left = absurd left
+
+more_failed : (up : UpstreamState) (command : Command) (failed : List Command) (o : Option (List (List ℕ))) → IfSome o (AreLeft up failed) → IfSome o (AreLeft up (command ∷ failed))
+more_failed up command failed None left = tt
+more_failed up command failed (Some texts) left = one_more up command failed texts left
+
+this_left : (up : UpstreamState) (failed : List Command) (text : List ℕ) (rows : Option (List (List ℕ))) → IsLeft up failed text
+    → IfSome (option_map (λ list. text ∷ []) rows) (AreLeft up failed)
+this_left up failed text None left = tt
+this_left up failed text (Some list) left = left
+
+could_be : (command : Command) (before : KeptState) → IsOk (keepable command before) → IsOk (commanded command before.up)
+could_be command before is = decided (commanded command before.up) is
+  where
+    decided : (r : Obeying Obeyed) → IsOk (with_room before.keeper.count r) → IsOk r
+    decided (Ok obeyed) is = refl
+    decided (Err refusal) is = is
+
+carries_failed : (command : Command) (before after : KeptState) → HasKept before.keeper → FailsToKeep command before after
+    → Carries (record { command = command; result = Err KeeperFault } ∷ []) before after
+carries_failed command before after has told =
+    let text : List ℕ = command_text command in
+    let rows : kept_rows after.keeper ≡ kept_rows before.keeper = rows_failed text before.keeper after.keeper has told.row in record {
+      stands = λ opening holds. subst (λ (o : Option (List (List ℕ))). IfSome o (λ texts. LeadTo opening texts after.up)) (sym rows)
+          (subst (λ (u : UpstreamState). IfSome (kept_rows before.keeper) (λ texts. LeadTo opening texts u)) (sym told.up) holds);
+      moves = moves_failed command before after told;
+      appended = ap (option_map commands_in) rows ∙ sym (append_none (kept_commands before.keeper));
+      left = λ failed left. subst (λ (u : UpstreamState). IfSome (past_rows after.keeper) (AreLeft u (command ∷ failed))) (sym told.up) (by_rows failed left told.row.rows);
+      faults = omega (arith, told.row.rose);
+    }
+  where
+    by_rows : (failed : List Command) → LeavesOne before failed
+        → (after.keeper.rows ≡ before.keeper.rows) ⊎ (after.keeper.rows ≡ with_row before.keeper.count (command_text command) before.keeper.rows)
+        → IfSome (past_rows after.keeper) (AreLeft before.up (command ∷ failed))
+    by_rows failed left (inl same) =
+        let past : past_rows after.keeper ≡ past_rows before.keeper = λ i. option_map (λ list. drop (told.row.counted i) list) (same i) in
+        subst (λ (o : Option (List (List ℕ))). IfSome o (AreLeft before.up (command ∷ failed))) (sym past)
+        (more_failed before.up command failed (past_rows before.keeper) left)
+    by_rows failed left (inr wrote) =
+        let past : past_rows after.keeper ≡ option_map (λ list. command_text command ∷ []) before.keeper.rows =
+        (λ i. option_map (λ list. drop (told.row.counted i) list) (wrote i)) ∙ past_is before.keeper.count (command_text command) before.keeper.rows has in
+        subst (λ (o : Option (List (List ℕ))). IfSome o (AreLeft before.up (command ∷ failed))) (sym past)
+        (this_left before.up (command ∷ failed) (command_text command) before.keeper.rows
+        (record { command = command; spelled = told.spelled; accepts = could_be command before told.obeyed; one = inl refl }))
+
+-- what keeping a command carries on
+pub carries_one : (command : Command) (before : KeptState) (result : Result ℕ KeepCommandRefusal) (after : KeptState) → HasKept before.keeper
+    → Keeps command before result after → Carries (record { command = command; result = result } ∷ []) before after
+carries_one command before (Ok number) after has keeps = carries_written command before number after has keeps
+carries_one command before (Err NoSuchEnvironment) after has keeps = carries_same (record { command = command; result = Err NoSuchEnvironment }) refl refl (λ failed. refl) before after keeps.same
+carries_one command before (Err NoSuchFeature) after has keeps = carries_same (record { command = command; result = Err NoSuchFeature }) refl refl (λ failed. refl) before after keeps.same
+carries_one command before (Err NoSuchSegment) after has keeps = carries_same (record { command = command; result = Err NoSuchSegment }) refl refl (λ failed. refl) before after keeps.same
+carries_one command before (Err (TooMany n)) after has keeps = carries_same (record { command = command; result = Err (TooMany n) }) refl refl (λ failed. refl) before after keeps.same
+carries_one command before (Err (KeeperFull n)) after has keeps = carries_same (record { command = command; result = Err (KeeperFull n) }) refl refl (λ failed. refl) before after keeps.same
+carries_one command before (Err KeeperFault) after has keeps = carries_failed command before after has keeps
+carries_one command before (Err Memory) after has keeps = carries_same (record { command = command; result = Err Memory }) refl refl (λ failed. refl) before after keeps
+
+has_same : (before after : KeptState) → HasKept before.keeper → after ≡ before → HasKept after.keeper
+has_same before after has same = subst (λ (s : KeptState). HasKept s.keeper) (sym same) has
+
+has_one : (command : Command) (before : KeptState) (result : Result ℕ KeepCommandRefusal) (after : KeptState) → HasKept before.keeper
+    → Keeps command before result after → HasKept after.keeper
+has_one command before (Ok number) after has keeps = has_written (command_text command) before.keeper after.keeper has keeps.row
+has_one command before (Err NoSuchEnvironment) after has keeps = has_same before after has keeps.same
+has_one command before (Err NoSuchFeature) after has keeps = has_same before after has keeps.same
+has_one command before (Err NoSuchSegment) after has keeps = has_same before after has keeps.same
+has_one command before (Err (TooMany n)) after has keeps = has_same before after has keeps.same
+has_one command before (Err (KeeperFull n)) after has keeps = has_same before after has keeps.same
+has_one command before (Err KeeperFault) after has keeps = has_failed (command_text command) before.keeper after.keeper has keeps.row
+has_one command before (Err Memory) after has keeps = has_same before after has keeps
+
+-- ---- one after another
+
+joined : (one : Tried) (others : List Tried) (o : Option (List Command))
+    → option_map (λ commands. commands ++ acknowledged others) (option_map (λ commands. commands ++ acknowledged (one ∷ [])) o)
+    ≡ option_map (λ commands. commands ++ acknowledged (one ∷ others)) o
+joined one others None = refl
+joined one others (Some commands) =
+    ap Some (append_assoc commands (acknowledged (one ∷ [])) (acknowledged others)
+    ∙ ap (λ (cs : List Command). commands ++ cs) (if_kept_both one.command one.result (acknowledged others)))
+
+carries_more : (one : Tried) (others : List Tried) (before middle after : KeptState) → Carries (one ∷ []) before middle → Carries others middle after
+    → Carries (one ∷ others) before after
+carries_more one others before middle after first second = record {
+  stands = λ opening holds. second.stands opening (first.stands opening holds);
+  moves = moves_more one others before middle after first.moves second.moves;
+  appended = second.appended ∙ ap (option_map (λ commands. commands ++ acknowledged others)) first.appended
+      ∙ joined one others (kept_commands before.keeper);
+  left = λ failed left. second.left (failed_after failed (one ∷ [])) (first.left failed left);
+  faults = omega (arith, first.faults, second.faults);
+}
+
+carries_nothing : (before after : KeptState) → after ≡ before → Carries [] before after
+carries_nothing before after same =
+    subst (λ (s : KeptState). Carries [] before s) (sym same) (record {
+      stands = λ opening holds. holds;
+      moves = record { leads = refl; all_accepted = refl; counted = omega arith };
+      appended = sym (append_none (kept_commands before.keeper));
+      left = λ failed left. left;
+      faults = omega arith;
+    })
+
+-- what keeping commands, one after another, carries on
+pub carries_all : (tried : List Tried) (before after : KeptState) → HasKept before.keeper → KeepsAll tried before after → Carries tried before after
+carries_all [] before after has keeps = carries_nothing before after keeps
+carries_all (one ∷ others) before after has keeps =
+    let middle : KeptState = keeps.0 in
+    carries_more one others before middle after (carries_one one.command before one.result middle has keeps.1)
+    (carries_all others middle after (has_one one.command before one.result middle has keeps.1) keeps.2)
+
+pub keeps_both : (first second : List Tried) (before middle after : KeptState) → KeepsAll first before middle → KeepsAll second middle after
+    → KeepsAll (first ++ second) before after
+keeps_both [] second before middle after one two = subst (λ (s : KeptState). KeepsAll second s after) one two
+keeps_both (t ∷ first) second before middle after one two = (one.0, one.1, keeps_both first second one.0 middle after one.2 two)

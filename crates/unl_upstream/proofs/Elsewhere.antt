@@ -1,0 +1,56 @@
+-- A command does the same at an upstream of the same slots.
+use Rattle.std.proofs.Common.{◌≡◌, ℕ, List, [], ◌∷◌, Option, Some, None, Ok, refl, sym, ap, ◌∙◌, option_and_then}
+use Rattle.unl_core.specs.declared.board.Slot.{Slot}
+use Rattle.unl_core.specs.Board.{slot_of, snapshot_in, taking}
+use Rattle.unl_upstream.specs.declared.command.Command.{Command}
+use Rattle.unl_upstream.specs.Command.{environment_of}
+use Rattle.unl_upstream.specs.Reopening.{rows_after}
+use Rattle.unl_upstream.specs.Upstream.{Obeyed, UpstreamState, commanded, prepared, version_after}
+use Rattle.unl_upstream.proofs.Leading.{Begins, IsTaken, begins, taken, takes}
+use Rattle.unl_upstream.proofs.Standing.{IsObeyed, obeyed_by, obeyed_with, ready_with}
+
+-- it is accepted there too, and leads to the same slots
+pub record Obeys (command : Command) (up after other : UpstreamState) : Type 0 where
+  pub obeyed : Obeyed
+  pub accepts : commanded command other ≡ Ok obeyed
+  pub same : obeyed.up.board.slots ≡ after.board.slots
+
+pub obeys : (command : Command) (up other : UpstreamState) (obeyed : Obeyed) → other.board.slots ≡ up.board.slots → commanded command up ≡ Ok obeyed
+    → Obeys command up obeyed.up other
+unfolding commanded prepared
+obeys command up other obeyed same accepts =
+    let o : IsObeyed command up obeyed = obeyed_by command up obeyed accepts in
+    let found : slot_of (environment_of command) other.board.slots ≡ Some o.slot = ap (slot_of (environment_of command)) same ∙ o.at in
+    let stood : snapshot_in (environment_of command) other.board.slots ≡ Some o.version = ap (snapshot_in (environment_of command)) same ∙ o.stood in record {
+      obeyed = obeyed_with (ready_with o.slot o.version o.event other.board.slots) other;
+      accepts = rw (found, stood, o.told) refl;
+      same = ap (taking o.slot (version_after o.version o.event)) same ∙ sym (ap (λ (u : UpstreamState). u.board.slots) o.is);
+    }
+
+-- rows lead there too, to the same slots
+pub record Leads (rows : List (List ℕ)) (after other : UpstreamState) : Type 0 where
+  pub last : UpstreamState
+  pub leads : rows_after rows other ≡ Some last
+  pub same : last.board.slots ≡ after.board.slots
+
+slots_in : Option UpstreamState → List Slot
+slots_in (Some up) = up.board.slots
+slots_in None = []
+
+pub rows_lead_there : (rows : List (List ℕ)) (up after other : UpstreamState) → other.board.slots ≡ up.board.slots → rows_after rows up ≡ Some after → Leads rows after other
+unfolding slots_in
+rows_lead_there [] up after other same is = record {
+  last = other;
+  leads = refl;
+  same = same ∙ ap slots_in is;
+}
+rows_lead_there (row ∷ rows) up after other same is =
+    let b : Begins row rows up after = begins row rows up after is in
+    let t : IsTaken row up b.middle = taken row up b.middle b.first in
+    let o : Obeys t.command up t.obeyed.up other = obeys t.command up other t.obeyed same t.accepts in
+    let middle_same : o.obeyed.up.board.slots ≡ b.middle.board.slots = o.same ∙ ap (λ (u : UpstreamState). u.board.slots) t.is in
+    let others : Leads rows after o.obeyed.up = rows_lead_there rows b.middle after o.obeyed.up middle_same b.others in record {
+      last = others.last;
+      leads = ap (option_and_then (rows_after rows)) (takes row other t.command o.obeyed t.spelled o.accepts) ∙ others.leads;
+      same = others.same;
+    }

@@ -1,0 +1,187 @@
+-- Rows that lead an upstream somewhere, and the commands that they spell.
+use Rattle.std.proofs.Common.{◌≡◌, ℕ, zero, suc, ◌+◌, ◌≤◌, List, [], ◌∷◌, ◌++◌, length, map, take, slice_get, Option, Some, None, Ok, Err, option_and_then, refl, sym, ap, ◌∙◌, subst, arith}
+use Rattle.std.specs.List.{cons_option}
+use Rattle.unl_documents.specs.declared.fault.BadDocument.{BadDocument}
+use Rattle.unl_documents.specs.Reading.{Reading}
+use Rattle.unl_upstream.specs.declared.command.Command.{Command}
+use Rattle.unl_upstream.specs.Command.{command_in}
+use Rattle.unl_upstream.specs.History.{accepted, after_commands, if_accepted, up_after}
+use Rattle.unl_upstream.specs.Kept.{LeadTo, commands_in}
+use Rattle.unl_upstream.specs.Requests.{if_read}
+use Rattle.unl_upstream.specs.Reopening.{after_reading, if_obeyed, row_after, rows_after}
+use Rattle.unl_upstream.specs.Upstream.{Obeyed, Obeying, UpstreamState, commanded}
+
+-- ---- one row
+
+-- a row that leads somewhere spells a command that is accepted
+pub record IsTaken (text : List ℕ) (up after : UpstreamState) : Type 0 where
+  pub command : Command
+  pub obeyed : Obeyed
+  pub spelled : command_in text ≡ Ok command
+  pub accepts : commanded command up ≡ Ok obeyed
+  pub is : obeyed.up ≡ after
+
+same_some : {A : Type 0} (x y : A) → ◌≡◌ {A = Option A} (Some x) (Some y) → x ≡ y
+same_some x y is = cc
+
+pub taken : (text : List ℕ) (up after : UpstreamState) → row_after text up ≡ Some after → IsTaken text up after
+unfolding row_after
+taken text up after is = decided (command_in text) refl is
+  where
+    obeys : (command : Command) (o : Obeying Obeyed) → command_in text ≡ Ok command → commanded command up ≡ o → if_obeyed o ≡ Some after → IsTaken text up after
+    obeys command (Ok obeyed) spelled accepts is = record { command = command; obeyed = obeyed; spelled = spelled; accepts = accepts; is = same_some obeyed.up after is }
+    obeys command (Err refusal) spelled accepts is = absurd cc
+
+    decided : (r : Reading Command) → command_in text ≡ r → after_reading up r ≡ Some after → IsTaken text up after
+    decided (Ok command) spelled is = obeys command (commanded command up) spelled refl is
+    decided (Err fault) spelled is = absurd cc
+
+pub takes : (text : List ℕ) (up : UpstreamState) (command : Command) (obeyed : Obeyed) → command_in text ≡ Ok command → commanded command up ≡ Ok obeyed
+    → row_after text up ≡ Some obeyed.up
+unfolding row_after
+takes text up command obeyed spelled accepts = ap (after_reading up) spelled ∙ ap if_obeyed accepts
+
+-- ---- rows, one after another
+
+pub rows_both : (first second : List (List ℕ)) (up : UpstreamState) → rows_after (first ++ second) up ≡ option_and_then (rows_after second) (rows_after first up)
+rows_both [] second up = refl
+rows_both (text ∷ first) second up = next (row_after text up) (rows_both first second)
+  where
+    next : (o : Option UpstreamState)
+        → ((middle : UpstreamState) → rows_after (first ++ second) middle ≡ option_and_then (rows_after second) (rows_after first middle))
+        → option_and_then (rows_after (first ++ second)) o ≡ option_and_then (rows_after second) (option_and_then (rows_after first) o)
+    next None others = refl
+    next (Some middle) others = others middle
+
+-- one more row
+pub rows_more : (texts : List (List ℕ)) (text : List ℕ) (up middle after : UpstreamState) → rows_after texts up ≡ Some middle → row_after text middle ≡ Some after
+    → rows_after (texts ++ text ∷ []) up ≡ Some after
+rows_more texts text up middle after leads more =
+    rows_both texts (text ∷ []) up ∙ ap (option_and_then (rows_after (text ∷ []))) leads ∙ ap (option_and_then (rows_after [])) more
+
+-- the first row leads where the others begin
+pub record Begins (text : List ℕ) (texts : List (List ℕ)) (up after : UpstreamState) : Type 0 where
+  pub middle : UpstreamState
+  pub first : row_after text up ≡ Some middle
+  pub others : rows_after texts middle ≡ Some after
+
+pub begins : (text : List ℕ) (texts : List (List ℕ)) (up after : UpstreamState) → rows_after (text ∷ texts) up ≡ Some after → Begins text texts up after
+begins text texts up after is = next (row_after text up) refl is
+  where
+    next : (o : Option UpstreamState) → row_after text up ≡ o → option_and_then (rows_after texts) o ≡ Some after → Begins text texts up after
+    next None first is = absurd cc
+    next (Some middle) first is = record { middle = middle; first = first; others = is }
+
+-- ---- rows and the commands that they spell
+
+-- readings of these commands
+abbrev all_ok : List Command → List (Reading Command)
+all_ok commands = map Ok commands
+
+-- all but the first
+others_of : {X : Type 0} → List X → List X
+others_of [] = []
+others_of (x ∷ xs) = xs
+
+-- one before others that are spelled and accepted
+lead_first : (text : List ℕ) (texts : List (List ℕ)) (opening after : UpstreamState) (command : Command) (obeyed : Obeyed) → command_in text ≡ Ok command
+    → commanded command opening ≡ Ok obeyed → LeadTo obeyed.up texts after → LeadTo opening (text ∷ texts) after
+lead_first text texts opening after command obeyed spelled accepts others =
+    let commands : commands_in (text ∷ texts) ≡ command ∷ commands_in texts =
+    ap (λ (r : Reading Command). cons_option (if_read r) (commands_in texts)) spelled in record {
+      spelled = (λ i. spelled i ∷ others.spelled i) ∙ ap all_ok (sym commands);
+      all_accepted = ap (λ (cs : List Command). accepted cs opening) commands
+          ∙ ap (λ (o : Obeying Obeyed). if_accepted command o (accepted (commands_in texts) (up_after opening o))) accepts
+          ∙ ap (λ (cs : List Command). command ∷ cs) others.all_accepted ∙ sym commands;
+      leads = others.leads
+          ∙ sym (ap (λ (o : Obeying Obeyed). after_commands (commands_in texts) (up_after opening o)) accepts)
+          ∙ sym (ap (λ (cs : List Command). after_commands cs opening) commands);
+    }
+
+pub rows_lead : (texts : List (List ℕ)) (opening after : UpstreamState) → rows_after texts opening ≡ Some after → LeadTo opening texts after
+rows_lead [] opening after is = record { spelled = refl; all_accepted = refl; leads = sym (same_some opening after is) }
+rows_lead (text ∷ texts) opening after is =
+    let b : Begins text texts opening after = begins text texts opening after is in
+    let t : IsTaken text opening b.middle = taken text opening b.middle b.first in
+    lead_first text texts opening after t.command t.obeyed t.spelled t.accepts
+    (subst (λ (u : UpstreamState). LeadTo u texts after) (sym t.is) (rows_lead texts b.middle after b.others))
+
+-- no fault is among commands
+no_fault : (commands : List Command) (fault : BadDocument) (others : List (Reading Command)) → Err fault ∷ others ≡ map Ok commands → ⊥
+no_fault [] fault others is = cc
+no_fault (command ∷ commands) fault others is = cc
+
+-- no more are accepted than are given
+accepted_few : (commands : List Command) (up : UpstreamState) → length (accepted commands up) ≤ length commands
+accepted_few [] up = omega arith
+accepted_few (command ∷ commands) up = decided (commanded command up) (accepted_few commands)
+  where
+    decided : (o : Obeying Obeyed) → ((now : UpstreamState) → length (accepted commands now) ≤ length commands)
+        → length (if_accepted command o (accepted commands (up_after up o))) ≤ length (command ∷ commands)
+    decided (Ok obeyed) few = omega (arith, few obeyed.up)
+    decided (Err refusal) few = omega (arith, few up)
+
+pub lead_rows : (texts : List (List ℕ)) (opening after : UpstreamState) → LeadTo opening texts after → rows_after texts opening ≡ Some after
+unfolding others_of
+lead_rows [] opening after lead = ap Some (sym lead.leads)
+lead_rows (text ∷ texts) opening after lead =
+    decided (command_in text) refl lead.spelled lead.all_accepted lead.leads (λ middle others. lead_rows texts middle after others)
+  where
+    Others : Type 0
+    Others = (middle : UpstreamState) → LeadTo middle texts after → rows_after texts middle ≡ Some after
+
+    obeys : (command : Command) (o : Obeying Obeyed) → command_in text ≡ Ok command → commanded command opening ≡ o
+        → map command_in texts ≡ map Ok (commands_in texts)
+        → if_accepted command o (accepted (commands_in texts) (up_after opening o)) ≡ command ∷ commands_in texts
+        → after ≡ after_commands (commands_in texts) (up_after opening o) → Others → rows_after (text ∷ texts) opening ≡ Some after
+    obeys command (Ok obeyed) spelled accepts tail all leads others =
+        ap (option_and_then (rows_after texts)) (takes text opening command obeyed spelled accepts)
+        ∙ others obeyed.up (record { spelled = tail; all_accepted = ap others_of all; leads = leads })
+    obeys command (Err refusal) spelled accepts tail all leads others =
+        let few : length (accepted (commands_in texts) opening) ≤ length (commands_in texts) = accepted_few (commands_in texts) opening in
+        let many : length (accepted (commands_in texts) opening) ≡ length (command ∷ commands_in texts) = ap (λ (cs : List Command). length cs) all in
+        absurd (omega (arith, few, many))
+
+    decided : (r : Reading Command) → command_in text ≡ r → r ∷ map command_in texts ≡ map Ok (cons_option (if_read r) (commands_in texts))
+        → accepted (cons_option (if_read r) (commands_in texts)) opening ≡ cons_option (if_read r) (commands_in texts)
+        → after ≡ after_commands (cons_option (if_read r) (commands_in texts)) opening → Others → rows_after (text ∷ texts) opening ≡ Some after
+    decided (Ok command) spelled tail all leads others = obeys command (commanded command opening) spelled refl (ap others_of tail) all leads others
+    decided (Err fault) spelled tail all leads others = absurd (no_fault (commands_in texts) fault (map command_in texts) tail)
+
+-- one more row
+pub lead_more : (texts : List (List ℕ)) (text : List ℕ) (opening up : UpstreamState) (command : Command) (obeyed : Obeyed) → command_in text ≡ Ok command
+    → commanded command up ≡ Ok obeyed → LeadTo opening texts up → LeadTo opening (texts ++ text ∷ []) obeyed.up
+lead_more texts text opening up command obeyed spelled accepts lead =
+    rows_lead (texts ++ text ∷ []) opening obeyed.up
+    (rows_more texts text opening up obeyed.up (lead_rows texts opening up lead) (takes text up command obeyed spelled accepts))
+
+-- the commands of more rows
+pub commands_both : (first second : List (List ℕ)) → commands_in (first ++ second) ≡ commands_in first ++ commands_in second
+commands_both [] second = refl
+commands_both (text ∷ first) second = decided (command_in text) (commands_both first second)
+  where
+    decided : (r : Reading Command) → commands_in (first ++ second) ≡ commands_in first ++ commands_in second
+        → cons_option (if_read r) (commands_in (first ++ second)) ≡ cons_option (if_read r) (commands_in first) ++ commands_in second
+    decided (Ok command) others = ap (λ (cs : List Command). command ∷ cs) others
+    decided (Err fault) others = others
+
+-- the command of one row
+pub command_one : (text : List ℕ) (command : Command) → command_in text ≡ Ok command → commands_in (text ∷ []) ≡ command ∷ []
+command_one text command spelled = ap (λ (r : Reading Command). cons_option (if_read r) []) spelled
+
+-- a row among those that lead somewhere doesn't stop there
+pub no_stop : (rows : List (List ℕ)) (count : ℕ) (text : List ℕ) (opening up last : UpstreamState) → rows_after rows opening ≡ Some last
+    → slice_get rows count ≡ Some text → rows_after (take count rows) opening ≡ Some up → row_after text up ≡ None → ⊥
+no_stop [] count text opening up last whole here before stops = cc
+no_stop (row ∷ rows) zero text opening up last whole here before stops =
+    let b : Begins row rows opening last = begins row rows opening last whole in
+    let same : row ≡ text = same_some row text here in
+    let start : opening ≡ up = same_some opening up before in
+    let first : row_after text up ≡ Some b.middle =
+    subst (λ (u : UpstreamState). row_after text u ≡ Some b.middle) start (subst (λ (t : List ℕ). row_after t opening ≡ Some b.middle) same b.first) in
+    cc
+no_stop (row ∷ rows) (suc count) text opening up last whole here before stops =
+    let b : Begins row rows opening last = begins row rows opening last whole in
+    let c : Begins row (take count rows) opening up = begins row (take count rows) opening up before in
+    let same : c.middle ≡ b.middle = same_some c.middle b.middle (sym c.first ∙ b.first) in
+    no_stop rows count text b.middle up last b.others here (subst (λ (u : UpstreamState). rows_after (take count rows) u ≡ Some up) same c.others) stops

@@ -1,0 +1,262 @@
+-- The commands that a keeper of an upstream keeps, and what keeping one more does.
+use Rattle.std.specs.Prelude.{◌≡◌, ◌≢◌, ◌<◌, ◌≤◌, ◌⊎◌, ℕ, ◌+◌, ◌-◌, ◌^◌, min, nat_lt, Bool, true, List, [], ◌∷◌, ◌++◌}
+use Rattle.std.specs.Prelude.{drop, filter_map, length, map}
+use Rattle.std.specs.Prelude.{if◌then◌else◌, Option, option_map, Result, Ok, Err, IsOk, IfSome, ⊤}
+use Rattle.unl_keeper.specs.declared.refusal.KeepRefusal.{KeepRefusal}
+use Rattle.unl_keeper.specs.declared.refusal.KeepRefusal.TheVariants as put_refusal
+use Rattle.unl_keeper.specs.Faults.{Rose}
+use Rattle.unl_keeper.specs.Rows.{kept, with_row}
+use Rattle.unl_upstream.specs.declared.command.Command.{Command}
+use Rattle.unl_upstream.specs.declared.refusal.KeepCommandRefusal.{KeepCommandRefusal}
+use Rattle.unl_upstream.specs.declared.refusal.KeepCommandRefusal.TheVariants.{NoSuchEnvironment, NoSuchFeature}
+use Rattle.unl_upstream.specs.declared.refusal.KeepCommandRefusal.TheVariants.{NoSuchSegment, TooMany, KeeperFull, KeeperFault, Memory}
+use Rattle.unl_upstream.specs.Command.{command_in}
+use Rattle.unl_upstream.specs.History.{accepted, after_commands}
+use Rattle.unl_upstream.specs.Requests.{if_read}
+use Rattle.unl_upstream.specs.Upstream.{Obeyed, Obeying, Prepared, UpstreamState, commanded, committed, refused_as}
+use Rattle.unl_upstream.specs.Writing.{command_text}
+
+-- ---- an upstream and its keeper
+
+-- how a keeper stands: whether it is opened, how often it has failed, how many rows it keeps, and its rows where it tells them
+pub record KeeperState : Type 0 where
+  pub opened : Bool
+  pub faults : ℕ
+  pub count : ℕ
+  pub rows : Option (List (List ℕ))
+
+-- how a keeper stands, by these meanings
+abbrev pub keeper_by : {K : Type 0} → (K → Bool) → (K → ℕ) → (K → ℕ) → (K → Option (List (List ℕ))) → K → KeeperState
+keeper_by opened faults count rows keeper =
+    record { opened = opened keeper; faults = faults keeper; count = count keeper; rows = rows keeper }
+
+-- an upstream, and the keeper of its commands
+pub record KeptState : Type 0 where
+  pub up : UpstreamState
+  pub keeper : KeeperState
+
+-- these together
+abbrev pub kept_state : UpstreamState → KeeperState → KeptState
+kept_state up keeper = record { up = up; keeper = keeper }
+
+-- ---- the kept commands
+
+-- the commands that the texts are read as, in order
+abbrev pub commands_in : List (List ℕ) → List Command
+commands_in texts = filter_map (λ text. if_read (command_in text)) texts
+
+-- the rows that a keeper keeps, where it tells them
+abbrev pub kept_rows : KeeperState → Option (List (List ℕ))
+kept_rows keeper = kept keeper.count keeper.rows
+
+-- the commands that a keeper keeps, where it tells its rows
+abbrev pub kept_commands : KeeperState → Option (List Command)
+kept_commands keeper = option_map commands_in (kept_rows keeper)
+
+-- Each of these texts is read as a command that is accepted, one after another from an upstream on, and they lead there.
+pub record LeadTo (opening : UpstreamState) (texts : List (List ℕ)) (up : UpstreamState) : Type 0 where
+  pub spelled : map command_in texts ≡ map Ok (commands_in texts)
+  pub all_accepted : accepted (commands_in texts) opening ≡ commands_in texts
+  pub leads : up ≡ after_commands (commands_in texts) opening
+
+-- the upstream is the opening one after the kept commands in order, as far as these are told
+abbrev pub IsAfterKept : UpstreamState → KeptState → Type 0
+IsAfterKept opening state = IfSome (kept_rows state.keeper) (λ texts. LeadTo opening texts state.up)
+
+-- ---- keeping one more
+
+-- a keeper keeps so many rows at most
+abbrev pub most_rows : ℕ
+most_rows = 10000000
+
+-- what a command comes to, where a keeper of so many rows is to keep it
+abbrev pub with_room : {T : Type 0} → ℕ → Obeying T → Result T KeepCommandRefusal
+with_room count (Ok x) = if nat_lt count most_rows then Ok x else Err (KeeperFull count)
+with_room count (Err cause) = Err (refused_as cause)
+
+-- what keeping a command comes to, unless the keeper fails or memory is wanting
+abbrev pub keepable : Command → KeptState → Result Obeyed KeepCommandRefusal
+keepable command state = with_room state.keeper.count (commanded command state.up)
+
+-- a text was written down behind the kept rows, past which nothing stands then
+pub record IsWritten (text : List ℕ) (before after : KeeperState) : Type 0 where
+  pub opened : after.opened ≡ true
+  pub counted : after.count ≡ before.count + 1
+  pub rows : after.rows ≡ with_row before.count text before.rows
+  pub later : before.faults ≤ after.faults
+
+-- the keeper failed: it keeps what it kept, past which stands what stood there or the text
+pub record IsFailed (text : List ℕ) (before after : KeeperState) : Type 0 where
+  pub opened : after.opened ≡ true
+  pub counted : after.count ≡ before.count
+  pub rows : (after.rows ≡ before.rows) ⊎ (after.rows ≡ with_row before.count text before.rows)
+  pub later : before.faults ≤ after.faults
+  pub rose : Rose before.faults after.faults
+
+-- what is ready is published once its text was written down
+pub record Publishes (ready : Prepared) (text : List ℕ) (before : KeptState) (number : ℕ) (after : KeptState) : Type 0 where
+  pub is : number ≡ ready.number
+  pub up : after.up ≡ committed ready before.up
+  pub row : IsWritten text before.keeper after.keeper
+
+-- a text failed to be written down, and nothing was published
+pub record Leaves (text : List ℕ) (before after : KeptState) : Type 0 where
+  pub up : after.up ≡ before.up
+  pub row : IsFailed text before.keeper after.keeper
+
+-- what putting a text came to
+abbrev pub Puts : Prepared → List ℕ → KeptState → Result ℕ KeepRefusal → KeptState → Type 0
+Puts ready text before (Ok number) after = Publishes ready text before number after
+Puts ready text before (Err put_refusal.Fault) after = Leaves text before after
+Puts ready text before (Err put_refusal.Memory) after = after ≡ before
+
+-- the command was accepted, and is kept behind those before it
+pub record Acknowledges (command : Command) (before : KeptState) (number : ℕ) (after : KeptState) : Type 0 where
+  pub obeyed : keepable command before ≡ Ok (record { up = after.up; number = number })
+  pub spelled : command_in (command_text command) ≡ Ok command
+  pub row : IsWritten (command_text command) before.keeper after.keeper
+
+-- the command was accepted, but the keeper failed
+pub record FailsToKeep (command : Command) (before after : KeptState) : Type 0 where
+  pub obeyed : IsOk (keepable command before)
+  pub spelled : command_in (command_text command) ≡ Ok command
+  pub up : after.up ≡ before.up
+  pub row : IsFailed (command_text command) before.keeper after.keeper
+
+-- the command was refused so, and nothing changed
+pub record Refuses (command : Command) (before : KeptState) (refusal : KeepCommandRefusal) (after : KeptState) : Type 0 where
+  pub cause : keepable command before ≡ Err refusal
+  pub same : after ≡ before
+
+-- what keeping a command came to; want of memory changes nothing
+abbrev pub Keeps : Command → KeptState → Result ℕ KeepCommandRefusal → KeptState → Type 0
+Keeps command before (Ok number) after = Acknowledges command before number after
+Keeps command before (Err NoSuchEnvironment) after = Refuses command before NoSuchEnvironment after
+Keeps command before (Err NoSuchFeature) after = Refuses command before NoSuchFeature after
+Keeps command before (Err NoSuchSegment) after = Refuses command before NoSuchSegment after
+Keeps command before (Err (TooMany n)) after = Refuses command before (TooMany n) after
+Keeps command before (Err (KeeperFull count)) after = Refuses command before (KeeperFull count) after
+Keeps command before (Err KeeperFault) after = FailsToKeep command before after
+Keeps command before (Err Memory) after = after ≡ before
+
+-- ---- one after another
+
+-- a command that was to be kept, and what came of it
+pub record Tried : Type 0 where
+  pub command : Command
+  pub result : Result ℕ KeepCommandRefusal
+
+-- these were to be kept, one after another
+abbrev pub KeepsAll : List Tried → KeptState → KeptState → Type 0
+KeepsAll [] before after = after ≡ before
+KeepsAll (one ∷ others) before after =
+    (middle : KeptState) × Keeps one.command before one.result middle × KeepsAll others middle after
+
+-- the command before the others, where it was acknowledged
+abbrev pub if_kept : Command → Result ℕ KeepCommandRefusal → List Command → List Command
+if_kept command (Ok number) others = command ∷ others
+if_kept command (Err refusal) others = others
+
+-- those that were acknowledged
+abbrev pub acknowledged : List Tried → List Command
+acknowledged [] = []
+acknowledged (one ∷ others) = if_kept one.command one.result (acknowledged others)
+
+-- one at a fault of the keeper, and else none
+abbrev pub fault_of : Result ℕ KeepCommandRefusal → ℕ
+fault_of (Ok number) = 0
+fault_of (Err NoSuchEnvironment) = 0
+fault_of (Err NoSuchFeature) = 0
+fault_of (Err NoSuchSegment) = 0
+fault_of (Err (TooMany n)) = 0
+fault_of (Err (KeeperFull count)) = 0
+fault_of (Err KeeperFault) = 1
+fault_of (Err Memory) = 0
+
+-- at how many the keeper failed
+abbrev pub faults_among : List Tried → ℕ
+faults_among [] = 0
+faults_among (one ∷ others) = fault_of one.result + faults_among others
+
+-- the commands whose put failed since the last one that was written, once this one was to be kept
+abbrev pub failed_by : List Command → Command → Result ℕ KeepCommandRefusal → List Command
+failed_by failed command (Ok number) = []
+failed_by failed command (Err NoSuchEnvironment) = failed
+failed_by failed command (Err NoSuchFeature) = failed
+failed_by failed command (Err NoSuchSegment) = failed
+failed_by failed command (Err (TooMany n)) = failed
+failed_by failed command (Err (KeeperFull count)) = failed
+failed_by failed command (Err KeeperFault) = command ∷ failed
+failed_by failed command (Err Memory) = failed
+
+-- the same once these were, one after another
+abbrev pub failed_after : List Command → List Tried → List Command
+failed_after failed [] = failed
+failed_after failed (one ∷ others) = failed_after (failed_by failed one.command one.result) others
+
+-- ---- what stands past the kept rows
+
+-- the rows past those that a keeper keeps, where it tells them
+abbrev pub past_rows : KeeperState → Option (List (List ℕ))
+past_rows keeper = option_map (λ list. drop keeper.count list) keeper.rows
+
+-- the command is one of these
+abbrev pub IsOneOf : Command → List Command → Type 0
+IsOneOf command [] = ⊥
+IsOneOf command (other ∷ others) = (other ≡ command) ⊎ IsOneOf command others
+
+-- a text of a command that the upstream accepts, which is one of these
+pub record IsLeft (up : UpstreamState) (failed : List Command) (text : List ℕ) : Type 0 where
+  pub command : Command
+  pub spelled : command_in text ≡ Ok command
+  pub accepts : IsOk (commanded command up)
+  pub one : IsOneOf command failed
+
+-- none, or one text of a command that the upstream accepts, which is one of these
+abbrev pub AreLeft : UpstreamState → List Command → List (List ℕ) → Type 0
+AreLeft up failed [] = ⊤
+AreLeft up failed (text ∷ []) = IsLeft up failed text
+AreLeft up failed (text ∷ other ∷ texts) = ⊥
+
+-- past the kept rows stands at most one, of a command that the upstream accepts and whose put was one of these
+abbrev pub LeavesOne : KeptState → List Command → Type 0
+LeavesOne state failed = IfSome (past_rows state.keeper) (AreLeft state.up failed)
+
+-- ---- what each call carries
+
+-- a count of faults rose by so many at least, or stands at its end
+abbrev pub RoseBy : ℕ → ℕ → ℕ → Type 0
+RoseBy n before now = min (before + n) (2 ^ 64 - 1) ≤ now
+
+-- the acknowledged commands alone changed the upstream, and are counted
+pub record Moves (tried : List Tried) (before after : KeptState) : Type 0 where
+  pub leads : after.up ≡ after_commands (acknowledged tried) before.up
+  pub all_accepted : accepted (acknowledged tried) before.up ≡ acknowledged tried
+  pub counted : after.keeper.count ≡ before.keeper.count + length (acknowledged tried)
+
+-- What holds of an upstream and its keeper holds on, once these were to be kept.
+pub record Carries (tried : List Tried) (before after : KeptState) : Type 0 where
+  -- the upstream is still the opening one after the kept commands in order
+  pub stands : (opening : UpstreamState) → IsAfterKept opening before → IsAfterKept opening after
+  -- the acknowledged commands, and no others, changed it, and are kept behind those before
+  pub moves : Moves tried before after
+  pub appended : kept_commands after.keeper ≡ option_map (λ commands. commands ++ acknowledged tried) (kept_commands before.keeper)
+  -- past the kept rows stands none, or the text of one command that the upstream accepts; where it is another one than
+  -- before, it is of a command whose put failed and was followed by none that was written
+  pub left : (failed : List Command) → LeavesOne before failed → LeavesOne after (failed_after failed tried)
+  -- the keeper failed as often at least as commands weren't kept for its faults
+  pub faults : RoseBy (faults_among tried) before.keeper.faults after.keeper.faults
+
+-- a keeper has as many rows as it keeps
+abbrev pub HasKept : KeeperState → Type 0
+HasKept keeper = IfSome keeper.rows (λ list. keeper.count ≤ length list)
+
+-- what calls of an upstream and its keeper carry on, whatever calls and faults these are
+abbrev pub KeepingCarries : Type 0
+KeepingCarries =
+    (tried : List Tried) (before after : KeptState) → HasKept before.keeper → KeepsAll tried before after → Carries tried before after
+
+-- calls that follow one another are calls too
+abbrev pub KeepingGoesOn : Type 0
+KeepingGoesOn = (first second : List Tried) (before middle after : KeptState) → KeepsAll first before middle → KeepsAll second middle after
+    → KeepsAll (first ++ second) before after

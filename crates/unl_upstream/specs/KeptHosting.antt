@@ -1,0 +1,109 @@
+-- Links that a door hands out, served one after another by an upstream that keeps its commands. What is not told of a door,
+-- of its links or of draws is none.
+use Rattle.std.specs.Prelude.{◌≡◌, ℕ, ◌+◌, ◌⊎◌, List, [], ◌∷◌, ◌++◌, length, Option, Some, Result, Ok, Err}
+use Rattle.unl_base.specs.Faults.{Rose}
+use Rattle.unl_base.specs.declared.Failed.{Failed}
+use Rattle.unl_exchange.specs.Answering.{Coming}
+use Rattle.unl_exchange.specs.Conversation.{Answered, Concludes, GivesUp}
+use Rattle.unl_exchange.specs.Linked.{HandsBack, Linked as LinkedBy, Linking}
+use Rattle.unl_http_api.specs.declared.end.End.{End}
+use Rattle.unl_http_api.specs.declared.end.End.TheVariants.{ReadFault, WriteFault, Memory}
+use Rattle.unl_http_api.specs.declared.request.Request.{Request}
+use Rattle.unl_http_api.specs.Session.{Reads}
+use Rattle.unl_upstream.specs.declared.command.Command.{Command}
+use Rattle.unl_upstream.specs.History.{after_commands}
+use Rattle.unl_upstream.specs.Kept.{KeptState, acknowledged}
+use Rattle.unl_upstream.specs.KeptServing.{KeepsOn, KeptServing, Lacks, Step, serving, tried_in}
+use Rattle.unl_upstream.specs.Linked.{draws_after}
+use Rattle.unl_upstream.specs.Upstream.{UpstreamState}
+
+-- ---- one link
+
+-- A link that gave these bytes was served, and had then sent and failed as it did. So many of its requests were answered,
+-- each with the next draw, and what was to be kept of them is all that changed the upstream and its keeper.
+pub record LinkServed
+    (before : KeptState) (coming : Coming) (bytes : List ℕ) (back : List ℕ × ℕ) (after : KeptState)
+    (coming_after : Coming) : Type 0 where
+  pub count : ℕ
+  pub end : End
+  pub left_after : Option (List ℕ)
+  pub conversation : Concludes Step bytes (Some []) (serving before 0 coming) end (serving after count coming_after) left_after
+      (Some back.0)
+  pub memory : end ≡ Memory
+      → GivesUp Step Lacks bytes (Some []) 0 (serving before 0 coming) (serving after count coming_after) (Some back.0) back.1
+  pub keeps : KeepsOn (serving before 0 coming) end count (serving after count coming_after)
+  pub read_cause : end ≡ ReadFault → Rose 0 back.1
+  pub write_cause : end ≡ WriteFault → Rose 0 back.1
+
+-- ---- links one after another
+
+-- Links that gave these bytes were served one after another, and each had then sent and failed so often.
+abbrev pub Linked : KeptState → Coming → List (List ℕ) → List (List ℕ × ℕ) → KeptState → Coming → Type 0
+Linked = LinkedBy LinkServed
+
+-- what stands while links are served: the upstream and its keeper, the draws to come, and the door's links
+abbrev pub Hosting : Type 0
+Hosting = Linking KeptState
+
+-- So many links were handed out, and as many were handed back. Where a door tells its links, each was served.
+abbrev pub Hosts : Hosting → Hosting → ℕ → Type 0
+Hosts = HandsBack LinkServed
+
+-- as many links as are answered, or at a fault of the door some
+abbrev pub HostsAll : Result ℕ Failed → Hosting → Hosting → Type 0
+HostsAll (Ok served) before after = Hosts before after served
+HostsAll (Err failed) before after = (served : ℕ) × Hosts before after served
+
+-- ---- named by the commands that were kept, and by how many draws are gone
+
+-- The upstream is the opening one after these commands, and its keeper keeps as many more than when it was reopened.
+pub record IsNamed (start : UpstreamState) (reopened : ℕ) (commands : List Command) (state : KeptState) : Type 0 where
+  pub up : state.up ≡ after_commands commands start
+  pub count : state.keeper.count ≡ reopened + length commands
+
+-- A link was served. It asked these requests first, as many as were answered; the commands are those of theirs that were
+-- accepted and kept. As many draws were taken, and at want of memory perhaps one more.
+pub record LinkNames
+    (before : KeptState) (coming : Coming) (bytes : List ℕ) (back : List ℕ × ℕ) (commands : List Command) (taken : ℕ)
+    (after : KeptState) (coming_after : Coming) : Type 0 where
+  pub served : LinkServed before coming bytes back after coming_after
+  pub requests : List Request
+  pub rest : List ℕ
+  pub asked : Reads bytes requests rest
+  pub counted : length requests ≡ served.count
+  pub text : List ℕ
+  pub reached : KeptServing
+  pub answered : Answered Step 0 (serving before 0 coming) requests text reached
+  pub gives : commands ≡ acknowledged (tried_in 0 (serving before 0 coming) requests text reached answered)
+  pub takes : (taken ≡ served.count) ⊎ ((served.end ≡ Memory) × (taken ≡ served.count + 1))
+
+-- Links were served one after another, the first after these commands from an upstream on and with so many of its draws
+-- gone, and the last left those after them: each adds its commands to the commands, and its draws to the draws.
+abbrev pub LinkedByNames :
+    UpstreamState → ℕ → Coming → List Command → ℕ → KeptState → List (List ℕ) → List (List ℕ × ℕ) → List Command → ℕ → KeptState → Type 0
+LinkedByNames start reopened coming commands gone state [] [] commands_after gone_after after =
+    (commands_after ≡ commands) × (gone_after ≡ gone) × (after ≡ state)
+LinkedByNames start reopened coming commands gone state [] (back ∷ backs) commands_after gone_after after = ⊥
+LinkedByNames start reopened coming commands gone state (bytes ∷ links) [] commands_after gone_after after = ⊥
+LinkedByNames start reopened coming commands gone state (bytes ∷ links) (back ∷ backs) commands_after gone_after after =
+    (more : List Command) × (taken : ℕ) × (middle : KeptState)
+    × LinkNames state (draws_after gone coming) bytes back more taken middle (draws_after (gone + taken) coming)
+    × IsNamed start reopened (commands ++ more) middle
+    × LinkedByNames start reopened coming (commands ++ more) (gone + taken) middle links backs commands_after gone_after after
+
+-- links were served, and what then stands is named by commands and by draws from an upstream on
+pub record LinksName
+    (start : UpstreamState) (reopened : ℕ) (coming : Coming) (commands : List Command) (gone : ℕ) (state : KeptState)
+    (links : List (List ℕ)) (backs : List (List ℕ × ℕ)) (after : KeptState) (coming_after : Coming) : Type 0 where
+  pub commands_after : List Command
+  pub gone_after : ℕ
+  pub linked : LinkedByNames start reopened coming commands gone state links backs commands_after gone_after after
+  pub named : IsNamed start reopened commands_after after
+  pub draws : coming_after ≡ draws_after gone_after coming
+
+-- what links hand on has such names
+abbrev pub KeptLinksNameCommands : Type 0
+KeptLinksNameCommands = (start : UpstreamState) (reopened : ℕ) (coming : Coming) (commands : List Command) (gone : ℕ) (state : KeptState)
+    (links : List (List ℕ)) (backs : List (List ℕ × ℕ)) (after : KeptState) (coming_after : Coming)
+    → IsNamed start reopened commands state → Linked state (draws_after gone coming) links backs after coming_after
+    → LinksName start reopened coming commands gone state links backs after coming_after

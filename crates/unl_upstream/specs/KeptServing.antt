@@ -1,0 +1,96 @@
+-- What an upstream that keeps its commands does on a connection.
+use Rattle.std.specs.Prelude.{◌≡◌, ◌≢◌, ℕ, ◌+◌, List, [], ◌∷◌, ◌++◌, Option, Some, None, Result, Ok, Err}
+use Rattle.unl_base.specs.declared.draws.Draw.{Draw}
+use Rattle.unl_exchange.specs.Answering.{Answerer, Answers, Coming, LacksMemory, answerer}
+use Rattle.unl_exchange.specs.Conversation.{Answered, Converses, Reaches}
+use Rattle.unl_exchange.specs.Links.{LinkState}
+use Rattle.unl_http_api.specs.declared.end.End.{End}
+use Rattle.unl_http_api.specs.declared.reply.Reply.{Reply}
+use Rattle.unl_http_api.specs.declared.request.Request.{Request}
+use Rattle.unl_upstream.specs.declared.command.Command.{Command}
+use Rattle.unl_upstream.specs.declared.refusal.KeepCommandRefusal.{KeepCommandRefusal}
+use Rattle.unl_upstream.specs.declared.refusal.KeepCommandRefusal.TheVariants.{Memory}
+use Rattle.unl_upstream.specs.Answer.{numbered, refused, unchanged, upstream_answer}
+use Rattle.unl_upstream.specs.Kept.{Carries, Keeps, KeepsAll, KeptState, Tried}
+use Rattle.unl_upstream.specs.Requests.{command_given}
+
+-- ---- one request
+
+-- the reply to a command that was to be kept
+abbrev pub kept_reply : Result ℕ KeepCommandRefusal → Reply
+kept_reply (Ok number) = numbered number
+kept_reply (Err refusal) = refused refusal
+
+-- a command was to be kept, and its reply says what came of it
+pub record RepliesTo (command : Command) (before : KeptState) (reply : Reply) (after : KeptState) : Type 0 where
+  pub result : Result ℕ KeepCommandRefusal
+  pub keeps : Keeps command before result after
+  pub found : result ≢ Err Memory
+  pub is : reply ≡ kept_reply result
+
+-- a request that gives this command, or none, is replied to so
+abbrev pub Tells : Option Command → KeptState → Request → Draw → Reply → KeptState → Type 0
+Tells None before q draw reply after = (after ≡ before) × (upstream_answer before.up q draw ≡ unchanged before.up reply)
+Tells (Some command) before q draw reply after = RepliesTo command before reply after
+
+-- a request is answered: its command is kept, where it gives one, and else it is answered as without a keeper
+abbrev pub Gives : KeptState → Request → Draw → Reply → KeptState → Type 0
+Gives before q draw reply after = Tells (command_given before.up.secret q) before q draw reply after
+
+-- want of memory changes nothing
+abbrev pub GivesUp : KeptState → Request → Draw → KeptState → Type 0
+GivesUp before q draw after = after ≡ before
+
+-- what was to be kept of one request
+abbrev pub tried_of : (given : Option Command) (before : KeptState) (q : Request) (draw : Draw) (reply : Reply) (after : KeptState)
+    → Tells given before q draw reply after → List Tried
+tried_of None before q draw reply after tells = []
+tried_of (Some command) before q draw reply after tells = record { command = command; result = tells.result } ∷ []
+
+-- a request is answered, and what holds of the upstream and its keeper holds on
+pub record CarriesAnswer (before : KeptState) (q : Request) (draw : Draw) (reply : Reply) (after : KeptState) : Type 0 where
+  pub gives : Gives before q draw reply after
+  pub carries : Carries (tried_of (command_given before.up.secret q) before q draw reply after gives) before after
+
+-- ---- a connection
+
+-- an upstream with its keeper that has answered so many requests of a connection, and the draws to come
+abbrev pub KeptServing : Type 0
+KeptServing = Answerer KeptState
+
+-- these together
+abbrev pub serving : KeptState → ℕ → Coming → KeptServing
+serving state count coming = answerer state count coming
+
+-- one request is answered, with the next draw
+abbrev pub Step : KeptServing → Request → Reply → KeptServing → Type 0
+Step = Answers Gives
+
+-- a draw was taken, and then memory was wanting
+abbrev pub Lacks : KeptServing → Request → KeptServing → Type 0
+Lacks = LacksMemory GivesUp
+
+-- what was to be kept of requests that were answered, in order
+abbrev pub tried_in : (count : ℕ) (before : KeptServing) (qs : List Request) (text : List ℕ) (after : KeptServing)
+    → Answered Step count before qs text after → List Tried
+tried_in count before [] text after answered = []
+tried_in count before (q ∷ qs) text after (reply, middle, more, step, split, rest) =
+    tried_of (command_given before.state.up.secret q) before.state q step.draw reply middle.state step.given
+    ++ tried_in (count + 1) middle qs more after rest
+
+-- In every case so many requests were answered one after another, and what was to be kept of them alone changed the upstream
+-- and its keeper.
+pub record KeepsOn (before : KeptServing) (end : End) (count : ℕ) (after : KeptServing) : Type 0 where
+  pub reaches : Reaches Step Lacks before end after count
+  pub tried : List Tried
+  pub are : tried ≡ tried_in 0 before reaches.requests reaches.text reaches.reached reaches.answered
+  pub keeps : KeepsAll tried before.state after.state
+  pub carries : Carries tried before.state after.state
+
+-- a link was served
+pub record ServesLink
+    (before : KeptState) (coming : Coming) (link link_after : LinkState) (after : KeptState) (coming_after : Coming) : Type 0 where
+  pub count : ℕ
+  pub end : End
+  pub conversation : Converses Step Lacks link (serving before 0 coming) end (serving after count coming_after) count link_after
+  pub keeps : KeepsOn (serving before 0 coming) end count (serving after count coming_after)

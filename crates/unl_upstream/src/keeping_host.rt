@@ -1,0 +1,65 @@
+//! Links that a door hands out, served one after another by an upstream that keeps its commands.
+ghost use Rattle.std.specs.Prelude.{◌≡◌, true, OnOk};
+ghost use Rattle.unl_base.specs.Doors.{IsClosed};
+ghost use Rattle.unl_base.specs.Faults.{HasCause};
+ghost use Rattle.unl_exchange.specs.Linked.{linking};
+ghost use Rattle.unl_upstream.specs.Kept.{keeper_by, kept_state};
+ghost use Rattle.unl_upstream.specs.KeptHosting.{HostsAll};
+
+use crate::keeping_server::{KeptUpstream, serve_kept};
+use crate::upstream::Upstream;
+use std::alloc::Global;
+use std::sync::Wait;
+use unl_base::{Door, Draws, Failed, Link};
+use unl_exchange::{Server, host};
+use unl_keeper::Keeper;
+
+impl<'a, K: Keeper> Server for KeptUpstream<'a, K> {
+    ghost use Rattle.std.specs.Prelude.{◌≡◌, true};
+    ghost use Rattle.std.proofs.Common.{rules};
+    ghost use Rattle.unl_upstream.specs.Kept.{keeper_by, kept_state};
+    ghost use Rattle.unl_upstream.specs.KeptServing.{ServesLink};
+
+    ghost fits = { λ server. K.opened server.keeper.now ≡ true };
+
+    ghost keeps = { λ server after. (after.up.ghost_name ≡ server.up.ghost_name) × (after.keeper.ghost_name ≡ server.keeper.ghost_name) };
+
+    ghost serves = { λ server coming link link_after after coming_after. ServesLink
+        (kept_state server.up.now (keeper_by K.opened K.faults K.count K.rows server.keeper.now)) coming link link_after
+        (kept_state after.up.now (keeper_by K.opened K.faults K.count K.rows after.keeper.now)) coming_after };
+
+    fn serve_link<L: Link, R: Draws>(&mut self, alloc: Global, link: &mut L, draws: &mut R) {
+        serve_kept(alloc, self.up, self.keeper, link, draws);
+    }
+
+    ghost keeps_itself = { Prim.search rules };
+
+    ghost keeps_on = { Prim.search rules };
+}
+
+/// Serves one link after the other as [`Upstream::host`] does, but that commands are kept before they are answered.
+///
+/// # Errors
+/// `Failed`: the door could hand out no link, which it counted.
+pub fn host_kept<K: Keeper, D: Door, R: Draws, W: Wait>(
+    rt: &W,
+    alloc: Global,
+    up: &mut Upstream,
+    keeper: &mut K,
+    door: &mut D,
+    draws: &mut R,
+) -> Result<u64, Failed>
+    requires listening { (D.state door.old).listening ≡ true }
+    requires opened { K.opened keeper.old ≡ true }
+    ensures stays { K.opened keeper.new ≡ true }
+    ensures hosts { HostsAll result
+        (linking (kept_state up.old (keeper_by K.opened K.faults K.count K.rows keeper.old)) (R.coming draws.old) (D.state door.old))
+        (linking (kept_state up.new (keeper_by K.opened K.faults K.count K.rows keeper.new)) (R.coming draws.new) (D.state door.new)) }
+    ensures closed { OnOk result (IsClosed (D.state door.new)) }
+    ensures listens { (D.state door.new).listening ≡ true }
+    ensures cause { HasCause (D.faults door.old) (D.faults door.new) result }
+{
+    let mut kept = KeptUpstream { up, keeper };
+    let hosted = host(rt, alloc, &mut kept, door, draws);
+    hosted
+}

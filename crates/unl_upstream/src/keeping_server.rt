@@ -1,0 +1,171 @@
+//! An upstream and its keeper, as they answer and serve together.
+ghost use Rattle.unl_exchange.specs.Conversation.{Converses};
+ghost use Rattle.unl_exchange.specs.Links.{link_state};
+ghost use Rattle.std.specs.Prelude.{◌≡◌, true, IfOk, OnErr};
+ghost use Rattle.unl_upstream.specs.Command.{IsValidCommand};
+ghost use Rattle.unl_upstream.specs.Kept.{keeper_by, kept_state};
+ghost use Rattle.unl_upstream.specs.KeptServing.{CarriesAnswer, Gives, KeepsOn, Lacks, RepliesTo, Step, serving};
+
+use crate::answering::{numbered, refused};
+use crate::command::Command;
+use crate::keeping::{await_put, put};
+use crate::order::Order;
+use crate::refusal::KeepCommandRefusal;
+use crate::upstream::Upstream;
+use std::alloc::Global;
+use std::marker::PhantomData;
+use unl_base::{Draw, Draws, Link};
+use unl_documents::Memory;
+use unl_exchange::{Answering, Server, converse};
+use unl_http_api::{End, Reply, Request};
+use unl_keeper::{KeepRefusal, Keeper};
+
+/// Answers a request as [`Upstream::answer`] does, but that its command, if it gives one, is kept before it is answered.
+///
+/// # Errors
+/// Want of memory. The upstream and the keeper are then as before.
+pub fn answer_kept<K: Keeper>(
+    alloc: Global,
+    up: &mut Upstream,
+    keeper: &mut K,
+    request: &Request,
+    draw: &Draw,
+) -> Result<Reply, Memory>
+    requires { K.opened keeper.old ≡ true }
+    ensures stays { K.opened keeper.new ≡ true }
+    ensures answers { IfOk result (λ reply. CarriesAnswer (kept_state up.old (keeper_by K.opened K.faults K.count K.rows keeper.old))
+        request.now draw.entry.now reply (kept_state up.new (keeper_by K.opened K.faults K.count K.rows keeper.new))) }
+    ensures same { OnErr result (kept_state up.new (keeper_by K.opened K.faults K.count K.rows keeper.new)
+        ≡ kept_state up.old (keeper_by K.opened K.faults K.count K.rows keeper.old)) }
+{
+    answer_one(alloc, up, keeper, request, draw)
+}
+
+/// Answers a request.
+fn answer_one<K: Keeper>(
+    alloc: Global,
+    up: &mut Upstream,
+    keeper: &mut K,
+    request: &Request,
+    draw: &Draw,
+) -> Result<Reply, Memory>
+    requires { K.opened keeper.old ≡ true }
+    ensures stays { K.opened keeper.new ≡ true }
+    ensures gives { IfOk result (λ reply. Gives (kept_state up.old (keeper_by K.opened K.faults K.count K.rows keeper.old))
+        request.now draw.entry.now reply (kept_state up.new (keeper_by K.opened K.faults K.count K.rows keeper.new))) }
+    ensures same { OnErr result (kept_state up.new (keeper_by K.opened K.faults K.count K.rows keeper.new)
+        ≡ kept_state up.old (keeper_by K.opened K.faults K.count K.rows keeper.old)) }
+{
+    match up.order_of(alloc, request, draw)? {
+        Order::Obey(command) => obey_kept(alloc, up, keeper, &command),
+        Order::Reply(reply) => Ok(reply),
+    }
+}
+
+/// Keeps a command once its reply is made, and the one that is given where the keeper fails.
+fn obey_kept<K: Keeper>(
+    alloc: Global,
+    up: &mut Upstream,
+    keeper: &mut K,
+    command: &Command,
+) -> Result<Reply, Memory>
+    requires valid { IsValidCommand command.now }
+    requires opened { K.opened keeper.old ≡ true }
+    ensures stays { K.opened keeper.new ≡ true }
+    ensures replies { IfOk result (λ reply. RepliesTo command.now
+        (kept_state up.old (keeper_by K.opened K.faults K.count K.rows keeper.old)) reply
+        (kept_state up.new (keeper_by K.opened K.faults K.count K.rows keeper.new))) }
+    ensures same { OnErr result (kept_state up.new (keeper_by K.opened K.faults K.count K.rows keeper.new)
+        ≡ kept_state up.old (keeper_by K.opened K.faults K.count K.rows keeper.old)) }
+{
+    match await_put(alloc, up, keeper, command) {
+        Ok(awaiting) => {
+            let told = numbered(alloc, awaiting.ready.number())?;
+            let failed = refused(alloc, KeepCommandRefusal::KeeperFault)?;
+            match put(alloc, up, keeper, awaiting) {
+                Ok(_) => Ok(told),
+                Err(KeepRefusal::Fault) => Ok(failed),
+                Err(KeepRefusal::Memory) => Err(Memory),
+            }
+        }
+        Err(refusal) => match refusal {
+            KeepCommandRefusal::Memory => Err(Memory),
+            _ => refused(alloc, refusal),
+        },
+    }
+}
+
+/// An upstream, and the keeper of its commands.
+#[derive(Drop)]
+pub(crate) struct KeptUpstream<'a, K> {
+    pub up: &'a mut Upstream,
+    pub keeper: &'a mut K,
+}
+
+/// Answers requests by an upstream that keeps its commands.
+pub(crate) struct ByKept<'a, K>(PhantomData<&'a K>);
+
+impl<'a, K: Keeper> Answering for ByKept<'a, K> {
+    ghost use Rattle.std.specs.Prelude.{◌≡◌, true};
+    ghost use Rattle.std.proofs.Common.{rules};
+    ghost use Rattle.unl_upstream.specs.Kept.{keeper_by, kept_state};
+    ghost use Rattle.unl_upstream.specs.KeptServing.{Gives, GivesUp};
+
+    type State = KeptUpstream<'a, K>;
+
+    ghost fits = { λ count state. K.opened state.keeper.now ≡ true };
+
+    ghost keeps = { λ state after. (after.up.ghost_name ≡ state.up.ghost_name) × (after.keeper.ghost_name ≡ state.keeper.ghost_name) };
+
+    ghost gives = { λ state request draw reply after. Gives
+        (kept_state state.up.now (keeper_by K.opened K.faults K.count K.rows state.keeper.now)) request draw reply
+        (kept_state after.up.now (keeper_by K.opened K.faults K.count K.rows after.keeper.now)) };
+
+    ghost gives_up = { λ state request draw after. GivesUp
+        (kept_state state.up.now (keeper_by K.opened K.faults K.count K.rows state.keeper.now)) request draw
+        (kept_state after.up.now (keeper_by K.opened K.faults K.count K.rows after.keeper.now)) };
+
+    fn answer(
+        alloc: Global,
+        state: &mut KeptUpstream<'a, K>,
+        _count: usize,
+        request: &Request,
+        draw: &Draw,
+    ) -> Result<Reply, Memory> {
+        let reply = answer_one(alloc, state.up, state.keeper, request, draw)?;
+        Ok(reply)
+    }
+
+    ghost keeps_itself = { Prim.search rules };
+
+    ghost keeps_on = { Prim.search rules };
+}
+
+/// Serves a connection as [`Upstream::serve`] does, but that commands are kept before they are answered.
+pub fn serve_kept<K: Keeper, L: Link, R: Draws>(
+    alloc: Global,
+    up: &mut Upstream,
+    keeper: &mut K,
+    link: &mut L,
+    draws: &mut R,
+) -> (usize, End)
+    requires { K.opened keeper.old ≡ true }
+    ensures stays { K.opened keeper.new ≡ true }
+
+    // The conversation of an upstream that keeps its commands: its session, its replies, its end, how many requests were
+    // answered, each with the next draw, and each cause.
+    ensures converses { Converses Step Lacks
+        (link_state (L.left link.old) (L.sent link.old) (L.Source.faults link.old))
+        (serving (kept_state up.old (keeper_by K.opened K.faults K.count K.rows keeper.old)) 0 (R.coming draws.old)) result.1
+        (serving (kept_state up.new (keeper_by K.opened K.faults K.count K.rows keeper.new)) result.0 (R.coming draws.new)) result.0
+        (link_state (L.left link.new) (L.sent link.new) (L.Source.faults link.new)) }
+
+    // In every case what was to be kept of the answered requests is all that changed the upstream and its keeper.
+    ensures keeps { KeepsOn
+        (serving (kept_state up.old (keeper_by K.opened K.faults K.count K.rows keeper.old)) 0 (R.coming draws.old)) result.1 result.0
+        (serving (kept_state up.new (keeper_by K.opened K.faults K.count K.rows keeper.new)) result.0 (R.coming draws.new)) }
+{
+    let mut kept = KeptUpstream { up, keeper };
+    let conversed = converse::<ByKept<K>, L, R>(alloc, &mut kept, link, draws);
+    conversed
+}

@@ -1,0 +1,226 @@
+//! Commands that a keeper keeps, and upstreams that are reopened from it.
+ghost use Rattle.std.specs.Prelude.{◌≡◌, true, IfOk};
+ghost use Rattle.unl_upstream.specs.Reopening.{IsOpening};
+
+use crate::reading::read_command_bytes;
+use crate::tests::upstream_of_dev;
+use crate::{KeepCommandRefusal, ReopenFault, Upstream, keep, reopen, serve_kept};
+use std::alloc::Global;
+use std::test::Fail;
+use unl_base::{ListDraws, MemoryLink};
+use unl_documents::{List, Memory, Text};
+use unl_http_api::End;
+use unl_keeper::{KeepFail, KeepRefusal, Keeper, MemoryKeeper};
+use unl_tokens::Book;
+
+const PUT_A: &str =
+    r#"{"command":"put-feature","environment":"dev","feature":{"name":"a","enabled":true}}"#;
+
+const PUT_B: &str =
+    r#"{"command":"put-feature","environment":"dev","feature":{"name":"b","enabled":true}}"#;
+
+const PUT_C: &str =
+    r#"{"command":"put-feature","environment":"dev","feature":{"name":"c","enabled":true}}"#;
+
+const REMOVE_Z: &str = r#"{"command":"remove-feature","environment":"dev","name":"z"}"#;
+
+/// A command, and what keeping it comes to.
+type Given = (&'static str, Result<u64, KeepCommandRefusal>);
+
+/// Calls that fail, counted from the opening on, commands, the number after them, and then the rows, the features and the
+/// number of an upstream that is reopened from the keeper.
+struct Case {
+    failing: &'static [KeepFail],
+    given: &'static [Given],
+    number: u64,
+    rows: u64,
+    features: &'static str,
+}
+
+const FAULT: Result<u64, KeepCommandRefusal> = Err(KeepCommandRefusal::KeeperFault);
+
+const LEFT: KeepFail = KeepFail {
+    call: 2,
+    leaves: true,
+};
+
+const NOT_LEFT: KeepFail = KeepFail {
+    call: 3,
+    leaves: false,
+};
+
+const CASES: [Case; 5] = [
+    Case {
+        failing: &[],
+        given: &[(PUT_A, Ok(1)), (PUT_B, Ok(2))],
+        number: 2,
+        rows: 2,
+        features: "ab",
+    },
+    Case {
+        failing: &[LEFT],
+        given: &[(PUT_A, Ok(1)), (PUT_B, FAULT)],
+        number: 1,
+        rows: 2,
+        features: "ab",
+    },
+    Case {
+        failing: &[LEFT],
+        given: &[(PUT_A, Ok(1)), (PUT_B, FAULT), (PUT_C, Ok(2))],
+        number: 2,
+        rows: 2,
+        features: "ac",
+    },
+    Case {
+        failing: &[],
+        given: &[(REMOVE_Z, Err(KeepCommandRefusal::NoSuchFeature))],
+        number: 0,
+        rows: 0,
+        features: "",
+    },
+    Case {
+        failing: &[LEFT, NOT_LEFT],
+        given: &[(PUT_A, Ok(1)), (PUT_B, FAULT), (PUT_C, FAULT)],
+        number: 1,
+        rows: 2,
+        features: "ab",
+    },
+];
+
+/// An upstream that is opened from a keeper.
+fn opened<K: Keeper>(alloc: Global, keeper: &mut K) -> Result<Upstream, ReopenFault>
+    ensures { IfOk result (λ _. K.opened keeper.new ≡ true) }
+{
+    let Ok(mut up) = upstream_of_dev(alloc, "s", Book::new(alloc)) else {
+        return Err(ReopenFault::Memory);
+    };
+    match reopen(alloc, &mut up, keeper) {
+        Ok(_) => Ok(up),
+        Err(fault) => Err(fault),
+    }
+}
+
+/// What keeping a command comes to.
+fn give<K: Keeper>(
+    alloc: Global,
+    up: &mut Upstream,
+    keeper: &mut K,
+    text: &str,
+) -> Option<Result<u64, KeepCommandRefusal>>
+    requires { K.opened keeper.old ≡ true }
+    ensures { K.opened keeper.new ≡ true }
+{
+    match read_command_bytes(alloc, text.as_bytes()) {
+        Ok(command) => Some(keep(alloc, up, keeper, &command)),
+        Err(_) => None,
+    }
+}
+
+/// Whether keeping each command comes to what is said.
+fn give_all<K: Keeper>(alloc: Global, up: &mut Upstream, keeper: &mut K, given: &[Given]) -> bool
+    requires { K.opened keeper.old ≡ true }
+    ensures { K.opened keeper.new ≡ true }
+{
+    'given: for (text, comes_to) in given {
+        if give(alloc, up, keeper, text) != Some(*comes_to) {
+            return false;
+        }
+    }
+    true
+}
+
+/// The number of the environment, and the names of its features one behind the other.
+fn stands(alloc: Global, up: &Upstream) -> Option<(u64, String)> {
+    let version = up.board().snapshot("dev")?.version();
+    let mut names = String::new(alloc);
+    for feature in version.state.features.as_slice() {
+        names.push_str(feature.get().name.as_str()).ok()?;
+    }
+    Some((version.number, names))
+}
+
+/// Whether an upstream that is reopened has these rows and features.
+fn reopens<K: Keeper>(alloc: Global, keeper: &mut K, case: &Case) -> Option<bool> {
+    let up = opened(alloc, keeper).ok()?;
+    let (number, features) = stands(alloc, &up)?;
+    Some(number == case.rows && keeper.count() == case.rows && features.as_str() == case.features)
+}
+
+/// Whether a case goes as is said.
+fn goes_so(alloc: Global, case: &Case) -> Option<bool> {
+    let mut keeper = MemoryKeeper::new(alloc, List::from_slice(alloc, case.failing).ok()?);
+    match opened(alloc, &mut keeper) {
+        Ok(mut up) => {
+            let given = give_all(alloc, &mut up, &mut keeper, case.given);
+            let (number, _) = stands(alloc, &up)?;
+            Some(given && number == case.number && reopens(alloc, &mut keeper, case)?)
+        }
+        Err(_) => None,
+    }
+}
+
+/// Puts a text into a new keeper.
+fn keeper_with(alloc: Global, text: &str) -> Result<MemoryKeeper, KeepRefusal> {
+    let mut keeper = MemoryKeeper::new(alloc, List::new(alloc));
+    match keeper.open(alloc) {
+        Ok(_) => {
+            if keeper.count() < 1 {
+                keeper.put(alloc, &Text::new(alloc, text)?)?;
+            }
+            Ok(keeper)
+        }
+        Err(refusal) => Err(refusal),
+    }
+}
+
+/// Whether the first row is refused, which is this text.
+fn is_bad(alloc: Global, text: &str) -> Option<bool> {
+    let mut keeper = keeper_with(alloc, text).ok()?;
+    match opened(alloc, &mut keeper) {
+        Err(ReopenFault::BadRow(1, row)) => Some(row.as_str() == text),
+        _ => Some(false),
+    }
+}
+
+#[test]
+fn what_is_kept_comes_back(rt: HostRuntime) -> Result<(), Fail> {
+    let alloc = rt.alloc();
+    for case in &CASES {
+        assert_eq!(rt; goes_so(alloc, case), Some(true));
+    }
+    assert_eq!(rt; is_bad(alloc, "{}"), Some(true));
+    assert_eq!(rt; is_bad(alloc, REMOVE_Z), Some(true));
+    Ok(())
+}
+
+/// A command whose put fails, the same again, and a request.
+const ASKED: &[u8] =
+    b"POST /commands HTTP/1.1\r\nHost: x\r\nAuthorization: s\r\nContent-Length: 64\r\n\r\n{\"command\":\"put-segment\",\"environment\":\"dev\",\"segment\":{\"id\":4}}POST /commands HTTP/1.1\r\nHost: x\r\nAuthorization: s\r\nContent-Length: 64\r\n\r\n{\"command\":\"put-segment\",\"environment\":\"dev\",\"segment\":{\"id\":4}}GET /internal-backstage/health HTTP/1.1\r\nHost: x\r\n\r\n";
+
+const TOLD: &[u8] =
+    b"HTTP/1.1 503 Service Unavailable\r\nContent-Type: application/json\r\nContent-Length: 23\r\n\r\n{\"error\":\"KeeperFault\"}HTTP/1.1 200 OK\r\nContent-Type: application/json\r\nContent-Length: 12\r\n\r\n{\"number\":1}HTTP/1.1 200 OK\r\nContent-Type: application/json\r\nContent-Length: 15\r\n\r\n{\"status\":\"OK\"}";
+
+/// What is sent on a connection, how many requests were answered, its end, and how many rows are kept then.
+fn served(alloc: Global) -> Option<(bool, usize, End, u64)> {
+    let failing = [KeepFail {
+        call: 1,
+        leaves: true,
+    }];
+    let mut keeper = MemoryKeeper::new(alloc, List::from_slice(alloc, &failing).ok()?);
+    match opened(alloc, &mut keeper) {
+        Ok(mut up) => {
+            let bytes = ASKED.to_vec(alloc).ok()?;
+            let mut link = MemoryLink::new(alloc, bytes, 100, 1_000, Vec::new(alloc)).ok()?;
+            let mut draws = ListDraws::new(Vec::new(alloc));
+            let (count, end) = serve_kept(alloc, &mut up, &mut keeper, &mut link, &mut draws);
+            Some((link.sent() == TOLD, count, end, keeper.count()))
+        }
+        Err(_) => None,
+    }
+}
+
+#[test]
+fn kept_commands_on_a_connection(rt: HostRuntime) -> Result<(), Fail> {
+    assert!(rt; served(rt.alloc()) == Some((true, 3, End::Closed, 1)));
+    Ok(())
+}

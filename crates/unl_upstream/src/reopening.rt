@@ -1,0 +1,126 @@
+//! A keeper's rows are applied again, in order.
+ghost use Rattle.std.specs.Prelude.{◌≡◌, ◌≤◌, ◌<◌, ◌+◌, ◌^◌, true, false, Some, None, IfOk, IfErr, OnOk, OnErr};
+ghost use Rattle.unl_upstream.specs.Kept.{keeper_by, kept_state};
+ghost use Rattle.unl_upstream.specs.Reopening.{Bars, IsOpening, IsSameKeeper, Reopens, TakesRow, row_after};
+
+use crate::reading::read_command_bytes;
+use crate::refusal::CommandRefusal;
+use crate::upstream::Upstream;
+use std::alloc::Global;
+use thiserror::Error;
+use unl_documents::{BadDocument, Memory, Text};
+use unl_keeper::{KeepRefusal, Keeper};
+
+/// Why an upstream was not reopened.
+#[derive(Debug, Drop, Error)]
+pub enum ReopenFault {
+    /// The text that the keeper gave at this place, from 1, is no command, or its command is refused.
+    #[error("row {0} is no command that is accepted")]
+    BadRow(u64, Text),
+    /// The keeper gave no text at this place, from 1.
+    #[error("row {0} is not there")]
+    NoRow(u64),
+    /// The keeper failed, which has counted it.
+    #[error("the keeper failed")]
+    Fault,
+    /// Memory ran out.
+    #[error("out of memory")]
+    Memory,
+}
+
+impl From<KeepRefusal> for ReopenFault {
+    ghost use Rattle.unl_upstream.specs.Reopening.{fault_of};
+
+    ghost from_gives = { λ refusal e. e ≡ fault_of refusal };
+
+    fn from(refusal: KeepRefusal) -> ReopenFault {
+        match refusal {
+            KeepRefusal::Fault => ReopenFault::Fault,
+            KeepRefusal::Memory => ReopenFault::Memory,
+        }
+    }
+}
+
+/// Opens a keeper, and applies the commands of its rows in order to an upstream that has accepted nothing. It answers how
+/// many these were.
+///
+/// # Errors
+/// `BadRow` where the text of a row is no command, or its command is refused; `NoRow` where the keeper has no row in a
+/// place; `Fault` where the keeper failed and has counted it; or want of memory. The upstream then has the commands before
+/// that place.
+pub fn reopen<K: Keeper>(
+    alloc: Global,
+    up: &mut Upstream,
+    keeper: &mut K,
+) -> Result<u64, ReopenFault>
+    requires { IsOpening up.old }
+    ensures opened { OnOk result (K.opened keeper.new ≡ true) }
+    ensures keeper { IsSameKeeper (keeper_by K.opened K.faults K.count K.rows keeper.old)
+        (keeper_by K.opened K.faults K.count K.rows keeper.new) }
+    ensures reopens { Reopens (kept_state up.old (keeper_by K.opened K.faults K.count K.rows keeper.old)) result
+        (kept_state up.new (keeper_by K.opened K.faults K.count K.rows keeper.new)) }
+{
+    let count = match keeper.open(alloc) {
+        Ok(count) => count,
+        Err(refusal) => return Err(ReopenFault::from(refusal)),
+    };
+    'rows: for place in 0..count {
+        match take_row(alloc, up, keeper, place) {
+            Ok(()) => {}
+            Err(fault) => return Err(fault),
+        }
+    }
+    Ok(count)
+}
+
+/// Applies the row behind so many others.
+///
+/// # Errors
+/// As [`reopen`] says. The upstream is then as before.
+fn take_row<K: Keeper>(
+    alloc: Global,
+    up: &mut Upstream,
+    keeper: &mut K,
+    before: u64,
+) -> Result<(), ReopenFault>
+    requires opened { K.opened keeper.old ≡ true }
+    requires there { before < K.count keeper.old }
+    requires fits { before + 1 < 2 ^ 64 }
+    ensures stays { K.opened keeper.new ≡ true }
+    ensures same { (K.count keeper.new ≡ K.count keeper.old) × (K.rows keeper.new ≡ K.rows keeper.old) }
+    ensures later { K.faults keeper.old ≤ K.faults keeper.new }
+    ensures taken { OnOk result (TakesRow before (K.rows keeper.old) up.old up.new) }
+    ensures barred { IfErr result (λ e. (up.new ≡ up.old)
+        × Bars before (K.rows keeper.old) (K.faults keeper.old) (K.faults keeper.new) up.old e) }
+{
+    match keeper.read(alloc, before + 1)? {
+        None => Err(ReopenFault::NoRow(before + 1)),
+        Some(row) => match obey_row(alloc, up, &row) {
+            Ok(true) => Ok(()),
+            Ok(false) => Err(ReopenFault::BadRow(before + 1, row)),
+            Err(Memory) => Err(ReopenFault::Memory),
+        },
+    }
+}
+
+/// Applies the command of a row, and answers whether it is one and is accepted.
+#[tactic(auto, unfolding(crate::specs::Reopening::row_after))]
+fn obey_row(alloc: Global, up: &mut Upstream, row: &Text) -> Result<bool, Memory>
+    ensures obeyed { IfOk result (λ is. is ≡ true → row_after row.now up.old ≡ Some up.new) }
+    ensures refused { IfOk result (λ is. is ≡ false → (row_after row.now up.old ≡ None) × (up.new ≡ up.old)) }
+    ensures same { OnErr result (up.new ≡ up.old) }
+{
+    match read_command_bytes(alloc, row.as_str().as_bytes()) {
+        Ok(command) => match up.apply(alloc, &command) {
+            Ok(_) => Ok(true),
+            Err(refusal) => match refusal {
+                CommandRefusal::Memory => Err(Memory),
+                _ => Ok(false),
+            },
+        },
+        Err(fault) => match fault {
+            BadDocument::Memory => Err(Memory),
+            _ => Ok(false),
+        },
+    }
+}
