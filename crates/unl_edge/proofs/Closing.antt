@@ -1,16 +1,45 @@
 -- How an edge ends that has taken its first draw.
-use Rattle.std.proofs.Common.{◌≡◌, ◌+◌, ℕ, List, Option, Result, Ok, Err, refl, sym, subst}
+use Rattle.std.proofs.Common.{◌≡◌, ◌+◌, ◌∙◌, ℕ, suc, List, Option, Result, Ok, Err, ap, arith, refl, sym, subst}
 use Rattle.std.specs.Prelude.{OnOk, IsErrOf}
-use Rattle.unl_base.specs.Doors.{IsClosed}
+use Rattle.unl_base.specs.declared.Failed.{Failed}
+use Rattle.unl_base.specs.Doors.{DoorState, IsClosed}
 use Rattle.unl_base.specs.Streams.{Sends, SendsFront}
 use Rattle.unl_base.specs.declared.draws.Draw.{Draw}
-use Rattle.unl_edge.specs.Edges.{AsksPeer, EdgeEnds, HandsBack}
+use Rattle.unl_edge.specs.Edges.{AsksPeer, Counts, CountsAll, EdgeEnds, HandsBack}
 use Rattle.unl_edge.specs.Scene.{Scene}
 use Rattle.unl_edge.specs.Upstreams.{connections_line, line_end}
 use Rattle.unl_edge.specs.declared.ends.ServingEnd.{ServingEnd}
 use Rattle.unl_edge.specs.declared.ends.ServingEnd.TheVariants.{Closed, WriteFault, DoorFault, OutOfMemory}
+use Rattle.unl_exchange.specs.Answering.{Coming}
+use Rattle.unl_exchange.specs.Hosting.{Hosting, Hosts, HostsAll, HostsLink}
+use Rattle.unl_exchange.specs.Links.{LinkState}
+use Rattle.unl_exchange.proofs.HostingLemmas.{hosts_all}
 use Rattle.unl_input.specs.declared.refusal.SayFault.{SayFault}
 use Rattle.unl_input.specs.declared.refusal.SayFault.TheVariants as say
+
+-- ---- the links
+
+-- links that were served were handed out and handed back
+hosts_count : {S : Type 0} (Serves : S → Coming → LinkState → LinkState → S → Coming → Type 0) (n : ℕ) (before after : Hosting S)
+    → Hosts Serves n before after → Counts n before.door after.door
+hosts_count {S} Serves n before after hosts = hosts_all Serves (λ m now. Counts m before.door now.door) before none more n after hosts
+  where
+    none : Counts 0 before.door before.door
+    none = record { given = omega arith; back = omega arith }
+
+    more : (m : ℕ) (middle next : Hosting S) → Counts m before.door middle.door → HostsLink Serves middle next → Counts (suc m) before.door next.door
+    more m middle next counts one = record {
+      given = ap (λ (d : DoorState). d.given) one.door ∙ ap (λ k. k + 1) counts.given ∙ omega arith;
+      back = ap (λ (d : DoorState). d.back) one.door ∙ ap (λ k. k + 1) counts.back ∙ omega arith;
+    }
+
+-- all of them, or some
+pub all_count : {S : Type 0} (Serves : S → Coming → LinkState → LinkState → S → Coming → Type 0) (result : Result ℕ Failed) (before after : Hosting S)
+    → HostsAll Serves result before after → CountsAll result before.door after.door
+all_count Serves (Ok served) before after hosts = hosts_count Serves served before after hosts
+all_count Serves (Err failed) before after hosts = (hosts.0, hosts_count Serves hosts.0 before after hosts.1)
+
+-- ---- the draw before
 
 -- a draw changes nothing of how an edge ends
 drawn_ends : (slots : ℕ) (end : ServingEnd) (before after : Scene) (draws : Option (List Draw × Draw))

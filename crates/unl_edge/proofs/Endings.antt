@@ -9,7 +9,7 @@ use Rattle.unl_edge.specs.Edges.{EdgeEnds}
 use Rattle.unl_edge.specs.Ends.{CheckEnds, Ended, Ends, IsDecided, SaysOfInput, explained_status, outcome_end, refused_end, report_end}
 use Rattle.unl_edge.specs.OwnBook.{own_book}
 use Rattle.unl_edge.specs.Scene.{Scene}
-use Rattle.unl_edge.specs.Status.{Caused, check_status, code_of, ending_status, explain_status, lines_status, serving_status, upstream_status, words_status}
+use Rattle.unl_edge.specs.Status.{Caused, check_status, code_of, ending_status, explain_status, follow_status, lines_status, load_status, serving_status, upstream_status, words_status}
 use Rattle.unl_edge.proofs.Commands.{refusing_decides, upstream_decided}
 use Rattle.unl_edge.specs.declared.ends.CheckEnd.{CheckEnd}
 use Rattle.unl_edge.specs.declared.ends.CheckEnd.TheVariants as check
@@ -23,6 +23,8 @@ use Rattle.unl_edge.specs.declared.status.Status.TheVariants.{Done, TestFailed, 
 use Rattle.unl_explain.specs.Running.{Explains, SaysOfInput as SaysExplained, explained}
 use Rattle.unl_explain.specs.declared.running.ExplainFault.{ExplainFault}
 use Rattle.unl_explain.specs.declared.running.ExplainFault.TheVariants as explain
+use Rattle.unl_follow.specs.declared.fault.FollowFault.{FollowFault}
+use Rattle.unl_follow.specs.declared.fault.FollowFault.TheVariants as follow
 use Rattle.unl_input.proofs.Outcomes.{decides, refusal_broken, refusal_said}
 use Rattle.unl_input.specs.Answer.{ComesTo, IsRefused, Outcome, Says, outcome_of}
 use Rattle.unl_input.specs.Refusal.{refusal_line}
@@ -32,13 +34,15 @@ use Rattle.unl_input.specs.declared.refusal.SayFault.TheVariants as say
 use Rattle.unl_lines.specs.Whole.{TakesLines}
 use Rattle.unl_lines.specs.declared.taking.LinesFault.{LinesFault}
 use Rattle.unl_lines.specs.declared.taking.LinesFault.TheVariants as lines
+use Rattle.unl_load.specs.declared.fault.LoadFault.{LoadFault}
+use Rattle.unl_load.specs.declared.fault.LoadFault.TheVariants as load
 use Rattle.unl_replay.specs.Replay.{line_answer, opening, replay_of}
 use Rattle.unl_spec_runner.specs.Check.{ReportsAll, accepted, report_of, text_of}
 use Rattle.unl_spec_runner.specs.Report.{Report}
 use Rattle.unl_spec_runner.specs.declared.fault.Summary.{Summary}
 use Rattle.unl_words.specs.Words.{WordsReading}
 use Rattle.unl_words.specs.declared.refusal.WordsRefusal.TheVariants.{Bad, Memory}
-use Rattle.unl_words.specs.declared.words.Words.TheVariants.{Replay, Check, Edge, Explain, Follow, Upstream}
+use Rattle.unl_words.specs.declared.words.Words.TheVariants.{Replay, Check, Edge, Explain, Follow, Load, Upstream}
 
 -- ---- words
 
@@ -52,7 +56,8 @@ at_memory (Ok (Edge port upstream upstream_tokens tokens host workers interval c
 at_memory (Ok (Upstream port secret environments client_tokens frontend_tokens connections epoch)) before after =
     record { end = upstream.OutOfMemory; is = refl; ends = tt }
 at_memory (Ok (Follow address token feature context delta turns interval)) before after =
-    record { end = words.OutOfMemory; is = refl; ends = tt }
+    record { end = Err follow.Memory; is = refl; ends = tt }
+at_memory (Ok (Load seed count)) before after = record { end = Err load.Memory; is = refl; ends = tt }
 at_memory (Err Bad) before after = record { end = words.OutOfMemory; is = refl; ends = tt }
 at_memory (Err Memory) before after = refl
 
@@ -181,6 +186,20 @@ edge_decided Read Write Door serving.WriteFault caused write door memory = absur
 edge_decided Read Write Door serving.DoorFault caused write door memory = absurd (door caused)
 edge_decided Read Write Door serving.OutOfMemory caused write door memory = absurd (memory refl)
 
+-- turns end by themselves
+follow_decided : (Read Write Door : Type 0) (end : Result Unit FollowFault) → Caused (follow_status end) Read Write Door → ¬ Write
+    → code_of (follow_status end) ≢ 6 → code_of (follow_status end) ≡ 0
+follow_decided Read Write Door (Ok u) caused write memory = refl
+follow_decided Read Write Door (Err follow.WriteFault) caused write memory = absurd (write caused)
+follow_decided Read Write Door (Err follow.Memory) caused write memory = absurd (memory refl)
+
+-- a load ends by itself
+load_decided : (Read Write Door : Type 0) (end : Result Unit LoadFault) → Caused (load_status end) Read Write Door → ¬ Write
+    → code_of (load_status end) ≢ 6 → code_of (load_status end) ≡ 0
+load_decided Read Write Door (Ok u) caused write memory = refl
+load_decided Read Write Door (Err load.WriteFault) caused write memory = absurd (write caused)
+load_decided Read Write Door (Err load.Memory) caused write memory = absurd (memory refl)
+
 -- what stands of the status of a command's end stands of it
 of_end : {E : Type 0} {status_of : E → Status} {EndsSo : E → Type 0} (status : Status) (Read Write Door : Type 0) (P : ℕ → Type 0)
     (ended : Ended status_of EndsSo status) → Caused status Read Write Door → code_of status ≢ 6
@@ -217,7 +236,10 @@ by_words {Read} {Write} {Door} (Ok (Upstream port secret environments client_tok
     ended.ends cause read write door some)
 by_words {Read} {Write} {Door} (Ok (Follow address token feature context delta turns interval)) status before after ended caused read write door memory =
     of_end status Read Write Door (λ code. IsDecided (Ok (Follow address token feature context delta turns interval)) code before) ended caused memory
-    (λ cause some. bad_decided Read Write Door ended.end cause write some)
+    (λ cause some. follow_decided Read Write Door ended.end cause write some)
+by_words {Read} {Write} {Door} (Ok (Load seed count)) status before after ended caused read write door memory =
+    of_end status Read Write Door (λ code. IsDecided (Ok (Load seed count)) code before) ended caused memory
+    (λ cause some. load_decided Read Write Door ended.end cause write some)
 by_words {Read} {Write} {Door} (Err Bad) status before after ended caused read write door memory =
     of_end status Read Write Door (λ code. IsDecided (Err Bad) code before) ended caused memory
     (λ cause some. bad_decided Read Write Door ended.end cause write some)

@@ -126,8 +126,8 @@ differ [] are = tt
 differ (text ∷ texts) are = let parts = others_differ text texts are in (parts.0, differ texts parts.1)
 
 -- their environments differ
-pub environments_differ : (tokens : List (List ℕ)) → are_upstream_tokens tokens ≡ true → AreDifferent (map environment_of tokens)
-environments_differ tokens are =
+pub names_differ : (tokens : List (List ℕ)) → are_upstream_tokens tokens ≡ true → AreDifferent (map environment_of tokens)
+names_differ tokens are =
     let parts = both (has_count 1 8 tokens) (list_all (is_token true) tokens && are_different (map environment_of tokens)) are in
     differ (map environment_of tokens) (both (list_all (is_token true) tokens) (are_different (map environment_of tokens)) parts.1).1
 

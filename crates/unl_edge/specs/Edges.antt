@@ -1,12 +1,11 @@
 -- How an edge ends: it asks its upstream, and serves the links of its door.
-use Rattle.std.specs.Prelude.{◌≡◌, ⊤, ℕ, ◌+◌, ◌≤◌, List, Option, option_map, drop}
-use Rattle.unl_base.specs.Doors.{IsClosed}
+use Rattle.std.specs.Prelude.{◌≡◌, ⊤, ℕ, ◌+◌, ◌≤◌, List, Option, option_map, drop, Result, Ok, Err}
+use Rattle.unl_base.specs.declared.Failed.{Failed}
+use Rattle.unl_base.specs.Doors.{DoorState, IsClosed}
 use Rattle.unl_base.specs.Faults.{Rose}
 use Rattle.unl_base.specs.Streams.{Sends, SendsFront}
 use Rattle.unl_edge.specs.Scene.{Scene}
 use Rattle.unl_edge.specs.Upstreams.{connections_line}
-use Rattle.unl_edge.specs.declared.edges.Next.{Next}
-use Rattle.unl_edge.specs.declared.edges.Next.TheVariants.{Served, Closed as NoMore}
 use Rattle.unl_edge.specs.declared.ends.ServingEnd.{ServingEnd}
 use Rattle.unl_edge.specs.declared.ends.ServingEnd.TheVariants.{Closed, WriteFault, DoorFault, OutOfMemory}
 
@@ -16,9 +15,25 @@ pub record Connects
   pub later : faults ≤ faults_after
   pub made : ¬ (Rose faults faults_after) → (count : ℕ) × (least ≤ count) × (replies_after ≡ option_map (λ list. drop count list) replies)
 
--- the same of what the program finds outside
+-- a peer that was connected to at least so often before it stood so was so too when it stands so
+abbrev pub GoesOn : (replies : Option (List (List ℕ))) (faults : ℕ) (replies_after : Option (List (List ℕ))) (faults_after : ℕ) → Type 0
+GoesOn replies faults replies_after faults_after =
+    (first : Option (List (List ℕ))) (faults_first : ℕ) → Connects 0 first faults_first replies faults
+    → Connects 0 first faults_first replies_after faults_after
+
+-- how often the peer was that the program finds outside
 abbrev pub AsksPeer : ℕ → Scene → Scene → Type 0
 AsksPeer least before after = Connects least before.peer.state.replies before.peer.faults after.peer.state.replies after.peer.faults
+
+-- so many links were handed out, and as many were handed back
+pub record Counts (served : ℕ) (before after : DoorState) : Type 0 where
+  pub given : after.given ≡ before.given + served
+  pub back : after.back ≡ before.back + served
+
+-- as many as are answered, or at a fault of the door some
+abbrev pub CountsAll : Result ℕ Failed → DoorState → DoorState → Type 0
+CountsAll (Ok served) before after = Counts served before after
+CountsAll (Err failed) before after = (served : ℕ) × Counts served before after
 
 -- so many links were handed out, each was handed back, and nothing was read
 pub record HandsBack (served : ℕ) (before after : Scene) : Type 0 where
@@ -38,8 +53,3 @@ EdgeEnds slots WriteFault before after =
 EdgeEnds slots DoorFault before after =
     (served : ℕ) × HandsBack served before after × (after.output.sent ≡ before.output.sent)
 EdgeEnds slots OutOfMemory before after = ⊤
-
--- how many links came of waiting for one
-abbrev pub links_of : Next → ℕ
-links_of Served = 1
-links_of NoMore = 0

@@ -1,12 +1,14 @@
 -- How the program ends, over what it finds outside, before and after.
-use Rattle.std.specs.Prelude.{◌≡◌, ⊤, ℕ, ◌==◌, List, length, codes, Option, IfSome, Result, Ok, Err, if◌then◌else◌}
+use Rattle.std.specs.Prelude.{◌≡◌, ⊤, ℕ, ◌==◌, Bool, List, length, codes, Option, IfSome, Result, Ok, Err, if◌then◌else◌}
 use Rattle.unl_base.specs.Streams.{Sends, SendsFront}
 use Rattle.unl_base.specs.declared.draws.Draw.{Draw}
+use Rattle.unl_context.specs.Context.{Fields}
 use Rattle.unl_edge.specs.Edges.{EdgeEnds}
+use Rattle.unl_edge.specs.Follows.{FollowEnds}
 use Rattle.unl_edge.specs.OwnBook.{own_book}
 use Rattle.unl_edge.specs.Scene.{Scene}
-use Rattle.unl_edge.specs.Status.{check_status, code_of, ending_status, explain_status, lines_status, serving_status}
-use Rattle.unl_edge.specs.Status.{upstream_status, words_status}
+use Rattle.unl_edge.specs.Status.{check_status, code_of, ending_status, explain_status, follow_status, lines_status, load_status}
+use Rattle.unl_edge.specs.Status.{serving_status, upstream_status, words_status}
 use Rattle.unl_edge.specs.Upstreams.{IsDecidedByLines, UpstreamRuns}
 use Rattle.unl_edge.specs.declared.ends.CheckEnd.{CheckEnd}
 use Rattle.unl_edge.specs.declared.ends.CheckEnd.TheVariants.{Passed, Failed as TestsFailed, Refused, ReadFault, WriteFault, OutOfMemory}
@@ -20,12 +22,16 @@ use Rattle.unl_input.specs.declared.refusal.InputRefusal.{InputRefusal}
 use Rattle.unl_input.specs.declared.refusal.SayFault.{SayFault}
 use Rattle.unl_input.specs.declared.refusal.SayFault.TheVariants as say
 use Rattle.unl_lines.specs.Whole.{TakesLines}
+use Rattle.unl_load.specs.Line.{load_line}
+use Rattle.unl_load.specs.declared.fault.LoadFault.{LoadFault}
+use Rattle.unl_load.specs.declared.fault.LoadFault.TheVariants as load
 use Rattle.unl_replay.specs.Replay.{line_answer, opening, replay_of}
 use Rattle.unl_spec_runner.specs.Check.{accepted, report_of, text_of}
 use Rattle.unl_spec_runner.specs.Report.{Report}
 use Rattle.unl_words.specs.Words.{WordsReading}
 use Rattle.unl_words.specs.declared.refusal.WordsRefusal.TheVariants.{Bad, Memory}
-use Rattle.unl_words.specs.declared.words.Words.TheVariants.{Replay, Check, Edge, Explain, Follow, Upstream}
+use Rattle.unl_words.specs.declared.words.Words.{Words}
+use Rattle.unl_words.specs.declared.words.Words.TheVariants.{Replay, Check, Edge, Explain, Follow, Load, Upstream}
 
 -- ---- a check
 
@@ -61,6 +67,14 @@ CheckEnds draw WriteFault left left_after old new =
     (outcome : Outcome Report) × SaysFront (accepted draw) text_of outcome left left_after old new
 CheckEnds draw OutOfMemory left left_after old new = ⊤
 
+-- ---- a load
+
+-- How a load of a seed and a count ends: its line was sent, or at a failed write a front of it.
+abbrev pub LoadEnds : ℕ → ℕ → Result (Unit {0}) LoadFault → Option (List ℕ) → Option (List ℕ) → Type 0
+LoadEnds seed count (Ok u) old new = Sends old (load_line seed count) new
+LoadEnds seed count (Err load.WriteFault) old new = SendsFront old (load_line seed count) new
+LoadEnds seed count (Err load.Memory) old new = ⊤
+
 -- ---- bad words
 
 -- the line that is said of bad words
@@ -81,7 +95,26 @@ pub record Ended {E : Type 0} (status_of : E → Status) (Ends : E → Type 0) (
   pub is : status ≡ status_of end
   pub ends : Ends end
 
--- How the program ends, by what its words ask for. The command `follow` isn't built yet.
+-- the words ask for an edge
+abbrev pub AreOfEdge : Words → Type 0
+AreOfEdge words =
+    (port : ℕ) × (upstream : List ℕ) × (upstream_tokens : List (List ℕ)) × (tokens : List (List ℕ)) × (host : List ℕ) × (workers : ℕ)
+    × (interval : ℕ) × (connections : ℕ) × (delta : Bool)
+    × (words ≡ Edge port upstream upstream_tokens tokens host workers interval connections delta)
+
+-- for an upstream
+abbrev pub AreOfUpstream : Words → Type 0
+AreOfUpstream words =
+    (port : ℕ) × (secret : List ℕ) × (environments : List (List ℕ)) × (client_tokens : List (List ℕ)) × (frontend_tokens : List (List ℕ))
+    × (connections : ℕ) × (epoch : ℕ) × (words ≡ Upstream port secret environments client_tokens frontend_tokens connections epoch)
+
+-- for the turns of a replica
+abbrev pub AreOfFollow : Words → Type 0
+AreOfFollow words =
+    (upstream : List ℕ) × (token : List ℕ) × (feature : List ℕ) × (context : Fields) × (delta : Bool) × (turns : ℕ) × (interval : ℕ)
+    × (words ≡ Follow upstream token feature context delta turns interval)
+
+-- How the program ends, by what its words ask for.
 abbrev pub Ends : WordsReading → Status → Scene → Scene → Type 0
 Ends (Ok Replay) status before after =
     Ended lines_status
@@ -99,7 +132,9 @@ Ends (Ok (Upstream port secret environments client_tokens frontend_tokens connec
     Ended upstream_status
     (λ end. UpstreamRuns secret environments (own_book client_tokens frontend_tokens) epoch end before after) status
 Ends (Ok (Follow upstream token feature context delta turns interval)) status before after =
-    Ended words_status (λ end. SaysBadWords end before.output.sent after.output.sent) status
+    Ended follow_status (λ end. FollowEnds turns delta feature context end before after) status
+Ends (Ok (Load seed count)) status before after =
+    Ended load_status (λ end. LoadEnds seed count end before.output.sent after.output.sent) status
 Ends (Err Bad) status before after = Ended words_status (λ end. SaysBadWords end before.output.sent after.output.sent) status
 Ends (Err Memory) s before after = s ≡ status.OutOfMemory
 
@@ -124,6 +159,7 @@ IsDecided (Ok Explain) code before =
 IsDecided (Ok (Edge port upstream upstream_tokens tokens host workers interval connections delta)) code before = code ≡ 0
 IsDecided (Ok (Upstream port secret environments client_tokens frontend_tokens connections epoch)) code before =
     IsDecidedByLines secret environments (own_book client_tokens frontend_tokens) epoch code before
-IsDecided (Ok (Follow upstream token feature context delta turns interval)) code before = code ≡ 2
+IsDecided (Ok (Follow upstream token feature context delta turns interval)) code before = code ≡ 0
+IsDecided (Ok (Load seed count)) code before = code ≡ 0
 IsDecided (Err Bad) code before = code ≡ 2
 IsDecided (Err Memory) code before = code ≡ 6

@@ -24,10 +24,11 @@ pub record PeerEnd : Type 0 where
   pub state : PeerState
   pub faults : ℕ
 
--- all of them, and the draws to come
+-- all of them, the draws to come, and how many turns the pace has
 pub record Scene : Type 0 where
   pub input : InputEnd
   pub output : OutputEnd
   pub door : DoorEnd
   pub draws : Option (List Draw × Draw)
   pub peer : PeerEnd
+  pub pace : Option ℕ

@@ -1,5 +1,5 @@
 //! Who is asked for what stands in a slot.
-ghost use Rattle.std.specs.Prelude.{◌≡◌, IfOk, IsTrue, true, length};
+ghost use Rattle.std.specs.Prelude.{◌≡◌, IfOk, IsTrue, None, true, length};
 ghost use Rattle.unl_http_api.specs.RequestText.{fits_if_any, fits_line};
 ghost use Rattle.unl_words.specs.Lists.{are_upstream_tokens, is_token};
 
@@ -72,15 +72,25 @@ fn feeder_with(
     requires token { is_token true token.now ≡ true }
 {
     let environment = Text::new(alloc, environment.as_str())?;
+    let ask = first_ask(alloc, host, token, delta)?;
+    Ok(Feeder { environment, ask })
+}
+
+/// An ask at a server with a token, of which nothing stands yet.
+pub(crate) fn first_ask(
+    alloc: Global,
+    host: &Text,
+    token: &Text,
+    delta: bool,
+) -> Result<Ask, Memory>
+    ensures { IfOk result (λ ask. ask ≡ record { host = host.now; token = token.now; delta = delta; tag = None }) }
+{
     let host = Text::new(alloc, host.as_str())?;
     let token = Text::new(alloc, token.as_str())?;
-    Ok(Feeder {
-        environment,
-        ask: Ask {
-            host,
-            token,
-            delta,
-            tag: None,
-        },
+    Ok(Ask {
+        host,
+        token,
+        delta,
+        tag: None,
     })
 }

@@ -31,7 +31,7 @@ pub struct Replica {
 
 impl Replica {
     /// A replica at front 0 with an empty slot for each of the upstream's tokens.
-    #[tactic(auto, using(crate::proofs::Fitting::address_fits, crate::proofs::Fitting::few_tokens, crate::proofs::Fitting::environments_differ,))]
+    #[tactic(auto, using(crate::proofs::Fitting::address_fits, crate::proofs::Fitting::few_tokens, crate::proofs::Fitting::names_differ,))]
     pub fn new(
         alloc: Global,
         boot: u64,

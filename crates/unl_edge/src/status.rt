@@ -1,11 +1,13 @@
 //! The number with which the program exits.
 ghost use Rattle.std.specs.Prelude.{◌≡◌};
-ghost use Rattle.unl_edge.specs.Status.{check_status, code_of, explain_status, lines_status, serving_status};
-ghost use Rattle.unl_edge.specs.Status.{upstream_status, words_status};
+ghost use Rattle.unl_edge.specs.Status.{check_status, code_of, explain_status, follow_status, lines_status, load_status};
+ghost use Rattle.unl_edge.specs.Status.{serving_status, upstream_status, words_status};
 
 use crate::ends::{CheckEnd, ServingEnd, UpstreamEnd, WordsEnd};
 use unl_explain::ExplainFault;
+use unl_follow::FollowFault;
 use unl_lines::LinesFault;
+use unl_load::LoadFault;
 
 /// How the program ends.
 #[derive(Clone, Copy, Debug, PartialEq, Eq)]
@@ -95,6 +97,28 @@ impl Status {
             ServingEnd::WriteFault => Status::WriteFault,
             ServingEnd::DoorFault => Status::DoorFault,
             ServingEnd::OutOfMemory => Status::OutOfMemory,
+        }
+    }
+
+    /// That of turns that were made.
+    pub fn of_following(end: Result<(), FollowFault>) -> Status
+        ensures { result ≡ follow_status end }
+    {
+        match end {
+            Ok(()) => Status::Done,
+            Err(FollowFault::WriteFault) => Status::WriteFault,
+            Err(FollowFault::Memory) => Status::OutOfMemory,
+        }
+    }
+
+    /// That of a load.
+    pub fn of_load(end: Result<(), LoadFault>) -> Status
+        ensures { result ≡ load_status end }
+    {
+        match end {
+            Ok(()) => Status::Done,
+            Err(LoadFault::WriteFault) => Status::WriteFault,
+            Err(LoadFault::Memory) => Status::OutOfMemory,
         }
     }
 

@@ -28,5 +28,6 @@ impl<I: Source, O: Sink, D: Door, P: Peer, R: Draws, T: Pace, W: Wait> Model
       door = record { state = D.state world.door; faults = D.faults world.door };
       draws = R.coming world.draws;
       peer = record { state = P.state world.peer; faults = P.Source.faults world.peer };
+      pace = T.turns world.pace;
     } };
 }

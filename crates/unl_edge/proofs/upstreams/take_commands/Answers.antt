@@ -10,6 +10,7 @@ returns-in-Ok-clause-ends g c =
       door = record { state = g.D.Door.state c.world.inside.door; faults = g.D.Door.faults c.world.inside.door };
       draws = g.R.Draws.coming c.world.inside.draws;
       peer = record { state = g.P.Peer.state c.world.inside.peer; faults = g.P.Source.faults c.world.inside.peer };
+      pace = g.T.Pace.turns c.world.inside.pace;
     })
     c.serve_links.new.world
     (record { left = g.I.Source.left c.take_lines.new.source; faults = g.I.Source.faults c.take_lines.new.source })
