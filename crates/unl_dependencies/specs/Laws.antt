@@ -9,7 +9,8 @@ use Rattle.unl_documents.specs.States.{IsValidState, name_key}
 use Rattle.unl_documents.specs.Inline.{inlined}
 use Rattle.unl_context.specs.Context.{Fields}
 use Rattle.unl_strategies.specs.Moment.{Moment}
-use Rattle.unl_dependencies.specs.Evaluation.{is_active_at, first_active, evaluation_where, feature_named, feature_evaluation, evaluation_of}
+use Rattle.unl_dependencies.specs.Evaluation.{is_active_at, first_active, evaluation_where, feature_named}
+use Rattle.unl_dependencies.specs.Evaluation.{feature_evaluation, evaluation_of}
 
 -- no feature of the state has the name
 abbrev pub Lacks : State → List ℕ → Type 0
