@@ -2,6 +2,7 @@ ghost use Rattle.std.specs.Prelude.{◌≡◌, ℕ, ◌<◌, ◌^◌, ◌-◌, I
 ghost use Rattle.unl_delta.specs.declared.batch.Batch.{Batch};
 ghost use Rattle.unl_delta.specs.declared.batch.Verdict.TheVariants.{Apply};
 ghost use Rattle.unl_delta.specs.Batch.{verdict_of};
+ghost use Rattle.unl_delta.specs.History.{FollowsLines};
 ghost use Rattle.unl_delta.specs.Installing.{Installed, place_of, after_install, after_hold, IsBookInstalled};
 ghost use Rattle.unl_delta.specs.Valid.{IsValidBatch, IsValidPlace};
 
@@ -40,22 +41,25 @@ pub trait Installer {
         ensures valid { IsValidPlace result.now };
 
     /// Publishes the version of a slot after a batch that applies there, and answers the new front.
-    /// The slot isn't held then.
+    /// The slot isn't held then. Where its version stands for a line of histories and the batch is sent of it, the new one does.
     fn install(&mut self, alloc: Global, slot: usize, batch: &Batch) -> Result<u64, Memory>
         requires slot { slot < length (installed self.old).places }
         requires front { (installed self.old).front < 2 ^ 64 - 1 }
         requires batch { IsValidBatch batch.now }
         requires applies { verdict_of (place_of (installed self.old) slot) batch.now ≡ Apply }
         ensures published { OnOk result (installed self.new ≡ after_install slot batch.now (installed self.old)) }
+        ensures stands { OnOk result (FollowsLines (place_of (installed self.old) slot).version batch.now
+            (place_of (installed self.new) slot).version) }
         ensures whole { OnOk result (installs slot batch.now self.old self.new) }
         ensures front { IfOk result (λ front. front ≡ (installed self.new).front) }
         ensures memory { OnErr result (installed self.new ≡ installed self.old) };
 
-    /// Holds a slot: no batch but a hydration applies there from now on. Publishes nothing, and
-    /// takes no memory.
+    /// Holds a slot: no batch but a hydration applies there from now on. Its version stays. Publishes
+    /// nothing, and takes no memory.
     fn hold(&mut self, slot: usize)
         requires { slot < length (installed self.old).places }
         ensures held { installed self.new ≡ after_hold slot (installed self.old) }
+        ensures stays { (place_of (installed self.new) slot).version ≡ (place_of (installed self.old) slot).version }
         ensures whole { holds slot self.old self.new };
 
     /// Publishes a book and answers the new front, or none exactly where the book is the one that

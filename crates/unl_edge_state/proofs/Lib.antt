@@ -2,3 +2,4 @@ pub mod GoingOn
 pub mod Boards
 pub mod Writings
 pub mod Sent
+pub mod Stood

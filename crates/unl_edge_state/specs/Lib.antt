@@ -3,3 +3,4 @@ pub mod Reading
 pub mod Writing
 pub mod Orderly
 pub mod Crossing
+pub mod Histories

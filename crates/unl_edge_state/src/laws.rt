@@ -1,11 +1,13 @@
 //! What holds of every list of installs.
-ghost use Rattle.std.specs.Prelude.{◌≡◌, ◌≤◌, ℕ, List, [], Some, length, take};
+ghost use Rattle.std.specs.Prelude.{◌≡◌, ◌≤◌, ℕ, List, [], IfSome, Some, length, take};
 ghost use Rattle.unl_core.specs.declared.board.Board.{Board};
 ghost use Rattle.unl_core.specs.declared.board.Install.{Install};
 ghost use Rattle.unl_core.specs.Board.{board_after};
 ghost use Rattle.unl_core.specs.Standing.{snapshot_at};
-ghost use Rattle.unl_delta.specs.History.{IsNotBelow};
+ghost use Rattle.unl_delta.specs.History.{Era, IsNotBelow};
+ghost use Rattle.unl_delta.specs.View.{Sees};
 ghost use Rattle.unl_edge_state.specs.Editions.{BoardAt};
+ghost use Rattle.unl_edge_state.specs.Histories.{HasStood, SlotStands};
 ghost use Rattle.unl_edge_state.specs.Orderly.{IsOrderly};
 ghost use Rattle.unl_edge_state.specs.Reading.{board_of};
 ghost use Rattle.unl_published.specs.declared.knowledge.Knowledge.{Knowledge};
@@ -21,4 +23,12 @@ pub fn boards_are_after_installs()
 pub fn fronts_only_go_on()
     ensures { (board : Board) (list : List Install) (j k slot : ℕ) → IsOrderly board list → j ≤ k
         → IsNotBelow (snapshot_at (board_after board (take j list)).slots slot) (snapshot_at (board_after board (take k list)).slots slot) }
+{}
+
+/// Where each version that a slot has had stands for a line of histories, as it is seen, so does what the slot has on the board at
+/// each front, where it has something, for a reader that never went on from what it was told.
+pub fn boards_stand_for_lines()
+    ensures { (line : List Era) (sees : Sees) (slot : ℕ) (known : Knowledge BoardAt Install) (opening : BoardAt) (k : ℕ)
+        → known.opening ≡ Some opening → known.before ≡ [] → k ≤ length known.installs → HasStood line sees slot known
+        → IfSome (board_of known k) (SlotStands line sees slot) }
 {}

@@ -1,12 +1,16 @@
 //! The one who publishes what is installed.
-ghost use Rattle.std.specs.Prelude.{◌≡◌, ◌-◌, ◌^◌, ◌<◌, ◌∷◌, [], true, false, length, IfOk, IfNone, IfSome, IsErr, OnErr, OnOk, OnSome};
+ghost use Rattle.std.specs.Prelude.{◌≡◌, ◌-◌, ◌^◌, ◌<◌, ◌∷◌, [], List, true, false, length, IfOk, IfNone, IfSome, IsErr, OnErr, OnOk};
+ghost use Rattle.std.specs.Prelude.{OnSome};
 ghost use Rattle.unl_core.specs.declared.board.Install.TheVariants.{Env, Tokens};
 ghost use Rattle.unl_delta.specs.declared.batch.Verdict.TheVariants.{Apply};
 ghost use Rattle.unl_delta.specs.Batch.{next_version, verdict_of};
+ghost use Rattle.unl_delta.specs.History.{Era, FollowsLines, IsLine, IsSent};
 ghost use Rattle.unl_delta.specs.Installing.{after_hold, after_install, place_of, IsBookInstalled};
 ghost use Rattle.unl_delta.specs.Valid.{IsValidBatch, IsValidPlace};
+ghost use Rattle.unl_delta.specs.View.{Sees};
 ghost use Rattle.unl_core.specs.Board.{AreSlots};
 ghost use Rattle.unl_edge_state.specs.Editions.{board_known};
+ghost use Rattle.unl_edge_state.specs.Histories.{HasStood};
 ghost use Rattle.unl_edge_state.specs.Orderly.{KnowsOrderly};
 ghost use Rattle.unl_edge_state.specs.Writing as writing;
 ghost use Rattle.unl_edge_state.specs.Writing.{after_publish, installed_by, with_install, with_version, IsWithin, IsWriting, Stays};
@@ -174,11 +178,15 @@ impl<W: Wait> Installer for EdgeWriter<'_, W> {
         requires batch { IsValidBatch batch.now }
         requires applies { verdict_of (place_of (installed_by self.old) slot) batch.now ≡ Apply }
         ensures published { OnOk result (installed_by self.new ≡ after_install slot batch.now (installed_by self.old)) }
+        ensures stands { OnOk result (FollowsLines (place_of (installed_by self.old) slot).version batch.now
+            (place_of (installed_by self.new) slot).version) }
         ensures whole { OnOk result (self.new ≡ record (writing.after_batch slot batch.now self.old) { closed = self.new.closed }) }
         ensures front { IfOk result (λ front. front ≡ (installed_by self.new).front) }
         ensures memory { OnErr result (installed_by self.new ≡ installed_by self.old) }
         ensures same { OnErr result (Stays self.old self.new) }
         ensures orderly { KnowsOrderly self.old.known → KnowsOrderly self.new.known }
+        ensures stood { (line : List Era) (sees : Sees) → IsLine line → HasStood line sees slot self.old.known → IsSent line sees batch.now
+            → HasStood line sees slot self.new.known }
     {
         let slots = &self.publisher.value().board().slots;
         let snapshot = snapshot_after(alloc, slots, slot, &self.places[slot], batch)?;
@@ -189,6 +197,7 @@ impl<W: Wait> Installer for EdgeWriter<'_, W> {
     fn hold(&mut self, slot: usize)
         requires { slot < length (installed_by self.old).places }
         ensures held { installed_by self.new ≡ after_hold slot (installed_by self.old) }
+        ensures stays { (place_of (installed_by self.new) slot).version ≡ (place_of (installed_by self.old) slot).version }
         ensures whole { self.new ≡ writing.after_hold slot self.old }
     {
         self.places[slot].held = true;

@@ -2,3 +2,4 @@ pub mod Refusals
 pub mod Forms
 pub mod Replay
 pub mod Steps
+pub mod Delivery

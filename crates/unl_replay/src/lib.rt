@@ -5,6 +5,7 @@
 mod ask;
 mod batch;
 mod bench;
+pub mod laws;
 mod refusal;
 mod replaying;
 mod step;
@@ -13,5 +14,7 @@ pub use replaying::replay;
 /// Why a replay ended before its input did.
 pub use unl_lines::LinesFault as ReplayFault;
 
+#[cfg(test)]
+mod delivery_tests;
 #[cfg(test)]
 mod tests;

@@ -1,12 +1,14 @@
 //! The replay of an input, line by line.
-ghost use Rattle.std.specs.Prelude.{◌≡◌, ◌<◌, ◌≤◌, OnOk, IsErrOf};
+ghost use Rattle.std.specs.Prelude.{◌≡◌, ◌<◌, ◌≤◌, ℕ, List, OnOk, IsErrOf};
 ghost use Rattle.unl_base.specs.Faults.{Rose};
 ghost use Rattle.unl_base.specs.Streams.{HasEnded};
 ghost use Rattle.unl_lines.specs.Whole.{TakesLines};
+ghost use Rattle.unl_replay.specs.Delivery.{DeliversRevisions};
 ghost use Rattle.unl_replay.specs.Refusals.{Causes};
 ghost use Rattle.unl_replay.specs.Replay.{line_answer, opening};
 
 use crate::bench::{Bench, answer_line};
+use crate::laws;
 use crate::refusal::Refusal;
 use std::alloc::Global;
 use unl_base::{Sink, Source};
@@ -68,12 +70,17 @@ pub fn replay<S: Source, K: Sink>(
     ensures replays { TakesLines line_answer opening result (S.left source.old) (S.left source.new) (K.sent sink.old) (K.sent sink.new) }
     ensures ended { OnOk result (HasEnded (S.left source.new)) }
 
+    // Whatever is lost, doubled or out of order: where all batches and feeds of some input were sent of a line of histories for
+    // each environment, each of its asks is answered over one revision of these, as who is sent them and the token both see it.
+    ensures delivery { (bytes : List ℕ) → DeliversRevisions bytes }
+
     // It doesn't give up by itself.
     ensures read { IsErrOf result LinesFault.ReadFault → Rose (S.faults source.old) (S.faults source.new) }
     ensures write { IsErrOf result LinesFault.WriteFault → Rose (K.faults sink.old) (K.faults sink.new) }
     ensures source_later { S.faults source.old ≤ S.faults source.new }
     ensures sink_later { K.faults sink.old ≤ K.faults sink.new }
 {
+    laws::asks_are_of_one_revision();
     let board = Board::new(alloc, 0, "", &List::new(alloc))?;
     let mut bench = Bench {
         desk: OneDesk::new(alloc, board)?,

@@ -55,7 +55,8 @@ const EPOCHS: &str = r#"{"op":"tokens","tokens":[{"token":"*:dev.c","type":"clie
 {"op":"feed","environment":"dev","feed":{"meta":{"epoch":2,"revisionId":1}}}
 "#;
 
-const EPOCHS_PRINT: &str = r#"1: tokens generation 1 front 1
+const EPOCHS_PRINT: &str = concat!(
+    r#"1: tokens generation 1 front 1
 2: apply number 9 front 2
 3: gap number 9 front 2
 4: held number 9 front 2
@@ -63,17 +64,25 @@ const EPOCHS_PRINT: &str = r#"1: tokens generation 1 front 1
 6: old number 1.2 front 3
 7: old number 1.2 front 3
 8: apply number 1.9 front 4
-9: front 4 status 200 tag "0000000000000000-1-0-1.9" body {"epoch":1,"events":[{"eventId":9,"features":[],"segments":[],"type":"hydration"}]}
-10: front 4 status 304 tag "0000000000000000-1-0-1.9" body 
-11: front 4 status 200 tag "0000000000000000-1-0-1.9" body {"after":2,"epoch":1,"events":[{"eventId":9,"segmentId":7,"type":"segment-removed"}]}
-12: front 4 status 200 tag "0000000000000000-1-0-1.9" body {"features":[],"meta":{"epoch":1,"etag":"\"0000000000000000-1-0-1.9\"","revisionId":9},"query":{"environment":"dev","projects":["*"]},"segments":[],"version":2}
+9: front 4 status 200 tag "0000000000000000-1-0-1.9" body "#,
+    r#"{"epoch":1,"events":[{"eventId":9,"features":[],"segments":[],"type":"hydration"}]}
+10: front 4 status 304 tag "0000000000000000-1-0-1.9" body "#,
+    r#"
+11: front 4 status 200 tag "0000000000000000-1-0-1.9" body "#,
+    r#"{"after":2,"epoch":1,"events":[{"eventId":9,"segmentId":7,"type":"segment-removed"}]}
+12: front 4 status 200 tag "0000000000000000-1-0-1.9" body "#,
+    r#"{"features":[],"meta":{"epoch":1,"etag":"\"0000000000000000-1-0-1.9\"","revisionId":9},"#,
+    r#""query":{"environment":"dev","projects":["*"]},"segments":[],"version":2}
 13: apply number 2.1 front 5
-"#;
+"#,
+);
 
 /// A feed for clients that know segments, and for those that don't.
-const INLINED: &str =
+const INLINED: &str = concat!(
     r#"{"op":"tokens","tokens":[{"token":"A:dev.c","type":"client","projects":["A"]}]}
-{"op":"batch","environment":"dev","batch":{"events":[{"type":"hydration","eventId":4,"features":[{"name":"f","project":"A","enabled":true,"strategies":[{"name":"default","segments":[7,8]}]}],"segments":[{"id":7,"constraints":[{"contextName":"userId","operator":"IN","values":["1"]}]}]}]}}
+{"op":"batch","environment":"dev","batch":{"events":[{"type":"hydration","eventId":4,"#,
+    r#""features":[{"name":"f","project":"A","enabled":true,"strategies":[{"name":"default","segments":[7,8]}]}],"#,
+    r#""segments":[{"id":7,"constraints":[{"contextName":"userId","operator":"IN","values":["1"]}]}]}]}}
 {"op":"ask","target":"/api/client/features","token":"A:dev.c","spec":"4.1.9"}
 {"op":"ask","target":"/api/client/features","token":"A:dev.c","spec":"4.2.0-beta","tag":"\"0000000000000000-1-0-4\""}
 {"op":"ask","target":"/api/client/features","token":"A:dev.c","spec":"4.1.9","tag":"\"0000000000000000-1-0-4i\""}
@@ -81,18 +90,49 @@ const INLINED: &str =
 {"op":"ask","target":"/api/client/features","token":"A:dev.c","spec":"x","tag":"\"0000000000000000-1-0-4\""}
 {"op":"ask","target":"/api/client/features","token":"A:dev.c","tag":"\"0000000000000000-1-0-4i\""}
 {"op":"ask","target":"/api/client/delta","token":"A:dev.c","tag":"\"0000000000000000-1-0-4i\""}
-"#;
+"#,
+);
 
-const INLINED_PRINT: &str = r#"1: tokens generation 1 front 1
+const INLINED_PRINT: &str = concat!(
+    r#"1: tokens generation 1 front 1
 2: apply number 4 front 2
-3: front 2 status 200 tag "0000000000000000-1-0-4i" body {"features":[{"dependencies":[],"enabled":true,"impressionData":false,"name":"f","project":"A","stale":false,"strategies":[{"constraints":[{"caseInsensitive":false,"contextName":"userId","inverted":false,"operator":"IN","values":["1"]},{"caseInsensitive":false,"contextName":"userId","inverted":false,"operator":"IN","values":[]}],"name":"default","parameters":{},"segments":[],"variants":[]}],"type":"release","variants":[]}],"meta":{"etag":"\"0000000000000000-1-0-4i\"","revisionId":4},"query":{"environment":"dev","projects":["A"]},"segments":[],"version":2}
-4: front 2 status 200 tag "0000000000000000-1-0-4i" body {"features":[{"dependencies":[],"enabled":true,"impressionData":false,"name":"f","project":"A","stale":false,"strategies":[{"constraints":[{"caseInsensitive":false,"contextName":"userId","inverted":false,"operator":"IN","values":["1"]},{"caseInsensitive":false,"contextName":"userId","inverted":false,"operator":"IN","values":[]}],"name":"default","parameters":{},"segments":[],"variants":[]}],"type":"release","variants":[]}],"meta":{"etag":"\"0000000000000000-1-0-4i\"","revisionId":4},"query":{"environment":"dev","projects":["A"]},"segments":[],"version":2}
-5: front 2 status 304 tag "0000000000000000-1-0-4i" body 
-6: front 2 status 304 tag "0000000000000000-1-0-4" body 
-7: front 2 status 304 tag "0000000000000000-1-0-4" body 
-8: front 2 status 200 tag "0000000000000000-1-0-4" body {"features":[{"dependencies":[],"enabled":true,"impressionData":false,"name":"f","project":"A","stale":false,"strategies":[{"constraints":[],"name":"default","parameters":{},"segments":[7,8],"variants":[]}],"type":"release","variants":[]}],"meta":{"etag":"\"0000000000000000-1-0-4\"","revisionId":4},"query":{"environment":"dev","projects":["A"]},"segments":[{"constraints":[{"caseInsensitive":false,"contextName":"userId","inverted":false,"operator":"IN","values":["1"]}],"id":7}],"version":2}
-9: front 2 status 200 tag "0000000000000000-1-0-4" body {"events":[{"eventId":4,"features":[{"dependencies":[],"enabled":true,"impressionData":false,"name":"f","project":"A","stale":false,"strategies":[{"constraints":[],"name":"default","parameters":{},"segments":[7,8],"variants":[]}],"type":"release","variants":[]}],"segments":[{"constraints":[{"caseInsensitive":false,"contextName":"userId","inverted":false,"operator":"IN","values":["1"]}],"id":7}],"type":"hydration"}]}
-"#;
+3: front 2 status 200 tag "0000000000000000-1-0-4i" body "#,
+    r#"{"features":[{"dependencies":[],"enabled":true,"impressionData":false,"name":"f","project":"A","stale":false,"#,
+    r#""strategies":[{"constraints":["#,
+    r#"{"caseInsensitive":false,"contextName":"userId","inverted":false,"operator":"IN","values":["1"]},"#,
+    r#"{"caseInsensitive":false,"contextName":"userId","inverted":false,"operator":"IN","values":[]}],"#,
+    r#""name":"default","parameters":{},"segments":[],"variants":[]}],"type":"release","variants":[]}],"#,
+    r#""meta":{"etag":"\"0000000000000000-1-0-4i\"","revisionId":4},"#,
+    r#""query":{"environment":"dev","projects":["A"]},"segments":[],"version":2}
+4: front 2 status 200 tag "0000000000000000-1-0-4i" body "#,
+    r#"{"features":[{"dependencies":[],"enabled":true,"impressionData":false,"name":"f","project":"A","stale":false,"#,
+    r#""strategies":[{"constraints":["#,
+    r#"{"caseInsensitive":false,"contextName":"userId","inverted":false,"operator":"IN","values":["1"]},"#,
+    r#"{"caseInsensitive":false,"contextName":"userId","inverted":false,"operator":"IN","values":[]}],"#,
+    r#""name":"default","parameters":{},"segments":[],"variants":[]}],"type":"release","variants":[]}],"#,
+    r#""meta":{"etag":"\"0000000000000000-1-0-4i\"","revisionId":4},"#,
+    r#""query":{"environment":"dev","projects":["A"]},"segments":[],"version":2}
+5: front 2 status 304 tag "0000000000000000-1-0-4i" body "#,
+    r#"
+6: front 2 status 304 tag "0000000000000000-1-0-4" body "#,
+    r#"
+7: front 2 status 304 tag "0000000000000000-1-0-4" body "#,
+    r#"
+8: front 2 status 200 tag "0000000000000000-1-0-4" body "#,
+    r#"{"features":[{"dependencies":[],"enabled":true,"impressionData":false,"name":"f","project":"A","stale":false,"#,
+    r#""strategies":[{"constraints":[],"name":"default","parameters":{},"segments":[7,8],"variants":[]}],"#,
+    r#""type":"release","variants":[]}],"meta":{"etag":"\"0000000000000000-1-0-4\"","revisionId":4},"#,
+    r#""query":{"environment":"dev","projects":["A"]},"segments":[{"constraints":["#,
+    r#"{"caseInsensitive":false,"contextName":"userId","inverted":false,"operator":"IN","values":["1"]}],"id":7}],"#,
+    r#""version":2}
+9: front 2 status 200 tag "0000000000000000-1-0-4" body {"events":[{"eventId":4,"#,
+    r#""features":[{"dependencies":[],"enabled":true,"impressionData":false,"name":"f","project":"A","stale":false,"#,
+    r#""strategies":[{"constraints":[],"name":"default","parameters":{},"segments":[7,8],"variants":[]}],"#,
+    r#""type":"release","variants":[]}],"segments":[{"constraints":["#,
+    r#"{"caseInsensitive":false,"contextName":"userId","inverted":false,"operator":"IN","values":["1"]}],"id":7}],"#,
+    r#""type":"hydration"}]}
+"#,
+);
 
 #[test]
 fn epochs_and_inlined_segments(rt: HostRuntime) -> Result<(), Fail> {
@@ -116,10 +156,14 @@ fn constraints(alloc: Global, count: u32) -> Option<String> {
 
 /// A strategy of 60 constraints that names a segment of 41, asked for by clients of two versions.
 fn crowded(alloc: Global) -> Option<String> {
-    let (own, segments) = (constraints(alloc, 60)?, constraints(alloc, 41)?);
+    let (own, shared) = (constraints(alloc, 60)?, constraints(alloc, 41)?);
+    let feature = format!(in alloc;
+        r#"{{"name":"f","project":"A","enabled":true,"strategies":[{{"name":"default","constraints":[{own}],"segments":[7]}}]}}"#
+    ).ok()?;
+    let segment = format!(in alloc; r#"{{"id":7,"constraints":[{shared}]}}"#).ok()?;
     format!(in alloc;
         r#"{{"op":"tokens","tokens":[{{"token":"A:dev.c","type":"client"}}]}}
-{{"op":"batch","environment":"dev","batch":{{"events":[{{"type":"hydration","eventId":4,"features":[{{"name":"f","project":"A","enabled":true,"strategies":[{{"name":"default","constraints":[{own}],"segments":[7]}}]}}],"segments":[{{"id":7,"constraints":[{segments}]}}]}}]}}}}
+{{"op":"batch","environment":"dev","batch":{{"events":[{{"type":"hydration","eventId":4,"features":[{feature}],"segments":[{segment}]}}]}}}}
 {{"op":"ask","target":"/api/client/features","token":"A:dev.c","spec":"4.1.9"}}
 {{"op":"ask","target":"/api/client/features","token":"A:dev.c","spec":"5.0.0"}}
 "#
@@ -143,14 +187,17 @@ fn too_many_constraints(rt: HostRuntime) -> Result<(), Fail> {
     Ok(())
 }
 
+/// A batch that is a gap where nothing stands.
+const GAP: &str = r#"{"after":0,"events":[{"type":"segment-removed","eventId":1,"segmentId":7}]}"#;
+
 /// Eight environments, of which the batches are gaps, and then a line.
 fn with_eight(alloc: Global, line: &str) -> Option<String> {
     let mut text = String::new(alloc);
     for number in 1..=8 {
-        let gap = format!(in alloc;
-            "{{\"op\":\"batch\",\"environment\":\"e{number}\",\"batch\":{{\"after\":0,\"events\":[{{\"type\":\"segment-removed\",\"eventId\":1,\"segmentId\":7}}]}}}}\n"
-        ).ok()?;
+        let gap = format!(in alloc; r#"{{"op":"batch","environment":"e{number}","batch":"#).ok()?;
         text.push_str(gap.as_str()).ok()?;
+        text.push_str(GAP).ok()?;
+        text.push_str("}\n").ok()?;
     }
     text.push_str(line).ok()?;
     Some(text)

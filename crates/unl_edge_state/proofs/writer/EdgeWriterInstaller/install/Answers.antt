@@ -5,9 +5,11 @@ use Rattle.unl_core.proofs.Standings.{stands_at}
 use Rattle.unl_delta.specs.declared.batch.Verdict.TheVariants.{Apply}
 use Rattle.unl_delta.specs.declared.version.Place.{Place}
 use Rattle.unl_delta.specs.Batch.{verdict_of}
+use Rattle.unl_delta.proofs.Installs.{install_follows}
 use Rattle.unl_edge_state.specs.Editions.{board_known}
 use Rattle.unl_edge_state.specs.Writing.{Writing, installed_by}
 use Rattle.unl_edge_state.proofs.Boards.{shown_known}
+use Rattle.unl_edge_state.proofs.Stood.{batch_stood}
 use Rattle.unl_edge_state.proofs.Writings.{batch_is, batch_orderly, batch_told, place_is}
 use Rattle.unl_published.specs.Seen.{published}
 use Rattle.unl_edge_state.proofs.writer.EdgeWriterInstaller.install.Goals as goal
@@ -50,3 +52,23 @@ returns-clause-orderly g c =
     let stands = ap (λ (p : Place). p.version) here ∙ stands_at _ c.self.inside.places.items c.args.slot c.index.result.now c.self.invariant.stands low c.index.ensures
     ∙ ap (λ (w : Writing). snapshot_at (board_known w.known).slots c.args.slot) c.self.view_is in
     batch_orderly c.publish_version.result c.args.self.now c.publish_version.new.self c.args.slot c.args.batch.now stands c.requires.applies whole c.publish_version.ensures.memory
+
+pub returns-clause-stands : goal.returns-clause-stands
+returns-clause-stands g c =
+    let low : c.args.slot < length c.self.inside.places.items = subst (λ (w : Writing). c.args.slot < length w.places) (sym c.self.view_is) c.requires.slot in
+    let here = place_is _ c.self.inside.places.items _ c.args.slot c.index.result.now c.args.self.now c.self.view_is low c.index.ensures in
+    let begun : is_some c.args.self.now.known.opening ≡ true = subst (λ (w : Writing). is_some w.known.opening ≡ true) c.self.view_is c.self.invariant.begun in
+    let whole = batch_is c.publish_version.result _ c.publish_version.new.self c.args.self.now c.args.slot c.args.batch.now c.index.result.now c.in_ok-snapshot.snapshot c.in_ok-snapshot-2.snapshot
+    refl here c.in_ok-snapshot.ensures.snapshot c.in_ok-snapshot-2.ensures c.publish_version.ensures.published in
+    install_follows c.publish_version.result c.args.slot c.args.batch.now (installed_by c.args.self.now) (installed_by c.publish_version.new.self) c.requires.slot c.requires.applies
+    (batch_told c.publish_version.result c.args.self.now c.publish_version.new.self c.args.slot c.args.batch.now begun whole)
+
+pub returns-clause-stood : goal.returns-clause-stood
+returns-clause-stood g c =
+    let low : c.args.slot < length c.self.inside.places.items = subst (λ (w : Writing). c.args.slot < length w.places) (sym c.self.view_is) c.requires.slot in
+    let here = place_is _ c.self.inside.places.items _ c.args.slot c.index.result.now c.args.self.now c.self.view_is low c.index.ensures in
+    let whole = batch_is c.publish_version.result _ c.publish_version.new.self c.args.self.now c.args.slot c.args.batch.now c.index.result.now c.in_ok-snapshot.snapshot c.in_ok-snapshot-2.snapshot
+    refl here c.in_ok-snapshot.ensures.snapshot c.in_ok-snapshot-2.ensures c.publish_version.ensures.published in
+    let stands = ap (λ (p : Place). p.version) here ∙ stands_at _ c.self.inside.places.items c.args.slot c.index.result.now c.self.invariant.stands low c.index.ensures
+    ∙ ap (λ (w : Writing). snapshot_at (board_known w.known).slots c.args.slot) c.self.view_is in
+    batch_stood c.publish_version.result c.args.self.now c.publish_version.new.self c.args.slot c.args.batch.now stands c.requires.applies whole c.publish_version.ensures.memory

@@ -1,0 +1,49 @@
+-- Boards whose slots have what was sent of lines of histories.
+use Rattle.std.specs.Prelude.{◌≡◌, ℕ, List, Some, Ok, option_map, Option, IfSome}
+use Rattle.std.specs.List.{AllByRecursion}
+use Rattle.unl_delta.specs.declared.version.EnvVersion.{EnvVersion}
+use Rattle.unl_delta.specs.History.{Era, IsLine, StandsIn, revision_in}
+use Rattle.unl_delta.specs.Revision.{revision_of}
+use Rattle.unl_delta.specs.View.{Sees, both, view_of}
+use Rattle.unl_http_api.specs.declared.request.Request.{Request}
+use Rattle.unl_tokens.specs.declared.kind.Kind.{Kind}
+use Rattle.unl_tokens.specs.Names.{sees}
+use Rattle.unl_core.specs.declared.board.Board.{Board}
+use Rattle.unl_core.specs.declared.board.Slot.{Slot}
+use Rattle.unl_core.specs.Answer.{seen}
+use Rattle.unl_core.specs.Shown.{Ready, ready_by}
+
+-- the line of histories of each environment, and whose projects are sent of it
+pub record Histories : Type 0 where
+  pub line : List ℕ → List Era
+  pub sees : List ℕ → Sees
+
+-- each of them is a line
+abbrev pub AreLines : Histories → Type 0
+AreLines told = (environment : List ℕ) → IsLine (told.line environment)
+
+-- what an environment has, where it has something, stands for its line, as it is seen
+abbrev pub StandsAt : Histories → List ℕ → Option EnvVersion → Type 0
+StandsAt told environment version = IfSome version (StandsIn (told.line environment) (told.sees environment))
+
+-- so does what each slot has
+abbrev pub AllStand : Histories → List Slot → Type 0
+AllStand told slots = AllByRecursion (λ slot. StandsAt told slot.environment slot.snapshot) slots
+
+-- those whose projects are sent, and a token: the projects that both see
+abbrev pub both_see : Histories → Ready → Sees
+both_see told ready = both (told.sees ready.token.environment) (sees ready.token.projects)
+
+-- what a token is shown is one revision of the line of its environment, as both see it
+abbrev pub ShowsRevision : Histories → Ready → Type 0
+ShowsRevision told ready =
+    option_map (view_of (both_see told ready)) (revision_in (told.line ready.token.environment) (revision_of ready.version))
+    ≡ Some (seen ready)
+
+-- so it is of whatever the board is asked
+abbrev pub ShowsRevisions : Histories → Board → Type 0
+ShowsRevisions told board = (q : Request) (kind : Kind) (ready : Ready) → ready_by board q kind ≡ Ok ready → ShowsRevision told ready
+
+-- so it is of a board that may be known, where its slots stand for their lines
+abbrev pub ShowsWhereStands : Histories → Option Board → Type 0
+ShowsWhereStands told known = IfSome known (λ board. AllStand told board.slots) → IfSome known (ShowsRevisions told)

@@ -1,0 +1,103 @@
+-- What the lines of a replay deliver to environments, and what then stands at each line.
+use Rattle.std.specs.Prelude.{◌≡◌, ⊤, ℕ, ◌+◌, List, [], ◌∷◌, codes, Option, Some, None, IfOk, IfSome, Ok, Err, ok_or, if◌then◌else◌}
+use Rattle.std.specs.Str.{bytes_eq}
+use Rattle.serde_json.specs.Data.{Data}
+use Rattle.unl_core.specs.Histories.{AllStand, AreLines, Histories, ShowsRevisions}
+use Rattle.unl_core.specs.Standing.{Standing}
+use Rattle.unl_delta.specs.declared.batch.Batch.{Batch}
+use Rattle.unl_delta.specs.History.{IsSent}
+use Rattle.unl_documents.specs.declared.fault.BadDocument.TheVariants.{NotJson, WrongKind}
+use Rattle.unl_documents.specs.declared.field.Field.TheVariants as field
+use Rattle.unl_documents.specs.Kinds.{any_text, required}
+use Rattle.unl_documents.specs.Results.{object_in}
+use Rattle.unl_lines.specs.Lines.{lines}
+use Rattle.unl_lines.specs.Taken.{take_line}
+use Rattle.unl_replay.specs.declared.ask.Ask.{Ask}
+use Rattle.unl_replay.specs.declared.bench.Bench.{Bench}
+use Rattle.unl_replay.specs.declared.refusal.Refusal.TheVariants.{Document}
+use Rattle.unl_replay.specs.Forms.{ask_of, batch_in, feed_in}
+use Rattle.unl_replay.specs.Refusals.{LineReading, and_then, documented}
+use Rattle.unl_replay.specs.Replay.{answer_read, environment_in, line_answer, number_in, opening, put_ask}
+
+-- ---- what a line brings
+
+-- a batch for an environment
+pub record Delivery : Type 0 where
+  pub environment : List ℕ
+  pub batch : Batch
+
+-- a batch that is read for an environment
+abbrev pub for_environment : List ℕ → LineReading Batch → LineReading Delivery
+for_environment environment reading = and_then reading (λ batch. Ok (record { environment = environment; batch = batch }))
+
+-- what a line with a batch brings; without `after` it counts as coming after the number that its environment has
+abbrev pub batch_brought : Standing → Data → LineReading Delivery
+batch_brought d line = and_then (environment_in d line) (λ environment.
+    for_environment environment (batch_in (number_in environment d.board) line))
+
+-- what a line with a feed brings: its hydration
+abbrev pub feed_brought : Standing → Data → LineReading Delivery
+feed_brought d line = and_then (environment_in d line) (λ environment. for_environment environment (feed_in line))
+
+-- what a line of that op brings
+abbrev pub brought_by : Standing → Data → List ℕ → LineReading Delivery
+brought_by d line op =
+    if bytes_eq op (codes "tokens") then Err (Document (WrongKind field.Op))
+    else (if bytes_eq op (codes "batch") then batch_brought d line
+    else (if bytes_eq op (codes "feed") then feed_brought d line else Err (Document (WrongKind field.Op))))
+
+-- what a line of that op asks
+abbrev pub asked_by : Data → List ℕ → LineReading Ask
+asked_by line op =
+    if bytes_eq op (codes "tokens") then Err (Document (WrongKind field.Op))
+    else (if bytes_eq op (codes "batch") then Err (Document (WrongKind field.Op))
+    else (if bytes_eq op (codes "feed") then Err (Document (WrongKind field.Op))
+    else (if bytes_eq op (codes "ask") then documented (ask_of line) else Err (Document (WrongKind field.Op)))))
+
+-- what an object is read as, by its op
+abbrev pub by_op : {T : Type 0} → (Data → List ℕ → LineReading T) → Data → LineReading T
+by_op read line = and_then (documented (required any_text field.Op line)) (read line)
+
+-- what a line is read as, by its object
+abbrev pub by_object : {T : Type 0} → (Data → List ℕ → LineReading T) → List ℕ → LineReading T
+by_object read bytes = and_then (ok_or (object_in bytes) (Document NotJson)) (by_op read)
+
+-- what a line brings
+unfoldable pub brought : Bench → List ℕ → LineReading Delivery
+brought b bytes = by_object (brought_by b.desk) bytes
+
+-- what a line asks
+unfoldable pub asked : List ℕ → LineReading Ask
+asked bytes = by_object asked_by bytes
+
+-- ---- along all lines
+
+-- what is brought is sent of the line of histories of its environment
+abbrev pub IsToldOf : Histories → Delivery → Type 0
+IsToldOf told delivery = IsSent (told.line delivery.environment) (told.sees delivery.environment) delivery.batch
+
+-- so is all that the lines bring, from the line k on, up to one that is refused
+abbrev pub AllSent : Histories → ℕ → Bench → List (List ℕ) → Type 0
+AllSent told k b [] = ⊤
+AllSent told k b (line ∷ more) =
+    IfOk (brought b line) (IsToldOf told) × IfOk (take_line line_answer k b line) (λ taken. AllSent told (k + 1) taken.desk more)
+
+-- An ask is answered over a board of which each slot stands for the line of histories of its environment, and what a token is
+-- shown of it is one revision.
+pub record AnswersFromHistories (told : Histories) (k : ℕ) (b : Bench) (line : List ℕ) (ask : Ask) : Type 0 where
+  pub answers : answer_read k b line ≡ Ok (put_ask k b ask)
+  pub stand : AllStand told b.desk.board.slots
+  pub shows : ShowsRevisions told b.desk.board
+
+-- so is each ask of the lines, from the line k on, up to one that is refused
+abbrev pub AsksFromHistories : Histories → ℕ → Bench → List (List ℕ) → Type 0
+AsksFromHistories told k b [] = ⊤
+AsksFromHistories told k b (line ∷ more) =
+    IfOk (asked line) (AnswersFromHistories told k b line)
+    × IfOk (take_line line_answer k b line) (λ taken. AsksFromHistories told (k + 1) taken.desk more)
+
+-- Whatever is lost, doubled or out of order: where all that the lines of these bytes bring was sent of one line of histories for
+-- each environment, each ask among them is answered from these.
+abbrev pub DeliversRevisions : List ℕ → Type 0
+DeliversRevisions bytes =
+    (told : Histories) → AreLines told → AllSent told 1 opening (lines bytes) → AsksFromHistories told 1 opening (lines bytes)
