@@ -1,79 +1,53 @@
--- How an upstream ends, from how its lines and its links end.
-use Rattle.std.proofs.Common.{◌≡◌, ◌≢◌, ◌∙◌, ℕ, List, [], ◌++◌, Option, Some, None, IfSome, Ok, Err, refl, sym, ap, subst, append-nil, arith, ◌∷◌, ◌&&◌, true}
-use Rattle.std.specs.Prelude.{option_map, unwrap_or}
+-- How an upstream ends, from how its lines, its links and its keeper end.
+use Rattle.std.proofs.Common.{◌≡◌, ◌≢◌, ◌≤◌, ◌+◌, ◌∙◌, ◌⊎◌, inl, inr, ℕ, List, [], ◌∷◌, ◌++◌, ◌&&◌, true, length, append_assoc, append-nil, Option, Some, None, IfSome, Result, Ok, Err, refl, sym, ap, subst, arith}
+use Rattle.std.specs.Prelude.{option_map, slice_get, unwrap_or}
 use Rattle.std.specs.List.{list_all}
 use Rattle.clap.proofs.WalkLemmas.{both}
 use Rattle.unl_base.specs.Doors.{DoorState}
+use Rattle.unl_base.specs.Faults.{Rose}
 use Rattle.unl_base.specs.Streams.{HasEnded, Sends, SendsFront, Takes}
 use Rattle.unl_base.proofs.Sending.{Sends_nothing}
 use Rattle.unl_core.specs.Board.{AreDifferent}
-use Rattle.unl_documents.specs.Reading.{Reading}
 use Rattle.unl_documents.specs.Texts.{is_name}
-use Rattle.unl_edge.specs.Scene.{InputEnd, OutputEnd, Scene}
+use Rattle.unl_edge.specs.Keeping.{Shelf, SpellKept, keeping, shelf_of}
+use Rattle.unl_edge.specs.Scene.{Scene}
 use Rattle.unl_edge.specs.Status.{Caused, code_of, ending_status, upstream_status}
-use Rattle.unl_edge.specs.Upstreams.{Begins, IsDecidedByLines, LinksEnd, RunsUpstream, ServesAfterLines, ServesLinks}
-use Rattle.unl_edge.specs.Upstreams.{UpstreamEnds, UpstreamRuns, connections_line, obeying}
+use Rattle.unl_edge.specs.Upstreams.{Begins, ComesBack, EndsKept, EndsReopened, Facing, IsDecidedByLines, IsDecidedFrom, IsMade, IsOfRow, KeeperEnd, LinesEnd}
+use Rattle.unl_edge.specs.Upstreams.{IsNew, LinksEnd, Opens, RefusesRow, RunsUpstream, ServesAfterLines, ServesLinks, UpstreamEnds, UpstreamRuns}
+use Rattle.unl_edge.specs.Upstreams.{connections_line, facing_of, lines_code, obeying}
 use Rattle.unl_edge.specs.declared.ends.ServingEnd.{ServingEnd}
 use Rattle.unl_edge.specs.declared.ends.ServingEnd.TheVariants.{Closed, WriteFault, DoorFault, OutOfMemory}
 use Rattle.unl_edge.specs.declared.ends.UpstreamEnd.{UpstreamEnd}
-use Rattle.unl_edge.specs.declared.ends.UpstreamEnd.TheVariants.{OutOfMemory as NoMemory, Lines, Links}
+use Rattle.unl_edge.specs.declared.ends.UpstreamEnd.TheVariants.{OutOfMemory as NoMemory, KeeperFault, Row, Lines, Links}
 use Rattle.unl_edge.specs.declared.status.Status.TheVariants as status
-use Rattle.unl_lines.specs.Laws.{IsSilent}
-use Rattle.unl_lines.specs.Taken.{Ending, IsRefused, Outcome, Taken, done, outcome_of, refused}
-use Rattle.unl_lines.specs.declared.taking.LinesFault.{LinesFault}
-use Rattle.unl_lines.specs.declared.taking.LinesFault.TheVariants as lines
-use Rattle.unl_lines.specs.Whole.{AnswersAll, IsRefusing, TakesLines}
-use Rattle.unl_lines.proofs.Silent.{prints_cause_alone}
-use Rattle.unl_tokens.specs.declared.token.Token.{Token}
+use Rattle.unl_edge.proofs.Keeping.{all_taken, lines_keep, same_ending, silent}
+use Rattle.unl_edge.proofs.Named.{links_named}
 use Rattle.unl_exchange.specs.Answering.{Coming}
 use Rattle.unl_exchange.specs.Linked.{linking}
-use Rattle.unl_upstream.specs.Hosting.{Hosts}
-use Rattle.unl_upstream.specs.Lines.{obeyed_as, obeyed_by, obeyed_line}
-use Rattle.unl_upstream.specs.Upstream.{Obeyed, Obeying, UpstreamState, commanded}
-use Rattle.unl_upstream.specs.Command.{command_in}
-use Rattle.unl_upstream.specs.declared.command.Command.{Command}
+use Rattle.unl_input.specs.declared.refusal.SayFault.TheVariants as say
+use Rattle.unl_keeper.specs.Rows.{kept}
+use Rattle.unl_lines.specs.Lines.{lines}
+use Rattle.unl_lines.specs.Taken.{Ending, IsRefused, Outcome, done, outcome_of, refused}
+use Rattle.unl_lines.specs.declared.taking.LinesFault.TheVariants as line
+use Rattle.unl_lines.specs.Whole.{AnswersAll, IsRefusing}
+use Rattle.unl_lines.proofs.Silent.{prints_cause_alone}
+use Rattle.unl_tokens.specs.declared.token.Token.{Token}
+use Rattle.unl_upstream.specs.Kept.{HasKept, KeeperState, KeptState, commands_in, kept_state}
+use Rattle.unl_upstream.specs.KeptHosting.{Hosts}
+use Rattle.unl_upstream.specs.Reopening.{IsSameKeeper, Reopens, rows_after}
+use Rattle.unl_upstream.specs.Upstream.{UpstreamState, opening}
+use Rattle.unl_upstream.specs.declared.reopening.ReopenFault.{ReopenFault}
+use Rattle.unl_upstream.specs.declared.reopening.ReopenFault.TheVariants.{BadRow, NoRow, Fault, Memory}
 use Rattle.unl_words.specs.Lists.{are_different, are_environments, has_count}
 use Rattle.unl_words.proofs.Known.{others_differ}
 
--- ---- the lines
-
--- an accepted command prints nothing
-obeyed_silent : (obeys : Obeying Obeyed) (taken : Taken UpstreamState) → obeyed_as obeys ≡ Ok taken → taken.text ≡ []
-obeyed_silent (Ok obeyed) taken is =
-    let same : record { text = []; desk = obeyed.up } ≡ taken = cc is in ap (λ (t : Taken UpstreamState). t.text) (sym same)
-obeyed_silent (Err refusal) taken is = absurd (cc is)
-
-read_silent : (up : UpstreamState) (reading : Reading Command) (taken : Taken UpstreamState) → obeyed_by up reading ≡ Ok taken → taken.text ≡ []
-read_silent up (Ok command) taken is = obeyed_silent (commanded command up) taken is
-read_silent up (Err fault) taken is = absurd (cc is)
-
-silent : IsSilent obeying
-unfolding obeyed_line
-silent k up line taken is = read_silent up (command_in line) taken is
-
--- the lines of a whole input, all of which were accepted
-all_accepted : (start up : UpstreamState) (read : List ℕ) → (outcome_of obeying start read).ending ≡ done → (outcome_of obeying start read).desk ≡ up
-    → outcome_of obeying start read ≡ record { text = []; ending = done; desk = up }
-all_accepted start up read ending leaves = parts (outcome_of obeying start read) (prints_cause_alone obeying silent start read) ending leaves
-  where
-    parts : (o : Outcome UpstreamState) → o.text ≡ [] → o.ending ≡ done → o.desk ≡ up → o ≡ record { text = []; ending = done; desk = up }
-    parts o text ending desk =
-        ap (λ (t : List ℕ). record { text = t; ending = o.ending; desk = o.desk }) text
-        ∙ ap (λ (e : Ending). record { text = []; ending = e; desk = o.desk }) ending
-        ∙ ap (λ (d : UpstreamState). record { text = []; ending = done; desk = d }) desk
-
--- nothing was sent while the lines were taken
-nothing_sent : (old mid : Option (List ℕ)) (text : List ℕ) → text ≡ [] → Sends old text mid → mid ≡ old
-nothing_sent old mid text none sends =
-    sends ∙ ap (λ (t : List ℕ). option_map (λ sent. sent ++ t) old) none ∙ sym (Sends_nothing old)
-
--- ---- the links after the lines
+-- ---- the links
 
 -- no link was handed out
-pub hosts_still : (up : UpstreamState) (coming coming_after : Coming) (door door_after : DoorState) → coming_after ≡ coming
+pub hosts_still : (state : KeptState) (coming : Coming) (door door_after : DoorState)
     → door_after.given ≡ door.given → door_after.back ≡ door.back → door_after.links ≡ door.links → door_after.returned ≡ door.returned
-    → Hosts (linking up coming door) (linking up coming_after door_after) 0
-hosts_still up coming coming_after door door_after same given back left returned = record {
+    → Hosts (linking state coming door) (linking state coming door_after) 0
+hosts_still state coming door door_after given back left returned = record {
   given = given ∙ omega arith;
   back = back ∙ omega arith;
   linked = λ all others told told_back. record {
@@ -84,91 +58,163 @@ hosts_still up coming coming_after door door_after same given back left returned
     left = left ∙ told;
     returned_after = returned ∙ told_back ∙ ap Some (sym (append-nil others));
     counted = refl;
-    linked = (refl, same);
+    linked = (refl, refl);
   };
 }
 
+-- ---- the links after the lines
+
+-- nothing was sent while the lines were taken
+nothing_sent : (old mid : Option (List ℕ)) (text : List ℕ) → text ≡ [] → Sends old text mid → mid ≡ old
+nothing_sent old mid text none sends =
+    sends ∙ ap (λ (t : List ℕ). option_map (λ sent. sent ++ t) old) none ∙ sym (Sends_nothing old)
+
 -- how an upstream ends whose lines were all taken, by what then stands
-pub after_lines : (start up last : UpstreamState) (end : ServingEnd) (before after : Scene) (input : InputEnd) (output : OutputEnd)
-    → AnswersAll obeying start up before.input.left input.left before.output.sent output.sent
-    → LinksEnd up last end (record before { input = input; output = output }) after → after.input ≡ input
-    → UpstreamEnds start before.draws (Links end) before after
-after_lines start up last end before after input output taken links kept = by_end end links
+pub after_lines : (opened kept last : KeptState) (desk : Shelf) (end : ServingEnd) (left left_after : Option (List ℕ)) (before after : Facing)
+    (sent : Option (List ℕ)) → HasKept kept.keeper → shelf_of kept ≡ desk → AnswersAll keeping (shelf_of opened) desk left left_after before.sent sent
+    → LinksEnd kept last end (record before { sent = sent }) after
+    → LinesEnd opened (Links end) last.keeper left left_after before after
+after_lines opened kept last desk end left left_after before after sent has is taken links = by_end end links
   where
-    same_sent : output.sent ≡ before.output.sent
+    same_sent : sent ≡ before.sent
     same_sent =
-        nothing_sent before.output.sent output.sent (outcome_of obeying start taken.read).text
-        (prints_cause_alone obeying silent start taken.read) taken.answered.sent
+        nothing_sent before.sent sent (outcome_of keeping (shelf_of opened) taken.read).text
+        (prints_cause_alone keeping silent (shelf_of opened) taken.read) taken.answered.sent
 
-    kept_left : after.input.left ≡ input.left
-    kept_left = ap (λ (i : InputEnd). i.left) kept
+    accepted : outcome_of keeping (shelf_of opened) taken.read ≡ record { text = []; ending = done; desk = shelf_of kept }
+    accepted = all_taken keeping (shelf_of opened) (shelf_of kept) taken.read silent taken.answered.ending (taken.leaves ∙ sym is)
 
-    serves : (served : ℕ) → ServesLinks up before.draws last (record before { input = input; output = output }) after served
-        → ServesAfterLines start before.draws before after served
+    spelled : SpellKept (shelf_of opened) (lines taken.read) (shelf_of kept)
+    spelled = lines_keep (shelf_of opened) (shelf_of kept) taken.read accepted
+
+    serves : (served : ℕ) → ServesLinks kept last (record before { sent = sent }) after served
+        → ServesAfterLines opened last.keeper left left_after before after served
     serves served hosts = record {
       read = taken.read;
-      took = subst (λ (l : Option (List ℕ)). Takes before.input.left taken.read l) (sym kept_left) taken.took;
-      end = subst HasEnded (sym kept_left) taken.end;
-      up = up;
-      accepted = all_accepted start up taken.read taken.answered.ending taken.leaves;
-      last = last;
+      took = taken.took;
+      end = taken.end;
+      kept = kept;
+      accepted = accepted;
+      spelled = spelled;
+      up = last.up;
       hosts = hosts;
+      named = λ links returned told told_back.
+          links_named opened kept last spelled.commands before after served links returned has spelled.kept
+          (record { up = spelled.leads; count = spelled.counted }) (hosts.linked links returned told told_back);
     }
 
-    by_end : (end : ServingEnd) → LinksEnd up last end (record before { input = input; output = output }) after
-        → UpstreamEnds start before.draws (Links end) before after
+    by_end : (end : ServingEnd) → LinksEnd kept last end (record before { sent = sent }) after
+        → LinesEnd opened (Links end) last.keeper left left_after before after
     by_end Closed links = (
       links.0,
       serves links.0 links.1,
-      subst (λ (s : Option (List ℕ)). Sends s (connections_line links.0) after.output.sent) same_sent links.2,
+      subst (λ (s : Option (List ℕ)). Sends s (connections_line links.0) after.sent) same_sent links.2,
       links.3,
     )
     by_end WriteFault links = (
       links.0,
       serves links.0 links.1,
-      subst (λ (s : Option (List ℕ)). SendsFront s (connections_line links.0) after.output.sent) same_sent links.2,
+      subst (λ (s : Option (List ℕ)). SendsFront s (connections_line links.0) after.sent) same_sent links.2,
       links.3,
     )
     by_end DoorFault links = (links.0, serves links.0 links.1, links.2 ∙ same_sent)
     by_end OutOfMemory links = tt
 
--- the same, where what stood before is known by its parts
-pub after_lines_from : (start up last : UpstreamState) (end : ServingEnd) (before parts after : Scene) (input : InputEnd) (output : OutputEnd)
-    → parts ≡ before → AnswersAll obeying start up parts.input.left input.left parts.output.sent output.sent
-    → LinksEnd up last end (record parts { input = input; output = output }) after → after.input ≡ input
-    → UpstreamEnds start before.draws (Links end) before after
-after_lines_from start up last end before parts after input output same taken links kept =
-    subst (λ (scene : Scene). UpstreamEnds start scene.draws (Links end) scene after) same
-    (after_lines start up last end parts after input output taken links kept)
+-- ---- the keeper
+
+-- how an upstream ends that was reopened
+pub after_reopening : (start opened : KeptState) (reopened : ℕ) (end : UpstreamEnd) (last : KeeperState) (left left_after : Option (List ℕ)) (before after : Facing)
+    → Opens start reopened opened → LinesEnd opened end last left left_after before after → KeeperEnd start end last left left_after before after
+after_reopening start opened reopened NoMemory last left left_after before after opens ends = tt
+after_reopening start opened reopened KeeperFault last left left_after before after opens ends = ends
+after_reopening start opened reopened (Row told) last left left_after before after opens ends = absurd ends
+after_reopening start opened reopened (Lines fault) last left left_after before after opens ends =
+    record { reopened = reopened; opened = opened; opens = opens; ends = ends }
+after_reopening start opened reopened (Links end) last left left_after before after opens ends =
+    record { reopened = reopened; opened = opened; opens = opens; ends = ends }
+
+-- a row that is no command that is accepted, or isn't there
+pub bad_row : (start reached : KeptState) (place : ℕ) (text : List ℕ) (fault : ReopenFault) → fault ≡ BadRow place text
+    → IsSameKeeper start.keeper reached.keeper → Reopens start (Err fault) reached → RefusesRow start place
+bad_row start reached place text fault is same reopens = record {
+  fault = fault;
+  of_row = subst (IsOfRow place) (sym is) refl;
+  reached = reached;
+  same = same;
+  reopens = reopens;
+}
+
+pub no_row_there : (start reached : KeptState) (place : ℕ) (fault : ReopenFault) → fault ≡ NoRow place
+    → IsSameKeeper start.keeper reached.keeper → Reopens start (Err fault) reached → RefusesRow start place
+no_row_there start reached place fault is same reopens = record {
+  fault = fault;
+  of_row = subst (IsOfRow place) (sym is) refl;
+  reached = reached;
+  same = same;
+  reopens = reopens;
+}
+
+-- a count that rose later rose from before
+pub rose_before : (before middle after : ℕ) → before ≤ middle → Rose middle after → Rose before after
+rose_before before middle after later rose = omega (arith, later, rose)
+
+-- a keeper without rows changes no upstream
+none_applied : (start up : UpstreamState) (texts : List (List ℕ)) → length texts ≡ 0 → rows_after texts start ≡ Some up → up ≡ start
+none_applied start up [] none leads = sym (ap (λ (o : Option UpstreamState). unwrap_or o start) leads)
+none_applied start up (text ∷ texts) none leads = absurd (omega (arith, none))
+
+-- an upstream that was reopened on such a keeper is the opening one, and none is kept
+opens_empty : (start : UpstreamState) (made : KeeperState) (reopened : ℕ) (opened : KeptState) → made.rows ≡ Some [] → Opens (kept_state start made) reopened opened
+    → shelf_of opened ≡ record { up = start; count = 0; commands = Some [] }
+opens_empty start made reopened opened empty opens =
+    let rows : opened.keeper.rows ≡ Some [] = opens.same.rows ∙ empty in
+    let none : reopened ≡ 0 = subst (λ (o : Option (List (List ℕ))). IfSome o (λ list. reopened ≡ length list)) rows opens.reopens.whole in
+    let up : opened.up ≡ start =
+    none_applied start opened.up opens.reopens.applied.texts (opens.reopens.applied.counted ∙ none) opens.reopens.applied.leads in
+    let count : opened.keeper.count ≡ 0 = sym opens.reopens.counted ∙ none in
+    λ i. record { up = up i; count = count i; commands = option_map commands_in (kept (count i) (rows i)) }
+
+-- so it is where the maker tells what came back
+opens_plain : (start : UpstreamState) (made : KeeperState) (held : Option (List (List ℕ))) → IsMade held made → (reopened : ℕ) (opened : KeptState)
+    → Opens (kept_state start made) reopened opened → IfSome held (λ _. shelf_of opened ≡ record { up = start; count = 0; commands = Some [] })
+opens_plain start made held is_made reopened opened opens = by_held held is_made.empty
+  where
+    by_held : (held : Option (List (List ℕ))) → IfSome held (λ _. made.rows ≡ Some [])
+        → IfSome held (λ _. shelf_of opened ≡ record { up = start; count = 0; commands = Some [] })
+    by_held None empty = tt
+    by_held (Some rows) empty = opens_empty start made reopened opened empty opens
+
+-- a keeper was made, and came back
+pub ends_kept : (start : UpstreamState) (end : UpstreamEnd) (made last : KeeperState) (before after : Scene) → IsMade before.keep.held made
+    → KeeperEnd (kept_state start made) end last before.input.left after.input.left (facing_of before) (facing_of after)
+    → ComesBack last before.keep after.keep → UpstreamEnds start end before after
+ends_kept start NoMemory made last before after is_made ends back = tt
+ends_kept start KeeperFault made last before after is_made ends back = ends
+ends_kept start (Row told) made last before after is_made ends back =
+    record { made = made; is_made = is_made; plain = opens_plain start made before.keep.held is_made; last = last; ends = ends; back = back }
+ends_kept start (Lines fault) made last before after is_made ends back =
+    record { made = made; is_made = is_made; plain = opens_plain start made before.keep.held is_made; last = last; ends = ends; back = back }
+ends_kept start (Links end) made last before after is_made ends back =
+    record { made = made; is_made = is_made; plain = opens_plain start made before.keep.held is_made; last = last; ends = ends; back = back }
 
 -- ---- the draw before
-
-serves_from : (start : UpstreamState) (coming : Coming) (before after : Scene) (served : ℕ)
-    → ServesAfterLines start coming (record before { draws = coming }) after served → ServesAfterLines start coming before after served
-serves_from start coming before after served s =
-    record { read = s.read; took = s.took; end = s.end; up = s.up; accepted = s.accepted; last = s.last; hosts = s.hosts }
-
-ends_from : (start : UpstreamState) (coming : Coming) (end : UpstreamEnd) (before after : Scene)
-    → UpstreamEnds start coming end (record before { draws = coming }) after → UpstreamEnds start coming end before after
-ends_from start coming NoMemory before after ends = tt
-ends_from start coming (Lines fault) before after ends = ends
-ends_from start coming (Links Closed) before after ends = (ends.0, serves_from start coming before after ends.0 ends.1, ends.2, ends.3)
-ends_from start coming (Links WriteFault) before after ends = (ends.0, serves_from start coming before after ends.0 ends.1, ends.2, ends.3)
-ends_from start coming (Links DoorFault) before after ends = (ends.0, serves_from start coming before after ends.0 ends.1, ends.2)
-ends_from start coming (Links OutOfMemory) before after ends = tt
 
 -- how an upstream ends that took a draw first
 pub runs_so : (secret : List ℕ) (environments : List (List ℕ)) (book : List Token) (epoch : ℕ) (end : UpstreamEnd) (before after : Scene)
     (start : UpstreamState) (coming : Coming) → Begins secret environments book epoch before.draws start coming
-    → UpstreamEnds start coming end (record before { draws = coming }) after
+    → UpstreamEnds start end (record before { draws = coming }) after
     → UpstreamRuns secret environments book epoch end before after
-runs_so secret environments book epoch end before after start coming begins ends = by_end end (ends_from start coming end before after ends)
+runs_so secret environments book epoch end before after start coming begins ends = by_end end ends
   where
-    runs : (end : UpstreamEnd) → UpstreamEnds start coming end before after → RunsUpstream secret environments book epoch end before after
+    runs : (end : UpstreamEnd) → UpstreamEnds start end (record before { draws = coming }) after
+        → RunsUpstream secret environments book epoch end before after
     runs end ends = record { start = start; coming = coming; begins = begins; ends = ends }
 
-    by_end : (end : UpstreamEnd) → UpstreamEnds start coming end before after → UpstreamRuns secret environments book epoch end before after
+    by_end : (end : UpstreamEnd) → UpstreamEnds start end (record before { draws = coming }) after
+        → UpstreamRuns secret environments book epoch end before after
     by_end NoMemory ends = tt
+    by_end KeeperFault ends = runs KeeperFault ends
+    by_end (Row told) ends = runs (Row told) ends
     by_end (Lines fault) ends = runs (Lines fault) ends
     by_end (Links end) ends = runs (Links end) ends
 
@@ -185,6 +231,23 @@ pub words_differ : (environments : List (List ℕ)) → are_environments environ
 words_differ environments are =
     let parts = both (has_count 1 8 environments) (list_all is_name environments && are_different environments) are in
     environments_differ environments (both (list_all is_name environments) (are_different environments) parts.1).1
+
+-- ---- a keeper without rows
+
+-- no row of such a keeper is refused
+no_row : (start : UpstreamState) (made : KeeperState) (place : ℕ) → made.rows ≡ Some [] → RefusesRow (kept_state start made) place → ⊥
+no_row start made place empty refuses = by_fault refuses.fault refuses.of_row refuses.reopens
+  where
+    rows : refuses.reached.keeper.rows ≡ Some []
+    rows = refuses.same.rows ∙ empty
+
+    by_fault : (fault : ReopenFault) → IsOfRow place fault → Reopens (kept_state start made) (Err fault) refuses.reached → ⊥
+    by_fault (BadRow at text) of_row (count, is, within, applies, there) =
+        let row : slice_get [] count ≡ Some text =
+        subst (λ (o : Option (List (List ℕ))). IfSome o (λ list. slice_get list count ≡ Some text)) rows there.1 in absurd (cc row)
+    by_fault (NoRow at) of_row (count, is, within, applies, none) = absurd (cc (none, rows))
+    by_fault Fault of_row opens = of_row
+    by_fault Memory of_row opens = of_row
 
 -- ---- what decides
 
@@ -207,51 +270,107 @@ refusing_decides outcome None old new is = tt
 refusing_decides outcome (Some bytes) old new is = ap code_of (sym (refused_is (outcome bytes).ending is.ending))
 
 -- where the lines were all accepted they decide 0
-lines_decide : (start : UpstreamState) (coming : Coming) (before after : Scene) (served : ℕ) → ServesAfterLines start coming before after served
-    → IfSome before.input.left (λ bytes. 0 ≡ code_of (ending_status (outcome_of obeying start bytes).ending))
-lines_decide start coming before after served serves =
-    of_read before.input.left (whole_read before.input.left after.input.left serves.read serves.took serves.end)
+lines_decide : (opened : KeptState) (last : KeeperState) (left left_after : Option (List ℕ)) (before after : Facing) (served : ℕ)
+    → ServesAfterLines opened last left left_after before after served → IfSome left (λ bytes. 0 ≡ lines_code keeping (shelf_of opened) bytes)
+lines_decide opened last left left_after before after served serves = of_read left (whole_read left left_after serves.read serves.took serves.end)
   where
-    of_read : (left : Option (List ℕ)) → IfSome left (λ bytes. bytes ≡ serves.read)
-        → IfSome left (λ bytes. 0 ≡ code_of (ending_status (outcome_of obeying start bytes).ending))
+    of_read : (left : Option (List ℕ)) → IfSome left (λ bytes. bytes ≡ serves.read) → IfSome left (λ bytes. 0 ≡ lines_code keeping (shelf_of opened) bytes)
     of_read None is = tt
     of_read (Some bytes) is =
-        subst (λ (bs : List ℕ). 0 ≡ code_of (ending_status (outcome_of obeying start bs).ending)) (sym is)
-        (ap (λ (o : Outcome UpstreamState). code_of (ending_status o.ending)) (sym serves.accepted))
+        subst (λ (bs : List ℕ). 0 ≡ lines_code keeping (shelf_of opened) bs) (sym is)
+        (ap (λ (o : Outcome Shelf). code_of (ending_status o.ending)) (sym serves.accepted))
 
-ends_decided : {Read Write Door : Type 0} (start : UpstreamState) (coming : Coming) (end : UpstreamEnd) (before after : Scene)
-    → UpstreamEnds start coming end before after → Caused (upstream_status end) Read Write Door → ¬ Read → ¬ Write → ¬ Door
-    → code_of (upstream_status end) ≢ 6
-    → IfSome before.input.left (λ bytes. code_of (upstream_status end) ≡ code_of (ending_status (outcome_of obeying start bytes).ending))
-ends_decided start coming NoMemory before after ends caused read write door memory = absurd (memory refl)
-ends_decided start coming (Lines lines.Bad) before after ends caused read write door memory =
-    refusing_decides (outcome_of obeying start) before.input.left before.output.sent after.output.sent ends.0
-ends_decided start coming (Lines lines.ReadFault) before after ends caused read write door memory = absurd (read caused)
-ends_decided start coming (Lines lines.WriteFault) before after ends caused read write door memory = absurd (write caused)
-ends_decided start coming (Lines lines.Memory) before after ends caused read write door memory = absurd (memory refl)
-ends_decided start coming (Links Closed) before after ends caused read write door memory = lines_decide start coming before after ends.0 ends.1
-ends_decided start coming (Links WriteFault) before after ends caused read write door memory = absurd (write caused)
-ends_decided start coming (Links DoorFault) before after ends caused read write door memory = absurd (door caused)
-ends_decided start coming (Links OutOfMemory) before after ends caused read write door memory = absurd (memory refl)
+-- the lines decide the number of an upstream that was reopened
+by_lines : (start : UpstreamState) (made : KeeperState) (reopened : ℕ) (opened : KeptState) (code : ℕ) (held : Option (List (List ℕ))) (left : Option (List ℕ))
+    → IsMade held made → Opens (kept_state start made) reopened opened → IfSome left (λ bytes. code ≡ lines_code keeping (shelf_of opened) bytes)
+    → IsDecidedFrom (kept_state start made) code left × IfSome held (λ _. IfSome left (λ bytes. code ≡ lines_code obeying start bytes))
+by_lines start made reopened opened code held left is_made opens decides = (inr (reopened, opened, opens, decides), by_held held is_made.empty)
+  where
+    plainly : (shelf_of opened ≡ record { up = start; count = 0; commands = Some [] }) → (bytes : List ℕ) → code ≡ lines_code keeping (shelf_of opened) bytes
+        → code ≡ lines_code obeying start bytes
+    plainly same bytes is =
+        is ∙ ap (λ (e : Ending). code_of (ending_status e)) (same_ending (shelf_of opened) bytes (ap (λ (s : Shelf). s.count) same))
+        ∙ ap (λ (s : Shelf). lines_code obeying s.up bytes) same
+
+    by_left : (shelf_of opened ≡ record { up = start; count = 0; commands = Some [] }) → (left : Option (List ℕ))
+        → IfSome left (λ bytes. code ≡ lines_code keeping (shelf_of opened) bytes) → IfSome left (λ bytes. code ≡ lines_code obeying start bytes)
+    by_left same None is = tt
+    by_left same (Some bytes) is = plainly same bytes is
+
+    by_held : (held : Option (List (List ℕ))) → IfSome held (λ _. made.rows ≡ Some [])
+        → IfSome held (λ _. IfSome left (λ bytes. code ≡ lines_code obeying start bytes))
+    by_held None empty = tt
+    by_held (Some rows) empty = by_left (opens_empty start made reopened opened empty opens) left decides
+
+-- a row that is refused decides it
+by_row : (start : UpstreamState) (made : KeeperState) (place : ℕ) (held : Option (List (List ℕ))) (left : Option (List ℕ))
+    → IsMade held made → RefusesRow (kept_state start made) place
+    → IsDecidedFrom (kept_state start made) 3 left × IfSome held (λ _. IfSome left (λ bytes. 3 ≡ lines_code obeying start bytes))
+by_row start made place held left is_made refuses = (inl (place, refuses, refl), by_held held is_made.empty)
+  where
+    by_held : (held : Option (List (List ℕ))) → IfSome held (λ _. made.rows ≡ Some [])
+        → IfSome held (λ _. IfSome left (λ bytes. 3 ≡ lines_code obeying start bytes))
+    by_held None empty = tt
+    by_held (Some rows) empty = absurd (no_row start made place empty refuses)
+
+-- the number of how an upstream ended that has a keeper
+kept_decided : {Read Write Door Keep : Type 0} (start : UpstreamState) (made last : KeeperState) (end : UpstreamEnd) (held : Option (List (List ℕ)))
+    (left left_after : Option (List ℕ)) (before after : Facing) → IsMade held made → KeeperEnd (kept_state start made) end last left left_after before after
+    → Caused (upstream_status end) Read Write Door Keep → ¬ Read → ¬ Write → ¬ Door → ¬ Keep → code_of (upstream_status end) ≢ 6
+    → IsDecidedFrom (kept_state start made) (code_of (upstream_status end)) left
+    × IfSome held (λ _. IfSome left (λ bytes. code_of (upstream_status end) ≡ lines_code obeying start bytes))
+kept_decided start made last NoMemory held left left_after before after is_made ends caused read write door keep memory = absurd (memory refl)
+kept_decided start made last KeeperFault held left left_after before after is_made ends caused read write door keep memory = absurd (keep caused)
+kept_decided start made last (Row (Ok u)) held left left_after before after is_made ends caused read write door keep memory =
+    by_row start made ends.0 held left is_made ends.1
+kept_decided start made last (Row (Err say.WriteFault)) held left left_after before after is_made ends caused read write door keep memory =
+    absurd (write caused)
+kept_decided start made last (Row (Err say.Memory)) held left left_after before after is_made ends caused read write door keep memory =
+    absurd (memory refl)
+kept_decided start made last (Lines line.Bad) held left left_after before after is_made ends caused read write door keep memory =
+    by_lines start made ends.reopened ends.opened 3 held left is_made ends.opens
+    (refusing_decides (outcome_of keeping (shelf_of ends.opened)) left before.sent after.sent ends.ends.0)
+kept_decided start made last (Lines line.ReadFault) held left left_after before after is_made ends caused read write door keep memory = absurd (read caused)
+kept_decided start made last (Lines line.WriteFault) held left left_after before after is_made ends caused read write door keep memory = absurd (write caused)
+kept_decided start made last (Lines line.Memory) held left left_after before after is_made ends caused read write door keep memory = absurd (memory refl)
+kept_decided start made last (Links Closed) held left left_after before after is_made ends caused read write door keep memory =
+    by_lines start made ends.reopened ends.opened 0 held left is_made ends.opens
+    (lines_decide ends.opened last left left_after before after ends.ends.0 ends.ends.1)
+kept_decided start made last (Links WriteFault) held left left_after before after is_made ends caused read write door keep memory = absurd (write caused)
+kept_decided start made last (Links DoorFault) held left left_after before after is_made ends caused read write door keep memory = absurd (door caused)
+kept_decided start made last (Links OutOfMemory) held left left_after before after is_made ends caused read write door keep memory = absurd (memory refl)
 
 -- the lines decide how an upstream ends
-pub upstream_decided : {Read Write Door : Type 0} (secret : List ℕ) (environments : List (List ℕ)) (book : List Token) (epoch : ℕ) (end : UpstreamEnd)
-    (before after : Scene) → UpstreamRuns secret environments book epoch end before after → Caused (upstream_status end) Read Write Door
-    → ¬ Read → ¬ Write → ¬ Door → code_of (upstream_status end) ≢ 6
+pub upstream_decided : {Read Write Door Keep : Type 0} (secret : List ℕ) (environments : List (List ℕ)) (book : List Token) (epoch : ℕ) (end : UpstreamEnd)
+    (before after : Scene) → UpstreamRuns secret environments book epoch end before after → Caused (upstream_status end) Read Write Door Keep
+    → ¬ Read → ¬ Write → ¬ Door → ¬ Keep → code_of (upstream_status end) ≢ 6
     → IsDecidedByLines secret environments book epoch (code_of (upstream_status end)) before
-upstream_decided {Read} {Write} {Door} secret environments book epoch end before after runs caused read write door memory = by_end end runs caused memory
+upstream_decided {Read} {Write} {Door} {Keep} secret environments book epoch end before after runs caused read write door keep memory = by_end end runs caused memory
   where
-    decided : (end : UpstreamEnd) → RunsUpstream secret environments book epoch end before after → Caused (upstream_status end) Read Write Door
+    decided : (end : UpstreamEnd) (start : UpstreamState) (coming : Coming) → Begins secret environments book epoch before.draws start coming
+        → EndsKept start end (record before { draws = coming }) after → Caused (upstream_status end) Read Write Door Keep
         → code_of (upstream_status end) ≢ 6 → IsDecidedByLines secret environments book epoch (code_of (upstream_status end)) before
-    decided end runs caused memory = record {
-      start = runs.start;
-      coming = runs.coming;
-      begins = runs.begins;
-      decided = ends_decided runs.start runs.coming end before after runs.ends caused read write door memory;
-    }
+    decided end start coming begins ends caused memory =
+        let told = kept_decided start ends.made ends.last end before.keep.held before.input.left after.input.left
+        (facing_of (record before { draws = coming })) (facing_of after) ends.is_made ends.ends caused read write door keep memory in record {
+          start = start;
+          coming = coming;
+          begins = begins;
+          made = ends.made;
+          is_made = ends.is_made;
+          reopened = told.0;
+          decided = told.1;
+        }
 
-    by_end : (end : UpstreamEnd) → UpstreamRuns secret environments book epoch end before after → Caused (upstream_status end) Read Write Door
+    by_end : (end : UpstreamEnd) → UpstreamRuns secret environments book epoch end before after → Caused (upstream_status end) Read Write Door Keep
         → code_of (upstream_status end) ≢ 6 → IsDecidedByLines secret environments book epoch (code_of (upstream_status end)) before
     by_end NoMemory runs caused memory = absurd (memory refl)
-    by_end (Lines fault) runs caused memory = decided (Lines fault) runs caused memory
-    by_end (Links end) runs caused memory = decided (Links end) runs caused memory
+    by_end KeeperFault runs caused memory = absurd (keep caused)
+    by_end (Row told) runs caused memory = decided (Row told) runs.start runs.coming runs.begins runs.ends caused memory
+    by_end (Lines fault) runs caused memory = decided (Lines fault) runs.start runs.coming runs.begins runs.ends caused memory
+    by_end (Links end) runs caused memory = decided (Links end) runs.start runs.coming runs.begins runs.ends caused memory
+
+-- an upstream that begins was given no command
+pub is_new : (up : UpstreamState) (boot : ℕ) (secret : List ℕ) (environments : List (List ℕ)) (book : List Token) (epoch : ℕ)
+    → up ≡ opening boot secret environments book epoch → IsNew up
+is_new up boot secret environments book epoch is = record { opens = (boot, secret, environments, book, epoch, is) }

@@ -1,15 +1,16 @@
 -- How the program ends, from how its commands end.
 use Rattle.std.proofs.Common.{◌≡◌, ◌≢◌, ℕ, ◌==◌, List, Bool, true, false, cond, length, Option, Some, None, IfSome, Result, Ok, Err, refl, sym, subst, ap, ◌∙◌}
 use Rattle.std.specs.Prelude.{IsErrOf, OnOk}
+use Rattle.unl_base.specs.Faults.{Rose}
 use Rattle.unl_base.specs.Streams.{Sends, SendsFront}
 use Rattle.unl_base.specs.declared.draws.Draw.{Draw}
 use Rattle.unl_documents.specs.Reading.{Reading}
 use Rattle.unl_documents.specs.Results.{Gives}
 use Rattle.unl_edge.specs.Edges.{EdgeEnds}
-use Rattle.unl_edge.specs.Ends.{CheckEnds, Ended, Ends, IsDecided, SaysOfInput, explained_status, outcome_end, refused_end, report_end}
+use Rattle.unl_edge.specs.Ends.{CheckEnds, Ended, Ends, HasCauses, IsDecided, SaysOfInput, explained_status, outcome_end, refused_end, report_end}
 use Rattle.unl_edge.specs.OwnBook.{own_book}
 use Rattle.unl_edge.specs.Scene.{Scene}
-use Rattle.unl_edge.specs.Status.{Caused, check_status, code_of, ending_status, explain_status, follow_status, lines_status, load_status, serving_status, upstream_status, words_status}
+use Rattle.unl_edge.specs.Status.{Caused, FailsToKeep, IsCaused, check_status, code_of, ending_status, explain_status, follow_status, lines_status, load_status, serving_status, upstream_status, words_status}
 use Rattle.unl_edge.proofs.Commands.{refusing_decides, upstream_decided}
 use Rattle.unl_edge.specs.declared.ends.CheckEnd.{CheckEnd}
 use Rattle.unl_edge.specs.declared.ends.CheckEnd.TheVariants as check
@@ -19,7 +20,7 @@ use Rattle.unl_edge.specs.declared.ends.UpstreamEnd.TheVariants as upstream
 use Rattle.unl_edge.specs.declared.ends.WordsEnd.{WordsEnd}
 use Rattle.unl_edge.specs.declared.ends.WordsEnd.TheVariants as words
 use Rattle.unl_edge.specs.declared.status.Status.{Status}
-use Rattle.unl_edge.specs.declared.status.Status.TheVariants.{Done, TestFailed, BadWords, Refused, ReadFault, WriteFault, OutOfMemory, DoorFault}
+use Rattle.unl_edge.specs.declared.status.Status.TheVariants.{Done, TestFailed, BadWords, Refused, ReadFault, WriteFault, OutOfMemory, DoorFault, KeeperFault}
 use Rattle.unl_explain.specs.Running.{Explains, SaysOfInput as SaysExplained, explained}
 use Rattle.unl_explain.specs.declared.running.ExplainFault.{ExplainFault}
 use Rattle.unl_explain.specs.declared.running.ExplainFault.TheVariants as explain
@@ -72,40 +73,69 @@ ends_by (Err Memory) reading status before after gives ends none =
 -- ---- causes
 
 -- the cause of a fault of the input, by its number
-pub read_cause : (status : Status) (code : ℕ) (Read Write Door : Type 0) → code ≡ code_of status
-    → Caused status Read Write Door → code ≡ 4 → Read
-read_cause ReadFault code Read Write Door is caused four = caused
-read_cause Done code Read Write Door is caused four = absurd (cc (is, four))
-read_cause TestFailed code Read Write Door is caused four = absurd (cc (is, four))
-read_cause BadWords code Read Write Door is caused four = absurd (cc (is, four))
-read_cause Refused code Read Write Door is caused four = absurd (cc (is, four))
-read_cause WriteFault code Read Write Door is caused four = absurd (cc (is, four))
-read_cause OutOfMemory code Read Write Door is caused four = absurd (cc (is, four))
-read_cause DoorFault code Read Write Door is caused four = absurd (cc (is, four))
+read_cause : (status : Status) (code : ℕ) (Read Write Door Keep : Type 0) → code ≡ code_of status
+    → Caused status Read Write Door Keep → code ≡ 4 → Read
+read_cause ReadFault code Read Write Door Keep is caused four = caused
+read_cause Done code Read Write Door Keep is caused four = absurd (cc (is, four))
+read_cause TestFailed code Read Write Door Keep is caused four = absurd (cc (is, four))
+read_cause BadWords code Read Write Door Keep is caused four = absurd (cc (is, four))
+read_cause Refused code Read Write Door Keep is caused four = absurd (cc (is, four))
+read_cause WriteFault code Read Write Door Keep is caused four = absurd (cc (is, four))
+read_cause OutOfMemory code Read Write Door Keep is caused four = absurd (cc (is, four))
+read_cause KeeperFault code Read Write Door Keep is caused four = absurd (cc (is, four))
+read_cause DoorFault code Read Write Door Keep is caused four = absurd (cc (is, four))
 
 -- that of a fault of the output
-pub write_cause : (status : Status) (code : ℕ) (Read Write Door : Type 0) → code ≡ code_of status
-    → Caused status Read Write Door → code ≡ 5 → Write
-write_cause WriteFault code Read Write Door is caused five = caused
-write_cause Done code Read Write Door is caused five = absurd (cc (is, five))
-write_cause TestFailed code Read Write Door is caused five = absurd (cc (is, five))
-write_cause BadWords code Read Write Door is caused five = absurd (cc (is, five))
-write_cause Refused code Read Write Door is caused five = absurd (cc (is, five))
-write_cause ReadFault code Read Write Door is caused five = absurd (cc (is, five))
-write_cause OutOfMemory code Read Write Door is caused five = absurd (cc (is, five))
-write_cause DoorFault code Read Write Door is caused five = absurd (cc (is, five))
+write_cause : (status : Status) (code : ℕ) (Read Write Door Keep : Type 0) → code ≡ code_of status
+    → Caused status Read Write Door Keep → code ≡ 5 → Write
+write_cause WriteFault code Read Write Door Keep is caused five = caused
+write_cause Done code Read Write Door Keep is caused five = absurd (cc (is, five))
+write_cause TestFailed code Read Write Door Keep is caused five = absurd (cc (is, five))
+write_cause BadWords code Read Write Door Keep is caused five = absurd (cc (is, five))
+write_cause Refused code Read Write Door Keep is caused five = absurd (cc (is, five))
+write_cause ReadFault code Read Write Door Keep is caused five = absurd (cc (is, five))
+write_cause OutOfMemory code Read Write Door Keep is caused five = absurd (cc (is, five))
+write_cause KeeperFault code Read Write Door Keep is caused five = absurd (cc (is, five))
+write_cause DoorFault code Read Write Door Keep is caused five = absurd (cc (is, five))
 
 -- that of a fault of the door
-pub door_cause : (status : Status) (code : ℕ) (Read Write Door : Type 0) → code ≡ code_of status
-    → Caused status Read Write Door → code ≡ 7 → Door
-door_cause DoorFault code Read Write Door is caused seven = caused
-door_cause Done code Read Write Door is caused seven = absurd (cc (is, seven))
-door_cause TestFailed code Read Write Door is caused seven = absurd (cc (is, seven))
-door_cause BadWords code Read Write Door is caused seven = absurd (cc (is, seven))
-door_cause Refused code Read Write Door is caused seven = absurd (cc (is, seven))
-door_cause ReadFault code Read Write Door is caused seven = absurd (cc (is, seven))
-door_cause WriteFault code Read Write Door is caused seven = absurd (cc (is, seven))
-door_cause OutOfMemory code Read Write Door is caused seven = absurd (cc (is, seven))
+door_cause : (status : Status) (code : ℕ) (Read Write Door Keep : Type 0) → code ≡ code_of status
+    → Caused status Read Write Door Keep → code ≡ 7 → Door
+door_cause KeeperFault code Read Write Door Keep is caused seven = absurd (cc (is, seven))
+door_cause DoorFault code Read Write Door Keep is caused seven = caused
+door_cause Done code Read Write Door Keep is caused seven = absurd (cc (is, seven))
+door_cause TestFailed code Read Write Door Keep is caused seven = absurd (cc (is, seven))
+door_cause BadWords code Read Write Door Keep is caused seven = absurd (cc (is, seven))
+door_cause Refused code Read Write Door Keep is caused seven = absurd (cc (is, seven))
+door_cause ReadFault code Read Write Door Keep is caused seven = absurd (cc (is, seven))
+door_cause WriteFault code Read Write Door Keep is caused seven = absurd (cc (is, seven))
+door_cause OutOfMemory code Read Write Door Keep is caused seven = absurd (cc (is, seven))
+
+-- that of a fault of the keeper
+keep_cause : (status : Status) (code : ℕ) (Read Write Door Keep : Type 0) → code ≡ code_of status
+    → Caused status Read Write Door Keep → code ≡ 8 → Keep
+keep_cause KeeperFault code Read Write Door Keep is caused eight = caused
+keep_cause Done code Read Write Door Keep is caused eight = absurd (cc (is, eight))
+keep_cause TestFailed code Read Write Door Keep is caused eight = absurd (cc (is, eight))
+keep_cause BadWords code Read Write Door Keep is caused eight = absurd (cc (is, eight))
+keep_cause Refused code Read Write Door Keep is caused eight = absurd (cc (is, eight))
+keep_cause ReadFault code Read Write Door Keep is caused eight = absurd (cc (is, eight))
+keep_cause WriteFault code Read Write Door Keep is caused eight = absurd (cc (is, eight))
+keep_cause OutOfMemory code Read Write Door Keep is caused eight = absurd (cc (is, eight))
+keep_cause DoorFault code Read Write Door Keep is caused eight = absurd (cc (is, eight))
+
+-- all of them
+pub all_causes : (status : Status) (code : ℕ) (before after : Scene) → code ≡ code_of status → IsCaused status before after → HasCauses code before after
+all_causes status code before after is caused = record {
+  read = read_cause status code (Rose before.input.faults after.input.faults) (Rose before.output.faults after.output.faults)
+      (Rose before.door.faults after.door.faults) (FailsToKeep before after) is caused;
+  write = write_cause status code (Rose before.input.faults after.input.faults) (Rose before.output.faults after.output.faults)
+      (Rose before.door.faults after.door.faults) (FailsToKeep before after) is caused;
+  door = door_cause status code (Rose before.input.faults after.input.faults) (Rose before.output.faults after.output.faults)
+      (Rose before.door.faults after.door.faults) (FailsToKeep before after) is caused;
+  keep = keep_cause status code (Rose before.input.faults after.input.faults) (Rose before.output.faults after.output.faults)
+      (Rose before.door.faults after.door.faults) (FailsToKeep before after) is caused;
+}
 
 -- ---- what decides, where nothing fails and memory is found
 
@@ -119,15 +149,15 @@ told_by reads code number outcome left left_after comes is = at_each left (decid
     at_each (Some all) same = is ∙ sym (ap code same)
 
 -- the lines decide how a replay ends
-replay_decided : (Read Write Door : Type 0) (end : Result Unit LinesFault) (left left_after old new : Option (List ℕ))
-    → TakesLines line_answer opening end left left_after old new → Caused (lines_status end) Read Write Door → ¬ Read → ¬ Write
+replay_decided : (Read Write Door Keep : Type 0) (end : Result Unit LinesFault) (left left_after old new : Option (List ℕ))
+    → TakesLines line_answer opening end left left_after old new → Caused (lines_status end) Read Write Door Keep → ¬ Read → ¬ Write
     → code_of (lines_status end) ≢ 6 → IfSome left (λ bytes. code_of (lines_status end) ≡ code_of (ending_status (replay_of bytes).ending))
-replay_decided Read Write Door (Ok u) None left_after old new ends caused read write memory = tt
-replay_decided Read Write Door (Ok u) (Some bytes) left_after old new ends caused read write memory = ap (λ e. code_of (ending_status e)) (sym ends.ending)
-replay_decided Read Write Door (Err lines.Bad) left left_after old new ends caused read write memory = refusing_decides replay_of left old new ends
-replay_decided Read Write Door (Err lines.ReadFault) left left_after old new ends caused read write memory = absurd (read caused)
-replay_decided Read Write Door (Err lines.WriteFault) left left_after old new ends caused read write memory = absurd (write caused)
-replay_decided Read Write Door (Err lines.Memory) left left_after old new ends caused read write memory = absurd (memory refl)
+replay_decided Read Write Door Keep (Ok u) None left_after old new ends caused read write memory = tt
+replay_decided Read Write Door Keep (Ok u) (Some bytes) left_after old new ends caused read write memory = ap (λ e. code_of (ending_status e)) (sym ends.ending)
+replay_decided Read Write Door Keep (Err lines.Bad) left left_after old new ends caused read write memory = refusing_decides replay_of left old new ends
+replay_decided Read Write Door Keep (Err lines.ReadFault) left left_after old new ends caused read write memory = absurd (read caused)
+replay_decided Read Write Door Keep (Err lines.WriteFault) left left_after old new ends caused read write memory = absurd (write caused)
+replay_decided Read Write Door Keep (Err lines.Memory) left left_after old new ends caused read write memory = absurd (memory refl)
 
 -- the number of how a check ends by what its input comes to
 check_code : Outcome Report → ℕ
@@ -142,113 +172,113 @@ said_decides draw end left left_after old new told =
     (ap (λ (e : CheckEnd). code_of (check_status e)) told.ends)
 
 -- the input decides how a check ends
-check_decided : (Read Write Door : Type 0) (draw : Draw) (end : CheckEnd) (left left_after old new : Option (List ℕ))
-    → CheckEnds draw end left left_after old new → Caused (check_status end) Read Write Door → ¬ Read → ¬ Write → code_of (check_status end) ≢ 6
+check_decided : (Read Write Door Keep : Type 0) (draw : Draw) (end : CheckEnd) (left left_after old new : Option (List ℕ))
+    → CheckEnds draw end left left_after old new → Caused (check_status end) Read Write Door Keep → ¬ Read → ¬ Write → code_of (check_status end) ≢ 6
     → IfSome left (λ bytes. code_of (check_status end) ≡ code_of (check_status (outcome_end (report_of draw bytes))))
-check_decided Read Write Door draw check.Passed left left_after old new ends caused read write memory = said_decides draw check.Passed left left_after old new ends
-check_decided Read Write Door draw check.Failed left left_after old new ends caused read write memory = said_decides draw check.Failed left left_after old new ends
-check_decided Read Write Door draw check.Refused left left_after old new ends caused read write memory = said_decides draw check.Refused left left_after old new ends
-check_decided Read Write Door draw check.ReadFault left left_after old new ends caused read write memory = absurd (read caused)
-check_decided Read Write Door draw check.WriteFault left left_after old new ends caused read write memory = absurd (write caused)
-check_decided Read Write Door draw check.OutOfMemory left left_after old new ends caused read write memory = absurd (memory refl)
+check_decided Read Write Door Keep draw check.Passed left left_after old new ends caused read write memory = said_decides draw check.Passed left left_after old new ends
+check_decided Read Write Door Keep draw check.Failed left left_after old new ends caused read write memory = said_decides draw check.Failed left left_after old new ends
+check_decided Read Write Door Keep draw check.Refused left left_after old new ends caused read write memory = said_decides draw check.Refused left left_after old new ends
+check_decided Read Write Door Keep draw check.ReadFault left left_after old new ends caused read write memory = absurd (read caused)
+check_decided Read Write Door Keep draw check.WriteFault left left_after old new ends caused read write memory = absurd (write caused)
+check_decided Read Write Door Keep draw check.OutOfMemory left left_after old new ends caused read write memory = absurd (memory refl)
 
 -- the number of how an explanation ends by what its input comes to
 explained_code : Outcome (List ℕ) → ℕ
 explained_code outcome = code_of (explained_status outcome)
 
 -- the input decides how an explanation ends
-explain_decided : (Read Write Door : Type 0) (end : Result Unit ExplainFault) (left left_after old new : Option (List ℕ))
-    → Explains end left left_after old new → Caused (explain_status end) Read Write Door → ¬ Read → ¬ Write → code_of (explain_status end) ≢ 6
+explain_decided : (Read Write Door Keep : Type 0) (end : Result Unit ExplainFault) (left left_after old new : Option (List ℕ))
+    → Explains end left left_after old new → Caused (explain_status end) Read Write Door Keep → ¬ Read → ¬ Write → code_of (explain_status end) ≢ 6
     → IfSome left (λ bytes. code_of (explain_status end) ≡ code_of (explained_status (outcome_of explained bytes)))
 unfolding explained_code
-explain_decided Read Write Door (Ok u) left left_after old new ends caused read write memory =
+explain_decided Read Write Door Keep (Ok u) left left_after old new ends caused read write memory =
     told_by explained explained_code 0 (Ok ends.0) left left_after ends.1.comes refl
-explain_decided Read Write Door (Err (explain.BadInput fault)) left left_after old new ends caused read write memory =
+explain_decided Read Write Door Keep (Err (explain.BadInput fault)) left left_after old new ends caused read write memory =
     told_by explained explained_code 3 _ left left_after ends.comes refl
-explain_decided Read Write Door (Err explain.TooLarge) left left_after old new ends caused read write memory =
+explain_decided Read Write Door Keep (Err explain.TooLarge) left left_after old new ends caused read write memory =
     told_by explained explained_code 3 _ left left_after ends.comes refl
-explain_decided Read Write Door (Err explain.ReadFault) left left_after old new ends caused read write memory = absurd (read caused)
-explain_decided Read Write Door (Err explain.WriteFault) left left_after old new ends caused read write memory = absurd (write caused)
-explain_decided Read Write Door (Err explain.Memory) left left_after old new ends caused read write memory = absurd (memory refl)
+explain_decided Read Write Door Keep (Err explain.ReadFault) left left_after old new ends caused read write memory = absurd (read caused)
+explain_decided Read Write Door Keep (Err explain.WriteFault) left left_after old new ends caused read write memory = absurd (write caused)
+explain_decided Read Write Door Keep (Err explain.Memory) left left_after old new ends caused read write memory = absurd (memory refl)
 
 -- bad words decide by themselves
-bad_decided : (Read Write Door : Type 0) (end : WordsEnd) → Caused (words_status end) Read Write Door → ¬ Write → code_of (words_status end) ≢ 6
+bad_decided : (Read Write Door Keep : Type 0) (end : WordsEnd) → Caused (words_status end) Read Write Door Keep → ¬ Write → code_of (words_status end) ≢ 6
     → code_of (words_status end) ≡ 2
-bad_decided Read Write Door words.Bad caused write memory = refl
-bad_decided Read Write Door words.WriteFault caused write memory = absurd (write caused)
-bad_decided Read Write Door words.OutOfMemory caused write memory = absurd (memory refl)
+bad_decided Read Write Door Keep words.Bad caused write memory = refl
+bad_decided Read Write Door Keep words.WriteFault caused write memory = absurd (write caused)
+bad_decided Read Write Door Keep words.OutOfMemory caused write memory = absurd (memory refl)
 
 -- an edge ends with its door
-edge_decided : (Read Write Door : Type 0) (end : ServingEnd) → Caused (serving_status end) Read Write Door → ¬ Write → ¬ Door
+edge_decided : (Read Write Door Keep : Type 0) (end : ServingEnd) → Caused (serving_status end) Read Write Door Keep → ¬ Write → ¬ Door
     → code_of (serving_status end) ≢ 6 → code_of (serving_status end) ≡ 0
-edge_decided Read Write Door serving.Closed caused write door memory = refl
-edge_decided Read Write Door serving.WriteFault caused write door memory = absurd (write caused)
-edge_decided Read Write Door serving.DoorFault caused write door memory = absurd (door caused)
-edge_decided Read Write Door serving.OutOfMemory caused write door memory = absurd (memory refl)
+edge_decided Read Write Door Keep serving.Closed caused write door memory = refl
+edge_decided Read Write Door Keep serving.WriteFault caused write door memory = absurd (write caused)
+edge_decided Read Write Door Keep serving.DoorFault caused write door memory = absurd (door caused)
+edge_decided Read Write Door Keep serving.OutOfMemory caused write door memory = absurd (memory refl)
 
 -- turns end by themselves
-follow_decided : (Read Write Door : Type 0) (end : Result Unit FollowFault) → Caused (follow_status end) Read Write Door → ¬ Write
+follow_decided : (Read Write Door Keep : Type 0) (end : Result Unit FollowFault) → Caused (follow_status end) Read Write Door Keep → ¬ Write
     → code_of (follow_status end) ≢ 6 → code_of (follow_status end) ≡ 0
-follow_decided Read Write Door (Ok u) caused write memory = refl
-follow_decided Read Write Door (Err follow.WriteFault) caused write memory = absurd (write caused)
-follow_decided Read Write Door (Err follow.Memory) caused write memory = absurd (memory refl)
+follow_decided Read Write Door Keep (Ok u) caused write memory = refl
+follow_decided Read Write Door Keep (Err follow.WriteFault) caused write memory = absurd (write caused)
+follow_decided Read Write Door Keep (Err follow.Memory) caused write memory = absurd (memory refl)
 
 -- a load ends by itself
-load_decided : (Read Write Door : Type 0) (end : Result Unit LoadFault) → Caused (load_status end) Read Write Door → ¬ Write
+load_decided : (Read Write Door Keep : Type 0) (end : Result Unit LoadFault) → Caused (load_status end) Read Write Door Keep → ¬ Write
     → code_of (load_status end) ≢ 6 → code_of (load_status end) ≡ 0
-load_decided Read Write Door (Ok u) caused write memory = refl
-load_decided Read Write Door (Err load.WriteFault) caused write memory = absurd (write caused)
-load_decided Read Write Door (Err load.Memory) caused write memory = absurd (memory refl)
+load_decided Read Write Door Keep (Ok u) caused write memory = refl
+load_decided Read Write Door Keep (Err load.WriteFault) caused write memory = absurd (write caused)
+load_decided Read Write Door Keep (Err load.Memory) caused write memory = absurd (memory refl)
 
 -- what stands of the status of a command's end stands of it
-of_end : {E : Type 0} {status_of : E → Status} {EndsSo : E → Type 0} (status : Status) (Read Write Door : Type 0) (P : ℕ → Type 0)
-    (ended : Ended status_of EndsSo status) → Caused status Read Write Door → code_of status ≢ 6
-    → (Caused (status_of ended.end) Read Write Door → code_of (status_of ended.end) ≢ 6 → P (code_of (status_of ended.end))) → P (code_of status)
-of_end status Read Write Door P ended caused memory then =
+of_end : {E : Type 0} {status_of : E → Status} {EndsSo : E → Type 0} (status : Status) (Read Write Door Keep : Type 0) (P : ℕ → Type 0)
+    (ended : Ended status_of EndsSo status) → Caused status Read Write Door Keep → code_of status ≢ 6
+    → (Caused (status_of ended.end) Read Write Door Keep → code_of (status_of ended.end) ≢ 6 → P (code_of (status_of ended.end))) → P (code_of status)
+of_end status Read Write Door Keep P ended caused memory then =
     subst (λ (s : Status). P (code_of s)) (sym ended.is)
-    (then (subst (λ (s : Status). Caused s Read Write Door) ended.is caused) (subst (λ (s : Status). code_of s ≢ 6) ended.is memory))
+    (then (subst (λ (s : Status). Caused s Read Write Door Keep) ended.is caused) (subst (λ (s : Status). code_of s ≢ 6) ended.is memory))
 
 -- the words and the input decide how the program ends
 by_words : {Read Write Door : Type 0} (reading : WordsReading) (status : Status) (before after : Scene) → Ends reading status before after
-    → Caused status Read Write Door → ¬ Read → ¬ Write → ¬ Door → code_of status ≢ 6 → IsDecided reading (code_of status) before
+    → Caused status Read Write Door (FailsToKeep before after) → ¬ Read → ¬ Write → ¬ Door → code_of status ≢ 6 → IsDecided reading (code_of status) before after
 by_words {Read} {Write} {Door} (Ok Replay) status before after ended caused read write door memory =
-    of_end status Read Write Door (λ code. IsDecided (Ok Replay) code before) ended caused memory
-    (λ cause some. replay_decided Read Write Door ended.end before.input.left after.input.left before.output.sent after.output.sent ended.ends cause
+    of_end status Read Write Door (FailsToKeep before after) (λ code. IsDecided (Ok Replay) code before after) ended caused memory
+    (λ cause some. replay_decided Read Write Door (FailsToKeep before after) ended.end before.input.left after.input.left before.output.sent after.output.sent ended.ends cause
     read write some)
 by_words {Read} {Write} {Door} (Ok (Check now word)) status before after ended caused read write door memory =
-    of_end status Read Write Door (λ code. IsDecided (Ok (Check now word)) code before) ended caused memory
-    (λ cause some. check_decided Read Write Door (record { now = now; word = word }) ended.end before.input.left after.input.left before.output.sent
+    of_end status Read Write Door (FailsToKeep before after) (λ code. IsDecided (Ok (Check now word)) code before after) ended caused memory
+    (λ cause some. check_decided Read Write Door (FailsToKeep before after) (record { now = now; word = word }) ended.end before.input.left after.input.left before.output.sent
     after.output.sent ended.ends cause read write some)
 by_words {Read} {Write} {Door} (Ok Explain) status before after ended caused read write door memory =
-    of_end status Read Write Door (λ code. IsDecided (Ok Explain) code before) ended caused memory
-    (λ cause some. explain_decided Read Write Door ended.end before.input.left after.input.left before.output.sent after.output.sent ended.ends cause
+    of_end status Read Write Door (FailsToKeep before after) (λ code. IsDecided (Ok Explain) code before after) ended caused memory
+    (λ cause some. explain_decided Read Write Door (FailsToKeep before after) ended.end before.input.left after.input.left before.output.sent after.output.sent ended.ends cause
     read write some)
 by_words {Read} {Write} {Door} (Ok (Edge port address upstream_tokens tokens host workers interval connections delta)) status before after ended caused
     read write door memory =
-    of_end status Read Write Door
-    (λ code. IsDecided (Ok (Edge port address upstream_tokens tokens host workers interval connections delta)) code before) ended caused memory
-    (λ cause some. edge_decided Read Write Door ended.end cause write door some)
+    of_end status Read Write Door (FailsToKeep before after)
+    (λ code. IsDecided (Ok (Edge port address upstream_tokens tokens host workers interval connections delta)) code before after) ended caused memory
+    (λ cause some. edge_decided Read Write Door (FailsToKeep before after) ended.end cause write door some)
 by_words {Read} {Write} {Door} (Ok (Upstream port secret environments client_tokens frontend_tokens connections epoch)) status before after ended caused
     read write door memory =
-    of_end status Read Write Door
-    (λ code. IsDecided (Ok (Upstream port secret environments client_tokens frontend_tokens connections epoch)) code before) ended caused memory
-    (λ cause some. upstream_decided secret environments (own_book client_tokens frontend_tokens) epoch ended.end before after
-    ended.ends cause read write door some)
+    of_end status Read Write Door (FailsToKeep before after)
+    (λ code. IsDecided (Ok (Upstream port secret environments client_tokens frontend_tokens connections epoch)) code before after) ended caused memory
+    (λ cause some quiet. upstream_decided secret environments (own_book client_tokens frontend_tokens) epoch ended.end before after
+    ended.ends cause read write door (λ fails. quiet fails.0) some)
 by_words {Read} {Write} {Door} (Ok (Follow address token feature context delta turns interval)) status before after ended caused read write door memory =
-    of_end status Read Write Door (λ code. IsDecided (Ok (Follow address token feature context delta turns interval)) code before) ended caused memory
-    (λ cause some. follow_decided Read Write Door ended.end cause write some)
+    of_end status Read Write Door (FailsToKeep before after) (λ code. IsDecided (Ok (Follow address token feature context delta turns interval)) code before after) ended caused memory
+    (λ cause some. follow_decided Read Write Door (FailsToKeep before after) ended.end cause write some)
 by_words {Read} {Write} {Door} (Ok (Load seed count)) status before after ended caused read write door memory =
-    of_end status Read Write Door (λ code. IsDecided (Ok (Load seed count)) code before) ended caused memory
-    (λ cause some. load_decided Read Write Door ended.end cause write some)
+    of_end status Read Write Door (FailsToKeep before after) (λ code. IsDecided (Ok (Load seed count)) code before after) ended caused memory
+    (λ cause some. load_decided Read Write Door (FailsToKeep before after) ended.end cause write some)
 by_words {Read} {Write} {Door} (Err Bad) status before after ended caused read write door memory =
-    of_end status Read Write Door (λ code. IsDecided (Err Bad) code before) ended caused memory
-    (λ cause some. bad_decided Read Write Door ended.end cause write some)
+    of_end status Read Write Door (FailsToKeep before after) (λ code. IsDecided (Err Bad) code before after) ended caused memory
+    (λ cause some. bad_decided Read Write Door (FailsToKeep before after) ended.end cause write some)
 by_words (Err Memory) status before after ends caused read write door memory = ap code_of ends
 
 -- so they decide its number, where no count rose and memory was found
 pub decided : {Read Write Door : Type 0} (reading : WordsReading) (status : Status) (code : ℕ) (before after : Scene)
-    → code ≡ code_of status → Ends reading status before after → Caused status Read Write Door
-    → ¬ Read → ¬ Write → ¬ Door → code ≢ 6 → IsDecided reading code before
+    → code ≡ code_of status → Ends reading status before after → Caused status Read Write Door (FailsToKeep before after)
+    → ¬ Read → ¬ Write → ¬ Door → code ≢ 6 → IsDecided reading code before after
 decided {Read} {Write} {Door} reading status code before after is ends caused read write door memory =
-    subst (λ c. IsDecided reading c before) (sym is)
+    subst (λ c. IsDecided reading c before after) (sym is)
     (by_words reading status before after ends caused read write door (λ six. memory (is ∙ six)))

@@ -1,5 +1,6 @@
 -- How the program ends, over what it finds outside, before and after.
 use Rattle.std.specs.Prelude.{◌≡◌, ⊤, ℕ, ◌==◌, Bool, List, length, codes, Option, IfSome, Result, Ok, Err, if◌then◌else◌}
+use Rattle.unl_base.specs.Faults.{Rose}
 use Rattle.unl_base.specs.Streams.{Sends, SendsFront}
 use Rattle.unl_base.specs.declared.draws.Draw.{Draw}
 use Rattle.unl_context.specs.Context.{Fields}
@@ -7,7 +8,8 @@ use Rattle.unl_edge.specs.Edges.{EdgeEnds}
 use Rattle.unl_edge.specs.Follows.{FollowEnds}
 use Rattle.unl_edge.specs.OwnBook.{own_book}
 use Rattle.unl_edge.specs.Scene.{Scene}
-use Rattle.unl_edge.specs.Status.{check_status, code_of, ending_status, explain_status, follow_status, lines_status, load_status}
+use Rattle.unl_edge.specs.Status.{FailsToKeep, check_status, code_of, ending_status, explain_status, follow_status}
+use Rattle.unl_edge.specs.Status.{lines_status, load_status}
 use Rattle.unl_edge.specs.Status.{serving_status, upstream_status, words_status}
 use Rattle.unl_edge.specs.Upstreams.{IsDecidedByLines, UpstreamRuns}
 use Rattle.unl_edge.specs.declared.ends.CheckEnd.{CheckEnd}
@@ -142,6 +144,14 @@ Ends (Err Memory) s before after = s ≡ status.OutOfMemory
 abbrev pub Exits : ℕ → (Status → Type 0) → Type 0
 Exits code Ends = (status : Status) × (code ≡ code_of status) × Ends status
 
+-- A fault of the input, the output or the door is answered only where that has failed, and one of the keeper only where the
+-- count of the maker of keepers rose; then no link was handed out.
+pub record HasCauses (code : ℕ) (before after : Scene) : Type 0 where
+  pub read : code ≡ 4 → Rose before.input.faults after.input.faults
+  pub write : code ≡ 5 → Rose before.output.faults after.output.faults
+  pub door : code ≡ 7 → Rose before.door.faults after.door.faults
+  pub keep : code ≡ 8 → FailsToKeep before after
+
 -- ---- what decides, where nothing fails and memory is found
 
 -- how an explanation ends by what its input comes to
@@ -149,17 +159,19 @@ abbrev pub explained_status : Outcome (List ℕ) → Status
 explained_status (Ok line) = status.Done
 explained_status (Err refusal) = status.Refused
 
--- The number is that of the ending that the words and the input tell. Bad words tell it by themselves.
-abbrev pub IsDecided : WordsReading → ℕ → Scene → Type 0
-IsDecided (Ok Replay) code before = IfSome before.input.left (λ bytes. code ≡ code_of (ending_status (replay_of bytes).ending))
-IsDecided (Ok (Check now word)) code before =
+-- The number is that of the ending that the words and the input tell. Bad words tell it by themselves. Of an upstream that
+-- stands only where no count of its maker of keepers rose.
+abbrev pub IsDecided : WordsReading → ℕ → Scene → Scene → Type 0
+IsDecided (Ok Replay) code before after = IfSome before.input.left (λ bytes. code ≡ code_of (ending_status (replay_of bytes).ending))
+IsDecided (Ok (Check now word)) code before after =
     IfSome before.input.left (λ bytes. code ≡ code_of (check_status (outcome_end (report_of (record { now = now; word = word }) bytes))))
-IsDecided (Ok Explain) code before =
+IsDecided (Ok Explain) code before after =
     IfSome before.input.left (λ bytes. code ≡ code_of (explained_status (outcome_of explained bytes)))
-IsDecided (Ok (Edge port upstream upstream_tokens tokens host workers interval connections delta)) code before = code ≡ 0
-IsDecided (Ok (Upstream port secret environments client_tokens frontend_tokens connections epoch)) code before =
-    IsDecidedByLines secret environments (own_book client_tokens frontend_tokens) epoch code before
-IsDecided (Ok (Follow upstream token feature context delta turns interval)) code before = code ≡ 0
-IsDecided (Ok (Load seed count)) code before = code ≡ 0
-IsDecided (Err Bad) code before = code ≡ 2
-IsDecided (Err Memory) code before = code ≡ 6
+IsDecided (Ok (Edge port upstream upstream_tokens tokens host workers interval connections delta)) code before after = code ≡ 0
+IsDecided (Ok (Upstream port secret environments client_tokens frontend_tokens connections epoch)) code before after =
+    ¬ (Rose before.keep.faults after.keep.faults)
+    → IsDecidedByLines secret environments (own_book client_tokens frontend_tokens) epoch code before
+IsDecided (Ok (Follow upstream token feature context delta turns interval)) code before after = code ≡ 0
+IsDecided (Ok (Load seed count)) code before after = code ≡ 0
+IsDecided (Err Bad) code before after = code ≡ 2
+IsDecided (Err Memory) code before after = code ≡ 6

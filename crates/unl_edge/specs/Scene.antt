@@ -24,7 +24,12 @@ pub record PeerEnd : Type 0 where
   pub state : PeerState
   pub faults : ℕ
 
--- all of them, the draws to come, and how many turns the pace has
+-- the maker of keepers: what the keeper that came back last had kept, and how often it has failed
+pub record KeepEnd : Type 0 where
+  pub held : Option (List (List ℕ))
+  pub faults : ℕ
+
+-- all of them, the draws to come, how many turns the pace has, and how often no job could be started
 pub record Scene : Type 0 where
   pub input : InputEnd
   pub output : OutputEnd
@@ -32,3 +37,5 @@ pub record Scene : Type 0 where
   pub draws : Option (List Draw × Draw)
   pub peer : PeerEnd
   pub pace : Option ℕ
+  pub spawner : ℕ
+  pub keep : KeepEnd

@@ -1,39 +1,215 @@
--- How an upstream ends: it takes the commands of its input's lines, and then serves the links of its door.
-use Rattle.std.specs.Prelude.{◌≡◌, ⊤, ℕ, List, [], ◌++◌, codes, decimal, IfSome, Result, Ok, Err}
-use Rattle.unl_base.specs.Doors.{IsClosed}
+-- How an upstream ends: it is reopened on a keeper, takes the commands of its input's lines, and then serves the links of its
+-- door.
+use Rattle.std.specs.Prelude.{◌≡◌, ◌≢◌, ◌⊎◌, ⊤, ℕ, Bool, false, List, [], ◌++◌, codes, decimal, Option, Some, IfSome, Result, Ok, Err}
+use Rattle.std.specs.Prelude.{option_and_then, option_map}
+use Rattle.unl_base.specs.Doors.{DoorState, IsClosed}
 use Rattle.unl_base.specs.Draws.{TakesDraw}
+use Rattle.unl_base.specs.Faults.{Rose}
 use Rattle.unl_base.specs.Streams.{HasEnded, Sends, SendsFront, Takes}
 use Rattle.unl_base.specs.declared.draws.Draw.{Draw}
-use Rattle.unl_edge.specs.Scene.{Scene}
+use Rattle.unl_edge.specs.Keeping.{Shelf, SpellKept, keeping, shelf_of}
+use Rattle.unl_edge.specs.Scene.{KeepEnd, Scene}
 use Rattle.unl_edge.specs.declared.ends.ServingEnd.{ServingEnd}
 use Rattle.unl_edge.specs.declared.ends.ServingEnd.TheVariants.{Closed, WriteFault, DoorFault, OutOfMemory}
 use Rattle.unl_edge.specs.declared.ends.UpstreamEnd.{UpstreamEnd}
-use Rattle.unl_edge.specs.declared.ends.UpstreamEnd.TheVariants.{OutOfMemory as NoMemory, Lines, Links}
+use Rattle.unl_edge.specs.declared.ends.UpstreamEnd.TheVariants.{OutOfMemory as NoMemory, KeeperFault, Row, Lines, Links}
 use Rattle.unl_edge.specs.Status.{code_of, ending_status}
 use Rattle.unl_input.specs.declared.refusal.SayFault.{SayFault}
 use Rattle.unl_input.specs.declared.refusal.SayFault.TheVariants as say
+use Rattle.unl_lines.specs.Lines.{lines}
 use Rattle.unl_lines.specs.Taken.{Taking, done, outcome_of}
 use Rattle.unl_lines.specs.Whole.{TakesLines}
 use Rattle.unl_tokens.specs.declared.token.Token.{Token}
 use Rattle.unl_exchange.specs.Answering.{Coming}
-use Rattle.unl_exchange.specs.Linked.{linking}
-use Rattle.unl_upstream.specs.Hosting.{Hosts}
+use Rattle.unl_exchange.specs.Linked.{ServesLinks as ServesTold, linking}
+use Rattle.unl_upstream.specs.Kept.{KeeperState, KeptState, kept_commands, kept_rows, kept_state}
+use Rattle.unl_upstream.specs.KeptHosting.{Hosts, LinkServed, LinksName}
 use Rattle.unl_upstream.specs.Lines.{obeyed_line}
+use Rattle.unl_upstream.specs.Reopening.{IsOpening, IsSameKeeper, Reopens}
 use Rattle.unl_upstream.specs.Upstream.{UpstreamState, opening}
+use Rattle.unl_upstream.specs.declared.command.Command.{Command}
+use Rattle.unl_upstream.specs.declared.reopening.ReopenFault.{ReopenFault}
+use Rattle.unl_upstream.specs.declared.reopening.ReopenFault.TheVariants.{BadRow, NoRow, Fault, Memory}
 
--- what a line does to an upstream, whatever its number
-abbrev pub obeying : Taking UpstreamState
-obeying number up line = obeyed_line up line
+-- ---- what is printed
 
 -- what is printed once the door is closed
 abbrev pub connections_line : ℕ → List ℕ
 connections_line served = codes "connections " ++ (decimal served ++ codes "\n")
+
+-- what is printed of a row that is refused
+abbrev pub row_line : ℕ → List ℕ
+row_line place = codes "refused: row " ++ (decimal place ++ codes "\n")
+
+-- a line was sent, or its front, or memory ran out before
+abbrev pub SaysLine : Result (Unit {0}) SayFault → List ℕ → Option (List ℕ) → Option (List ℕ) → Type 0
+SaysLine (Ok u) line old new = Sends old line new
+SaysLine (Err say.WriteFault) line old new = SendsFront old line new
+SaysLine (Err say.Memory) line old new = ⊤
 
 -- how serving ends once the door is closed, by how the count of its links was said
 abbrev pub line_end : Result (Unit {0}) SayFault → ServingEnd
 line_end (Ok u) = Closed
 line_end (Err say.WriteFault) = WriteFault
 line_end (Err say.Memory) = OutOfMemory
+
+-- ---- what is written and served
+
+-- the bytes sent, the door, and the draws to come
+pub record Facing : Type 0 where
+  pub sent : Option (List ℕ)
+  pub door : DoorState
+  pub coming : Coming
+
+-- these together
+abbrev pub facing : Option (List ℕ) → DoorState → Coming → Facing
+facing sent door coming = record { sent = sent; door = door; coming = coming }
+
+-- these of what the program finds outside
+abbrev pub facing_of : Scene → Facing
+facing_of scene = facing scene.output.sent scene.door.state scene.draws
+
+-- ---- the links
+
+-- so many links were served by an upstream and its keeper
+abbrev pub ServesLinks : KeptState → KeptState → Facing → Facing → ℕ → Type 0
+ServesLinks state last before after served = Hosts (linking state before.coming before.door) (linking last after.coming after.door) served
+
+-- How the links of a door were served: until it was closed, and then the last line was sent, or its front; or until it failed.
+abbrev pub LinksEnd : KeptState → KeptState → ServingEnd → Facing → Facing → Type 0
+LinksEnd state last Closed before after =
+    (served : ℕ) × ServesLinks state last before after served × Sends before.sent (connections_line served) after.sent × IsClosed after.door
+LinksEnd state last WriteFault before after =
+    (served : ℕ) × ServesLinks state last before after served × SendsFront before.sent (connections_line served) after.sent
+    × IsClosed after.door
+LinksEnd state last DoorFault before after =
+    (served : ℕ) × ServesLinks state last before after served × (after.sent ≡ before.sent)
+LinksEnd state last OutOfMemory before after = ⊤
+
+-- The links of a door that tells them, by commands and draws from the opening on. The first is served after those of the lines,
+-- and each adds the commands of its requests that were kept. So the keeper keeps all of them, behind those of the opening.
+pub record NamesLinks
+    (opened : KeptState) (commands : List Command) (kept last : KeptState) (before after : Facing) (served : ℕ)
+    (links : List (List ℕ)) (returned : List (List ℕ × ℕ)) : Type 0 where
+  pub serves : ServesTold LinkServed (linking kept before.coming before.door) (linking last after.coming after.door) served links returned
+  pub names : LinksName opened.up opened.keeper.count before.coming commands 0 kept serves.given_links serves.backs last after.coming
+  pub more : List Command
+  pub begins : names.commands_after ≡ commands ++ more
+  pub keeps : kept_commands last.keeper ≡ option_map (λ kept. kept ++ names.commands_after) (kept_commands opened.keeper)
+
+-- ---- the lines
+
+-- what a line does to an upstream without a keeper, whatever its number
+abbrev pub obeying : Taking UpstreamState
+obeying number up line = obeyed_line up line
+
+-- The input was read to its end, and the commands of all its lines were accepted and kept. Then so many links were handed
+-- out, each was served from what the one before it left, and each was handed back.
+pub record ServesAfterLines
+    (opened : KeptState) (last : KeeperState) (left left_after : Option (List ℕ)) (before after : Facing) (served : ℕ) : Type 0 where
+  pub read : List ℕ
+  pub took : Takes left read left_after
+  pub end : HasEnded left_after
+  pub kept : KeptState
+  pub accepted : outcome_of keeping (shelf_of opened) read ≡ record { text = []; ending = done; desk = shelf_of kept }
+  pub spelled : SpellKept (shelf_of opened) (lines read) (shelf_of kept)
+  pub up : UpstreamState
+  pub hosts : ServesLinks kept (kept_state up last) before after served
+  pub named : (links : List (List ℕ)) (returned : List (List ℕ × ℕ)) → before.door.links ≡ Some links
+      → before.door.returned ≡ Some returned
+      → NamesLinks opened spelled.commands kept (kept_state up last) before after served links returned
+
+-- How an upstream ends that was reopened. Where a line is refused, or the input or the keeper fails, no link was handed out.
+abbrev pub LinesEnd : KeptState → UpstreamEnd → KeeperState → Option (List ℕ) → Option (List ℕ) → Facing → Facing → Type 0
+LinesEnd opened NoMemory last left left_after before after = ⊤
+LinesEnd opened KeeperFault last left left_after before after = after.door ≡ before.door
+LinesEnd opened (Row told) last left left_after before after = ⊥
+LinesEnd opened (Lines fault) last left left_after before after =
+    TakesLines keeping (shelf_of opened) (Err fault) left left_after before.sent after.sent × (after.door ≡ before.door)
+LinesEnd opened (Links Closed) last left left_after before after =
+    (served : ℕ) × ServesAfterLines opened last left left_after before after served
+    × Sends before.sent (connections_line served) after.sent × IsClosed after.door
+LinesEnd opened (Links WriteFault) last left left_after before after =
+    (served : ℕ) × ServesAfterLines opened last left left_after before after served
+    × SendsFront before.sent (connections_line served) after.sent × IsClosed after.door
+LinesEnd opened (Links DoorFault) last left left_after before after =
+    (served : ℕ) × ServesAfterLines opened last left left_after before after served × (after.sent ≡ before.sent)
+LinesEnd opened (Links OutOfMemory) last left left_after before after = ⊤
+
+-- ---- the keeper
+
+-- A keeper was made that isn't opened and has counted no fault. Where its maker tells what came back, it has no rows.
+pub record IsMade (held : Option (List (List ℕ))) (keeper : KeeperState) : Type 0 where
+  pub unopened : keeper.opened ≡ false
+  pub faultless : keeper.faults ≡ 0
+  pub empty : IfSome held (λ _. keeper.rows ≡ Some [])
+
+-- a keeper came back to its maker, which holds what that one kept, and has counted its faults
+pub record ComesBack (keeper : KeeperState) (before after : KeepEnd) : Type 0 where
+  pub held : after.held ≡ option_and_then (λ _. kept_rows keeper) before.held
+  pub rose : keeper.faults ≢ 0 → Rose before.faults after.faults
+
+-- an upstream was given no command
+pub record IsNew (up : UpstreamState) : Type 0 where
+  pub opens : IsOpening up
+
+-- an upstream was reopened on its keeper, which had so many rows
+pub record Opens (start : KeptState) (reopened : ℕ) (opened : KeptState) : Type 0 where
+  pub same : IsSameKeeper start.keeper opened.keeper
+  pub reopens : Reopens start (Ok reopened) opened
+
+-- the row of this place is why it was not
+abbrev pub IsOfRow : ℕ → ReopenFault → Type 0
+IsOfRow place (BadRow at text) = place ≡ at
+IsOfRow place (NoRow at) = place ≡ at
+IsOfRow place Fault = ⊥
+IsOfRow place Memory = ⊥
+
+-- it was not reopened for the row of this place
+pub record RefusesRow (start : KeptState) (place : ℕ) : Type 0 where
+  pub fault : ReopenFault
+  pub of_row : IsOfRow place fault
+  pub reached : KeptState
+  pub same : IsSameKeeper start.keeper reached.keeper
+  pub reopens : Reopens start (Err fault) reached
+
+-- an upstream was reopened, and ended so
+pub record EndsReopened
+    (start : KeptState) (end : UpstreamEnd) (last : KeeperState) (left left_after : Option (List ℕ)) (before after : Facing) : Type 0 where
+  pub reopened : ℕ
+  pub opened : KeptState
+  pub opens : Opens start reopened opened
+  pub ends : LinesEnd opened end last left left_after before after
+
+-- How an upstream ends, with a keeper that was made. Where a row is refused that was said, and no link was handed out.
+abbrev pub KeeperEnd : KeptState → UpstreamEnd → KeeperState → Option (List ℕ) → Option (List ℕ) → Facing → Facing → Type 0
+KeeperEnd start NoMemory last left left_after before after = ⊤
+KeeperEnd start KeeperFault last left left_after before after = after.door ≡ before.door
+KeeperEnd start (Row told) last left left_after before after =
+    (place : ℕ) × RefusesRow start place × SaysLine told (row_line place) before.sent after.sent × (after.door ≡ before.door)
+KeeperEnd start (Lines fault) last left left_after before after = EndsReopened start (Lines fault) last left left_after before after
+KeeperEnd start (Links end) last left left_after before after = EndsReopened start (Links end) last left left_after before after
+
+-- A keeper was made for an upstream, which ended so, and came back. Where its maker tells what comes back, to be reopened on it
+-- changes no upstream, and nothing is kept then.
+pub record EndsKept (start : UpstreamState) (end : UpstreamEnd) (before after : Scene) : Type 0 where
+  pub made : KeeperState
+  pub is_made : IsMade before.keep.held made
+  pub plain : (reopened : ℕ) (opened : KeptState) → Opens (kept_state start made) reopened opened
+      → IfSome before.keep.held (λ _. shelf_of opened ≡ record { up = start; count = 0; commands = Some [] })
+  pub last : KeeperState
+  pub ends : KeeperEnd (kept_state start made) end last before.input.left after.input.left (facing_of before) (facing_of after)
+  pub back : ComesBack last before.keep after.keep
+
+-- How an upstream ends, from what it begins with. Where no keeper could be made no link was handed out.
+abbrev pub UpstreamEnds : UpstreamState → UpstreamEnd → Scene → Scene → Type 0
+UpstreamEnds start NoMemory before after = ⊤
+UpstreamEnds start KeeperFault before after = after.door.state ≡ before.door.state
+UpstreamEnds start (Row told) before after = EndsKept start (Row told) before after
+UpstreamEnds start (Lines fault) before after = EndsKept start (Lines fault) before after
+UpstreamEnds start (Links end) before after = EndsKept start (Links end) before after
+
+-- ---- all of it
 
 -- an upstream begins, and takes a draw for its boot number
 pub record Begins
@@ -43,50 +219,6 @@ pub record Begins
   pub taken : TakesDraw coming draw coming_after
   pub opens : start ≡ opening draw.word secret environments book epoch
 
--- so many links were served by an upstream
-abbrev pub ServesLinks : UpstreamState → Coming → UpstreamState → Scene → Scene → ℕ → Type 0
-ServesLinks up coming last before after served =
-    Hosts (linking up coming before.door.state) (linking last after.draws after.door.state) served
-
--- How the links of a door were served: until it was closed, and then the last line was sent, or its front; or until it failed.
-abbrev pub LinksEnd : UpstreamState → UpstreamState → ServingEnd → Scene → Scene → Type 0
-LinksEnd up last Closed before after =
-    (served : ℕ) × ServesLinks up before.draws last before after served
-    × Sends before.output.sent (connections_line served) after.output.sent × IsClosed after.door.state
-LinksEnd up last WriteFault before after =
-    (served : ℕ) × ServesLinks up before.draws last before after served
-    × SendsFront before.output.sent (connections_line served) after.output.sent × IsClosed after.door.state
-LinksEnd up last DoorFault before after =
-    (served : ℕ) × ServesLinks up before.draws last before after served × (after.output.sent ≡ before.output.sent)
-LinksEnd up last OutOfMemory before after = ⊤
-
--- The input was read to its end and the commands of all its lines were accepted. Then so many links were handed out, each
--- was served from what the one before it left, and each was handed back.
-pub record ServesAfterLines (start : UpstreamState) (coming : Coming) (before after : Scene) (served : ℕ) : Type 0 where
-  pub read : List ℕ
-  pub took : Takes before.input.left read after.input.left
-  pub end : HasEnded after.input.left
-  pub up : UpstreamState
-  pub accepted : outcome_of obeying start read ≡ record { text = []; ending = done; desk = up }
-  pub last : UpstreamState
-  pub hosts : ServesLinks up coming last before after served
-
--- How an upstream ends, from what it begins with. Where a line is refused or the input fails, no link was handed out.
-abbrev pub UpstreamEnds : UpstreamState → Coming → UpstreamEnd → Scene → Scene → Type 0
-UpstreamEnds start coming NoMemory before after = ⊤
-UpstreamEnds start coming (Lines fault) before after =
-    TakesLines obeying start (Err fault) before.input.left after.input.left before.output.sent after.output.sent
-    × (after.door.state ≡ before.door.state)
-UpstreamEnds start coming (Links Closed) before after =
-    (served : ℕ) × ServesAfterLines start coming before after served
-    × Sends before.output.sent (connections_line served) after.output.sent × IsClosed after.door.state
-UpstreamEnds start coming (Links WriteFault) before after =
-    (served : ℕ) × ServesAfterLines start coming before after served
-    × SendsFront before.output.sent (connections_line served) after.output.sent × IsClosed after.door.state
-UpstreamEnds start coming (Links DoorFault) before after =
-    (served : ℕ) × ServesAfterLines start coming before after served × (after.output.sent ≡ before.output.sent)
-UpstreamEnds start coming (Links OutOfMemory) before after = ⊤
-
 -- an upstream of these words began, and ended so
 pub record RunsUpstream
     (secret : List ℕ) (environments : List (List ℕ)) (book : List Token) (epoch : ℕ) (end : UpstreamEnd)
@@ -94,20 +226,41 @@ pub record RunsUpstream
   pub start : UpstreamState
   pub coming : Coming
   pub begins : Begins secret environments book epoch before.draws start coming
-  pub ends : UpstreamEnds start coming end before after
+  pub ends : UpstreamEnds start end (record before { draws = coming }) after
 
--- how an upstream of these words ends, unless memory ran out before it began
+-- how an upstream of these words ends, unless memory ran out before it took lines
 abbrev pub UpstreamRuns : List ℕ → List (List ℕ) → List Token → ℕ → UpstreamEnd → Scene → Scene → Type 0
 UpstreamRuns secret environments book epoch NoMemory before after = ⊤
+UpstreamRuns secret environments book epoch KeeperFault before after =
+    RunsUpstream secret environments book epoch KeeperFault before after
+UpstreamRuns secret environments book epoch (Row told) before after =
+    RunsUpstream secret environments book epoch (Row told) before after
 UpstreamRuns secret environments book epoch (Lines fault) before after =
     RunsUpstream secret environments book epoch (Lines fault) before after
 UpstreamRuns secret environments book epoch (Links end) before after =
     RunsUpstream secret environments book epoch (Links end) before after
 
--- the number is that of how the lines end, from what an upstream of these words begins with
+-- ---- what decides, where nothing fails and memory is found
+
+-- the number of how the lines end
+abbrev pub lines_code : {D : Type 0} → Taking D → D → List ℕ → ℕ
+lines_code taking desk bytes = code_of (ending_status (outcome_of taking desk bytes).ending)
+
+-- the number is 3 where a row is refused, and else that of how the lines end
+abbrev pub IsDecidedFrom : KeptState → ℕ → Option (List ℕ) → Type 0
+IsDecidedFrom start code left =
+    ((place : ℕ) × RefusesRow start place × (code ≡ 3))
+    ⊎ ((reopened : ℕ) × (opened : KeptState) × Opens start reopened opened
+    × IfSome left (λ bytes. code ≡ lines_code keeping (shelf_of opened) bytes))
+
+-- The number is that of how the lines end, from what an upstream of these words begins with and is reopened on. Where the
+-- maker of keepers tells what came back, it is that of how they end without a keeper.
 pub record IsDecidedByLines
     (secret : List ℕ) (environments : List (List ℕ)) (book : List Token) (epoch : ℕ) (code : ℕ) (before : Scene) : Type 0 where
   pub start : UpstreamState
   pub coming : Coming
   pub begins : Begins secret environments book epoch before.draws start coming
-  pub decided : IfSome before.input.left (λ bytes. code ≡ code_of (ending_status (outcome_of obeying start bytes).ending))
+  pub made : KeeperState
+  pub is_made : IsMade before.keep.held made
+  pub reopened : IsDecidedFrom (kept_state start made) code before.input.left
+  pub decided : IfSome before.keep.held (λ _. IfSome before.input.left (λ bytes. code ≡ lines_code obeying start bytes))

@@ -3,28 +3,33 @@ use crate::run::run;
 use crate::world::World;
 use std::alloc::{AllocError, Global};
 use std::sync::Wait;
+use std::thread::Threads;
 use unl_base::{
     BaseMemory, CountPace, ListDraws, MemoryDoor, MemoryLink, MemoryPeer, MemorySink, MemorySource,
+    OneByOne,
 };
+use unl_keeper::MemoryMaker;
 
 /// A world in memory.
-pub type Bench<W> = World<
+pub type Bench<'a, W> = World<
     MemorySource,
     MemorySink,
     MemoryDoor,
     MemoryPeer,
     ListDraws,
     CountPace,
-    W,
+    OneByOne<W>,
+    MemoryMaker,
+    &'a W,
 >;
 
 /// A world without links and replies, all of whose draws are zeros.
-pub fn quiet<W: Wait + Drop>(
+pub fn quiet<'a, W: Threads + Wait>(
     alloc: Global,
     input: MemorySource,
     output: MemorySink,
-    rt: W,
-) -> Option<Bench<W>> {
+    rt: &'a W,
+) -> Option<Bench<'a, W>> {
     Some(World {
         input,
         output,
@@ -32,6 +37,8 @@ pub fn quiet<W: Wait + Drop>(
         peer: silent_peer(alloc)?,
         draws: ListDraws::new(Vec::new(alloc)),
         pace: CountPace::new(0),
+        spawner: OneByOne::new(),
+        keep: MemoryMaker::new(alloc),
         rt,
     })
 }
@@ -67,7 +74,7 @@ pub fn joined(alloc: Global, text: &str) -> Option<String> {
 }
 
 /// What the replay of an input prints, up to 65,536 bytes.
-pub fn printed<W: Wait>(alloc: Global, input: &str, rt: &W) -> Option<Vec<u8>> {
+pub fn printed<W: Threads + Wait>(alloc: Global, input: &str, rt: &W) -> Option<Vec<u8>> {
     let words = words_of(alloc, "replay").ok()?;
     let source = MemorySource::new(input.as_bytes().to_vec(alloc).ok()?, 4096, Vec::new(alloc));
     let sink = MemorySink::new(alloc, 65_536, Vec::new(alloc)).ok()?;

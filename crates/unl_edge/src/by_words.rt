@@ -1,8 +1,7 @@
 //! The commands whose words have many values.
 ghost use Rattle.std.specs.Prelude.{Ok};
-ghost use Rattle.unl_base.specs.Faults.{Rose};
 ghost use Rattle.unl_edge.specs.Ends.{AreOfEdge, AreOfFollow, AreOfUpstream, Ends};
-ghost use Rattle.unl_edge.specs.Status.{Caused};
+ghost use Rattle.unl_edge.specs.Status.{IsCaused};
 ghost use Rattle.unl_words.specs.Ranges.{IsInRange};
 
 use crate::edges::run_edge;
@@ -12,20 +11,26 @@ use crate::upstreams::run_upstream;
 use crate::world::World;
 use std::alloc::Global;
 use std::sync::Wait;
-use unl_base::{Door, Draws, Pace, Peer, Sink, Source};
+use unl_base::{Door, Draws, Pace, Peer, Sink, Source, Spawner};
+use unl_keeper::KeepMaker;
 use unl_words::Words;
 
 /// Runs an edge by its words.
-pub(crate) fn edge_by<I: Source, O: Sink, D: Door, P: Peer, R: Draws, T: Pace, W: Wait>(
-    alloc: Global,
-    words: &Words,
-    world: &mut World<I, O, D, P, R, T, W>,
-) -> Status
+pub(crate) fn edge_by<
+    I: Source,
+    O: Sink,
+    D: Door,
+    P: Peer,
+    R: Draws,
+    T: Pace,
+    S: Spawner,
+    Q: KeepMaker,
+    W: Wait,
+>(alloc: Global, words: &Words, world: &mut World<I, O, D, P, R, T, S, Q, W>) -> Status
     requires its { AreOfEdge words.now }
     requires ranges { IsInRange words.now }
     ensures ends { Ends (Ok words.now) result world.old world.new }
-    ensures caused { Caused result (Rose world.old.input.faults world.new.input.faults)
-        (Rose world.old.output.faults world.new.output.faults) (Rose world.old.door.faults world.new.door.faults) }
+    ensures caused { IsCaused result world.old world.new }
 {
     match words {
         Words::Edge {
@@ -51,16 +56,21 @@ pub(crate) fn edge_by<I: Source, O: Sink, D: Door, P: Peer, R: Draws, T: Pace, W
 }
 
 /// Runs an upstream by its words.
-pub(crate) fn upstream_by<I: Source, O: Sink, D: Door, P: Peer, R: Draws, T: Pace, W: Wait>(
-    alloc: Global,
-    words: &Words,
-    world: &mut World<I, O, D, P, R, T, W>,
-) -> Status
+pub(crate) fn upstream_by<
+    I: Source,
+    O: Sink,
+    D: Door,
+    P: Peer,
+    R: Draws,
+    T: Pace,
+    S: Spawner,
+    Q: KeepMaker,
+    W: Wait,
+>(alloc: Global, words: &Words, world: &mut World<I, O, D, P, R, T, S, Q, W>) -> Status
     requires its { AreOfUpstream words.now }
     requires ranges { IsInRange words.now }
     ensures ends { Ends (Ok words.now) result world.old world.new }
-    ensures caused { Caused result (Rose world.old.input.faults world.new.input.faults)
-        (Rose world.old.output.faults world.new.output.faults) (Rose world.old.door.faults world.new.door.faults) }
+    ensures caused { IsCaused result world.old world.new }
 {
     match words {
         Words::Upstream {
@@ -86,16 +96,21 @@ pub(crate) fn upstream_by<I: Source, O: Sink, D: Door, P: Peer, R: Draws, T: Pac
 }
 
 /// Follows a server by the words that ask for it.
-pub(crate) fn follow_by<I: Source, O: Sink, D: Door, P: Peer, R: Draws, T: Pace, W: Wait>(
-    alloc: Global,
-    words: &Words,
-    world: &mut World<I, O, D, P, R, T, W>,
-) -> Status
+pub(crate) fn follow_by<
+    I: Source,
+    O: Sink,
+    D: Door,
+    P: Peer,
+    R: Draws,
+    T: Pace,
+    S: Spawner,
+    Q: KeepMaker,
+    W: Wait,
+>(alloc: Global, words: &Words, world: &mut World<I, O, D, P, R, T, S, Q, W>) -> Status
     requires its { AreOfFollow words.now }
     requires ranges { IsInRange words.now }
     ensures ends { Ends (Ok words.now) result world.old world.new }
-    ensures caused { Caused result (Rose world.old.input.faults world.new.input.faults)
-        (Rose world.old.output.faults world.new.output.faults) (Rose world.old.door.faults world.new.door.faults) }
+    ensures caused { IsCaused result world.old world.new }
 {
     match words {
         Words::Follow {

@@ -5,7 +5,9 @@ use crate::world::World;
 use std::alloc::Global;
 use std::sync::Wait;
 use std::test::Fail;
-use unl_base::{CountPace, ListDraws, MemoryDoor, MemoryPeer, MemorySink, MemorySource};
+use std::thread::Threads;
+use unl_base::{CountPace, ListDraws, MemoryDoor, MemoryPeer, MemorySink, MemorySource, OneByOne};
+use unl_keeper::MemoryMaker;
 
 const DELTA: &str = "edge --upstream h:1 --upstream-tokens *:dev.c --tokens *:dev.f";
 
@@ -72,12 +74,12 @@ fn peer_of(alloc: Global, trial: &Trial<'_>) -> Option<MemoryPeer> {
 }
 
 /// The status of an edge at a door, and the world after it.
-fn at<'a, W: Wait>(
+fn at<'a, W: Threads + Wait>(
     alloc: Global,
     trial: &Trial<'_>,
     door: MemoryDoor,
     rt: &'a W,
-) -> Option<(u8, Bench<&'a W>)> {
+) -> Option<(u8, Bench<'a, W>)> {
     let words = words_of(alloc, trial.words).ok()?;
     let mut world = World {
         input: MemorySource::new(Vec::new(alloc), 1, Vec::new(alloc)),
@@ -86,6 +88,8 @@ fn at<'a, W: Wait>(
         peer: peer_of(alloc, trial)?,
         draws: ListDraws::new(Vec::new(alloc)),
         pace: CountPace::new(0),
+        spawner: OneByOne::new(),
+        keep: MemoryMaker::new(alloc),
         rt,
     };
     let status = run(alloc, &words, &mut world);
@@ -93,23 +97,23 @@ fn at<'a, W: Wait>(
 }
 
 /// The same over one link that sends this.
-fn over_one<'a, W: Wait>(
+fn over_one<'a, W: Threads + Wait>(
     alloc: Global,
     trial: &Trial<'_>,
     asked: &str,
     rt: &'a W,
-) -> Option<(u8, Bench<&'a W>)> {
+) -> Option<(u8, Bench<'a, W>)> {
     let failing = trial.door.to_vec(alloc).ok()?;
     at(alloc, trial, door_of_one(alloc, asked, failing).ok()?, rt)
 }
 
 /// The same over two links that send the same.
-fn over_two<'a, W: Wait>(
+fn over_two<'a, W: Threads + Wait>(
     alloc: Global,
     trial: &Trial<'_>,
     asked: &str,
     rt: &'a W,
-) -> Option<(u8, Bench<&'a W>)> {
+) -> Option<(u8, Bench<'a, W>)> {
     let failing = trial.door.to_vec(alloc).ok()?;
     at(
         alloc,
@@ -120,13 +124,16 @@ fn over_two<'a, W: Wait>(
 }
 
 /// The first line and the body of the reply that a link was sent.
-fn reply_at<'w, W: Wait>(world: &'w Bench<&W>, place: usize) -> Option<(&'w str, &'w str)> {
+fn reply_at<'w, W: Threads + Wait>(
+    world: &'w Bench<'_, W>,
+    place: usize,
+) -> Option<(&'w str, &'w str)> {
     let text = str::from_utf8(world.door.sent(place)?).ok()?;
     let (head, body) = text.split_once("\r\n\r\n")?;
     Some((head.split_once("\r\n")?.0, body))
 }
 
-fn output_of<'w, W: Wait>(world: &'w Bench<&W>) -> Option<&'w str> {
+fn output_of<'w, W: Threads + Wait>(world: &'w Bench<'_, W>) -> Option<&'w str> {
     str::from_utf8(world.output.sent()).ok()
 }
 

@@ -13,13 +13,24 @@ use crate::upstreams::say_connections;
 use crate::world::World;
 use std::alloc::Global;
 use std::sync::Wait;
-use unl_base::{Door, Draws, Failed, Pace, Peer, Sink, Source};
+use unl_base::{Door, Draws, Failed, Pace, Peer, Sink, Source, Spawner};
 use unl_documents::{List, Memory, Text};
 use unl_exchange::host;
+use unl_keeper::KeepMaker;
 
 /// Begins a replica, whose boot number is the word of a draw, asks the upstream for what stands, and then serves the links of
 /// the door, one after the other. Before each of them the upstream is asked again.
-pub fn run_edge<I: Source, O: Sink, D: Door, P: Peer, R: Draws, T: Pace, W: Wait>(
+pub fn run_edge<
+    I: Source,
+    O: Sink,
+    D: Door,
+    P: Peer,
+    R: Draws,
+    T: Pace,
+    S: Spawner,
+    Q: KeepMaker,
+    W: Wait,
+>(
     alloc: Global,
     port: u16,
     upstream: &Text,
@@ -27,12 +38,12 @@ pub fn run_edge<I: Source, O: Sink, D: Door, P: Peer, R: Draws, T: Pace, W: Wait
     tokens: &List<Text>,
     host: &Text,
     delta: bool,
-    world: &mut World<I, O, D, P, R, T, W>,
+    world: &mut World<I, O, D, P, R, T, S, Q, W>,
 ) -> ServingEnd
     requires { (workers : ℕ) × (interval : ℕ) × IsEdge port upstream.now upstream_tokens.now tokens.now host.now workers interval }
     ensures ends { EdgeEnds (length upstream_tokens.now) result world.old world.new }
     ensures caused { Caused (serving_status result) ⊥ (Rose world.old.output.faults world.new.output.faults)
-        (Rose world.old.door.faults world.new.door.faults) }
+        (Rose world.old.door.faults world.new.door.faults) ⊥ }
 {
     let boot = world.draws.draw().word;
     match Replica::new(alloc, boot, upstream, upstream_tokens, tokens, host, delta) {
@@ -42,18 +53,28 @@ pub fn run_edge<I: Source, O: Sink, D: Door, P: Peer, R: Draws, T: Pace, W: Wait
 }
 
 /// Listens, makes the first turn, serves the links of the door until it is closed, and says how many these were.
-fn serve_links<I: Source, O: Sink, D: Door, P: Peer, R: Draws, T: Pace, W: Wait>(
+fn serve_links<
+    I: Source,
+    O: Sink,
+    D: Door,
+    P: Peer,
+    R: Draws,
+    T: Pace,
+    S: Spawner,
+    Q: KeepMaker,
+    W: Wait,
+>(
     alloc: Global,
     port: u16,
     replica: &mut Replica,
-    world: &mut World<I, O, D, P, R, T, W>,
+    world: &mut World<I, O, D, P, R, T, S, Q, W>,
 ) -> ServingEnd
     requires front { replica.old.desk.front ≡ 0 }
     requires slots { length replica.old.feeders.items ≤ length replica.old.desk.places }
     requires few { length replica.old.feeders.items ≤ 8 }
     ensures ends { EdgeEnds (length replica.old.feeders.items) result world.old world.new }
     ensures caused { Caused (serving_status result) ⊥ (Rose world.old.output.faults world.new.output.faults)
-        (Rose world.old.door.faults world.new.door.faults) }
+        (Rose world.old.door.faults world.new.door.faults) ⊥ }
 {
     if world.door.listen(port).is_err() {
         return ServingEnd::DoorFault;

@@ -51,8 +51,12 @@ impl ServingEnd {
 /// How an upstream ended.
 #[derive(Clone, Copy, Debug, PartialEq, Eq)]
 pub enum UpstreamEnd {
-    /// Memory ran out before it began.
+    /// Memory ran out before it took lines.
     OutOfMemory,
+    /// Its keeper failed, or none could be made.
+    KeeperFault,
+    /// A row of its keeper is no command that is accepted, or isn't there; and how that was said.
+    Row(Result<(), SayFault>),
     /// Not all lines of its input were taken.
     Lines(LinesFault),
     /// All lines were taken, and then links were served.

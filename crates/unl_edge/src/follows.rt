@@ -46,7 +46,7 @@ pub fn run_follow<P: Peer, R: Draws, T: Pace, O: Sink>(
           coming = R.coming draws.new;
           sent = O.sent output.new;
         }) }
-    ensures caused { Caused (follow_status result) ⊥ (Rose (O.faults output.old) (O.faults output.new)) ⊥ }
+    ensures caused { Caused (follow_status result) ⊥ (Rose (O.faults output.old) (O.faults output.new)) ⊥ ⊥ }
 {
     let ask = first_ask(alloc, upstream, token, delta)?;
     let subject = Subject {

@@ -3,6 +3,7 @@ use crate::bench::{joined, printed};
 use std::alloc::Global;
 use std::sync::Wait;
 use std::test::Fail;
+use std::thread::Threads;
 
 /// An input, and what its replay prints.
 const CASES: [(&str, &str); 31] = [
@@ -468,7 +469,7 @@ const FULL: (&str, &str) = (
 );
 
 /// Whether the replay of an input prints this, where lines that begin with four blanks go on the line before.
-fn prints<W: Wait>(alloc: Global, input: &str, output: &str, rt: &W) -> Option<bool> {
+fn prints<W: Threads + Wait>(alloc: Global, input: &str, output: &str, rt: &W) -> Option<bool> {
     let input = joined(alloc, input)?;
     let output = joined(alloc, output)?;
     let text = printed(alloc, input.as_str(), rt)?;

@@ -1,11 +1,12 @@
 //! The number with which the program exits.
 ghost use Rattle.std.specs.Prelude.{◌≡◌};
 ghost use Rattle.unl_edge.specs.Status.{check_status, code_of, explain_status, follow_status, lines_status, load_status};
-ghost use Rattle.unl_edge.specs.Status.{serving_status, upstream_status, words_status};
+ghost use Rattle.unl_edge.specs.Status.{row_status, serving_status, upstream_status, words_status};
 
 use crate::ends::{CheckEnd, ServingEnd, UpstreamEnd, WordsEnd};
 use unl_explain::ExplainFault;
 use unl_follow::FollowFault;
+use unl_input::SayFault;
 use unl_lines::LinesFault;
 use unl_load::LoadFault;
 
@@ -18,7 +19,7 @@ pub enum Status {
     TestFailed,
     /// The words name no command, or a value is outside its range.
     BadWords,
-    /// The input is refused, or a line of it.
+    /// The input is refused, or a line of it, or a row of a keeper.
     Refused,
     /// The input failed.
     ReadFault,
@@ -28,6 +29,8 @@ pub enum Status {
     OutOfMemory,
     /// The door failed.
     DoorFault,
+    /// The keeper failed before an upstream served a link, or none could be made.
+    KeeperFault,
 }
 
 impl Status {
@@ -44,6 +47,7 @@ impl Status {
             Status::WriteFault => 5,
             Status::OutOfMemory => 6,
             Status::DoorFault => 7,
+            Status::KeeperFault => 8,
         }
     }
 
@@ -122,12 +126,25 @@ impl Status {
         }
     }
 
+    /// That of a keeper's row that is refused, by how that was said.
+    pub fn of_row(told: Result<(), SayFault>) -> Status
+        ensures { result ≡ row_status told }
+    {
+        match told {
+            Ok(()) => Status::Refused,
+            Err(SayFault::WriteFault) => Status::WriteFault,
+            Err(SayFault::Memory) => Status::OutOfMemory,
+        }
+    }
+
     /// That of an upstream.
     pub fn of_upstream(end: UpstreamEnd) -> Status
         ensures { result ≡ upstream_status end }
     {
         match end {
             UpstreamEnd::OutOfMemory => Status::OutOfMemory,
+            UpstreamEnd::KeeperFault => Status::KeeperFault,
+            UpstreamEnd::Row(told) => Status::of_row(told),
             UpstreamEnd::Lines(fault) => Status::of_lines(Err(fault)),
             UpstreamEnd::Links(end) => Status::of_serving(end),
         }

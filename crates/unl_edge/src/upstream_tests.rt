@@ -5,24 +5,27 @@ use crate::world::World;
 use std::alloc::Global;
 use std::sync::Wait;
 use std::test::Fail;
-use unl_base::{CountPace, ListDraws, MemorySink, MemorySource};
+use std::thread::Threads;
+use unl_base::{CountPace, ListDraws, MemorySink, MemorySource, OneByOne};
+use unl_keeper::MemoryMaker;
 
-const WORDS: &str =
+pub(crate) const WORDS: &str =
     "upstream --secret s --environments dev --client-tokens *:dev.c --frontend-tokens *:dev.f";
 
-const PUT_A: &str =
+pub(crate) const PUT_A: &str =
     r#"{"command":"put-feature","environment":"dev","feature":{"name":"a","enabled":true,"strategies":[{"name":"default"}]}}
 "#;
 
 /// A feature is put, and then asked for.
-const PUT_B: &str = r#"POST /commands HTTP/1.1
+pub(crate) const PUT_B: &str = r#"POST /commands HTTP/1.1
 Host: x
 Authorization: s
 Content-Length: 117
 
 {"command":"put-feature","environment":"dev","feature":{"name":"b","enabled":true,"strategies":[{"name":"default"}]}}"#;
 
-const ASK: &str = "GET /api/frontend HTTP/1.1\r\nHost: x\r\nAuthorization: *:dev.f\r\n\r\n";
+pub(crate) const ASK: &str =
+    "GET /api/frontend HTTP/1.1\r\nHost: x\r\nAuthorization: *:dev.f\r\n\r\n";
 
 const FEED: &str = "GET /api/client/features HTTP/1.1\r\nHost: x\r\nAuthorization: *:dev.c\r\n\r\n";
 
@@ -43,13 +46,13 @@ fn list_of(alloc: Global, call: Option<u64>) -> Option<Vec<u64>> {
 }
 
 /// The status of an upstream over lines and two links, and the world after it.
-fn served<'a, W: Wait>(
+fn served<'a, W: Threads + Wait>(
     alloc: Global,
     lines: &str,
     asked: [&str; 2],
     failing: Failing,
     rt: &'a W,
-) -> Option<(u8, Bench<&'a W>)> {
+) -> Option<(u8, Bench<'a, W>)> {
     let words = words_of(alloc, WORDS).ok()?;
     let lines = lines.as_bytes().to_vec(alloc).ok()?;
     let mut world = World {
@@ -59,6 +62,8 @@ fn served<'a, W: Wait>(
         peer: silent_peer(alloc)?,
         draws: ListDraws::new(Vec::new(alloc)),
         pace: CountPace::new(0),
+        spawner: OneByOne::new(),
+        keep: MemoryMaker::new(alloc),
         rt,
     };
     let status = run(alloc, &words, &mut world);
@@ -106,7 +111,7 @@ const TOGGLES: &str =
     "name":"disabled"}}]}"#;
 
 /// The body of the reply that a link was sent.
-fn body_at<'a, W: Wait>(world: &'a Bench<&W>, place: usize) -> Option<&'a str> {
+fn body_at<'a, W: Threads + Wait>(world: &'a Bench<'_, W>, place: usize) -> Option<&'a str> {
     let text = str::from_utf8(world.door.sent(place)?).ok()?;
     Some(text.split_once("\r\n\r\n")?.1)
 }
@@ -130,7 +135,7 @@ const TOKENS_LINE: &str = r#"{"op":"tokens","tokens":[{"token":"*:dev.f","type":
 const ASK_LINE: &str = r#"{"op":"ask","token":"*:dev.f","target":"/api/frontend"}"#;
 
 /// What a replay prints that takes what an upstream gave, as a line's key and value, and is then asked.
-fn asked_after<W: Wait>(alloc: Global, op: &str, given: &str, rt: &W) -> Option<Vec<u8>> {
+fn asked_after<W: Threads + Wait>(alloc: Global, op: &str, given: &str, rt: &W) -> Option<Vec<u8>> {
     let line = format!(in alloc; r#"{{"op":"{op}","environment":"dev","{op}":{given}}}"#).ok()?;
     let mut input = String::from_str(alloc, TOKENS_LINE).ok()?;
     for text in ["\n", line.as_str(), "\n", ASK_LINE] {

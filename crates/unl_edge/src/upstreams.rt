@@ -1,27 +1,43 @@
-//! The command `upstream`: it takes the commands of its input, and then serves the links of its door.
-ghost use Rattle.std.specs.Prelude.{◌≡◌, ◌≤◌, ℕ, IfOk, IsErrOf, OnOk, string_bytes};
+//! The command `upstream`: it is reopened on a keeper, takes the commands of its input, and then serves the links of its door.
+ghost use Rattle.std.specs.Prelude.{◌≡◌, ◌≢◌, ℕ, true, IfOk, IsErrOf, OnOk, string_bytes};
 ghost use Rattle.unl_base.specs.Faults.{Rose};
 ghost use Rattle.unl_base.specs.Streams.{Sends, SendsFront};
 ghost use Rattle.unl_edge.specs.OwnBook.{own_book};
-ghost use Rattle.unl_edge.specs.Status.{Caused, serving_status, upstream_status};
-ghost use Rattle.unl_edge.specs.Upstreams.{LinksEnd, UpstreamEnds, UpstreamRuns, connections_line};
+ghost use Rattle.unl_edge.specs.Status.{Caused, IsCaused, row_status, serving_status, upstream_status};
+ghost use Rattle.unl_edge.specs.Upstreams.{IsNew, KeeperEnd, LinesEnd, LinksEnd, SaysLine, UpstreamEnds, UpstreamRuns};
+ghost use Rattle.unl_edge.specs.Upstreams.{connections_line, facing, row_line};
+ghost use Rattle.unl_upstream.specs.Kept.{keeper_by, kept_state};
+ghost use Rattle.unl_upstream.specs.Reopening.{IsOpening};
 ghost use Rattle.unl_upstream.specs.Upstream.{opening};
 ghost use Rattle.unl_words.specs.Ranges.{IsUpstream};
 
 use crate::ends::{ServingEnd, UpstreamEnd};
+use crate::kept_upstream::KeptUpstream;
 use crate::own_book::own_book;
 use crate::world::World;
 use std::alloc::{AllocError, Global};
+use std::marker::Model;
 use std::sync::Wait;
-use unl_base::{Door, Draws, Pace, Peer, Sink, Source, write_all};
+use unl_base::{Door, Draws, Pace, Peer, Sink, Source, Spawner, write_all};
 use unl_documents::{List, Memory, Text};
 use unl_input::SayFault;
-use unl_lines::take_lines;
-use unl_upstream::{CommandLines, Upstream};
+use unl_keeper::{KeepMaker, KeepRefusal, Keeper};
+use unl_lines::{LinesFault, take_lines};
+use unl_upstream::{ReopenFault, Upstream, host_kept, reopen};
 
-/// Begins an upstream, whose boot number is the word of a draw, takes the commands of the input's lines, and then serves
-/// the links of the door, one after the other.
-pub fn run_upstream<I: Source, O: Sink, D: Door, P: Peer, R: Draws, T: Pace, W: Wait>(
+/// Begins an upstream, whose boot number is the word of a draw, reopens it on a keeper, takes the commands of the input's
+/// lines, and then serves the links of the door, one after the other.
+pub fn run_upstream<
+    I: Source,
+    O: Sink,
+    D: Door,
+    P: Peer,
+    R: Draws,
+    T: Pace,
+    S: Spawner,
+    Q: KeepMaker,
+    W: Wait,
+>(
     alloc: Global,
     port: u16,
     secret: &Text,
@@ -29,13 +45,12 @@ pub fn run_upstream<I: Source, O: Sink, D: Door, P: Peer, R: Draws, T: Pace, W: 
     client_tokens: &List<Text>,
     frontend_tokens: &List<Text>,
     epoch: u64,
-    world: &mut World<I, O, D, P, R, T, W>,
+    world: &mut World<I, O, D, P, R, T, S, Q, W>,
 ) -> UpstreamEnd
     requires { IsUpstream port secret.now environments.now client_tokens.now frontend_tokens.now }
     ensures runs { UpstreamRuns secret.now environments.now (own_book client_tokens.now frontend_tokens.now) epoch result
         world.old world.new }
-    ensures caused { Caused (upstream_status result) (Rose world.old.input.faults world.new.input.faults)
-        (Rose world.old.output.faults world.new.output.faults) (Rose world.old.door.faults world.new.door.faults) }
+    ensures caused { IsCaused (upstream_status result) world.old world.new }
 {
     let boot = world.draws.draw().word;
     match begin(
@@ -47,8 +62,35 @@ pub fn run_upstream<I: Source, O: Sink, D: Door, P: Peer, R: Draws, T: Pace, W: 
         frontend_tokens,
         epoch,
     ) {
-        Ok(mut up) => take_commands(alloc, port, &mut up, world),
+        Ok(fresh) => run_kept(alloc, port, fresh, world),
         Err(Memory) => UpstreamEnd::OutOfMemory,
+    }
+}
+
+/// An upstream that was given no command.
+#[derive(Drop)]
+struct NewUpstream {
+    up: Upstream,
+}
+
+impl Model for NewUpstream {
+    ghost use Rattle.unl_edge.specs.Upstreams.{IsNew};
+    ghost use Rattle.unl_upstream.specs.Upstream.{UpstreamState};
+
+    ghost Value = { UpstreamState };
+
+    ghost view = { λ fresh. fresh.up };
+
+    ghost invariant = { λ fresh. IsNew fresh.up };
+}
+
+impl NewUpstream {
+    /// The upstream.
+    fn into_upstream(self) -> Upstream
+        ensures same { result ≡ self }
+        ensures new { IsNew result }
+    {
+        self.up
     }
 }
 
@@ -61,54 +103,184 @@ fn begin(
     client_tokens: &List<Text>,
     frontend_tokens: &List<Text>,
     epoch: u64,
-) -> Result<Upstream, Memory>
+) -> Result<NewUpstream, Memory>
     requires { (port : ℕ) × IsUpstream port secret.now environments.now client_tokens.now frontend_tokens.now }
-    ensures { IfOk result (λ up. up ≡ opening boot secret.now environments.now (own_book client_tokens.now frontend_tokens.now) epoch) }
+    ensures { IfOk result (λ fresh.
+        fresh ≡ opening boot secret.now environments.now (own_book client_tokens.now frontend_tokens.now) epoch) }
 {
     let book = own_book(alloc, client_tokens, frontend_tokens)?;
-    Upstream::new(alloc, boot, secret.as_str(), environments, book, epoch)
+    let up = Upstream::new(alloc, boot, secret.as_str(), environments, book, epoch)?;
+    let fresh = NewUpstream { up };
+    Ok(fresh)
 }
 
-/// Takes the commands of the input's lines, and then serves the links of the door.
-fn take_commands<I: Source, O: Sink, D: Door, P: Peer, R: Draws, T: Pace, W: Wait>(
+/// Makes a keeper, runs an upstream with it, and hands it back.
+fn run_kept<
+    I: Source,
+    O: Sink,
+    D: Door,
+    P: Peer,
+    R: Draws,
+    T: Pace,
+    S: Spawner,
+    Q: KeepMaker,
+    W: Wait,
+>(
     alloc: Global,
     port: u16,
-    up: &mut Upstream,
-    world: &mut World<I, O, D, P, R, T, W>,
+    fresh: NewUpstream,
+    world: &mut World<I, O, D, P, R, T, S, Q, W>,
 ) -> UpstreamEnd
-    ensures ends { UpstreamEnds up.old world.old.draws result world.old world.new }
-    ensures caused { Caused (upstream_status result) (Rose world.old.input.faults world.new.input.faults)
-        (Rose world.old.output.faults world.new.output.faults) (Rose world.old.door.faults world.new.door.faults) }
+    ensures ends { UpstreamEnds fresh result world.old world.new }
+    ensures caused { IsCaused (upstream_status result) world.old world.new }
 {
-    match take_lines::<CommandLines, I, O>(alloc, up, &mut world.input, &mut world.output) {
-        Ok(()) => UpstreamEnd::Links(serve_links(alloc, port, up, world)),
-        Err(fault) => UpstreamEnd::Lines(fault),
+    let up = fresh.into_upstream();
+    match world.keep.make(alloc) {
+        Ok(keeper) => {
+            let (end, keeper) = run_reopened(
+                &world.rt,
+                alloc,
+                port,
+                up,
+                keeper,
+                &mut world.input,
+                &mut world.output,
+                &mut world.door,
+                &mut world.draws,
+            );
+            world.keep.back(keeper);
+            end
+        }
+        Err(KeepRefusal::Fault) => UpstreamEnd::KeeperFault,
+        Err(KeepRefusal::Memory) => UpstreamEnd::OutOfMemory,
+    }
+}
+
+/// Reopens an upstream on its keeper, and runs it, or says which row is refused. The keeper comes back.
+fn run_reopened<K: Keeper, I: Source, O: Sink, D: Door, R: Draws, W: Wait>(
+    rt: &W,
+    alloc: Global,
+    port: u16,
+    mut up: Upstream,
+    mut keeper: K,
+    input: &mut I,
+    output: &mut O,
+    door: &mut D,
+    draws: &mut R,
+) -> (UpstreamEnd, K)
+    requires { IsOpening up }
+    ensures ends { KeeperEnd (kept_state up (keeper_by K.opened K.faults K.count K.rows keeper)) result.0
+        (keeper_by K.opened K.faults K.count K.rows result.1) (I.left input.old) (I.left input.new)
+        (facing (O.sent output.old) (D.state door.old) (R.coming draws.old))
+        (facing (O.sent output.new) (D.state door.new) (R.coming draws.new)) }
+    ensures caused { Caused (upstream_status result.0) (Rose (I.faults input.old) (I.faults input.new))
+        (Rose (O.faults output.old) (O.faults output.new)) (Rose (D.faults door.old) (D.faults door.new)) (K.faults result.1 ≢ 0) }
+{
+    match reopen(alloc, &mut up, &mut keeper) {
+        Ok(_) => take_commands(rt, alloc, port, up, keeper, input, output, door, draws),
+        Err(ReopenFault::BadRow(place, _)) => {
+            (UpstreamEnd::Row(say_row(alloc, output, place)), keeper)
+        }
+        Err(ReopenFault::NoRow(place)) => (UpstreamEnd::Row(say_row(alloc, output, place)), keeper),
+        Err(ReopenFault::Fault) => (UpstreamEnd::KeeperFault, keeper),
+        Err(ReopenFault::Memory) => (UpstreamEnd::OutOfMemory, keeper),
+    }
+}
+
+/// Keeps the commands of the input's lines, and then serves the links of the door. The keeper comes back.
+fn take_commands<K: Keeper, I: Source, O: Sink, D: Door, R: Draws, W: Wait>(
+    rt: &W,
+    alloc: Global,
+    port: u16,
+    up: Upstream,
+    keeper: K,
+    input: &mut I,
+    output: &mut O,
+    door: &mut D,
+    draws: &mut R,
+) -> (UpstreamEnd, K)
+    requires { K.opened keeper ≡ true }
+    ensures ends { LinesEnd (kept_state up (keeper_by K.opened K.faults K.count K.rows keeper)) result.0
+        (keeper_by K.opened K.faults K.count K.rows result.1) (I.left input.old) (I.left input.new)
+        (facing (O.sent output.old) (D.state door.old) (R.coming draws.old))
+        (facing (O.sent output.new) (D.state door.new) (R.coming draws.new)) }
+    ensures caused { Caused (upstream_status result.0) (Rose (I.faults input.old) (I.faults input.new))
+        (Rose (O.faults output.old) (O.faults output.new)) (Rose (D.faults door.old) (D.faults door.new)) (K.faults result.1 ≢ 0) }
+{
+    let mut kept = KeptUpstream {
+        up,
+        keeper,
+        failed: false,
+    };
+    let taken = take_lines::<KeptUpstream<K>, I, O>(alloc, &mut kept, input, output);
+    let KeptUpstream {
+        mut up,
+        mut keeper,
+        failed,
+    } = kept;
+    match taken {
+        Ok(()) => {
+            let end = serve_links(rt, alloc, port, &mut up, &mut keeper, output, door, draws);
+            (UpstreamEnd::Links(end), keeper)
+        }
+        Err(LinesFault::Memory) if failed => (UpstreamEnd::KeeperFault, keeper),
+        Err(fault) => (UpstreamEnd::Lines(fault), keeper),
     }
 }
 
 /// Listens, serves the links of the door until it is closed, and says how many these were.
-fn serve_links<I: Source, O: Sink, D: Door, P: Peer, R: Draws, T: Pace, W: Wait>(
+fn serve_links<K: Keeper, O: Sink, D: Door, R: Draws, W: Wait>(
+    rt: &W,
     alloc: Global,
     port: u16,
     up: &mut Upstream,
-    world: &mut World<I, O, D, P, R, T, W>,
+    keeper: &mut K,
+    output: &mut O,
+    door: &mut D,
+    draws: &mut R,
 ) -> ServingEnd
-    ensures ends { LinksEnd up.old up.new result world.old world.new }
-    ensures same { world.new.input ≡ world.old.input }
-    ensures caused { Caused (serving_status result) ⊥ (Rose world.old.output.faults world.new.output.faults)
-        (Rose world.old.door.faults world.new.door.faults) }
+    requires { K.opened keeper.old ≡ true }
+    ensures ends { LinksEnd (kept_state up.old (keeper_by K.opened K.faults K.count K.rows keeper.old))
+        (kept_state up.new (keeper_by K.opened K.faults K.count K.rows keeper.new)) result
+        (facing (O.sent output.old) (D.state door.old) (R.coming draws.old))
+        (facing (O.sent output.new) (D.state door.new) (R.coming draws.new)) }
+    ensures caused { Caused (serving_status result) ⊥ (Rose (O.faults output.old) (O.faults output.new))
+        (Rose (D.faults door.old) (D.faults door.new)) ⊥ }
 {
-    if world.door.listen(port).is_err() {
+    if door.listen(port).is_err() {
         return ServingEnd::DoorFault;
     }
-    match up.host(&world.rt, alloc, &mut world.door, &mut world.draws) {
-        Ok(served) => match say_connections(alloc, &mut world.output, served) {
+    match host_kept(rt, alloc, up, keeper, door, draws) {
+        Ok(served) => match say_connections(alloc, output, served) {
             Ok(()) => ServingEnd::Closed,
             Err(SayFault::WriteFault) => ServingEnd::WriteFault,
             Err(SayFault::Memory) => ServingEnd::OutOfMemory,
         },
         Err(_) => ServingEnd::DoorFault,
     }
+}
+
+/// Says which row of a keeper is refused, by its place.
+///
+/// # Errors
+/// `WriteFault` where the output failed, and a front of the line was sent; `Memory` where memory ran out.
+fn say_row<O: Sink>(alloc: Global, output: &mut O, place: u64) -> Result<(), SayFault>
+    ensures said { SaysLine result (row_line place) (O.sent output.old) (O.sent output.new) }
+    ensures write { Caused (row_status result) ⊥ (Rose (O.faults output.old) (O.faults output.new)) ⊥ ⊥ }
+{
+    let Ok(line) = row_line(alloc, place) else {
+        return Err(SayFault::Memory);
+    };
+    match write_all(output, line.as_bytes()) {
+        Ok(()) => Ok(()),
+        Err(_) => Err(SayFault::WriteFault),
+    }
+}
+
+fn row_line(alloc: Global, place: u64) -> Result<String, AllocError>
+    ensures { IfOk result (λ line. string_bytes line ≡ row_line place) }
+{
+    format!(in alloc; "refused: row {place}\n")
 }
 
 /// Says how many links were served.

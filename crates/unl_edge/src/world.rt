@@ -1,23 +1,45 @@
 //! What the program finds outside.
 use std::marker::Model;
 use std::sync::Wait;
-use unl_base::{Door, Draws, Pace, Peer, Sink, Source};
+use unl_base::{Door, Draws, Pace, Peer, Sink, Source, Spawner};
+use unl_keeper::KeepMaker;
 
 /// What the program reads and writes, the door whose links it serves, the peer that it asks, the draws that it answers with,
-/// the pace of its turns, and what it waits by.
+/// the pace of its turns, what starts its jobs, what makes the keeper of its commands, and what it waits by.
 #[derive(Drop)]
-pub struct World<I: Source, O: Sink, D: Door, P: Peer, R: Draws, T: Pace, W: Wait> {
+pub struct World<
+    I: Source,
+    O: Sink,
+    D: Door,
+    P: Peer,
+    R: Draws,
+    T: Pace,
+    S: Spawner,
+    Q: KeepMaker,
+    W: Wait,
+> {
     pub input: I,
     pub output: O,
     pub door: D,
     pub peer: P,
     pub draws: R,
     pub pace: T,
+    pub spawner: S,
+    pub keep: Q,
     pub rt: W,
 }
 
-impl<I: Source, O: Sink, D: Door, P: Peer, R: Draws, T: Pace, W: Wait> Model
-    for World<I, O, D, P, R, T, W> {
+impl<
+    I: Source,
+    O: Sink,
+    D: Door,
+    P: Peer,
+    R: Draws,
+    T: Pace,
+    S: Spawner,
+    Q: KeepMaker,
+    W: Wait,
+> Model for World<I, O, D, P, R, T, S, Q, W> {
     ghost use Rattle.unl_edge.specs.Scene.{Scene};
 
     ghost Value = { Scene };
@@ -29,5 +51,7 @@ impl<I: Source, O: Sink, D: Door, P: Peer, R: Draws, T: Pace, W: Wait> Model
       draws = R.coming world.draws;
       peer = record { state = P.state world.peer; faults = P.Source.faults world.peer };
       pace = T.turns world.pace;
+      spawner = S.faults world.spawner;
+      keep = record { held = Q.held world.keep; faults = Q.faults world.keep };
     } };
 }

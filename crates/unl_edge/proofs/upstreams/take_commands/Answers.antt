@@ -1,18 +1,19 @@
-use Rattle.unl_edge.proofs.Commands.{after_lines_from}
+use Rattle.std.proofs.Common.{rules}
+use Rattle.unl_edge.specs.Upstreams.{facing}
+use Rattle.unl_upstream.specs.Kept.{HasKept, keeper_by, kept_state}
+use Rattle.unl_edge.proofs.Commands.{after_lines}
 use Rattle.unl_edge.proofs.upstreams.take_commands.Goals as goal
 
 pub returns-in-Ok-clause-ends : goal.returns-in-Ok-clause-ends
 returns-in-Ok-clause-ends g c =
-    after_lines_from c.args.up.now c.take_lines.new.desk c.serve_links.new.up c.serve_links.result c.args.world.now
-    (record {
-      input = record { left = g.I.Source.left c.world.inside.input; faults = g.I.Source.faults c.world.inside.input };
-      output = record { sent = g.O.Sink.sent c.world.inside.output; faults = g.O.Sink.faults c.world.inside.output };
-      door = record { state = g.D.Door.state c.world.inside.door; faults = g.D.Door.faults c.world.inside.door };
-      draws = g.R.Draws.coming c.world.inside.draws;
-      peer = record { state = g.P.Peer.state c.world.inside.peer; faults = g.P.Source.faults c.world.inside.peer };
-      pace = g.T.Pace.turns c.world.inside.pace;
-    })
-    c.serve_links.new.world
-    (record { left = g.I.Source.left c.take_lines.new.source; faults = g.I.Source.faults c.take_lines.new.source })
-    (record { sent = g.O.Sink.sent c.take_lines.new.sink; faults = g.O.Sink.faults c.take_lines.new.sink })
-    c.world.view_is c.in-Ok.ensures.all c.serve_links.ensures.ends c.serve_links.ensures.same
+    let has : HasKept (keeper_by g.K.Keeper.opened g.K.Keeper.faults g.K.Keeper.count g.K.Keeper.rows c.kept.inside.keeper) = search rules in
+    after_lines
+    (kept_state c.args.up (keeper_by g.K.Keeper.opened g.K.Keeper.faults g.K.Keeper.count g.K.Keeper.rows c.args.keeper))
+    (kept_state c.kept.inside.up (keeper_by g.K.Keeper.opened g.K.Keeper.faults g.K.Keeper.count g.K.Keeper.rows c.kept.inside.keeper))
+    (kept_state c.serve_links-end.new.up
+    (keeper_by g.K.Keeper.opened g.K.Keeper.faults g.K.Keeper.count g.K.Keeper.rows c.serve_links-end.new.keeper))
+    c.take_lines-taken.new.desk c.serve_links-end.result (g.I.Source.left c.args.input.now) (g.I.Source.left c.take_lines-taken.new.source)
+    (facing (g.O.Sink.sent c.args.output.now) (g.D.Door.state c.args.door.now) (g.R.Draws.coming c.args.draws.now))
+    (facing (g.O.Sink.sent c.serve_links-end.new.output) (g.D.Door.state c.serve_links-end.new.door)
+    (g.R.Draws.coming c.serve_links-end.new.draws))
+    (g.O.Sink.sent c.take_lines-taken.new.sink) has c.kept.view_is c.in-Ok.ensures.all c.serve_links-end.ensures.ends

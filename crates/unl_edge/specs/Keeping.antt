@@ -1,0 +1,79 @@
+-- The lines of an upstream's input, each of whose commands is kept before it is published.
+use Rattle.std.specs.Prelude.{◌≡◌, ⊤, ℕ, ◌+◌, List, [], ◌∷◌, ◌++◌, length, map, codes, Option, option_map, Result, Ok, Err}
+use Rattle.unl_documents.specs.FaultText.{fault_text}
+use Rattle.unl_documents.specs.Reading.{Reading}
+use Rattle.unl_lines.specs.Taken.{LineResult, Taking}
+use Rattle.unl_upstream.specs.Command.{command_in}
+use Rattle.unl_upstream.specs.History.{accepted, after_commands}
+use Rattle.unl_upstream.specs.Kept.{KeptState, kept_commands, with_room}
+use Rattle.unl_upstream.specs.Upstream.{Obeyed, UpstreamState, commanded}
+use Rattle.unl_upstream.specs.declared.command.Command.{Command}
+use Rattle.unl_upstream.specs.declared.refusal.KeepCommandRefusal.{KeepCommandRefusal}
+use Rattle.unl_upstream.specs.declared.refusal.KeepCommandRefusal.TheVariants.{NoSuchEnvironment, NoSuchFeature}
+use Rattle.unl_upstream.specs.declared.refusal.KeepCommandRefusal.TheVariants.{NoSuchSegment, TooMany, KeeperFull, KeeperFault, Memory}
+
+-- what stands while lines are taken: the upstream, how many rows its keeper keeps, and the commands in them, where it tells its rows
+pub record Shelf : Type 0 where
+  pub up : UpstreamState
+  pub count : ℕ
+  pub commands : Option (List Command)
+
+-- this of an upstream and its keeper
+abbrev pub shelf_of : KeptState → Shelf
+shelf_of state = record { up = state.up; count = state.keeper.count; commands = kept_commands state.keeper }
+
+-- the name of a refusal; a fault of the keeper and want of memory refuse no line, and have none
+abbrev pub refusal_name : KeepCommandRefusal → List ℕ
+refusal_name NoSuchEnvironment = codes "NoSuchEnvironment"
+refusal_name NoSuchFeature = codes "NoSuchFeature"
+refusal_name NoSuchSegment = codes "NoSuchSegment"
+refusal_name (TooMany n) = codes "TooMany"
+refusal_name (KeeperFull n) = codes "KeeperFull"
+refusal_name KeeperFault = []
+refusal_name Memory = []
+
+-- one command more was accepted and is kept
+abbrev pub with_command : Command → Obeyed → Shelf → Shelf
+with_command command obeyed shelf = record {
+  up = obeyed.up;
+  count = shelf.count + 1;
+  commands = option_map (λ commands. commands ++ command ∷ []) shelf.commands;
+}
+
+-- a command that is kept prints nothing
+abbrev pub kept_as : Command → Shelf → Result Obeyed KeepCommandRefusal → LineResult Shelf
+kept_as command shelf (Ok obeyed) = Ok (record { text = []; desk = with_command command obeyed shelf })
+kept_as command shelf (Err refusal) = Err (refusal_name refusal)
+
+-- what comes of a command that is to be kept, unless the keeper fails or memory is wanting
+abbrev pub kept_one : Command → Shelf → LineResult Shelf
+kept_one command shelf = kept_as command shelf (with_room shelf.count (commanded command shelf.up))
+
+-- the command that a line spells is kept, if it spells one
+abbrev pub kept_by : Shelf → Reading Command → LineResult Shelf
+kept_by shelf (Ok command) = kept_one command shelf
+kept_by shelf (Err fault) = Err (fault_text fault)
+
+-- what a line does, unless the keeper fails or memory is wanting
+unfoldable pub kept_line : Shelf → List ℕ → LineResult Shelf
+kept_line shelf line = kept_by shelf (command_in line)
+
+-- the same, whatever the line's number
+abbrev pub keeping : Taking Shelf
+keeping number shelf line = kept_line shelf line
+
+-- what keeping a command came to, as far as a line's result is told
+abbrev pub KeepsIn : Command → Shelf → Result (Unit {0}) KeepCommandRefusal → Shelf → Type 0
+KeepsIn command before (Ok u) after = kept_one command before ≡ Ok (record { text = []; desk = after })
+KeepsIn command before (Err KeeperFault) after = ⊤
+KeepsIn command before (Err Memory) after = ⊤
+KeepsIn command before (Err refusal) after = kept_one command before ≡ Err (refusal_name refusal)
+
+-- The lines spell these commands, one a line. All of them are accepted and lead there, and they are kept behind those before.
+pub record SpellKept (before : Shelf) (spelling : List (List ℕ)) (after : Shelf) : Type 0 where
+  pub commands : List Command
+  pub spelled : map command_in spelling ≡ map Ok commands
+  pub all_accepted : accepted commands before.up ≡ commands
+  pub leads : after.up ≡ after_commands commands before.up
+  pub counted : after.count ≡ before.count + length commands
+  pub kept : after.commands ≡ option_map (λ kept. kept ++ commands) before.commands

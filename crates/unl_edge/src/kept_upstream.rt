@@ -1,0 +1,127 @@
+//! An upstream and its keeper, as they take the lines of an input.
+ghost use Rattle.std.specs.Prelude.{◌≡◌, true, IfOk};
+ghost use Rattle.unl_documents.specs.Reading.{Gives};
+ghost use Rattle.unl_edge.specs.Keeping.{KeepsIn, kept_one, refusal_name};
+ghost use Rattle.unl_lines.specs.Taking.{TakesLine};
+ghost use Rattle.unl_upstream.specs.Command.{IsValidCommand, command_in};
+
+use std::alloc::Global;
+use std::marker::Model;
+use unl_documents::json::read_json;
+use unl_documents::{BadDocument, Text, fault_text};
+use unl_keeper::Keeper;
+use unl_lines::{LineRefusal, LineTaking};
+use unl_upstream::{Command, KeepCommandRefusal, Upstream, keep, read_command};
+
+/// An upstream, the keeper of its commands, which is opened, and whether that has failed at a line.
+#[derive(Drop)]
+pub(crate) struct KeptUpstream<K: Keeper> {
+    pub up: Upstream,
+    pub keeper: K,
+    pub failed: bool,
+}
+
+impl<K: Keeper> Model for KeptUpstream<K> {
+    ghost use Rattle.std.specs.Prelude.{◌≡◌, ◌≢◌, true};
+    ghost use Rattle.unl_edge.specs.Keeping.{Shelf, shelf_of};
+    ghost use Rattle.unl_upstream.specs.Kept.{keeper_by, kept_state};
+
+    ghost Value = { Shelf };
+
+    ghost view = { λ kept. shelf_of (kept_state kept.up (keeper_by K.opened K.faults K.count K.rows kept.keeper)) };
+
+    ghost invariant = { λ kept. (K.opened kept.keeper ≡ true) × (kept.failed ≡ true → K.faults kept.keeper ≢ 0) };
+}
+
+/// Keeps the command of each line. One that is kept prints nothing; one that can't be read or is refused refuses its line, by
+/// the first fault of the document or by the name of the refusal. A fault of the keeper is noted, and ends the lines as want
+/// of memory does.
+impl<K: Keeper> LineTaking for KeptUpstream<K> {
+    ghost use Rattle.unl_edge.specs.Keeping.{kept_line};
+
+    type Desk = KeptUpstream<K>;
+
+    ghost taken = { λ number shelf line. kept_line shelf line };
+
+    ghost fits = { λ number shelf. Unit {0} };
+
+    #[tactic(auto, unfolding(crate::specs::Keeping::kept_line))]
+    fn take(
+        alloc: Global,
+        desk: &mut KeptUpstream<K>,
+        _number: u64,
+        line: &[u8],
+    ) -> Result<Vec<u8>, LineRefusal> {
+        match read_line(alloc, line) {
+            Ok(command) => take_command(alloc, desk, &command),
+            Err(BadDocument::Memory) => Err(LineRefusal::Memory),
+            Err(fault) => Err(LineRefusal::Cause(Text::from(fault_text(alloc, &fault)?))),
+        }
+    }
+}
+
+/// The command that a line spells.
+#[tactic(auto, unfolding(unl_upstream::specs::Command::command_in))]
+fn read_line(alloc: Global, line: &[u8]) -> Result<Command, BadDocument>
+    ensures gives { Gives result (command_in line.now) }
+    ensures valid { IfOk result IsValidCommand }
+{
+    let Some(value) = read_json(alloc, line)? else {
+        return Err(BadDocument::NotJson);
+    };
+    read_command(alloc, &value)
+}
+
+/// Keeps a command, and prints nothing.
+fn take_command<K: Keeper>(
+    alloc: Global,
+    kept: &mut KeptUpstream<K>,
+    command: &Command,
+) -> Result<Vec<u8>, LineRefusal>
+    requires { IsValidCommand command.now }
+    ensures { TakesLine result kept.new (kept_one command.now kept.old) }
+{
+    match keep_noted(alloc, kept, command) {
+        Ok(()) => Ok(Vec::new(alloc)),
+        Err(KeepCommandRefusal::KeeperFault) => Err(LineRefusal::Memory),
+        Err(KeepCommandRefusal::Memory) => Err(LineRefusal::Memory),
+        Err(refusal) => Err(LineRefusal::Cause(Text::new(alloc, name_of(refusal))?)),
+    }
+}
+
+/// Keeps a command, and notes whether the keeper failed.
+///
+/// # Errors
+/// As [`keep`] says.
+fn keep_noted<K: Keeper>(
+    alloc: Global,
+    kept: &mut KeptUpstream<K>,
+    command: &Command,
+) -> Result<(), KeepCommandRefusal>
+    requires { IsValidCommand command.now }
+    ensures { KeepsIn command.now kept.old result kept.new }
+{
+    match keep(alloc, &mut kept.up, &mut kept.keeper, command) {
+        Ok(_) => Ok(()),
+        Err(KeepCommandRefusal::KeeperFault) => {
+            kept.failed = true;
+            Err(KeepCommandRefusal::KeeperFault)
+        }
+        Err(refusal) => Err(refusal),
+    }
+}
+
+/// The name of a refusal.
+fn name_of(refusal: KeepCommandRefusal) -> &'static str
+    ensures { result.now ≡ refusal_name refusal }
+{
+    match refusal {
+        KeepCommandRefusal::NoSuchEnvironment => "NoSuchEnvironment",
+        KeepCommandRefusal::NoSuchFeature => "NoSuchFeature",
+        KeepCommandRefusal::NoSuchSegment => "NoSuchSegment",
+        KeepCommandRefusal::TooMany(_) => "TooMany",
+        KeepCommandRefusal::KeeperFull(_) => "KeeperFull",
+        KeepCommandRefusal::KeeperFault => "",
+        KeepCommandRefusal::Memory => "",
+    }
+}
