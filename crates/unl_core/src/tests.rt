@@ -7,11 +7,74 @@ use unl_documents::List;
 use unl_http_api::{Bytes, Method, Request};
 use unl_tokens::Book;
 
-const TOKENS: &str =
-    "{\"tokens\":[{\"token\":\"*:dev.all\",\"type\":\"frontend\"},{\"token\":\"*:dev.client\",\"type\":\"client\"},{\"token\":\"*:qa.all\",\"type\":\"frontend\"},{\"token\":\"B:dev.one\",\"type\":\"frontend\"},{\"token\":\"A:dev.c\",\"type\":\"client\",\"projects\":[\"A\"]}]}";
+const TOKENS: &str = r#"{"tokens":[
+    {"token":"*:dev.all","type":"frontend"},
+    {"token":"*:dev.client","type":"client"},
+    {"token":"*:qa.all","type":"frontend"},
+    {"token":"B:dev.one","type":"frontend"},
+    {"token":"A:dev.c","type":"client","projects":["A"]}
+]}"#;
 
-const FEATURES: &str =
-    "{\"events\":[{\"type\":\"hydration\",\"eventId\":4,\"features\":[{\"name\":\"a\",\"project\":\"A\",\"enabled\":true,\"strategies\":[{\"name\":\"default\"}]},{\"name\":\"b\",\"project\":\"A\",\"enabled\":false},{\"name\":\"c\",\"project\":\"B\",\"enabled\":true,\"strategies\":[{\"name\":\"ours\"}]},{\"name\":\"d\",\"project\":\"B\",\"enabled\":true,\"dependencies\":[{\"feature\":\"a\"}]},{\"name\":\"e\",\"project\":\"B\",\"enabled\":true,\"strategies\":[{\"name\":\"userWithId\",\"parameters\":{\"userIds\":\"7\"},\"constraints\":[{\"contextName\":\"environment\",\"operator\":\"IN\",\"values\":[\"dev\"]}]}]},{\"name\":\"f\",\"project\":\"B\",\"enabled\":true,\"strategies\":[{\"name\":\"applicationHostname\",\"parameters\":{\"hostNames\":\"edge\"}}]}]}]}";
+/// A state: `a` is on, `b` is off, `c` has a strategy that isn't known, `d` needs `a`, `e` is on for a user in `dev`, and `f`
+/// is on for a host.
+const FEATURES: &str = r#"{"events":[{"type":"hydration","eventId":4,"features":[
+    {"name":"a","project":"A","enabled":true,"strategies":[{"name":"default"}]},
+    {"name":"b","project":"A","enabled":false},
+    {"name":"c","project":"B","enabled":true,"strategies":[{"name":"ours"}]},
+    {"name":"d","project":"B","enabled":true,"dependencies":[{"feature":"a"}]},
+    {"name":"e","project":"B","enabled":true,"strategies":[{
+        "name":"userWithId",
+        "parameters":{"userIds":"7"},
+        "constraints":[{"contextName":"environment","operator":"IN","values":["dev"]}]
+    }]},
+    {"name":"f","project":"B","enabled":true,"strategies":[{
+        "name":"applicationHostname",
+        "parameters":{"hostNames":"edge"}
+    }]}
+]}]}"#;
+
+/// What is on for the user 7.
+const FOR_7: &str = concat!(
+    r#"{"toggles":["#,
+    r#"{"enabled":true,"impressionData":false,"name":"a","variant":{"enabled":false,"feature_enabled":true,"name":"disabled"}},"#,
+    r#"{"enabled":true,"impressionData":false,"name":"d","variant":{"enabled":false,"feature_enabled":true,"name":"disabled"}},"#,
+    r#"{"enabled":true,"impressionData":false,"name":"e","variant":{"enabled":false,"feature_enabled":true,"name":"disabled"}},"#,
+    r#"{"enabled":true,"impressionData":false,"name":"f","variant":{"enabled":false,"feature_enabled":true,"name":"disabled"}}"#,
+    r#"]}"#,
+);
+
+/// What is on for the user 8.
+const FOR_8: &str = concat!(
+    r#"{"toggles":["#,
+    r#"{"enabled":true,"impressionData":false,"name":"a","variant":{"enabled":false,"feature_enabled":true,"name":"disabled"}},"#,
+    r#"{"enabled":true,"impressionData":false,"name":"d","variant":{"enabled":false,"feature_enabled":true,"name":"disabled"}},"#,
+    r#"{"enabled":true,"impressionData":false,"name":"f","variant":{"enabled":false,"feature_enabled":true,"name":"disabled"}}"#,
+    r#"]}"#,
+);
+
+/// What is on in the project `B` for no user.
+const ON_IN_B: &str = concat!(
+    r#"{"toggles":["#,
+    r#"{"enabled":true,"impressionData":false,"name":"f","variant":{"enabled":false,"feature_enabled":true,"name":"disabled"}}"#,
+    r#"]}"#,
+);
+
+/// All that the project `B` has, for the user 7.
+const ALL_IN_B: &str = concat!(
+    r#"{"toggles":["#,
+    r#"{"enabled":false,"impressionData":false,"name":"c","variant":{"enabled":false,"feature_enabled":false,"name":"disabled"}},"#,
+    r#"{"enabled":false,"impressionData":false,"name":"d","variant":{"enabled":false,"feature_enabled":false,"name":"disabled"}},"#,
+    r#"{"enabled":true,"impressionData":false,"name":"e","variant":{"enabled":false,"feature_enabled":true,"name":"disabled"}},"#,
+    r#"{"enabled":true,"impressionData":false,"name":"f","variant":{"enabled":false,"feature_enabled":true,"name":"disabled"}}"#,
+    r#"]}"#,
+);
+
+/// The feature `a`, as a client is told it.
+const A_TOLD: &str = concat!(
+    r#"{"dependencies":[],"enabled":true,"impressionData":false,"name":"a","project":"A","stale":false,"#,
+    r#""strategies":[{"constraints":[],"name":"default","parameters":{},"segments":[],"variants":[]}],"#,
+    r#""type":"release","variants":[]}"#,
+);
 
 /// A method, a target, the token that is shown, the body, the status and the body of the answer.
 type Case = (
@@ -31,7 +94,7 @@ const CASES: [Case; 27] = [
         None,
         "",
         404,
-        "{\"error\":\"NoSuchRoute\"}",
+        r#"{"error":"NoSuchRoute"}"#,
     ),
     (
         Method::Get,
@@ -39,7 +102,7 @@ const CASES: [Case; 27] = [
         None,
         "",
         404,
-        "{\"error\":\"NoSuchRoute\"}",
+        r#"{"error":"NoSuchRoute"}"#,
     ),
     (
         Method::Other,
@@ -47,7 +110,7 @@ const CASES: [Case; 27] = [
         None,
         "",
         405,
-        "{\"error\":\"BadMethod\"}",
+        r#"{"error":"BadMethod"}"#,
     ),
     (
         Method::Post,
@@ -55,7 +118,7 @@ const CASES: [Case; 27] = [
         None,
         "",
         405,
-        "{\"error\":\"BadMethod\"}",
+        r#"{"error":"BadMethod"}"#,
     ),
     (
         Method::Get,
@@ -63,7 +126,7 @@ const CASES: [Case; 27] = [
         None,
         "",
         200,
-        "{\"status\":\"OK\"}",
+        r#"{"status":"OK"}"#,
     ),
     (
         Method::Get,
@@ -71,23 +134,23 @@ const CASES: [Case; 27] = [
         None,
         "",
         405,
-        "{\"error\":\"BadMethod\"}",
+        r#"{"error":"BadMethod"}"#,
     ),
     (
         Method::Post,
         "/edge/validate",
         None,
-        "{\"tokens\":7}",
+        r#"{"tokens":7}"#,
         400,
-        "{\"error\":\"BadBody\"}",
+        r#"{"error":"BadBody"}"#,
     ),
     (
         Method::Post,
         "/edge/validate",
         None,
-        "{\"tokens\":[\"B:dev.one\",\"x\",\"B:dev.one\"]}",
+        r#"{"tokens":["B:dev.one","x","B:dev.one"]}"#,
         200,
-        "{\"tokens\":[{\"projects\":[\"B\"],\"token\":\"B:dev.one\",\"type\":\"frontend\"}]}",
+        r#"{"tokens":[{"projects":["B"],"token":"B:dev.one","type":"frontend"}]}"#,
     ),
     (
         Method::Get,
@@ -95,7 +158,7 @@ const CASES: [Case; 27] = [
         None,
         "",
         401,
-        "{\"error\":\"NoToken\"}",
+        r#"{"error":"NoToken"}"#,
     ),
     (
         Method::Get,
@@ -103,7 +166,7 @@ const CASES: [Case; 27] = [
         Some("*:dev.other"),
         "",
         403,
-        "{\"error\":\"UnknownToken\"}",
+        r#"{"error":"UnknownToken"}"#,
     ),
     (
         Method::Get,
@@ -111,7 +174,7 @@ const CASES: [Case; 27] = [
         Some("*:dev.client"),
         "",
         403,
-        "{\"error\":\"WrongKind\"}",
+        r#"{"error":"WrongKind"}"#,
     ),
     (
         Method::Get,
@@ -119,7 +182,7 @@ const CASES: [Case; 27] = [
         Some("*:dev.all"),
         "",
         403,
-        "{\"error\":\"WrongKind\"}",
+        r#"{"error":"WrongKind"}"#,
     ),
     (
         Method::Get,
@@ -127,7 +190,7 @@ const CASES: [Case; 27] = [
         Some("*:qa.all"),
         "",
         503,
-        "{\"error\":\"NotReady\"}",
+        r#"{"error":"NotReady"}"#,
     ),
     (
         Method::Post,
@@ -135,7 +198,7 @@ const CASES: [Case; 27] = [
         Some("*:qa.all"),
         "[]",
         503,
-        "{\"error\":\"NotReady\"}",
+        r#"{"error":"NotReady"}"#,
     ),
     (
         Method::Post,
@@ -143,7 +206,7 @@ const CASES: [Case; 27] = [
         Some("*:dev.all"),
         "[]",
         400,
-        "{\"error\":\"BadContext\"}",
+        r#"{"error":"BadContext"}"#,
     ),
     (
         Method::Get,
@@ -151,15 +214,15 @@ const CASES: [Case; 27] = [
         Some("*:dev.all"),
         "",
         200,
-        "{\"toggles\":[{\"enabled\":true,\"impressionData\":false,\"name\":\"a\",\"variant\":{\"enabled\":false,\"feature_enabled\":true,\"name\":\"disabled\"}},{\"enabled\":true,\"impressionData\":false,\"name\":\"d\",\"variant\":{\"enabled\":false,\"feature_enabled\":true,\"name\":\"disabled\"}},{\"enabled\":true,\"impressionData\":false,\"name\":\"e\",\"variant\":{\"enabled\":false,\"feature_enabled\":true,\"name\":\"disabled\"}},{\"enabled\":true,\"impressionData\":false,\"name\":\"f\",\"variant\":{\"enabled\":false,\"feature_enabled\":true,\"name\":\"disabled\"}}]}",
+        FOR_7,
     ),
     (
         Method::Post,
         "/api/proxy?userId=7",
         Some("*:dev.all"),
-        "{\"context\":{\"userId\":8,\"environment\":\"prod\"}}",
+        r#"{"context":{"userId":8,"environment":"prod"}}"#,
         200,
-        "{\"toggles\":[{\"enabled\":true,\"impressionData\":false,\"name\":\"a\",\"variant\":{\"enabled\":false,\"feature_enabled\":true,\"name\":\"disabled\"}},{\"enabled\":true,\"impressionData\":false,\"name\":\"d\",\"variant\":{\"enabled\":false,\"feature_enabled\":true,\"name\":\"disabled\"}},{\"enabled\":true,\"impressionData\":false,\"name\":\"f\",\"variant\":{\"enabled\":false,\"feature_enabled\":true,\"name\":\"disabled\"}}]}",
+        FOR_8,
     ),
     (
         Method::Get,
@@ -167,7 +230,7 @@ const CASES: [Case; 27] = [
         Some("B:dev.one"),
         "",
         200,
-        "{\"toggles\":[{\"enabled\":true,\"impressionData\":false,\"name\":\"f\",\"variant\":{\"enabled\":false,\"feature_enabled\":true,\"name\":\"disabled\"}}]}",
+        ON_IN_B,
     ),
     (
         Method::Get,
@@ -175,7 +238,7 @@ const CASES: [Case; 27] = [
         Some("B:dev.one"),
         "",
         200,
-        "{\"toggles\":[{\"enabled\":false,\"impressionData\":false,\"name\":\"c\",\"variant\":{\"enabled\":false,\"feature_enabled\":false,\"name\":\"disabled\"}},{\"enabled\":false,\"impressionData\":false,\"name\":\"d\",\"variant\":{\"enabled\":false,\"feature_enabled\":false,\"name\":\"disabled\"}},{\"enabled\":true,\"impressionData\":false,\"name\":\"e\",\"variant\":{\"enabled\":false,\"feature_enabled\":true,\"name\":\"disabled\"}},{\"enabled\":true,\"impressionData\":false,\"name\":\"f\",\"variant\":{\"enabled\":false,\"feature_enabled\":true,\"name\":\"disabled\"}}]}",
+        ALL_IN_B,
     ),
     (
         Method::Get,
@@ -183,7 +246,7 @@ const CASES: [Case; 27] = [
         Some("*:dev.client"),
         "",
         404,
-        "{\"error\":\"NoSuchFeature\"}",
+        r#"{"error":"NoSuchFeature"}"#,
     ),
     (
         Method::Get,
@@ -191,7 +254,7 @@ const CASES: [Case; 27] = [
         Some("A:dev.c"),
         "",
         404,
-        "{\"error\":\"NoSuchFeature\"}",
+        r#"{"error":"NoSuchFeature"}"#,
     ),
     (
         Method::Get,
@@ -199,7 +262,7 @@ const CASES: [Case; 27] = [
         Some("*:dev.client"),
         "",
         404,
-        "{\"error\":\"NoSuchFeature\"}",
+        r#"{"error":"NoSuchFeature"}"#,
     ),
     (
         Method::Get,
@@ -207,7 +270,7 @@ const CASES: [Case; 27] = [
         Some("*:dev.client"),
         "",
         200,
-        "{\"dependencies\":[],\"enabled\":true,\"impressionData\":false,\"name\":\"a\",\"project\":\"A\",\"stale\":false,\"strategies\":[{\"constraints\":[],\"name\":\"default\",\"parameters\":{},\"segments\":[],\"variants\":[]}],\"type\":\"release\",\"variants\":[]}",
+        A_TOLD,
     ),
     (
         Method::Get,
@@ -215,7 +278,7 @@ const CASES: [Case; 27] = [
         Some("*:dev.client"),
         "",
         404,
-        "{\"error\":\"NoSuchRoute\"}",
+        r#"{"error":"NoSuchRoute"}"#,
     ),
     (
         Method::Post,
@@ -223,7 +286,7 @@ const CASES: [Case; 27] = [
         Some("*:dev.client"),
         "[]",
         400,
-        "{\"error\":\"BadReport\"}",
+        r#"{"error":"BadReport"}"#,
     ),
     (
         Method::Post,
@@ -239,7 +302,7 @@ const CASES: [Case; 27] = [
         Some("*:dev.client"),
         "{}",
         403,
-        "{\"error\":\"WrongKind\"}",
+        r#"{"error":"WrongKind"}"#,
     ),
 ];
 
@@ -318,13 +381,18 @@ fn each_answer_in_its_order(rt: HostRuntime) -> Result<(), Fail> {
     Ok(())
 }
 
-const ONE_CLIENT: &str =
-    "{\"tokens\":[{\"token\":\"A:dev.c\",\"type\":\"client\",\"projects\":[\"A\"]}]}";
+const ONE_CLIENT: &str = r#"{"tokens":[{"token":"A:dev.c","type":"client","projects":["A"]}]}"#;
 
 const TWO_PROJECTS: &str =
-    "{\"tokens\":[{\"token\":\"A:dev.c\",\"type\":\"client\",\"projects\":[\"A\",\"B\"]}]}";
+    r#"{"tokens":[{"token":"A:dev.c","type":"client","projects":["A","B"]}]}"#;
 
-const NO_FEATURES: &str = "{\"events\":[{\"type\":\"hydration\",\"eventId\":4}]}";
+const NO_FEATURES: &str = r#"{"events":[{"type":"hydration","eventId":4}]}"#;
+
+/// No features, as a client of the project `A` is told them.
+const NO_FEATURES_TOLD: &str = concat!(
+    r#"{"features":[],"meta":{"etag":"\"0000000000000000-1-0-4\"","revisionId":4},"#,
+    r#""query":{"environment":"dev","projects":["A"]},"segments":[],"version":2}"#,
+);
 
 const FEED: Case = (
     Method::Get,
@@ -332,7 +400,7 @@ const FEED: Case = (
     Some("A:dev.c"),
     "",
     200,
-    "{\"features\":[],\"meta\":{\"etag\":\"\\\"0000000000000000-1-0-4\\\"\",\"revisionId\":4},\"query\":{\"environment\":\"dev\",\"projects\":[\"A\"]},\"segments\":[],\"version\":2}",
+    NO_FEATURES_TOLD,
 );
 
 /// The status and the tag of the feed for one who has a tag.
@@ -345,7 +413,7 @@ fn asked(alloc: Global, desk: &mut OneDesk, tag: Option<&str>) -> Option<(u16, b
     let tag = reply.tag?;
     Some((
         reply.status,
-        tag.as_str() == "\"0000000000000000-1-0-4\"",
+        tag.as_str() == r#""0000000000000000-1-0-4""#,
         reply.body.as_slice() == FEED.5.as_bytes(),
     ))
 }
@@ -354,7 +422,7 @@ fn asked(alloc: Global, desk: &mut OneDesk, tag: Option<&str>) -> Option<(u16, b
 fn a_tag_is_of_one_book_and_one_number(rt: HostRuntime) -> Result<(), Fail> {
     let alloc = rt.alloc();
     let mut desk = desk(alloc, ONE_CLIENT, NO_FEATURES).expect(&rt, "a desk");
-    let first = Some("\"0000000000000000-1-0-4\"");
+    let first = Some(r#""0000000000000000-1-0-4""#);
     assert_eq!(rt; asked(alloc, &mut desk, None), Some((200, true, true)));
     assert_eq!(rt; asked(alloc, &mut desk, first), Some((304, true, false)));
     for (tokens, front) in [(TWO_PROJECTS, Some(Some(3))), (TWO_PROJECTS, Some(None))] {

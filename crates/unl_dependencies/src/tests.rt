@@ -12,18 +12,46 @@ use unl_strategies::Moment;
 const FEED: &str = r#"{"features":[
     {"name":"plain","enabled":true},
     {"name":"off","enabled":false,"variants":[{"name":"v","weight":1}]},
-    {"name":"team","enabled":true,"strategies":[{"name":"default"}],"variants":[{"name":"v","weight":1,"stickiness":"team"}]},
-    {"name":"zeros","enabled":true,"strategies":[{"name":"default"}],"variants":[{"name":"a","weight":0},{"name":"b","weight":0}]},
-    {"name":"given","enabled":true,"strategies":[{"name":"default"}],"variants":[{"name":"x","weight":0,"overrides":[{"contextName":"userId","values":["7"]}]},{"name":"y","weight":1}]},
+    {"name":"team","enabled":true,
+        "strategies":[{"name":"default"}],
+        "variants":[{"name":"v","weight":1,"stickiness":"team"}]},
+    {"name":"zeros","enabled":true,
+        "strategies":[{"name":"default"}],
+        "variants":[{"name":"a","weight":0},{"name":"b","weight":0}]},
+    {"name":"given","enabled":true,
+        "strategies":[{"name":"default"}],
+        "variants":[
+            {"name":"x","weight":0,"overrides":[{"contextName":"userId","values":["7"]}]},
+            {"name":"y","weight":1}]},
     {"name":"own","enabled":true,"variants":[{"name":"o","weight":1}]},
-    {"name":"two","enabled":true,"strategies":[{"name":"default","variants":[{"name":"s","weight":1}]},{"name":"default","variants":[{"name":"t","weight":1}]}],"variants":[{"name":"o","weight":1}]},
-    {"name":"later","enabled":true,"strategies":[{"name":"default"},{"name":"default","variants":[{"name":"t","weight":1}]}],"variants":[{"name":"o","weight":1}]},
-    {"name":"second","enabled":true,"strategies":[{"name":"none","variants":[{"name":"s","weight":1}]},{"name":"default","variants":[{"name":"t","weight":1}]}]},
-    {"name":"inactive","enabled":true,"strategies":[{"name":"none","variants":[{"name":"s","weight":1}]}],"variants":[{"name":"o","weight":1}]},
-    {"name":"group","enabled":true,"strategies":[{"name":"default","parameters":{"groupId":"g"},"variants":[{"name":"a","weight":1},{"name":"b","weight":1}]}]},
-    {"name":"blank","enabled":true,"strategies":[{"name":"default","parameters":{"groupId":""},"variants":[{"name":"a","weight":1},{"name":"b","weight":1}]}]},
-    {"name":"drawn","enabled":true,"strategies":[{"name":"none"},{"name":"default","variants":[{"name":"a","weight":1},{"name":"b","weight":1}]}]},
-    {"name":"drawn_own","enabled":true,"strategies":[{"name":"default"}],"variants":[{"name":"a","weight":1},{"name":"b","weight":1}]},
+    {"name":"two","enabled":true,
+        "strategies":[
+            {"name":"default","variants":[{"name":"s","weight":1}]},
+            {"name":"default","variants":[{"name":"t","weight":1}]}],
+        "variants":[{"name":"o","weight":1}]},
+    {"name":"later","enabled":true,
+        "strategies":[{"name":"default"},{"name":"default","variants":[{"name":"t","weight":1}]}],
+        "variants":[{"name":"o","weight":1}]},
+    {"name":"second","enabled":true,
+        "strategies":[
+            {"name":"none","variants":[{"name":"s","weight":1}]},
+            {"name":"default","variants":[{"name":"t","weight":1}]}]},
+    {"name":"inactive","enabled":true,
+        "strategies":[{"name":"none","variants":[{"name":"s","weight":1}]}],
+        "variants":[{"name":"o","weight":1}]},
+    {"name":"group","enabled":true,
+        "strategies":[
+            {"name":"default","parameters":{"groupId":"g"},"variants":[{"name":"a","weight":1},{"name":"b","weight":1}]}]},
+    {"name":"blank","enabled":true,
+        "strategies":[
+            {"name":"default","parameters":{"groupId":""},"variants":[{"name":"a","weight":1},{"name":"b","weight":1}]}]},
+    {"name":"drawn","enabled":true,
+        "strategies":[
+            {"name":"none"},
+            {"name":"default","variants":[{"name":"a","weight":1},{"name":"b","weight":1}]}]},
+    {"name":"drawn_own","enabled":true,
+        "strategies":[{"name":"default"}],
+        "variants":[{"name":"a","weight":1},{"name":"b","weight":1}]},
     {"name":"child","enabled":true,"dependencies":[{"feature":"plain"}]},
     {"name":"grandchild","enabled":true,"dependencies":[{"feature":"child"}]},
     {"name":"grandchild_off","enabled":true,"dependencies":[{"feature":"child","enabled":false}]},
@@ -65,45 +93,54 @@ fn told(evaluation: &Evaluation) -> (bool, &str) {
     (evaluation.on, evaluation.variant.name.as_str())
 }
 
+/// A feature, the query of a context, a word, and then whether the feature is on and the name of its variant.
+type Case = (
+    &'static str,
+    &'static str,
+    u64,
+    Option<(bool, &'static str)>,
+);
+
 // The variants that are drawn are those of another MurmurHash3, in Python.
+const CASES: [Case; 32] = [
+    ("plain", "", 0, Some((true, "disabled"))),
+    ("absent", "", 0, None),
+    ("off", "", 0, Some((false, "disabled"))),
+    ("team", "userId=7", 0, Some((true, "v"))),
+    ("zeros", "userId=7", 0, Some((true, "disabled"))),
+    ("given", "userId=7", 0, Some((true, "x"))),
+    ("given", "userId=8", 0, Some((true, "y"))),
+    ("own", "", 0, Some((true, "o"))),
+    ("two", "", 0, Some((true, "s"))),
+    ("later", "", 0, Some((true, "o"))),
+    ("second", "", 0, Some((true, "t"))),
+    ("inactive", "", 0, Some((false, "disabled"))),
+    ("group", "userId=1", 0, Some((true, "b"))),
+    ("blank", "userId=1", 0, Some((true, "b"))),
+    ("drawn", "", 0, Some((true, "b"))),
+    ("drawn", "", 1, Some((true, "a"))),
+    ("drawn_own", "", 11, Some((true, "b"))),
+    ("drawn_own", "", 4_294_967_313, Some((true, "a"))),
+    ("child", "", 0, Some((true, "disabled"))),
+    ("grandchild", "", 0, Some((false, "disabled"))),
+    ("grandchild_off", "", 0, Some((false, "disabled"))),
+    ("needs_absent", "", 0, Some((false, "disabled"))),
+    ("needs_itself", "", 0, Some((false, "disabled"))),
+    ("needs_itself_off", "", 0, Some((false, "disabled"))),
+    ("needs_off", "", 0, Some((false, "disabled"))),
+    ("needs_off_off", "", 0, Some((true, "disabled"))),
+    ("needs_on_off", "", 0, Some((false, "disabled"))),
+    ("needs_both", "", 0, Some((false, "disabled"))),
+    ("needs_variant", "", 0, Some((true, "disabled"))),
+    ("needs_other", "", 0, Some((false, "disabled"))),
+    ("needs_none", "", 0, Some((true, "disabled"))),
+    ("needs_off_none", "", 0, Some((false, "disabled"))),
+];
+
 #[test]
 fn evaluations(rt: HostRuntime) -> Result<(), Fail> {
     let alloc = rt.alloc();
-    let table = [
-        ("plain", "", 0, Some((true, "disabled"))),
-        ("absent", "", 0, None),
-        ("off", "", 0, Some((false, "disabled"))),
-        ("team", "userId=7", 0, Some((true, "v"))),
-        ("zeros", "userId=7", 0, Some((true, "disabled"))),
-        ("given", "userId=7", 0, Some((true, "x"))),
-        ("given", "userId=8", 0, Some((true, "y"))),
-        ("own", "", 0, Some((true, "o"))),
-        ("two", "", 0, Some((true, "s"))),
-        ("later", "", 0, Some((true, "o"))),
-        ("second", "", 0, Some((true, "t"))),
-        ("inactive", "", 0, Some((false, "disabled"))),
-        ("group", "userId=1", 0, Some((true, "b"))),
-        ("blank", "userId=1", 0, Some((true, "b"))),
-        ("drawn", "", 0, Some((true, "b"))),
-        ("drawn", "", 1, Some((true, "a"))),
-        ("drawn_own", "", 11, Some((true, "b"))),
-        ("drawn_own", "", 4_294_967_313, Some((true, "a"))),
-        ("child", "", 0, Some((true, "disabled"))),
-        ("grandchild", "", 0, Some((false, "disabled"))),
-        ("grandchild_off", "", 0, Some((false, "disabled"))),
-        ("needs_absent", "", 0, Some((false, "disabled"))),
-        ("needs_itself", "", 0, Some((false, "disabled"))),
-        ("needs_itself_off", "", 0, Some((false, "disabled"))),
-        ("needs_off", "", 0, Some((false, "disabled"))),
-        ("needs_off_off", "", 0, Some((true, "disabled"))),
-        ("needs_on_off", "", 0, Some((false, "disabled"))),
-        ("needs_both", "", 0, Some((false, "disabled"))),
-        ("needs_variant", "", 0, Some((true, "disabled"))),
-        ("needs_other", "", 0, Some((false, "disabled"))),
-        ("needs_none", "", 0, Some((true, "disabled"))),
-        ("needs_off_none", "", 0, Some((false, "disabled"))),
-    ];
-    for (name, query, word, expected) in table {
+    for (name, query, word, expected) in CASES {
         let found = evaluated(alloc, FEED, name, query, word).expect(&rt, "there is memory");
         assert!(rt; found.as_ref().map(told) == expected, "{name}");
         assert!(rt;

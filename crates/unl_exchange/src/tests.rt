@@ -87,38 +87,37 @@ fn talk(
 
 const ONE: &[u8] = b"GET / HTTP/1.1\r\nHost: x\r\n\r\n";
 
+const TWO: &[u8] = b"GET / HTTP/1.1\r\nHost: x\r\n\r\n\
+    GET / HTTP/1.1\r\nHost: x\r\n\r\n";
+
+/// The answers of 5 and 4 that are left.
+const BOTH: &[u8] = b"HTTP/1.1 202 Accepted\r\nContent-Length: 0\r\n\r\n\
+    HTTP/1.1 201 Created\r\nContent-Length: 0\r\n\r\n";
+
+/// The answer of the last that is left, and of want of memory.
+const NO_MORE: &[u8] = b"HTTP/1.1 201 Created\r\nContent-Length: 0\r\n\r\n\
+    HTTP/1.1 500 Internal Server Error\r\nContent-Length: 0\r\nConnection: close\r\n\r\n";
+
+const TWO_OLD: &[u8] = b"GET / HTTP/1.0\r\n\r\n\
+    GET / HTTP/1.0\r\n\r\n";
+
+/// The answer of 3 that are left, to one who wants no other.
+const CLOSING: &[u8] = b"HTTP/1.1 200 OK\r\nContent-Length: 0\r\nConnection: close\r\n\r\n";
+
+const GOOD_AND_BAD: &[u8] = b"GET / HTTP/1.1\r\nHost: x\r\n\r\n\
+    GET  / HTTP/1.1\r\n";
+
+const REFUSED: &[u8] = b"HTTP/1.1 200 OK\r\nContent-Length: 0\r\n\r\n\
+    HTTP/1.1 400 Bad Request\r\nContent-Length: 0\r\nConnection: close\r\n\r\n";
+
 /// Bytes, where the countdown starts, what is then sent, how many requests are answered, and how it ends.
 const TALKS: [(&[u8], u16, &[u8], usize, End); 6] = [
     (b"", 5, b"", 0, End::Closed),
     (b"GET / HTTP/1.1\r\n", 5, b"", 0, End::CutOff),
-    (
-        b"GET / HTTP/1.1\r\nHost: x\r\n\r\nGET / HTTP/1.1\r\nHost: x\r\n\r\n",
-        5,
-        b"HTTP/1.1 202 Accepted\r\nContent-Length: 0\r\n\r\nHTTP/1.1 201 Created\r\nContent-Length: 0\r\n\r\n",
-        2,
-        End::Closed,
-    ),
-    (
-        b"GET / HTTP/1.1\r\nHost: x\r\n\r\nGET / HTTP/1.1\r\nHost: x\r\n\r\n",
-        1,
-        b"HTTP/1.1 201 Created\r\nContent-Length: 0\r\n\r\nHTTP/1.1 500 Internal Server Error\r\nContent-Length: 0\r\nConnection: close\r\n\r\n",
-        1,
-        End::Memory,
-    ),
-    (
-        b"GET / HTTP/1.0\r\n\r\nGET / HTTP/1.0\r\n\r\n",
-        3,
-        b"HTTP/1.1 200 OK\r\nContent-Length: 0\r\nConnection: close\r\n\r\n",
-        1,
-        End::Asked,
-    ),
-    (
-        b"GET / HTTP/1.1\r\nHost: x\r\n\r\nGET  / HTTP/1.1\r\n",
-        3,
-        b"HTTP/1.1 200 OK\r\nContent-Length: 0\r\n\r\nHTTP/1.1 400 Bad Request\r\nContent-Length: 0\r\nConnection: close\r\n\r\n",
-        1,
-        End::Refused(400),
-    ),
+    (TWO, 5, BOTH, 2, End::Closed),
+    (TWO, 1, NO_MORE, 1, End::Memory),
+    (TWO_OLD, 3, CLOSING, 1, End::Asked),
+    (GOOD_AND_BAD, 3, REFUSED, 1, End::Refused(400)),
 ];
 
 #[test]

@@ -8,12 +8,25 @@ use unl_strategies::Moment;
 const FEED: &str = r#"{"features":[
     {"name":"a","enabled":true,"strategies":[{"name":"default","segments":[7]}]},
     {"name":"itself","enabled":true,"dependencies":[{"feature":"itself"}]},
-    {"name":"two","enabled":true,"strategies":[{"name":"default","variants":[{"name":"s","weight":1}]},{"name":"default","variants":[{"name":"t","weight":1}]}],"variants":[{"name":"o","weight":1}]},
-    {"name":"later","enabled":true,"strategies":[{"name":"default"},{"name":"default","variants":[{"name":"t","weight":1}]}],"variants":[{"name":"o","weight":1}]},
+    {"name":"two","enabled":true,
+        "strategies":[
+            {"name":"default","variants":[{"name":"s","weight":1}]},
+            {"name":"default","variants":[{"name":"t","weight":1}]}],
+        "variants":[{"name":"o","weight":1}]},
+    {"name":"later","enabled":true,
+        "strategies":[{"name":"default"},{"name":"default","variants":[{"name":"t","weight":1}]}],
+        "variants":[{"name":"o","weight":1}]},
     {"name":"idle","enabled":false,"strategies":[{"name":"default","variants":[{"name":"s","weight":1}]}]},
-    {"name":"off","enabled":false,"strategies":[{"name":"none"},{"name":"userWithId","parameters":{"userIds":"7"},
-        "constraints":[{"contextName":"userId","operator":"IN","values":["7"]},{"contextName":"userId","operator":"NOT_IN","values":["7"]}],"segments":[4]}],
-        "variants":[{"name":"o","weight":1}],"dependencies":[{"feature":"two"},{"feature":"gone","enabled":false},{"feature":"a","enabled":false}]}],
+    {"name":"off","enabled":false,
+        "strategies":[
+            {"name":"none"},
+            {"name":"userWithId","parameters":{"userIds":"7"},
+                "constraints":[
+                    {"contextName":"userId","operator":"IN","values":["7"]},
+                    {"contextName":"userId","operator":"NOT_IN","values":["7"]}],
+                "segments":[4]}],
+        "variants":[{"name":"o","weight":1}],
+        "dependencies":[{"feature":"two"},{"feature":"gone","enabled":false},{"feature":"a","enabled":false}]}],
     "segments":[{"id":4,"constraints":[{"contextName":"userId","operator":"IN","values":["8"]}]}]}"#;
 
 /// Why a feature is on or off for the user 7.

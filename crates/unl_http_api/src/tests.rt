@@ -221,6 +221,13 @@ fn texts_of_a_line(rt: HostRuntime) {
     }
 }
 
+const PLAIN: &str = "GET /api/client/delta HTTP/1.0\r\nHost: edge:80\r\nConnection: close\r\n\r\n";
+
+const WITH_TOKEN_AND_TAG: &str = concat!(
+    "GET /api/client/features HTTP/1.0\r\nHost: edge\r\nAuthorization: *:dev.secret\r\n",
+    "If-None-Match: \"1\"\r\nConnection: close\r\n\r\n",
+);
+
 #[test]
 fn requests(rt: HostRuntime) -> Result<(), Fail> {
     let alloc = rt.alloc();
@@ -233,10 +240,7 @@ fn requests(rt: HostRuntime) -> Result<(), Fail> {
         None,
         b"",
     )?;
-    assert_eq!(rt;
-        text.as_slice(),
-        b"GET /api/client/delta HTTP/1.0\r\nHost: edge:80\r\nConnection: close\r\n\r\n".as_slice()
-    );
+    assert_eq!(rt; text.as_slice(), PLAIN.as_bytes());
     let text = write_request(
         alloc,
         Method::Get,
@@ -246,14 +250,20 @@ fn requests(rt: HostRuntime) -> Result<(), Fail> {
         Some(br#""1""#),
         b"",
     )?;
-    assert_eq!(rt;
-        text.as_slice(),
-        b"GET /api/client/features HTTP/1.0\r\nHost: edge\r\nAuthorization: *:dev.secret\r\n\
-If-None-Match: \"1\"\r\nConnection: close\r\n\r\n"
-            .as_slice()
-    );
+    assert_eq!(rt; text.as_slice(), WITH_TOKEN_AND_TAG.as_bytes());
+    Ok(())
+}
+
+const POSTED: &str = concat!(
+    "POST /edge/validate HTTP/1.0\r\nHost: edge\r\nContent-Type: application/json\r\nContent-Length: 13\r\n",
+    "Connection: close\r\n\r\n",
+    r#"{"tokens":[]}"#,
+);
+
+#[test]
+fn posted_requests(rt: HostRuntime) -> Result<(), Fail> {
     let text = write_request(
-        alloc,
+        rt.alloc(),
         Method::Post,
         "/edge/validate",
         "edge",
@@ -261,11 +271,6 @@ If-None-Match: \"1\"\r\nConnection: close\r\n\r\n"
         None,
         br#"{"tokens":[]}"#,
     )?;
-    assert_eq!(rt;
-        text.as_slice(),
-        b"POST /edge/validate HTTP/1.0\r\nHost: edge\r\nContent-Type: application/json\r\nContent-Length: 13\r\n\
-Connection: close\r\n\r\n{\"tokens\":[]}"
-            .as_slice()
-    );
+    assert_eq!(rt; text.as_slice(), POSTED.as_bytes());
     Ok(())
 }

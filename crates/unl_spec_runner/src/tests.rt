@@ -23,38 +23,73 @@ fn checked(
 }
 
 /// Two files, with tests of both kinds.
-const FILES: &str =
-    r#"[{"name":"x","state":{"version":1,"features":[{"name":"F","enabled":true,"strategies":[{"name":"default"}]}]},"tests":[{"description":"on","context":{},"toggleName":"F","expectedResult":true},{"description":"none","context":{},"toggleName":"G","expectedResult":true}]},
-{"state":{"features":[
- {"name":"v","enabled":true,"strategies":[{"name":"default","constraints":[{"contextName":"environment","operator":"IN","values":["prod"]}]}],
-  "variants":[{"name":"a","weight":1,"payload":{"type":"string","value":"p"}}]},
- {"name":"bare","enabled":true}]},
- "tests":[{"toggleName":"v","context":{"environment":"prod"},"expectedResult":true},{"description":"no \"env\"","toggleName":"v","expectedResult":true}],
- "variantTests":[
-  {"description":"first","toggleName":"v","context":{"environment":"prod"},"expectedResult":{"name":"a","enabled":true,"payload":{"type":"string","value":"p"},"feature_enabled":true}},
-  {"description":"second","toggleName":"v","context":{"environment":"prod"},"expectedResult":{"name":"a","enabled":true,"payload":{"type":"string","value":"p"},"featureEnabled":false}},
-  {"description":"both","toggleName":"v","context":{"environment":"prod"},"expectedResult":{"name":"a","enabled":true,"payload":{"type":"string","value":"p"},"featureEnabled":false,"feature_enabled":true}},
-  {"description":"payload","toggleName":"v","context":{"environment":"prod"},"expectedResult":{"name":"a","enabled":true,"payload":{"type":"string","value":"q"}}},
-  {"description":"unasked","toggleName":"v","context":{"environment":"prod"},"expectedResult":{"name":"a","enabled":true}},
-  {"description":"bare","toggleName":"bare","expectedResult":{"name":"disabled","enabled":false,"feature_enabled":true}},
-  {"description":"absent","toggleName":"zz","expectedResult":{"name":"disabled","enabled":false,"feature_enabled":true}}]}]"#;
+const FILES: &str = r#"[{
+    "name":"x",
+    "state":{"version":1,"features":[{"name":"F","enabled":true,"strategies":[{"name":"default"}]}]},
+    "tests":[
+        {"description":"on","context":{},"toggleName":"F","expectedResult":true},
+        {"description":"none","context":{},"toggleName":"G","expectedResult":true}
+    ]
+},
+{
+    "state":{"features":[
+        {"name":"v","enabled":true,
+            "strategies":[{"name":"default","constraints":[{"contextName":"environment","operator":"IN","values":["prod"]}]}],
+            "variants":[{"name":"a","weight":1,"payload":{"type":"string","value":"p"}}]},
+        {"name":"bare","enabled":true}
+    ]},
+    "tests":[
+        {"toggleName":"v","context":{"environment":"prod"},"expectedResult":true},
+        {"description":"no \"env\"","toggleName":"v","expectedResult":true}
+    ],
+    "variantTests":[
+        {"description":"first","toggleName":"v","context":{"environment":"prod"},
+            "expectedResult":{"name":"a","enabled":true,"payload":{"type":"string","value":"p"},"feature_enabled":true}},
+        {"description":"second","toggleName":"v","context":{"environment":"prod"},
+            "expectedResult":{"name":"a","enabled":true,"payload":{"type":"string","value":"p"},"featureEnabled":false}},
+        {"description":"both","toggleName":"v","context":{"environment":"prod"},
+            "expectedResult":{"name":"a","enabled":true,"payload":{"type":"string","value":"p"},
+                "featureEnabled":false,"feature_enabled":true}},
+        {"description":"payload","toggleName":"v","context":{"environment":"prod"},
+            "expectedResult":{"name":"a","enabled":true,"payload":{"type":"string","value":"q"}}},
+        {"description":"unasked","toggleName":"v","context":{"environment":"prod"},
+            "expectedResult":{"name":"a","enabled":true}},
+        {"description":"bare","toggleName":"bare",
+            "expectedResult":{"name":"disabled","enabled":false,"feature_enabled":true}},
+        {"description":"absent","toggleName":"zz",
+            "expectedResult":{"name":"disabled","enabled":false,"feature_enabled":true}}
+    ]
+}]"#;
 
-const REPORT: &str = r#"pass 1 "on"
+const REPORT: &str = concat!(
+    r#"pass 1 "on"
 fail 2 "none" expected true given false
 pass 3 ""
 fail 4 "no \"env\"" expected true given false
 pass 5 "first"
-fail 6 "second" expected {"enabled":true,"feature_enabled":false,"name":"a","payload":{"type":"string","value":"p"}} given {"enabled":true,"feature_enabled":true,"name":"a","payload":{"type":"string","value":"p"}}
+fail 6 "second""#,
+    r#" expected {"enabled":true,"feature_enabled":false,"name":"a","payload":{"type":"string","value":"p"}}"#,
+    r#" given {"enabled":true,"feature_enabled":true,"name":"a","payload":{"type":"string","value":"p"}}
 pass 7 "both"
-fail 8 "payload" expected {"enabled":true,"name":"a","payload":{"type":"string","value":"q"}} given {"enabled":true,"name":"a","payload":{"type":"string","value":"p"}}
-fail 9 "unasked" expected {"enabled":true,"name":"a"} given {"enabled":true,"name":"a","payload":{"type":"string","value":"p"}}
+fail 8 "payload""#,
+    r#" expected {"enabled":true,"name":"a","payload":{"type":"string","value":"q"}}"#,
+    r#" given {"enabled":true,"name":"a","payload":{"type":"string","value":"p"}}
+fail 9 "unasked""#,
+    r#" expected {"enabled":true,"name":"a"}"#,
+    r#" given {"enabled":true,"name":"a","payload":{"type":"string","value":"p"}}
 pass 10 "bare"
-fail 11 "absent" expected {"enabled":false,"feature_enabled":true,"name":"disabled"} given {"enabled":false,"feature_enabled":false,"name":"disabled"}
+fail 11 "absent""#,
+    r#" expected {"enabled":false,"feature_enabled":true,"name":"disabled"}"#,
+    r#" given {"enabled":false,"feature_enabled":false,"name":"disabled"}
 passed 5 failed 6
-"#;
+"#,
+);
 
-const ONE: &str =
-    r#"{"name":"x","state":{"version":1,"features":[{"name":"F","enabled":true,"strategies":[{"name":"default"}]}]},"tests":[{"description":"on","context":{},"toggleName":"F","expectedResult":true},{"description":"none","context":{},"toggleName":"G","expectedResult":true}]}"#;
+const ONE: &str = concat!(
+    r#"{"name":"x","state":{"version":1,"features":[{"name":"F","enabled":true,"strategies":[{"name":"default"}]}]},"#,
+    r#""tests":[{"description":"on","context":{},"toggleName":"F","expectedResult":true},"#,
+    r#"{"description":"none","context":{},"toggleName":"G","expectedResult":true}]}"#,
+);
 
 const ONE_REPORT: &str =
     "pass 1 \"on\"\nfail 2 \"none\" expected true given false\npassed 1 failed 1\n";

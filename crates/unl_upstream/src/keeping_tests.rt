@@ -194,11 +194,22 @@ fn what_is_kept_comes_back(rt: HostRuntime) -> Result<(), Fail> {
 }
 
 /// A command whose put fails, the same again, and a request.
-const ASKED: &[u8] =
-    b"POST /commands HTTP/1.1\r\nHost: x\r\nAuthorization: s\r\nContent-Length: 64\r\n\r\n{\"command\":\"put-segment\",\"environment\":\"dev\",\"segment\":{\"id\":4}}POST /commands HTTP/1.1\r\nHost: x\r\nAuthorization: s\r\nContent-Length: 64\r\n\r\n{\"command\":\"put-segment\",\"environment\":\"dev\",\"segment\":{\"id\":4}}GET /internal-backstage/health HTTP/1.1\r\nHost: x\r\n\r\n";
+const ASKED: &str = concat!(
+    "POST /commands HTTP/1.1\r\nHost: x\r\nAuthorization: s\r\nContent-Length: 64\r\n\r\n",
+    r#"{"command":"put-segment","environment":"dev","segment":{"id":4}}"#,
+    "POST /commands HTTP/1.1\r\nHost: x\r\nAuthorization: s\r\nContent-Length: 64\r\n\r\n",
+    r#"{"command":"put-segment","environment":"dev","segment":{"id":4}}"#,
+    "GET /internal-backstage/health HTTP/1.1\r\nHost: x\r\n\r\n",
+);
 
-const TOLD: &[u8] =
-    b"HTTP/1.1 503 Service Unavailable\r\nContent-Type: application/json\r\nContent-Length: 23\r\n\r\n{\"error\":\"KeeperFault\"}HTTP/1.1 200 OK\r\nContent-Type: application/json\r\nContent-Length: 12\r\n\r\n{\"number\":1}HTTP/1.1 200 OK\r\nContent-Type: application/json\r\nContent-Length: 15\r\n\r\n{\"status\":\"OK\"}";
+const TOLD: &str = concat!(
+    "HTTP/1.1 503 Service Unavailable\r\nContent-Type: application/json\r\nContent-Length: 23\r\n\r\n",
+    r#"{"error":"KeeperFault"}"#,
+    "HTTP/1.1 200 OK\r\nContent-Type: application/json\r\nContent-Length: 12\r\n\r\n",
+    r#"{"number":1}"#,
+    "HTTP/1.1 200 OK\r\nContent-Type: application/json\r\nContent-Length: 15\r\n\r\n",
+    r#"{"status":"OK"}"#,
+);
 
 /// What is sent on a connection, how many requests were answered, its end, and how many rows are kept then.
 fn served(alloc: Global) -> Option<(bool, usize, End, u64)> {
@@ -209,11 +220,11 @@ fn served(alloc: Global) -> Option<(bool, usize, End, u64)> {
     let mut keeper = MemoryKeeper::new(alloc, List::from_slice(alloc, &failing).ok()?);
     match opened(alloc, &mut keeper) {
         Ok(mut up) => {
-            let bytes = ASKED.to_vec(alloc).ok()?;
+            let bytes = ASKED.as_bytes().to_vec(alloc).ok()?;
             let mut link = MemoryLink::new(alloc, bytes, 100, 1_000, Vec::new(alloc)).ok()?;
             let mut draws = ListDraws::new(Vec::new(alloc));
             let (count, end) = serve_kept(alloc, &mut up, &mut keeper, &mut link, &mut draws);
-            Some((link.sent() == TOLD, count, end, keeper.count()))
+            Some((link.sent() == TOLD.as_bytes(), count, end, keeper.count()))
         }
         Err(_) => None,
     }

@@ -14,11 +14,22 @@ fn upstream(alloc: Global) -> Option<Upstream> {
 }
 
 /// A command that is obeyed, one that is refused, and a request.
-const ASKED: &[u8] =
-    b"POST /commands HTTP/1.1\r\nHost: x\r\nAuthorization: s\r\nContent-Length: 64\r\n\r\n{\"command\":\"put-segment\",\"environment\":\"dev\",\"segment\":{\"id\":4}}POST /commands HTTP/1.1\r\nHost: x\r\nAuthorization: s\r\nContent-Length: 55\r\n\r\n{\"command\":\"remove-segment\",\"environment\":\"dev\",\"id\":7}GET /internal-backstage/health HTTP/1.1\r\nHost: x\r\n\r\n";
+const ASKED: &str = concat!(
+    "POST /commands HTTP/1.1\r\nHost: x\r\nAuthorization: s\r\nContent-Length: 64\r\n\r\n",
+    r#"{"command":"put-segment","environment":"dev","segment":{"id":4}}"#,
+    "POST /commands HTTP/1.1\r\nHost: x\r\nAuthorization: s\r\nContent-Length: 55\r\n\r\n",
+    r#"{"command":"remove-segment","environment":"dev","id":7}"#,
+    "GET /internal-backstage/health HTTP/1.1\r\nHost: x\r\n\r\n",
+);
 
-const TOLD: &[u8] =
-    b"HTTP/1.1 200 OK\r\nContent-Type: application/json\r\nContent-Length: 12\r\n\r\n{\"number\":1}HTTP/1.1 404 Not Found\r\nContent-Type: application/json\r\nContent-Length: 25\r\n\r\n{\"error\":\"NoSuchSegment\"}HTTP/1.1 200 OK\r\nContent-Type: application/json\r\nContent-Length: 15\r\n\r\n{\"status\":\"OK\"}";
+const TOLD: &str = concat!(
+    "HTTP/1.1 200 OK\r\nContent-Type: application/json\r\nContent-Length: 12\r\n\r\n",
+    r#"{"number":1}"#,
+    "HTTP/1.1 404 Not Found\r\nContent-Type: application/json\r\nContent-Length: 25\r\n\r\n",
+    r#"{"error":"NoSuchSegment"}"#,
+    "HTTP/1.1 200 OK\r\nContent-Type: application/json\r\nContent-Length: 15\r\n\r\n",
+    r#"{"status":"OK"}"#,
+);
 
 /// What is sent on a connection whose bytes come in pieces of at most `most`, how many requests were answered, and the end.
 fn served(alloc: Global, most: usize) -> Option<(bool, usize, End)> {
@@ -26,11 +37,11 @@ fn served(alloc: Global, most: usize) -> Option<(bool, usize, End)> {
         return None;
     }
     let mut up = upstream(alloc)?;
-    let bytes = ASKED.to_vec(alloc).ok()?;
+    let bytes = ASKED.as_bytes().to_vec(alloc).ok()?;
     let mut link = MemoryLink::new(alloc, bytes, most, 1_000, Vec::new(alloc)).ok()?;
     let mut draws = ListDraws::new(Vec::new(alloc));
     let (count, end) = up.serve(alloc, &mut link, &mut draws);
-    Some((link.sent() == TOLD, count, end))
+    Some((link.sent() == TOLD.as_bytes(), count, end))
 }
 
 #[test]
@@ -42,24 +53,25 @@ fn commands_on_a_connection(rt: HostRuntime) -> Result<(), Fail> {
     Ok(())
 }
 
+/// Two commands that are obeyed.
+const GOOD: &str = r#"{"command":"put-segment","environment":"dev","segment":{"id":4}}
+{"command":"remove-segment","environment":"dev","id":4}"#;
+
+/// A command for an environment that isn't there.
+const ELSEWHERE: &str = r#"{"command":"remove-segment","environment":"qa","id":4}
+"#;
+
+/// A command that is obeyed, and one that lacks its environment.
+const BAD_SECOND: &str = r#"{"command":"put-segment","environment":"dev","segment":{"id":4}}
+{"command":"put-segment"}
+"#;
+
 /// Lines of commands, what they print, and the number of the environment then, where all were taken.
 const LINES: [(&str, &str, Option<u64>); 4] = [
     ("", "", Some(0)),
-    (
-        "{\"command\":\"put-segment\",\"environment\":\"dev\",\"segment\":{\"id\":4}}\n{\"command\":\"remove-segment\",\"environment\":\"dev\",\"id\":4}",
-        "",
-        Some(2),
-    ),
-    (
-        "{\"command\":\"remove-segment\",\"environment\":\"qa\",\"id\":4}\n",
-        "refused: line 1: NoSuchEnvironment\n",
-        None,
-    ),
-    (
-        "{\"command\":\"put-segment\",\"environment\":\"dev\",\"segment\":{\"id\":4}}\n{\"command\":\"put-segment\"}\n",
-        "refused: line 2: Missing environment\n",
-        None,
-    ),
+    (GOOD, "", Some(2)),
+    (ELSEWHERE, "refused: line 1: NoSuchEnvironment\n", None),
+    (BAD_SECOND, "refused: line 2: Missing environment\n", None),
 ];
 
 /// What lines of commands print, and the number of the environment then, where all were taken.

@@ -11,7 +11,7 @@ use unl_http_api::{Bytes, Method, Request};
 use unl_tokens::Book;
 
 const TOKENS: &str =
-    "{\"tokens\":[{\"token\":\"*:dev.client\",\"type\":\"client\"},{\"token\":\"*:dev.all\",\"type\":\"frontend\"}]}";
+    r#"{"tokens":[{"token":"*:dev.client","type":"client"},{"token":"*:dev.all","type":"frontend"}]}"#;
 
 const SECRET: &str = "upstream-secret";
 
@@ -54,47 +54,47 @@ type Given = (&'static str, Result<u64, CommandRefusal>);
 /// Commands one after the other.
 const GIVEN: [Given; 11] = [
     (
-        "{\"command\":\"put-feature\",\"environment\":\"dev\",\"feature\":{\"name\":\"a\",\"project\":\"A\",\"enabled\":true}}",
+        r#"{"command":"put-feature","environment":"dev","feature":{"name":"a","project":"A","enabled":true}}"#,
         Ok(1),
     ),
     (
-        "{\"command\":\"remove-feature\",\"environment\":\"dev\",\"name\":\"a\"}",
+        r#"{"command":"remove-feature","environment":"dev","name":"a"}"#,
         Ok(2),
     ),
     (
-        "{\"command\":\"remove-feature\",\"environment\":\"dev\",\"name\":\"a\"}",
+        r#"{"command":"remove-feature","environment":"dev","name":"a"}"#,
         Err(CommandRefusal::NoSuchFeature),
     ),
     (
-        "{\"command\":\"put-feature\",\"environment\":\"qa\",\"feature\":{\"name\":\"a\",\"enabled\":true}}",
+        r#"{"command":"put-feature","environment":"qa","feature":{"name":"a","enabled":true}}"#,
         Err(CommandRefusal::NoSuchEnvironment),
     ),
     (
-        "{\"command\":\"remove-feature\",\"environment\":\"qa\",\"name\":\"a\"}",
+        r#"{"command":"remove-feature","environment":"qa","name":"a"}"#,
         Err(CommandRefusal::NoSuchEnvironment),
     ),
     (
-        "{\"command\":\"remove-segment\",\"environment\":\"dev\",\"id\":4}",
+        r#"{"command":"remove-segment","environment":"dev","id":4}"#,
         Err(CommandRefusal::NoSuchSegment),
     ),
     (
-        "{\"command\":\"remove-segment\",\"environment\":\"qa\",\"id\":4}",
+        r#"{"command":"remove-segment","environment":"qa","id":4}"#,
         Err(CommandRefusal::NoSuchEnvironment),
     ),
     (
-        "{\"command\":\"put-segment\",\"environment\":\"dev\",\"segment\":{\"id\":4}}",
+        r#"{"command":"put-segment","environment":"dev","segment":{"id":4}}"#,
         Ok(3),
     ),
     (
-        "{\"command\":\"put-segment\",\"environment\":\"dev\",\"segment\":{\"id\":4}}",
+        r#"{"command":"put-segment","environment":"dev","segment":{"id":4}}"#,
         Ok(4),
     ),
     (
-        "{\"command\":\"remove-segment\",\"environment\":\"dev\",\"id\":4}",
+        r#"{"command":"remove-segment","environment":"dev","id":4}"#,
         Ok(5),
     ),
     (
-        "{\"command\":\"remove-segment\",\"environment\":\"dev\",\"id\":4}",
+        r#"{"command":"remove-segment","environment":"dev","id":4}"#,
         Err(CommandRefusal::NoSuchSegment),
     ),
 ];
@@ -116,45 +116,45 @@ type Faulty = (&'static str, BadDocument);
 const FAULTY: [Faulty; 13] = [
     ("[]", BadDocument::NotJson),
     ("{}", BadDocument::Missing(Field::Command)),
-    ("{\"command\":7}", BadDocument::WrongKind(Field::Command)),
+    (r#"{"command":7}"#, BadDocument::WrongKind(Field::Command)),
     (
-        "{\"command\":\"put\",\"environment\":7}",
+        r#"{"command":"put","environment":7}"#,
         BadDocument::WrongKind(Field::Command),
     ),
     (
-        "{\"command\":\"put-feature\",\"feature\":7}",
+        r#"{"command":"put-feature","feature":7}"#,
         BadDocument::Missing(Field::Environment),
     ),
     (
-        "{\"command\":\"put-feature\",\"environment\":\"\"}",
+        r#"{"command":"put-feature","environment":""}"#,
         BadDocument::Missing(Field::Environment),
     ),
     (
-        "{\"command\":\"put-feature\",\"environment\":\"dev\"}",
+        r#"{"command":"put-feature","environment":"dev"}"#,
         BadDocument::Missing(Field::Feature),
     ),
     (
-        "{\"command\":\"put-feature\",\"environment\":\"dev\",\"feature\":[]}",
+        r#"{"command":"put-feature","environment":"dev","feature":[]}"#,
         BadDocument::WrongKind(Field::Feature),
     ),
     (
-        "{\"command\":\"put-feature\",\"environment\":\"dev\",\"feature\":{\"name\":\"a\"}}",
+        r#"{"command":"put-feature","environment":"dev","feature":{"name":"a"}}"#,
         BadDocument::Missing(Field::Enabled),
     ),
     (
-        "{\"command\":\"remove-feature\",\"environment\":\"dev\",\"name\":7}",
+        r#"{"command":"remove-feature","environment":"dev","name":7}"#,
         BadDocument::WrongKind(Field::Name),
     ),
     (
-        "{\"command\":\"put-segment\",\"environment\":\"dev\",\"segment\":{\"id\":1.5}}",
+        r#"{"command":"put-segment","environment":"dev","segment":{"id":1.5}}"#,
         BadDocument::NotWhole(Field::Id),
     ),
     (
-        "{\"command\":\"remove-segment\",\"environment\":\"dev\"}",
+        r#"{"command":"remove-segment","environment":"dev"}"#,
         BadDocument::Missing(Field::Id),
     ),
     (
-        "{\"command\":\"remove-segment\",\"environment\":\"dev\",\"id\":-1}",
+        r#"{"command":"remove-segment","environment":"dev","id":-1}"#,
         BadDocument::WrongKind(Field::Id),
     ),
 ];
@@ -192,6 +192,24 @@ fn each_command_is_written_as_it_is_read(rt: HostRuntime) -> Result<(), Fail> {
     Ok(())
 }
 
+/// The feed of an environment where nothing was put.
+const NO_SEGMENT: &str = concat!(
+    r#"{"features":[],"meta":{"etag":"\"0000000000000000-1-0-0\"","revisionId":0},"#,
+    r#""query":{"environment":"dev","projects":["*"]},"segments":[],"version":2}"#,
+);
+
+/// The feed after three commands, of which the last put a segment.
+const ONE_SEGMENT: &str = concat!(
+    r#"{"features":[],"meta":{"etag":"\"0000000000000000-1-0-3\"","revisionId":3},"#,
+    r#""query":{"environment":"dev","projects":["*"]},"segments":[{"constraints":[],"id":4}],"version":2}"#,
+);
+
+/// What is on where the feature `a` was put.
+const A_IS_ON: &str = concat!(
+    r#"{"toggles":[{"enabled":true,"impressionData":false,"name":"a","#,
+    r#""variant":{"enabled":false,"feature_enabled":true,"name":"disabled"}}]}"#,
+);
+
 /// A method, a target, the token that is shown, the body, the status and the body of the reply.
 type Case = (
     Method,
@@ -210,7 +228,7 @@ const CASES: [Case; 15] = [
         None,
         "",
         405,
-        "{\"error\":\"BadMethod\"}",
+        r#"{"error":"BadMethod"}"#,
     ),
     (
         Method::Post,
@@ -218,7 +236,7 @@ const CASES: [Case; 15] = [
         None,
         "{}",
         401,
-        "{\"error\":\"NoToken\"}",
+        r#"{"error":"NoToken"}"#,
     ),
     (
         Method::Post,
@@ -226,15 +244,15 @@ const CASES: [Case; 15] = [
         Some("*:dev.client"),
         "{}",
         403,
-        "{\"error\":\"UnknownToken\"}",
+        r#"{"error":"UnknownToken"}"#,
     ),
     (
         Method::Post,
         "/commands",
         Some(SECRET),
-        "{\"command\":\"put\"}",
+        r#"{"command":"put"}"#,
         400,
-        "{\"error\":\"BadBody\"}",
+        r#"{"error":"BadBody"}"#,
     ),
     (
         Method::Post,
@@ -242,7 +260,7 @@ const CASES: [Case; 15] = [
         Some(SECRET),
         "{",
         400,
-        "{\"error\":\"BadBody\"}",
+        r#"{"error":"BadBody"}"#,
     ),
     (
         Method::Get,
@@ -250,15 +268,15 @@ const CASES: [Case; 15] = [
         Some("*:dev.client"),
         "",
         200,
-        "{\"features\":[],\"meta\":{\"etag\":\"\\\"0000000000000000-1-0-0\\\"\",\"revisionId\":0},\"query\":{\"environment\":\"dev\",\"projects\":[\"*\"]},\"segments\":[],\"version\":2}",
+        NO_SEGMENT,
     ),
     (
         Method::Post,
         "/commands",
         Some(SECRET),
-        "{\"command\":\"put-feature\",\"environment\":\"dev\",\"feature\":{\"name\":\"a\",\"project\":\"A\",\"enabled\":true}}",
+        r#"{"command":"put-feature","environment":"dev","feature":{"name":"a","project":"A","enabled":true}}"#,
         200,
-        "{\"number\":1}",
+        r#"{"number":1}"#,
     ),
     (
         Method::Get,
@@ -266,47 +284,47 @@ const CASES: [Case; 15] = [
         Some("*:dev.all"),
         "",
         200,
-        "{\"toggles\":[{\"enabled\":true,\"impressionData\":false,\"name\":\"a\",\"variant\":{\"enabled\":false,\"feature_enabled\":true,\"name\":\"disabled\"}}]}",
+        A_IS_ON,
     ),
     (
         Method::Post,
         "/commands",
         Some(SECRET),
-        "{\"command\":\"remove-feature\",\"environment\":\"dev\",\"name\":\"a\"}",
+        r#"{"command":"remove-feature","environment":"dev","name":"a"}"#,
         200,
-        "{\"number\":2}",
+        r#"{"number":2}"#,
     ),
     (
         Method::Post,
         "/commands",
         Some(SECRET),
-        "{\"command\":\"remove-feature\",\"environment\":\"dev\",\"name\":\"a\"}",
+        r#"{"command":"remove-feature","environment":"dev","name":"a"}"#,
         404,
-        "{\"error\":\"NoSuchFeature\"}",
+        r#"{"error":"NoSuchFeature"}"#,
     ),
     (
         Method::Post,
         "/commands",
         Some(SECRET),
-        "{\"command\":\"remove-feature\",\"environment\":\"qa\",\"name\":\"a\"}",
+        r#"{"command":"remove-feature","environment":"qa","name":"a"}"#,
         404,
-        "{\"error\":\"NoSuchEnvironment\"}",
+        r#"{"error":"NoSuchEnvironment"}"#,
     ),
     (
         Method::Post,
         "/commands",
         Some(SECRET),
-        "{\"command\":\"remove-segment\",\"environment\":\"dev\",\"id\":4}",
+        r#"{"command":"remove-segment","environment":"dev","id":4}"#,
         404,
-        "{\"error\":\"NoSuchSegment\"}",
+        r#"{"error":"NoSuchSegment"}"#,
     ),
     (
         Method::Post,
         "/commands",
         Some(SECRET),
-        "{\"command\":\"put-segment\",\"environment\":\"dev\",\"segment\":{\"id\":4}}",
+        r#"{"command":"put-segment","environment":"dev","segment":{"id":4}}"#,
         200,
-        "{\"number\":3}",
+        r#"{"number":3}"#,
     ),
     (
         Method::Get,
@@ -314,7 +332,7 @@ const CASES: [Case; 15] = [
         Some("*:dev.client"),
         "",
         200,
-        "{\"features\":[],\"meta\":{\"etag\":\"\\\"0000000000000000-1-0-3\\\"\",\"revisionId\":3},\"query\":{\"environment\":\"dev\",\"projects\":[\"*\"]},\"segments\":[{\"constraints\":[],\"id\":4}],\"version\":2}",
+        ONE_SEGMENT,
     ),
     (
         Method::Get,
@@ -322,7 +340,7 @@ const CASES: [Case; 15] = [
         Some("*:dev.client"),
         "",
         200,
-        "{\"events\":[{\"eventId\":3,\"features\":[],\"segments\":[{\"constraints\":[],\"id\":4}],\"type\":\"hydration\"}]}",
+        r#"{"events":[{"eventId":3,"features":[],"segments":[{"constraints":[],"id":4}],"type":"hydration"}]}"#,
     ),
 ];
 

@@ -37,7 +37,7 @@ fn check(now: u64, word: u64) -> Result<Words, WordsRefusal> {
 }
 
 #[test]
-fn words_good_and_bad(rt: HostRuntime) {
+fn words_good(rt: HostRuntime) {
     let table = [
         ("replay", Ok(Words::Replay)),
         ("explain", Ok(Words::Explain)),
@@ -58,41 +58,49 @@ fn words_good_and_bad(rt: HostRuntime) {
             "load --count 1000000 --seed 18446744073709551615",
             load(u64::MAX, 1_000_000),
         ),
-        ("", Err(WordsRefusal::Bad)),
-        ("edges", Err(WordsRefusal::Bad)),
-        ("Check", Err(WordsRefusal::Bad)),
-        ("replay x", Err(WordsRefusal::Bad)),
-        ("replay --now 1", Err(WordsRefusal::Bad)),
-        ("replay --help", Err(WordsRefusal::Bad)),
-        ("explain x", Err(WordsRefusal::Bad)),
-        ("explain --now 1", Err(WordsRefusal::Bad)),
-        ("follow", Err(WordsRefusal::Bad)),
-        ("check --version", Err(WordsRefusal::Bad)),
-        ("check -h", Err(WordsRefusal::Bad)),
-        ("check x", Err(WordsRefusal::Bad)),
-        ("check --now", Err(WordsRefusal::Bad)),
-        ("check --now=", Err(WordsRefusal::Bad)),
-        ("check --now 1 --now 2", Err(WordsRefusal::Bad)),
-        ("check --now +1", Err(WordsRefusal::Bad)),
-        ("check --now -1", Err(WordsRefusal::Bad)),
-        ("check --now 1a", Err(WordsRefusal::Bad)),
-        ("check --now 100000000000001", Err(WordsRefusal::Bad)),
-        ("check --word 18446744073709551616", Err(WordsRefusal::Bad)),
-        ("check --words 1", Err(WordsRefusal::Bad)),
-        ("load", Err(WordsRefusal::Bad)),
-        ("load --seed 1", Err(WordsRefusal::Bad)),
-        ("load --count 1", Err(WordsRefusal::Bad)),
-        ("load --seed 1 --count 0", Err(WordsRefusal::Bad)),
-        ("load --seed 1 --count 1000001", Err(WordsRefusal::Bad)),
-        (
-            "load --seed 18446744073709551616 --count 1",
-            Err(WordsRefusal::Bad),
-        ),
-        ("load --seed -1 --count 1", Err(WordsRefusal::Bad)),
-        ("load --seed= --count 1", Err(WordsRefusal::Bad)),
     ];
     for (line, expected) in table {
         assert!(rt; reads(rt.alloc(), line, &expected) == Some(true), "{line}");
+    }
+}
+
+/// Words that no command takes.
+const BAD: [&str; 29] = [
+    "",
+    "edges",
+    "Check",
+    "replay x",
+    "replay --now 1",
+    "replay --help",
+    "explain x",
+    "explain --now 1",
+    "follow",
+    "check --version",
+    "check -h",
+    "check x",
+    "check --now",
+    "check --now=",
+    "check --now 1 --now 2",
+    "check --now +1",
+    "check --now -1",
+    "check --now 1a",
+    "check --now 100000000000001",
+    "check --word 18446744073709551616",
+    "check --words 1",
+    "load",
+    "load --seed 1",
+    "load --count 1",
+    "load --seed 1 --count 0",
+    "load --seed 1 --count 1000001",
+    "load --seed 18446744073709551616 --count 1",
+    "load --seed -1 --count 1",
+    "load --seed= --count 1",
+];
+
+#[test]
+fn words_bad(rt: HostRuntime) {
+    for line in BAD {
+        assert!(rt; refuses(rt.alloc(), line), "{line}");
     }
 }
 
