@@ -178,11 +178,14 @@ fn a_keeper_that_fails(rt: HostRuntime) -> Result<(), Fail> {
     Ok(())
 }
 
+/// What is printed where what stands in the first place is refused.
+const FIRST_REFUSED: &str = concat!("refused: row ", "1\n");
+
 /// The row of a keeper, none where it is empty, the status, what is printed, and how much the first link is sent.
 const ROWS: [(&str, u8, &str, bool); 4] = [
-    ("", 3, "refused: row 1\n", false),
-    ("{}", 3, "refused: row 1\n", false),
-    (REMOVE_4, 3, "refused: row 1\n", false),
+    ("", 3, FIRST_REFUSED, false),
+    ("{}", 3, FIRST_REFUSED, false),
+    (REMOVE_4, 3, FIRST_REFUSED, false),
     (PUT_A, 0, "connections 2\n", true),
 ];
 
