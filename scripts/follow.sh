@@ -15,10 +15,10 @@ start "$program" upstream --port "$upstream_port" --secret s --environments dev 
     <examples/commands.jsonl >/dev/null
 wait_for "$upstream_port" "the upstream"
 start "$program" edge --port "$edge_port" --upstream "127.0.0.1:$upstream_port" --upstream-tokens '*:dev.client' \
-    --tokens '*:dev.client' >/dev/null
+    --tokens '*:dev.client' --interval 1 >/dev/null
 wait_for "$edge_port" "the edge"
 
-# the feature is turned off once the first turn is told; the edge asks for that behind the link on which it is asked for its health
+# the feature is turned off once the first turn is told; the edge asks for that within a second, before the second turn
 start "$program" follow --upstream "127.0.0.1:$edge_port" --token '*:dev.client' --feature a --turns 3 --interval 2 >"$work/turns"
 follower=$last
 tries=0
@@ -29,7 +29,6 @@ until test -s "$work/turns"; do
 done
 same "a command" '{"number":2}' \
     "$(ask "$upstream_port" s /commands --data '{"command":"put-feature","environment":"dev","feature":{"name":"a","enabled":false}}')"
-wait_for "$edge_port" "the edge"
 
 wait "$follower"
 same "the status" 0 "$?"

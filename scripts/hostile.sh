@@ -1,7 +1,7 @@
 #!/bin/sh
-# A test with hostile bytes: deep documents, long numbers, heads in many pieces, many requests at once, links that are reset or
-# half closed. Each gets its status, memory stays where it was, and the next link is served. Run after `rt ci` or `rt run`.
-# Skipped where python3 or curl is not there.
+# A test with hostile bytes: deep documents, long numbers, heads in many pieces, many requests at once, links that are reset,
+# half closed, or left open for the 30 seconds that a server waits. Each gets its status, memory stays where it was, and the next
+# link is served. It takes half a minute. Run after `rt ci` or `rt run`. Skipped where python3 or curl is not there.
 set -u
 cd "$(dirname "$0")/.."
 
@@ -9,6 +9,7 @@ cd "$(dirname "$0")/.."
 need curl
 need python3
 
+lifetime=120
 upstream_port=${UPSTREAM_PORT:-14542}
 edge_port=${EDGE_PORT:-13363}
 
@@ -34,13 +35,22 @@ digits() {
 
 # what a command prints, and its status
 ending() {
-    printed=$("$program" "$1")
+    printed=$(timeout 60 "$program" "$@")
     echo "$printed $?"
+}
+
+# the same of an upstream that takes lines of commands
+obeying() {
+    ending upstream --port "$((upstream_port + 1))" --secret s --environments dev --client-tokens '*:dev.c' --frontend-tokens '*:dev.f'
 }
 
 same "a line of brackets" "refused: line 1: NotJson 3" "$(deep | ending replay)"
 same "a line with brackets" "refused: line 1: NotJson 3" "$( (printf '{"op":"ask","target":"/","more":' && deep && echo '}') | ending replay)"
 same "a line with a long number" "refused: line 1: NotWhole now 3" "$( (printf '{"op":"ask","target":"/","now":' && digits 300 && echo '}') | ending replay)"
 same "a line with a number past all" "refused: line 1: NotJson 3" "$( (printf '{"op":"ask","target":"/","now":' && digits 1000 && echo '}') | ending replay)"
+same "a command of brackets" "refused: line 1: NotJson 3" "$(deep | obeying)"
+same "a command with a long number" "refused: line 1: NotWhole id 3" "$( (printf '{"command":"remove-segment","environment":"dev","id":' && digits 300 && echo '}') | obeying)"
+same "a command with a number past all" "refused: line 1: NotJson 3" "$( (printf '{"command":"remove-segment","environment":"dev","id":' && digits 1000 && echo '}') | obeying)"
 same "a test file of brackets" "refused: NotJson 3" "$(deep | ending check)"
+same "a question of brackets" "refused: NotJson 3" "$(deep | ending explain)"
 echo "${0##*/}: passed"

@@ -39,22 +39,23 @@ wait "$upstream"
 same "the status" 0 "$?"
 same "what is printed" "connections 7" "$(cat "$work/printed")"
 
-# ---- an upstream and an edge
-start "$program" upstream --port "$upstream_port" --secret s --environments dev \
+# ---- an upstream that keeps its commands in a database, and an edge
+start "$program" upstream --port "$upstream_port" --secret s --environments dev --keep sqlite \
     --client-tokens '*:dev.client' --frontend-tokens '*:dev.front' <examples/commands.jsonl >/dev/null
 upstream=$last
 wait_for "$upstream_port" "the second upstream"
 start "$program" edge --port "$edge_port" --upstream "127.0.0.1:$upstream_port" --upstream-tokens '*:dev.client' \
-    --tokens '*:dev.client,*:dev.front' >/dev/null
+    --tokens '*:dev.client,*:dev.front' --interval 1 >/dev/null
 wait_for "$edge_port" "the edge"
 
 same "another command" '{"number":2}' "$(put b)"
 
-# the edge refreshes once before each link that it takes
+# the edge refreshes once a second
 tries=0
 until test "$(ask "$edge_port" '*:dev.front' /api/frontend)" = "{\"toggles\":[$(toggle a),$(toggle b)]}"; do
     tries=$((tries + 1))
-    test "$tries" -lt 10 || fail "the edge isn't refreshed"
+    test "$tries" -lt 50 || fail "the edge isn't refreshed"
+    sleep 0.1
 done
 
 # compares what both answer: status and body, but for the tag in a feed, which names the server's start
@@ -97,6 +98,7 @@ begin_again() {
 # in the epoch of what it lost it is behind the edge, which keeps what it has
 begin_again
 for turn in 1 2 3; do
+    sleep 1
     same "what an edge keeps, turn $turn" "{\"toggles\":[$(toggle a),$(toggle b)]}" "$(ask "$edge_port" '*:dev.front' /api/frontend)"
 done
 
@@ -105,7 +107,8 @@ begin_again --epoch 1
 tries=0
 until test "$(ask "$edge_port" '*:dev.front' /api/frontend)" = "{\"toggles\":[$(toggle a)]}"; do
     tries=$((tries + 1))
-    test "$tries" -lt 10 || fail "the edge doesn't follow into a later epoch"
+    test "$tries" -lt 50 || fail "the edge doesn't follow into a later epoch"
+    sleep 0.1
 done
 alike /api/client/delta '*:dev.client'
 echo "loopback: passed"

@@ -28,11 +28,11 @@ program=${PROGRAM:-crates/unl_edge/out/unl_edge}
 test -x "$program" || (cd crates/unl_edge && rt run -- replay </dev/null >/dev/null 2>&1)
 test -x "$program" || fail "the program isn't built"
 
-# starts a command beside the script, for a minute at most, over the input that it is given, which a shell takes from what runs
-# beside it unless it has a number of its own; the command's number is then in `last`
+# starts a command beside the script, for a minute at most or as many seconds as `lifetime` says, over the input that it is given,
+# which a shell takes from what runs beside it unless it has a number of its own; the command's number is then in `last`
 start() {
     exec 3<&0
-    timeout 60 "$@" <&3 3<&- &
+    timeout "${lifetime:-60}" "$@" <&3 3<&- &
     last=$!
     exec 3<&-
     started="$started $last"

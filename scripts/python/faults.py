@@ -5,7 +5,9 @@ replay, in a check, on one connection of an upstream with two requests, and in o
 many were tried and what came of them, and ends with 1 at any other outcome than those that are stated.
 """
 import collections
+import concurrent.futures
 import os
+import queue
 import socket
 import subprocess
 import sys
@@ -14,7 +16,9 @@ import threading
 import time
 
 PROGRAM, SHIM, UPSTREAM_PORT, EDGE_PORT = sys.argv[1], sys.argv[2], int(sys.argv[3]), int(sys.argv[4])
-DONE, READ_FAULT, WRITE_FAULT, OUT_OF_MEMORY = 0, 4, 5, 6
+DONE, READ_FAULT, WRITE_FAULT, OUT_OF_MEMORY, DOOR_FAULT = 0, 4, 5, 6, 7
+# how many runs of an edge are made at once: each waits for a turn of a second
+AT_ONCE = 8
 INTERNAL = b'HTTP/1.1 500 Internal Server Error\r\nContent-Length: 0\r\nConnection: close\r\n\r\n'
 failures = []
 
@@ -40,16 +44,16 @@ def counted(run):
     return int(allocations), int(moves), given
 
 
-def swept(name, run, allowed):
+def swept(name, run, allowed, at_once=1):
     """Refuses each call of a run in turn. `allowed` says whether what came is one of what may come."""
     allocations, moves, whole = counted(run)
     for kind, count in (('FAIL_MEMORY', allocations), ('FAIL_IO', moves)):
         came = collections.Counter()
-        for number in range(1, count + 1):
-            given = run(**{kind: number})
-            came[given[-1]] += 1
-            if not allowed(kind, given, whole):
-                failures.append(f'{name}: {kind}={number} gave {given}')
+        with concurrent.futures.ThreadPoolExecutor(at_once) as runs:
+            for number, given in enumerate(runs.map(lambda number: run(**{kind: number}), range(1, count + 1)), 1):
+                came[given[-1]] += 1
+                if not allowed(kind, given, whole):
+                    failures.append(f'{name}: {kind}={number} gave {given}')
         print(f'{name}: {kind} of {count}: ' + ', '.join(f'{many} times {status}' for status, many in sorted(came.items())))
     given = run(SHORT_IO=1)
     if given != whole:
@@ -80,14 +84,25 @@ def exchanged(process, port):
                 return answer
         except ConnectionRefusedError:
             time.sleep(0.002)
-        except ConnectionError:
+        except (ConnectionError, TimeoutError):
             return b''
     return None
 
 
-def served(words, port, path='/dev/null'):
-    """A run of a server for one link: what the link got, what was printed, and the status."""
+def served(words, ports, path='/dev/null'):
+    """A run of a server for one link, at one of these ports: what the link got, what was printed, and the status."""
+    free = queue.Queue()
+    for port in ports:
+        free.put(port)
+
     def run(**calls):
+        port = free.get()
+        try:
+            return run_at(port, **calls)
+        finally:
+            free.put(port)
+
+    def run_at(port, **calls):
         with open(path, 'rb') as source:
             process = started([*words, '--port', str(port), '--connections', '1'], source, **calls)
             answers = []
@@ -115,12 +130,17 @@ def is_answer(kind, answer, whole):
     return answer in (b'', HEALTHY, whole, INTERNAL, HEALTHY + INTERNAL)
 
 
-def of_server(kind, given, whole):
+def of_server(kind, given, whole, without_memory=(OUT_OF_MEMORY,)):
     """What may come of a server over one link: it served it, or memory ran out before or after; or its input or output failed."""
     answers, printed, status = given
-    statuses = {DONE, OUT_OF_MEMORY} if kind == 'FAIL_MEMORY' else {DONE, READ_FAULT, WRITE_FAULT}
+    statuses = {DONE, *without_memory} if kind == 'FAIL_MEMORY' else {DONE, READ_FAULT, WRITE_FAULT}
     served_it = all(is_answer(kind, answer or b'', whole[0][0]) for answer in answers)
     return status in statuses and served_it and whole[1].startswith(printed) and (status != DONE or printed == whole[1])
+
+
+def of_edge(kind, given, whole):
+    """The same of an edge, which may have no memory for a thread."""
+    return of_server(kind, given, whole, (OUT_OF_MEMORY, DOOR_FAULT))
 
 
 BOOK = b'{"tokens":[{"projects":["*"],"token":"*:dev.client","type":"client"},{"projects":["*"],"token":"*:dev.front","type":"frontend"}]}'
@@ -157,10 +177,11 @@ def main():
     swept('replay', lambda **calls: ran(['replay'], 'examples/first.jsonl', **calls), of_input)
     swept('check', lambda **calls: ran(['check'], 'examples/check.json', **calls), of_input)
     upstream = ['upstream', '--secret', 's', '--environments', 'dev', '--client-tokens', '*:dev.client', '--frontend-tokens', '*:dev.front']
-    swept('a connection', served(upstream, UPSTREAM_PORT, 'examples/commands.jsonl'), of_server)
+    swept('a connection', served(upstream, [UPSTREAM_PORT], 'examples/commands.jsonl'), of_server)
     upstream_of(UPSTREAM_PORT + 1)
-    edge = ['edge', '--upstream', f'127.0.0.1:{UPSTREAM_PORT + 1}', '--upstream-tokens', '*:dev.client', '--tokens', '*:dev.client,*:dev.front']
-    swept('a turn of an edge', served(edge, EDGE_PORT), of_server)
+    edge = ['edge', '--upstream', f'127.0.0.1:{UPSTREAM_PORT + 1}', '--upstream-tokens', '*:dev.client', '--tokens', '*:dev.client,*:dev.front',
+            '--workers', '2', '--interval', '1']
+    swept('a turn of an edge', served(edge, range(EDGE_PORT, EDGE_PORT + AT_ONCE)), of_edge, AT_ONCE)
     for failure in failures[:20]:
         print(failure)
     sys.exit(1 if failures else 0)

@@ -3,70 +3,18 @@
 Its words: the port of an upstream and the process that started it, and those of an edge. It prints what is answered
 otherwise, and whether a server's memory grew. The tokens are `*:dev.client` and `*:dev.front`, the secret is `s`.
 """
-import os
-import socket
-import struct
 import sys
-import time
+
+from wire import HEALTH, answered, connect, memory_of, request, reset, rest_of, started_by, statuses
 
 DEEP = b"[" * 100_000 + b"]" * 100_000
 LONG = b"1" * 1_000
 ROUNDS = 5
 # what an allocator may keep for itself between rounds, in KiB
 SLACK = 4_096
+# how many seconds an answer may take behind a link that a server leaves after 30 seconds
+LATER = 50
 
-
-def connect(port):
-    link = socket.create_connection(("127.0.0.1", port), timeout=10)
-    link.setsockopt(socket.IPPROTO_TCP, socket.TCP_NODELAY, 1)
-    return link
-
-
-def rest_of(link):
-    """All that comes until the server ends the link, which resets it where it left bytes unread."""
-    parts = []
-    try:
-        while part := link.recv(65_536):
-            parts.append(part)
-    except ConnectionResetError:
-        pass
-    return b"".join(parts)
-
-
-def statuses(replies):
-    """The statuses of replies of which only those of 304 and refusals have no JSON body."""
-    return [int(part[1:4]) for part in replies.split(b"HTTP/1.1")[1:]]
-
-
-def answered(port, *pieces, pause=0.0):
-    """The statuses that come for these pieces, of which the last ends with the link's direction."""
-    with connect(port) as link:
-        for piece in pieces:
-            link.sendall(piece)
-            time.sleep(pause)
-        link.shutdown(socket.SHUT_WR)
-        return statuses(rest_of(link))
-
-
-def request(path, token=b"", body=None, fields=b""):
-    head = b"%s %s HTTP/1.1\r\nHost: h\r\n" % (b"GET" if body is None else b"POST", path)
-    if token:
-        head += b"Authorization: %s\r\n" % token
-    if body is not None:
-        fields += b"Content-Length: %d\r\n" % len(body)
-    return head + fields + b"\r\n" + (body or b"")
-
-
-def reset(port, *pieces):
-    """Sends these and resets the link, without a look at what comes."""
-    link = connect(port)
-    link.setsockopt(socket.SOL_SOCKET, socket.SO_LINGER, struct.pack("ii", 1, 0))
-    for piece in pieces:
-        link.sendall(piece)
-    link.close()
-
-
-HEALTH = request(b"/internal-backstage/health")
 CLIENT, FRONT, SECRET = b"*:dev.client", b"*:dev.front", b"s"
 REPORT = b'{"appName":"a","bucket":{"start":"2024-01-01T10:05:00Z","toggles":{"a":{"yes":%s}}}}'
 FIELDS = [b"X-%d: y\r\n" % number for number in range(50)]
@@ -118,29 +66,20 @@ def play(server, port):
         check(f"{server}, after a reset", [200], answered(port, HEALTH))
 
 
-def status_of(process, field):
-    """The number of a field of what the system tells of a process."""
-    with open(f"/proc/{process}/status") as lines:
-        return next(int(line.split()[1]) for line in lines if line.startswith(f"{field}:"))
+def leave_open(port):
+    """A link on which a head begins, and then nothing comes, nor does it end."""
+    link = connect(port, LATER)
+    link.sendall(HEALTH[:20])
+    return link
 
 
-def parent_of(process):
-    """The process that started this one, none where it has ended meanwhile."""
-    try:
-        return status_of(process, "PPid")
-    except OSError:
-        return None
-
-
-def started_by(process):
-    """The first process that this one started."""
-    others = (int(name) for name in os.listdir("/proc") if name.isdigit())
-    return next(other for other in others if parent_of(other) == process)
-
-
-def memory_of(process):
-    """What a process holds in memory, in KiB."""
-    return status_of(process, "VmRSS")
+def play_half_open(servers):
+    """Of each server a link stays open, and the next one is served; then the open one was ended without an answer."""
+    links = [leave_open(port) for _, port, _ in servers]
+    for (server, port, _), link in zip(servers, links):
+        check(f"{server}, behind a link that stays open", [200], answered(port, HEALTH, timeout=LATER))
+        with link:
+            check(f"{server}, a link that stays open", [], statuses(rest_of(link)))
 
 
 def main(words):
@@ -152,6 +91,7 @@ def main(words):
     for _ in range(ROUNDS):
         for server, port, _ in servers:
             play(server, port)
+    play_half_open(servers)
     for (server, _, process), held in zip(servers, before):
         if memory_of(process) > held + SLACK:
             print(f"{server}: {memory_of(process)} KiB after {ROUNDS} rounds, and {held} before them")

@@ -1,9 +1,8 @@
 -- How an upstream ends, from how its lines, its links and its keeper end.
-use Rattle.std.proofs.Common.{◌≡◌, ◌≢◌, ◌≤◌, ◌+◌, ◌∙◌, ◌⊎◌, inl, inr, ℕ, List, [], ◌∷◌, ◌++◌, ◌&&◌, true, length, append_assoc, append-nil, Option, Some, None, IfSome, Result, Ok, Err, refl, sym, ap, subst, arith}
-use Rattle.std.specs.Prelude.{option_map, slice_get, unwrap_or}
+use Rattle.std.proofs.Common.{◌≡◌, ◌≢◌, ◌≤◌, ◌∙◌, inl, inr, ℕ, zero, suc, List, [], ◌∷◌, ◌++◌, ◌&&◌, true, length, append-nil, Option, Some, None, IfSome, Ok, Err, refl, sym, ap, subst, arith}
+use Rattle.std.specs.Prelude.{option_and_then, option_map, slice_get, unwrap_or}
 use Rattle.std.specs.List.{list_all}
 use Rattle.clap.proofs.WalkLemmas.{both}
-use Rattle.unl_base.specs.Doors.{DoorState}
 use Rattle.unl_base.specs.Faults.{Rose}
 use Rattle.unl_base.specs.Streams.{HasEnded, Sends, SendsFront, Takes}
 use Rattle.unl_base.proofs.Sending.{Sends_nothing}
@@ -12,7 +11,7 @@ use Rattle.unl_documents.specs.Texts.{is_name}
 use Rattle.unl_edge.specs.Keeping.{Shelf, SpellKept, keeping, shelf_of}
 use Rattle.unl_edge.specs.Scene.{Scene}
 use Rattle.unl_edge.specs.Status.{Caused, code_of, ending_status, upstream_status}
-use Rattle.unl_edge.specs.Upstreams.{Begins, ComesBack, EndsKept, EndsReopened, Facing, IsDecidedByLines, IsDecidedFrom, IsMade, IsOfRow, KeeperEnd, LinesEnd}
+use Rattle.unl_edge.specs.Upstreams.{Begins, ComesBack, EndsKept, Facing, IsDecidedByLines, IsDecidedFrom, IsMade, IsOfRow, KeeperEnd, LinesEnd}
 use Rattle.unl_edge.specs.Upstreams.{IsNew, LinksEnd, Opens, RefusesRow, RunsUpstream, ServesAfterLines, ServesLinks, UpstreamEnds, UpstreamRuns}
 use Rattle.unl_edge.specs.Upstreams.{connections_line, facing_of, lines_code, obeying}
 use Rattle.unl_edge.specs.declared.ends.ServingEnd.{ServingEnd}
@@ -23,7 +22,6 @@ use Rattle.unl_edge.specs.declared.status.Status.TheVariants as status
 use Rattle.unl_edge.proofs.Keeping.{all_taken, lines_keep, same_ending, silent}
 use Rattle.unl_edge.proofs.Named.{links_named}
 use Rattle.unl_exchange.specs.Answering.{Coming}
-use Rattle.unl_exchange.specs.Linked.{linking}
 use Rattle.unl_input.specs.declared.refusal.SayFault.TheVariants as say
 use Rattle.unl_keeper.specs.Rows.{kept}
 use Rattle.unl_lines.specs.Lines.{lines}
@@ -32,10 +30,11 @@ use Rattle.unl_lines.specs.declared.taking.LinesFault.TheVariants as line
 use Rattle.unl_lines.specs.Whole.{AnswersAll, IsRefusing}
 use Rattle.unl_lines.proofs.Silent.{prints_cause_alone}
 use Rattle.unl_tokens.specs.declared.token.Token.{Token}
-use Rattle.unl_upstream.specs.Kept.{HasKept, KeeperState, KeptState, commands_in, kept_state}
-use Rattle.unl_upstream.specs.KeptHosting.{Hosts}
+use Rattle.unl_upstream.specs.Kept.{HasKept, KeeperState, KeptState, acknowledged, commands_in, kept_commands, kept_rows, kept_state}
 use Rattle.unl_upstream.specs.Reopening.{IsSameKeeper, Reopens, rows_after}
 use Rattle.unl_upstream.specs.Upstream.{UpstreamState, opening}
+use Rattle.unl_upstream.proofs.Carrying.{both_behind, holds_still}
+use Rattle.unl_upstream.specs.declared.command.Command.{Command}
 use Rattle.unl_upstream.specs.declared.reopening.ReopenFault.{ReopenFault}
 use Rattle.unl_upstream.specs.declared.reopening.ReopenFault.TheVariants.{BadRow, NoRow, Fault, Memory}
 use Rattle.unl_words.specs.Lists.{are_different, are_environments, has_count}
@@ -44,22 +43,25 @@ use Rattle.unl_words.proofs.Known.{others_differ}
 -- ---- the links
 
 -- no link was handed out
-pub hosts_still : (state : KeptState) (coming : Coming) (door door_after : DoorState)
-    → door_after.given ≡ door.given → door_after.back ≡ door.back → door_after.links ≡ door.links → door_after.returned ≡ door.returned
-    → Hosts (linking state coming door) (linking state coming door_after) 0
-hosts_still state coming door door_after given back left returned = record {
-  given = given ∙ omega arith;
-  back = back ∙ omega arith;
-  linked = λ all others told told_back. record {
-    given_links = [];
-    rest = all;
-    backs = [];
-    are = refl;
-    left = left ∙ told;
-    returned_after = returned ∙ told_back ∙ ap Some (sym (append-nil others));
-    counted = refl;
-    linked = (refl, refl);
+pub serves_none : (state : KeptState) (before after : Facing) → HasKept state.keeper → after.coming ≡ before.coming
+    → after.door.given ≡ before.door.given → after.door.back ≡ before.door.back → after.door.links ≡ before.door.links
+    → after.door.returned ≡ before.door.returned → ServesLinks state state before after 0
+serves_none state before after has coming given back left returned = record {
+  hosts = record {
+    given = given ∙ omega arith;
+    back = back ∙ omega arith;
+    linked = λ all others told told_back. record {
+      given_links = [];
+      rest = all;
+      backs = [];
+      are = refl;
+      left = left ∙ told;
+      returned_after = returned ∙ told_back ∙ ap Some (sym (append-nil others));
+      counted = refl;
+      linked = (refl, coming);
+    };
   };
+  carries = holds_still state has;
 }
 
 -- ---- the links after the lines
@@ -89,7 +91,7 @@ after_lines opened kept last desk end left left_after before after sent has is t
 
     serves : (served : ℕ) → ServesLinks kept last (record before { sent = sent }) after served
         → ServesAfterLines opened last.keeper left left_after before after served
-    serves served hosts = record {
+    serves served all = record {
       read = taken.read;
       took = taken.took;
       end = taken.end;
@@ -97,10 +99,13 @@ after_lines opened kept last desk end left left_after before after sent has is t
       accepted = accepted;
       spelled = spelled;
       up = last.up;
-      hosts = hosts;
+      serves = record { hosts = all.hosts; carries = all.carries };
+      keeps = all.carries.carries.appended
+          ∙ ap (option_map (λ kept. kept ++ acknowledged all.carries.some.tried)) spelled.kept
+          ∙ both_behind spelled.commands (acknowledged all.carries.some.tried) (kept_commands opened.keeper);
       named = λ links returned told told_back.
           links_named opened kept last spelled.commands before after served links returned has spelled.kept
-          (record { up = spelled.leads; count = spelled.counted }) (hosts.linked links returned told told_back);
+          (record { up = spelled.leads; count = spelled.counted }) (all.hosts.linked links returned told told_back);
     }
 
     by_end : (end : ServingEnd) → LinksEnd kept last end (record before { sent = sent }) after
@@ -184,18 +189,57 @@ opens_plain start made held is_made reopened opened opens = by_held held is_made
     by_held None empty = tt
     by_held (Some rows) empty = opens_empty start made reopened opened empty opens
 
+-- so no command is kept yet
+none_kept : (start : UpstreamState) (opened : KeptState) (held : Option (List (List ℕ)))
+    → IfSome held (λ _. shelf_of opened ≡ record { up = start; count = 0; commands = Some [] }) → IfSome held (λ _. kept_commands opened.keeper ≡ Some [])
+none_kept start opened None plain = tt
+none_kept start opened (Some rows) plain = ap (λ (s : Shelf). s.commands) plain
+
+-- what a keeper keeps is what its maker holds, where it tells that and the keeper kept nothing at first
+holds_kept : (last : KeeperState) (first : Option (List Command)) (held held_after : Option (List (List ℕ))) (commands : List Command)
+    → IfSome held (λ _. first ≡ Some []) → held_after ≡ option_and_then (λ _. kept_rows last) held
+    → kept_commands last ≡ option_map (λ kept. kept ++ commands) first → IfSome held_after (λ texts. commands_in texts ≡ commands)
+holds_kept last first None held_after commands empty is keeps = subst (λ (o : Option (List (List ℕ))). IfSome o (λ texts. commands_in texts ≡ commands)) (sym is) tt
+holds_kept last first (Some rows) held_after commands empty is keeps =
+    subst (λ (o : Option (List (List ℕ))). IfSome o (λ texts. commands_in texts ≡ commands)) (sym is)
+    (of_rows (kept_rows last) (keeps ∙ ap (option_map (λ kept. kept ++ commands)) empty))
+  where
+    of_rows : (o : Option (List (List ℕ))) → option_map commands_in o ≡ Some commands → IfSome o (λ texts. commands_in texts ≡ commands)
+    of_rows None told = tt
+    of_rows (Some texts) told = ap (λ (o : Option (List Command)). unwrap_or o []) told
+
+-- a keeper that has never failed
+pub never_failed : {R : Type 0} (faults : ℕ) → (faults ≢ 0 → R) → ¬ R → faults ≡ 0
+never_failed zero rose none = refl
+never_failed (suc n) rose none = absurd (none (rose (λ is. cc)))
+
 -- a keeper was made, and came back
 pub ends_kept : (start : UpstreamState) (end : UpstreamEnd) (made last : KeeperState) (before after : Scene) → IsMade before.keep.held made
     → KeeperEnd (kept_state start made) end last before.input.left after.input.left (facing_of before) (facing_of after)
     → ComesBack last before.keep after.keep → UpstreamEnds start end before after
-ends_kept start NoMemory made last before after is_made ends back = tt
-ends_kept start KeeperFault made last before after is_made ends back = ends
-ends_kept start (Row told) made last before after is_made ends back =
-    record { made = made; is_made = is_made; plain = opens_plain start made before.keep.held is_made; last = last; ends = ends; back = back }
-ends_kept start (Lines fault) made last before after is_made ends back =
-    record { made = made; is_made = is_made; plain = opens_plain start made before.keep.held is_made; last = last; ends = ends; back = back }
-ends_kept start (Links end) made last before after is_made ends back =
-    record { made = made; is_made = is_made; plain = opens_plain start made before.keep.held is_made; last = last; ends = ends; back = back }
+ends_kept start end made last before after is_made ends back = by_end end ends
+  where
+    kept : (end : UpstreamEnd) → KeeperEnd (kept_state start made) end last before.input.left after.input.left (facing_of before) (facing_of after)
+        → EndsKept start end before after
+    kept end ends = record {
+      made = made;
+      is_made = is_made;
+      plain = opens_plain start made before.keep.held is_made;
+      last = last;
+      ends = ends;
+      back = back;
+      holds = λ reopened opened commands opens.
+          holds_kept last (kept_commands opened.keeper) before.keep.held after.keep.held commands
+          (none_kept start opened before.keep.held (opens_plain start made before.keep.held is_made reopened opened opens)) back.held;
+    }
+
+    by_end : (end : UpstreamEnd) → KeeperEnd (kept_state start made) end last before.input.left after.input.left (facing_of before) (facing_of after)
+        → UpstreamEnds start end before after
+    by_end NoMemory ends = tt
+    by_end KeeperFault ends = ends
+    by_end (Row told) ends = kept (Row told) ends
+    by_end (Lines fault) ends = kept (Lines fault) ends
+    by_end (Links end) ends = kept (Links end) ends
 
 -- ---- the draw before
 

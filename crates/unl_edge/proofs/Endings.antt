@@ -1,16 +1,11 @@
 -- How the program ends, from how its commands end.
-use Rattle.std.proofs.Common.{◌≡◌, ◌≢◌, ℕ, ◌==◌, List, Bool, true, false, cond, length, Option, Some, None, IfSome, Result, Ok, Err, refl, sym, subst, ap, ◌∙◌}
-use Rattle.std.specs.Prelude.{IsErrOf, OnOk}
-use Rattle.unl_base.specs.Faults.{Rose}
-use Rattle.unl_base.specs.Streams.{Sends, SendsFront}
+use Rattle.std.proofs.Common.{◌≡◌, ◌≢◌, ℕ, ◌==◌, List, cond, Option, Some, None, IfSome, Result, Ok, Err, refl, sym, subst, ap, ◌∙◌}
 use Rattle.unl_base.specs.declared.draws.Draw.{Draw}
 use Rattle.unl_documents.specs.Reading.{Reading}
 use Rattle.unl_documents.specs.Results.{Gives}
-use Rattle.unl_edge.specs.Edges.{EdgeEnds}
-use Rattle.unl_edge.specs.Ends.{CheckEnds, Ended, Ends, HasCauses, IsDecided, SaysOfInput, explained_status, outcome_end, refused_end, report_end}
-use Rattle.unl_edge.specs.OwnBook.{own_book}
-use Rattle.unl_edge.specs.Scene.{Scene}
-use Rattle.unl_edge.specs.Status.{Caused, FailsToKeep, IsCaused, check_status, code_of, ending_status, explain_status, follow_status, lines_status, load_status, serving_status, upstream_status, words_status}
+use Rattle.unl_edge.specs.Ends.{CheckEnds, Ended, Ends, HasCauses, IsDecided, SaysOfInput, explained_status, outcome_end}
+use Rattle.unl_edge.specs.Scene.{Scene, ServingFailed}
+use Rattle.unl_edge.specs.Status.{Caused, FailsToKeep, IsCaused, check_status, code_of, ending_status, explain_status, follow_status, lines_status, load_status, serving_status, words_status}
 use Rattle.unl_edge.proofs.Commands.{refusing_decides, upstream_decided}
 use Rattle.unl_edge.specs.declared.ends.CheckEnd.{CheckEnd}
 use Rattle.unl_edge.specs.declared.ends.CheckEnd.TheVariants as check
@@ -21,121 +16,82 @@ use Rattle.unl_edge.specs.declared.ends.WordsEnd.{WordsEnd}
 use Rattle.unl_edge.specs.declared.ends.WordsEnd.TheVariants as words
 use Rattle.unl_edge.specs.declared.status.Status.{Status}
 use Rattle.unl_edge.specs.declared.status.Status.TheVariants.{Done, TestFailed, BadWords, Refused, ReadFault, WriteFault, OutOfMemory, DoorFault, KeeperFault}
-use Rattle.unl_explain.specs.Running.{Explains, SaysOfInput as SaysExplained, explained}
+use Rattle.unl_explain.specs.Running.{Explains, explained}
 use Rattle.unl_explain.specs.declared.running.ExplainFault.{ExplainFault}
 use Rattle.unl_explain.specs.declared.running.ExplainFault.TheVariants as explain
 use Rattle.unl_follow.specs.declared.fault.FollowFault.{FollowFault}
 use Rattle.unl_follow.specs.declared.fault.FollowFault.TheVariants as follow
-use Rattle.unl_input.proofs.Outcomes.{decides, refusal_broken, refusal_said}
-use Rattle.unl_input.specs.Answer.{ComesTo, IsRefused, Outcome, Says, outcome_of}
-use Rattle.unl_input.specs.Refusal.{refusal_line}
-use Rattle.unl_input.specs.declared.refusal.InputRefusal.{InputRefusal}
-use Rattle.unl_input.specs.declared.refusal.SayFault.{SayFault}
-use Rattle.unl_input.specs.declared.refusal.SayFault.TheVariants as say
+use Rattle.unl_input.proofs.Outcomes.{decides}
+use Rattle.unl_input.specs.Answer.{ComesTo, Outcome, outcome_of}
 use Rattle.unl_lines.specs.Whole.{TakesLines}
 use Rattle.unl_lines.specs.declared.taking.LinesFault.{LinesFault}
 use Rattle.unl_lines.specs.declared.taking.LinesFault.TheVariants as lines
 use Rattle.unl_load.specs.declared.fault.LoadFault.{LoadFault}
 use Rattle.unl_load.specs.declared.fault.LoadFault.TheVariants as load
 use Rattle.unl_replay.specs.Replay.{line_answer, opening, replay_of}
-use Rattle.unl_spec_runner.specs.Check.{ReportsAll, accepted, report_of, text_of}
+use Rattle.unl_spec_runner.specs.Check.{accepted, report_of}
 use Rattle.unl_spec_runner.specs.Report.{Report}
-use Rattle.unl_spec_runner.specs.declared.fault.Summary.{Summary}
+use Rattle.unl_words.specs.OwnBook.{own_book}
 use Rattle.unl_words.specs.Words.{WordsReading}
 use Rattle.unl_words.specs.declared.refusal.WordsRefusal.TheVariants.{Bad, Memory}
 use Rattle.unl_words.specs.declared.words.Words.TheVariants.{Replay, Check, Edge, Explain, Follow, Load, Upstream}
 
 -- ---- words
 
--- want of memory is an ending of all words
-at_memory : (reading : WordsReading) (before after : Scene) → Ends reading OutOfMemory before after
-at_memory (Ok Replay) before after = record { end = Err lines.Memory; is = refl; ends = tt }
-at_memory (Ok (Check now word)) before after = record { end = check.OutOfMemory; is = refl; ends = tt }
-at_memory (Ok Explain) before after = record { end = Err explain.Memory; is = refl; ends = tt }
-at_memory (Ok (Edge port upstream upstream_tokens tokens host workers interval connections delta)) before after =
-    record { end = serving.OutOfMemory; is = refl; ends = tt }
-at_memory (Ok (Upstream port secret environments client_tokens frontend_tokens connections epoch)) before after =
-    record { end = upstream.OutOfMemory; is = refl; ends = tt }
-at_memory (Ok (Follow address token feature context delta turns interval)) before after =
-    record { end = Err follow.Memory; is = refl; ends = tt }
-at_memory (Ok (Load seed count)) before after = record { end = Err load.Memory; is = refl; ends = tt }
-at_memory (Err Bad) before after = record { end = words.OutOfMemory; is = refl; ends = tt }
-at_memory (Err Memory) before after = refl
+-- want of memory, with which nothing was done, is an ending of all words
+at_memory : (reading : WordsReading) (scene : Scene) → Ends reading OutOfMemory scene scene
+at_memory (Ok Replay) scene = record { end = Err lines.Memory; is = refl; ends = tt }
+at_memory (Ok (Check now word)) scene = record { end = check.OutOfMemory; is = refl; ends = refl }
+at_memory (Ok Explain) scene = record { end = Err explain.Memory; is = refl; ends = refl }
+at_memory (Ok (Edge edge)) scene = record { end = serving.OutOfMemory; is = refl; ends = tt }
+at_memory (Ok (Upstream up)) scene = record { end = upstream.OutOfMemory; is = refl; ends = tt }
+at_memory (Ok (Follow replica)) scene = record { end = Err follow.Memory; is = refl; ends = tt }
+at_memory (Ok (Load seed count)) scene = record { end = Err load.Memory; is = refl; ends = tt }
+at_memory (Err Bad) scene = record { end = words.OutOfMemory; is = refl; ends = refl }
+at_memory (Err Memory) scene = refl
 
 -- what was done by the words that were read was done by the words
 pub ends_by : (given reading : WordsReading) (status : Status) (before after : Scene)
-    → Gives Memory given reading → Ends given status before after → (given ≡ Err Memory → status ≡ OutOfMemory) → Ends reading status before after
+    → Gives Memory given reading → Ends given status before after → (given ≡ Err Memory → (status ≡ OutOfMemory) × (after ≡ before))
+    → Ends reading status before after
 ends_by (Ok x) reading status before after gives ends none = subst (λ w. Ends w status before after) (sym gives) ends
 ends_by (Err Bad) reading status before after gives ends none = subst (λ w. Ends w status before after) (sym (gives (λ same. absurd (cc same)))) ends
 ends_by (Err Memory) reading status before after gives ends none =
-    subst (λ s. Ends reading s before after) (sym (none refl)) (at_memory reading before after)
+    subst (λ (scene : Scene). Ends reading status before scene) (sym (none refl).1)
+    (subst (λ (s : Status). Ends reading s before before) (sym (none refl).0) (at_memory reading before))
 
 -- ---- causes
 
--- the cause of a fault of the input, by its number
-read_cause : (status : Status) (code : ℕ) (Read Write Door Keep : Type 0) → code ≡ code_of status
-    → Caused status Read Write Door Keep → code ≡ 4 → Read
-read_cause ReadFault code Read Write Door Keep is caused four = caused
-read_cause Done code Read Write Door Keep is caused four = absurd (cc (is, four))
-read_cause TestFailed code Read Write Door Keep is caused four = absurd (cc (is, four))
-read_cause BadWords code Read Write Door Keep is caused four = absurd (cc (is, four))
-read_cause Refused code Read Write Door Keep is caused four = absurd (cc (is, four))
-read_cause WriteFault code Read Write Door Keep is caused four = absurd (cc (is, four))
-read_cause OutOfMemory code Read Write Door Keep is caused four = absurd (cc (is, four))
-read_cause KeeperFault code Read Write Door Keep is caused four = absurd (cc (is, four))
-read_cause DoorFault code Read Write Door Keep is caused four = absurd (cc (is, four))
+-- the status of a number
+status_of : ℕ → Status
+status_of n =
+    cond (n == 0) Done (cond (n == 1) TestFailed (cond (n == 2) BadWords (cond (n == 3) Refused (cond (n == 4) ReadFault (
+    cond (n == 5) WriteFault (cond (n == 6) OutOfMemory (cond (n == 7) DoorFault KeeperFault)))))))
 
--- that of a fault of the output
-write_cause : (status : Status) (code : ℕ) (Read Write Door Keep : Type 0) → code ≡ code_of status
-    → Caused status Read Write Door Keep → code ≡ 5 → Write
-write_cause WriteFault code Read Write Door Keep is caused five = caused
-write_cause Done code Read Write Door Keep is caused five = absurd (cc (is, five))
-write_cause TestFailed code Read Write Door Keep is caused five = absurd (cc (is, five))
-write_cause BadWords code Read Write Door Keep is caused five = absurd (cc (is, five))
-write_cause Refused code Read Write Door Keep is caused five = absurd (cc (is, five))
-write_cause ReadFault code Read Write Door Keep is caused five = absurd (cc (is, five))
-write_cause OutOfMemory code Read Write Door Keep is caused five = absurd (cc (is, five))
-write_cause KeeperFault code Read Write Door Keep is caused five = absurd (cc (is, five))
-write_cause DoorFault code Read Write Door Keep is caused five = absurd (cc (is, five))
+status_back : (status : Status) → status_of (code_of status) ≡ status
+unfolding status_of
+status_back Done = refl
+status_back TestFailed = refl
+status_back BadWords = refl
+status_back Refused = refl
+status_back ReadFault = refl
+status_back WriteFault = refl
+status_back OutOfMemory = refl
+status_back DoorFault = refl
+status_back KeeperFault = refl
 
--- that of a fault of the door
-door_cause : (status : Status) (code : ℕ) (Read Write Door Keep : Type 0) → code ≡ code_of status
-    → Caused status Read Write Door Keep → code ≡ 7 → Door
-door_cause KeeperFault code Read Write Door Keep is caused seven = absurd (cc (is, seven))
-door_cause DoorFault code Read Write Door Keep is caused seven = caused
-door_cause Done code Read Write Door Keep is caused seven = absurd (cc (is, seven))
-door_cause TestFailed code Read Write Door Keep is caused seven = absurd (cc (is, seven))
-door_cause BadWords code Read Write Door Keep is caused seven = absurd (cc (is, seven))
-door_cause Refused code Read Write Door Keep is caused seven = absurd (cc (is, seven))
-door_cause ReadFault code Read Write Door Keep is caused seven = absurd (cc (is, seven))
-door_cause WriteFault code Read Write Door Keep is caused seven = absurd (cc (is, seven))
-door_cause OutOfMemory code Read Write Door Keep is caused seven = absurd (cc (is, seven))
-
--- that of a fault of the keeper
-keep_cause : (status : Status) (code : ℕ) (Read Write Door Keep : Type 0) → code ≡ code_of status
-    → Caused status Read Write Door Keep → code ≡ 8 → Keep
-keep_cause KeeperFault code Read Write Door Keep is caused eight = caused
-keep_cause Done code Read Write Door Keep is caused eight = absurd (cc (is, eight))
-keep_cause TestFailed code Read Write Door Keep is caused eight = absurd (cc (is, eight))
-keep_cause BadWords code Read Write Door Keep is caused eight = absurd (cc (is, eight))
-keep_cause Refused code Read Write Door Keep is caused eight = absurd (cc (is, eight))
-keep_cause ReadFault code Read Write Door Keep is caused eight = absurd (cc (is, eight))
-keep_cause WriteFault code Read Write Door Keep is caused eight = absurd (cc (is, eight))
-keep_cause OutOfMemory code Read Write Door Keep is caused eight = absurd (cc (is, eight))
-keep_cause DoorFault code Read Write Door Keep is caused eight = absurd (cc (is, eight))
-
--- all of them
+-- each by its number
 pub all_causes : (status : Status) (code : ℕ) (before after : Scene) → code ≡ code_of status → IsCaused status before after → HasCauses code before after
 all_causes status code before after is caused = record {
-  read = read_cause status code (Rose before.input.faults after.input.faults) (Rose before.output.faults after.output.faults)
-      (Rose before.door.faults after.door.faults) (FailsToKeep before after) is caused;
-  write = write_cause status code (Rose before.input.faults after.input.faults) (Rose before.output.faults after.output.faults)
-      (Rose before.door.faults after.door.faults) (FailsToKeep before after) is caused;
-  door = door_cause status code (Rose before.input.faults after.input.faults) (Rose before.output.faults after.output.faults)
-      (Rose before.door.faults after.door.faults) (FailsToKeep before after) is caused;
-  keep = keep_cause status code (Rose before.input.faults after.input.faults) (Rose before.output.faults after.output.faults)
-      (Rose before.door.faults after.door.faults) (FailsToKeep before after) is caused;
+  read = by_number ReadFault;
+  write = by_number WriteFault;
+  serving = by_number DoorFault;
+  keep = by_number KeeperFault;
 }
+  where
+    by_number : (other : Status) → code ≡ code_of other → IsCaused other before after
+    by_number other number =
+        subst (λ (s : Status). IsCaused s before after) (sym (status_back status) ∙ ap status_of (sym is ∙ number) ∙ status_back other) caused
 
 -- ---- what decides, where nothing fails and memory is found
 
@@ -253,19 +209,15 @@ by_words {Read} {Write} {Door} (Ok Explain) status before after ended caused rea
     of_end status Read Write Door (FailsToKeep before after) (λ code. IsDecided (Ok Explain) code before after) ended caused memory
     (λ cause some. explain_decided Read Write Door (FailsToKeep before after) ended.end before.input.left after.input.left before.output.sent after.output.sent ended.ends cause
     read write some)
-by_words {Read} {Write} {Door} (Ok (Edge port address upstream_tokens tokens host workers interval connections delta)) status before after ended caused
-    read write door memory =
-    of_end status Read Write Door (FailsToKeep before after)
-    (λ code. IsDecided (Ok (Edge port address upstream_tokens tokens host workers interval connections delta)) code before after) ended caused memory
+by_words {Read} {Write} {Door} (Ok (Edge edge)) status before after ended caused read write door memory =
+    of_end status Read Write Door (FailsToKeep before after) (λ code. IsDecided (Ok (Edge edge)) code before after) ended caused memory
     (λ cause some. edge_decided Read Write Door (FailsToKeep before after) ended.end cause write door some)
-by_words {Read} {Write} {Door} (Ok (Upstream port secret environments client_tokens frontend_tokens connections epoch)) status before after ended caused
-    read write door memory =
-    of_end status Read Write Door (FailsToKeep before after)
-    (λ code. IsDecided (Ok (Upstream port secret environments client_tokens frontend_tokens connections epoch)) code before after) ended caused memory
-    (λ cause some quiet. upstream_decided secret environments (own_book client_tokens frontend_tokens) epoch ended.end before after
+by_words {Read} {Write} {Door} (Ok (Upstream up)) status before after ended caused read write door memory =
+    of_end status Read Write Door (FailsToKeep before after) (λ code. IsDecided (Ok (Upstream up)) code before after) ended caused memory
+    (λ cause some quiet. upstream_decided up.secret up.environments (own_book up.client_tokens up.frontend_tokens) up.epoch ended.end before after
     ended.ends cause read write door (λ fails. quiet fails.0) some)
-by_words {Read} {Write} {Door} (Ok (Follow address token feature context delta turns interval)) status before after ended caused read write door memory =
-    of_end status Read Write Door (FailsToKeep before after) (λ code. IsDecided (Ok (Follow address token feature context delta turns interval)) code before after) ended caused memory
+by_words {Read} {Write} {Door} (Ok (Follow replica)) status before after ended caused read write door memory =
+    of_end status Read Write Door (FailsToKeep before after) (λ code. IsDecided (Ok (Follow replica)) code before after) ended caused memory
     (λ cause some. follow_decided Read Write Door (FailsToKeep before after) ended.end cause write some)
 by_words {Read} {Write} {Door} (Ok (Load seed count)) status before after ended caused read write door memory =
     of_end status Read Write Door (FailsToKeep before after) (λ code. IsDecided (Ok (Load seed count)) code before after) ended caused memory

@@ -1,6 +1,6 @@
 -- What is known of words in their ranges: their texts can stand in a line, and their environments differ.
 use Rattle.std.proofs.Common.{◌≡◌, ◌<◌, ◌≤◌, ◌+◌, ◌==◌, ◌&&◌, ◌||◌, ◌∙◌, ℕ, zero, suc, Bool, true, false, cond, not, List, [], ◌∷◌, drop, take, length, map, Option, Some, None, Err, refl, ap, subst, arith, nat_le, nat_lt}
-use Rattle.std.specs.Prelude.{IsTrue, is_ok, option_map, slice_index, unwrap_or}
+use Rattle.std.specs.Prelude.{All, IsTrue, is_ok, option_map, slice_index, unwrap_or}
 use Rattle.std.specs.Char.{is_ascii_digit}
 use Rattle.std.specs.List.{list_all}
 use Rattle.std.specs.Option.{option_map_or}
@@ -8,6 +8,7 @@ use Rattle.std.specs.Path.{rfind_below, rsplit_once}
 use Rattle.std.specs.Str.Parse.{digits_value}
 use Rattle.std.proofs.lemmas.Bool.Decides.{nat_tests}
 use Rattle.std.proofs.lemmas.List.{length-map}
+use Rattle.std.proofs.lemmas.List.Elements.{All-cons, All-nil}
 use Rattle.clap.proofs.WalkLemmas.{both}
 use Rattle.unl_core.specs.Board.{AreDifferent, empty_slot}
 use Rattle.unl_core.specs.Standing.{place_at}
@@ -111,15 +112,22 @@ address_fits text is = by_place (rfind_below 58 text (length text)) refl is
 
 -- ---- lists of tokens
 
+-- texts of which each is a token can stand in lines
+all_fit : (tokens : List (List ℕ)) → list_all (is_token true) tokens ≡ true → All (λ token. IsTrue (fits_line token)) tokens
+all_fit [] are = All-nil (λ (token : List ℕ). IsTrue (fits_line token))
+all_fit (token ∷ tokens) are =
+    let parts = both (is_token true token) (list_all (is_token true) tokens) are in
+    All-cons (λ (t : List ℕ). IsTrue (fits_line t)) token tokens (token_fits token parts.0) (all_fit tokens parts.1)
+
 -- at most eight
 pub few_tokens : (tokens : List (List ℕ)) → are_upstream_tokens tokens ≡ true → length tokens ≤ 8
 few_tokens tokens are = (counted 1 8 tokens (both (has_count 1 8 tokens) (list_all (is_token true) tokens && are_different (map environment_of tokens)) are).0).1
 
--- each of them is one
-pub all_are_tokens : (tokens : List (List ℕ)) → are_upstream_tokens tokens ≡ true → list_all (is_token true) tokens ≡ true
-all_are_tokens tokens are =
+-- each of them can stand in a line
+pub tokens_fit : (tokens : List (List ℕ)) → are_upstream_tokens tokens ≡ true → All (λ token. IsTrue (fits_line token)) tokens
+tokens_fit tokens are =
     let parts = both (has_count 1 8 tokens) (list_all (is_token true) tokens && are_different (map environment_of tokens)) are in
-    (both (list_all (is_token true) tokens) (are_different (map environment_of tokens)) parts.1).0
+    all_fit tokens (both (list_all (is_token true) tokens) (are_different (map environment_of tokens)) parts.1).0
 
 differ : (texts : List (List ℕ)) → are_different texts ≡ true → AreDifferent texts
 differ [] are = tt
@@ -131,6 +139,7 @@ names_differ tokens are =
     let parts = both (has_count 1 8 tokens) (list_all (is_token true) tokens && are_different (map environment_of tokens)) are in
     differ (map environment_of tokens) (both (list_all (is_token true) tokens) (are_different (map environment_of tokens)) parts.1).1
 
--- a desk that opens over a board of empty slots has as many places
-pub opened_places : (environments : List (List ℕ)) → length (map place_at (map empty_slot environments)) ≡ length environments
-opened_places environments = length-map (map empty_slot environments) place_at ∙ length-map environments empty_slot
+-- an empty slot for each of them is as many places
+pub opened_places : (tokens : List (List ℕ)) → length (map place_at (map empty_slot (map environment_of tokens))) ≡ length tokens
+opened_places tokens =
+    length-map (map empty_slot (map environment_of tokens)) place_at ∙ length-map (map environment_of tokens) empty_slot ∙ length-map tokens environment_of

@@ -1,21 +1,22 @@
 -- What keeping commands comes to, and the lines whose commands are kept.
-use Rattle.std.proofs.Common.{◌≡◌, ◌≢◌, ◌<◌, ◌≤◌, ◌+◌, ◌∙◌, ℕ, List, [], ◌∷◌, ◌++◌, Bool, true, false, cond, ltb, length, append_assoc, append-nil, Option, Some, None, Result, Ok, Err, refl, sym, ap, subst, arith}
+use Rattle.std.proofs.Common.{◌≡◌, ◌≢◌, ◌<◌, ◌≤◌, ◌+◌, ◌∙◌, ℕ, List, [], ◌∷◌, ◌++◌, Bool, true, false, cond, ltb, length, append-nil, Option, Some, None, Result, Ok, Err, refl, sym, ap, subst, arith}
 use Rattle.std.specs.Prelude.{codes, option_map}
 use Rattle.std.proofs.lemmas.Bool.Decides.{nat_tests}
-use Rattle.unl_documents.specs.FaultText.{fault_text}
 use Rattle.unl_documents.specs.Reading.{Reading}
 use Rattle.unl_edge.specs.Keeping.{KeepsIn, Shelf, SpellKept, kept_as, kept_by, kept_line, kept_one, keeping, refusal_name, shelf_of, with_command}
 use Rattle.unl_edge.specs.Upstreams.{obeying}
 use Rattle.unl_lines.specs.Laws.{IsSilent}
 use Rattle.unl_lines.specs.Lines.{lines}
 use Rattle.unl_lines.specs.Reading.{longest_line}
-use Rattle.unl_lines.specs.Taken.{Ending, LineResult, Outcome, Taken, Taking, done, followed, most_lines, outcome_of, refused, take_from, take_line}
+use Rattle.unl_lines.specs.Taken.{LineResult, Outcome, Taken, Taking, done, followed, most_lines, outcome_of, refused, take_from, take_line}
 use Rattle.unl_lines.proofs.Silent.{prints_cause_alone}
 use Rattle.unl_upstream.specs.Command.{command_in}
 use Rattle.unl_upstream.specs.History.{accepted, after_commands, if_accepted, up_after}
-use Rattle.unl_upstream.specs.Kept.{Acknowledges, Carries, FailsToKeep, KeptState, Keeps, kept_commands, most_rows, with_room}
+use Rattle.unl_upstream.specs.Kept.{Acknowledges, Carries, FailsToKeep, KeptState, Keeps, most_rows, with_room}
 use Rattle.unl_upstream.specs.Lines.{obeyed_as, obeyed_by, obeyed_line, refusal_name as plain_name}
 use Rattle.unl_upstream.specs.Upstream.{Obeyed, Obeying, UpstreamState, commanded, refused_as}
+use Rattle.unl_upstream.proofs.Carrying.{both_behind}
+use Rattle.unl_upstream.proofs.Spelled.{within}
 use Rattle.unl_upstream.specs.declared.command.Command.{Command}
 use Rattle.unl_upstream.specs.declared.refusal.CommandRefusal.{CommandRefusal}
 use Rattle.unl_upstream.specs.declared.refusal.CommandRefusal.TheVariants as plain
@@ -106,16 +107,6 @@ abbrev desk_after : LineResult Shelf → Shelf → Shelf
 desk_after (Ok taken) shelf = taken.desk
 desk_after (Err cause) shelf = shelf
 
--- a line within the limits
-within : (shelf : Shelf) (line : List ℕ) (k : ℕ) (taken : Taken Shelf) → take_line keeping k shelf line ≡ Ok taken → kept_line shelf line ≡ Ok taken
-within shelf line k taken is = limited (ltb most_lines k) (ltb longest_line (length line)) is
-  where
-    limited : (many long : Bool) → cond many (Err (codes "TooManyLines")) (cond long (Err (codes "LineTooLong")) (kept_line shelf line)) ≡ Ok taken
-        → kept_line shelf line ≡ Ok taken
-    limited true long is = absurd (cc is)
-    limited false true is = absurd (cc is)
-    limited false false is = is
-
 keeps_one : (shelf : Shelf) (line : List ℕ) (taken : Taken Shelf) → kept_line shelf line ≡ Ok taken → KeepsOne shelf line taken.desk
 unfolding kept_line
 keeps_one shelf line taken is = decided (command_in line) refl is
@@ -144,12 +135,6 @@ keeps_one shelf line taken is = decided (command_in line) refl is
 abbrev rest_from : ℕ → List (List ℕ) → Shelf → Outcome Shelf
 rest_from k more shelf = take_from keeping k shelf more
 
--- commands behind those before, and more behind them
-appended : (command : Command) (commands : List Command) (o : Option (List Command))
-    → option_map (λ kept. kept ++ commands) (option_map (λ kept. kept ++ command ∷ []) o) ≡ option_map (λ kept. kept ++ command ∷ commands) o
-appended command commands None = refl
-appended command commands (Some kept) = ap Some (append_assoc kept (command ∷ []) commands)
-
 -- a line that spells a command that is kept, before others that do
 keeps_more : (shelf : Shelf) (line : List ℕ) (more : List (List ℕ)) (now last : Shelf) → KeepsOne shelf line now → SpellKept now more last
     → SpellKept shelf (line ∷ more) last
@@ -164,14 +149,14 @@ keeps_more shelf line more now last one others =
       leads = others.leads ∙ sym (ap (λ (o : Obeying Obeyed). after_commands others.commands (up_after shelf.up o)) one.accepts ∙ ap (after_commands others.commands) up);
       counted = omega (arith, others.counted, count);
       kept = others.kept ∙ ap (λ (s : Shelf). option_map (λ kept. kept ++ others.commands) s.commands) (sym one.leads)
-          ∙ appended one.command others.commands shelf.commands;
+          ∙ both_behind (one.command ∷ []) others.commands shelf.commands;
     }
 
 keeps_step : (shelf : Shelf) (k : ℕ) (line : List ℕ) (more : List (List ℕ)) (comes : LineResult Shelf) → take_line keeping k shelf line ≡ comes
     → ((now : Shelf) → (rest_from (k + 1) more now).ending ≡ done → SpellKept now more (rest_from (k + 1) more now).desk)
     → (followed k shelf comes (rest_from (k + 1) more)).ending ≡ done → SpellKept shelf (line ∷ more) (followed k shelf comes (rest_from (k + 1) more)).desk
 keeps_step shelf k line more (Ok taken) comes_so later ends =
-    keeps_more shelf line more taken.desk (rest_from (k + 1) more taken.desk).desk (keeps_one shelf line taken (within shelf line k taken comes_so)) (later taken.desk ends)
+    keeps_more shelf line more taken.desk (rest_from (k + 1) more taken.desk).desk (keeps_one shelf line taken (within keeping shelf line k taken comes_so)) (later taken.desk ends)
 keeps_step shelf k line more (Err cause) comes_so later ends = absurd (cc ends)
 
 keeps_from : (ls : List (List ℕ)) (k : ℕ) (shelf : Shelf) → (rest_from k ls shelf).ending ≡ done → SpellKept shelf ls (rest_from k ls shelf).desk

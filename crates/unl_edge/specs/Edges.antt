@@ -1,19 +1,17 @@
 -- How an edge ends: it asks its upstream, and serves the links of its door.
-use Rattle.std.specs.Prelude.{◌≡◌, ⊤, ℕ, ◌+◌, ◌≤◌, List, Option, option_map, drop, Result, Ok, Err}
-use Rattle.unl_base.specs.declared.Failed.{Failed}
+use Rattle.std.specs.Prelude.{◌≡◌, ⊤, ℕ, ◌+◌, ◌≤◌, List, Option, option_map, drop, length, IfSome, Result, Ok, Err}
 use Rattle.unl_base.specs.Doors.{DoorState, IsClosed}
-use Rattle.unl_base.specs.Faults.{Rose}
 use Rattle.unl_base.specs.Streams.{Sends, SendsFront}
 use Rattle.unl_edge.specs.Scene.{Scene}
+use Rattle.unl_edge.specs.Sites.{ServesSite, Site}
 use Rattle.unl_edge.specs.Upstreams.{connections_line}
 use Rattle.unl_edge.specs.declared.ends.ServingEnd.{ServingEnd}
 use Rattle.unl_edge.specs.declared.ends.ServingEnd.TheVariants.{Closed, WriteFault, DoorFault, OutOfMemory}
-
--- A peer was connected to at least so often, each time for one of the replies that it has to come, unless it failed.
-pub record Connects
-    (least : ℕ) (replies : Option (List (List ℕ))) (faults : ℕ) (replies_after : Option (List (List ℕ))) (faults_after : ℕ) : Type 0 where
-  pub later : faults ≤ faults_after
-  pub made : ¬ (Rose faults faults_after) → (count : ℕ) × (least ≤ count) × (replies_after ≡ option_map (λ list. drop count list) replies)
+use Rattle.unl_upkeep.specs.Connects.{Connects}
+use Rattle.unl_workers.specs.Accepting.{HandsOut}
+use Rattle.unl_workers.specs.declared.serving.Beside.{Beside}
+use Rattle.unl_workers.specs.declared.serving.BesideFault.{BesideFault}
+use Rattle.unl_workers.specs.declared.serving.BesideFault.TheVariants.{Door, Spawner, Memory}
 
 -- a peer that was connected to at least so often before it stood so was so too when it stands so
 abbrev pub GoesOn : (replies : Option (List (List ℕ))) (faults : ℕ) (replies_after : Option (List (List ℕ))) (faults_after : ℕ) → Type 0
@@ -25,31 +23,42 @@ GoesOn replies faults replies_after faults_after =
 abbrev pub AsksPeer : ℕ → Scene → Scene → Type 0
 AsksPeer least before after = Connects least before.peer.state.replies before.peer.faults after.peer.state.replies after.peer.faults
 
--- so many links were handed out, and as many were handed back
-pub record Counts (served : ℕ) (before after : DoorState) : Type 0 where
-  pub given : after.given ≡ before.given + served
-  pub back : after.back ≡ before.back + served
+-- how many links were handed out, or why serving ended
+abbrev pub links_of : {S R : Type 0} → Result (Beside S R) BesideFault → Result ℕ BesideFault
+links_of (Ok beside) = Ok beside.links
+links_of (Err fault) = Err fault
 
--- as many as are answered, or at a fault of the door some
-abbrev pub CountsAll : Result ℕ Failed → DoorState → DoorState → Type 0
-CountsAll (Ok served) before after = Counts served before after
-CountsAll (Err failed) before after = (served : ℕ) × Counts served before after
+-- The door handed out as many links as are answered, and is closed; at a fault of its own it handed out some; and where no
+-- thread could be started or memory ran out, it is as before. None comes back: each is let go by the worker that served it.
+abbrev pub HandsOver : {A : Type 0} → (A → ℕ) → Result A BesideFault → DoorState → DoorState → Type 0
+HandsOver links (Ok done) before after = HandsOut (links done) before after × IsClosed after
+HandsOver links (Err Door) before after = (n : ℕ) × HandsOut n before after
+HandsOver links (Err Spawner) before after = after ≡ before
+HandsOver links (Err Memory) before after = after ≡ before
 
--- so many links were handed out, each was handed back, and nothing was read
-pub record HandsBack (served : ℕ) (before after : Scene) : Type 0 where
+-- so many links were handed out, of those that were to come, none came back, and nothing was read
+pub record HandsLinks (served : ℕ) (before after : Scene) : Type 0 where
   pub given : after.door.state.given ≡ before.door.state.given + served
-  pub back : after.door.state.back ≡ before.door.state.back + served
+  pub had : IfSome before.door.state.links (λ list. served ≤ length list)
+  pub none_back : after.door.state.back ≡ before.door.state.back
+  pub left : after.door.state.links ≡ option_map (λ list. drop served list) before.door.state.links
   pub unread : after.input.left ≡ before.input.left
 
--- How an edge of so many slots ends: the door is closed, and the last line was sent, or its front; or the door failed, and
--- nothing was sent. Before the door is closed, the upstream was asked for the book and for each slot at least once.
-abbrev pub EdgeEnds : ℕ → ServingEnd → Scene → Scene → Type 0
-EdgeEnds slots Closed before after =
-    (served : ℕ) × HandsBack served before after × AsksPeer (slots + 1) before after
+-- the peer was asked for the book and for each slot at least, and links were served behind the first turn
+abbrev pub IsServed : Site → Scene → Scene → Type 0
+IsServed site before after = AsksPeer (length site.opening.places + 1) before after
+    × ServesSite site before.peer.state.replies before.peer.faults after.peer.faults
+
+-- How an edge ends: the door is closed, and the last line was sent, or its front; or the door failed or a thread could not be
+-- started, and nothing was sent. Before the door is closed, the upstream was asked for the book and for each slot at least once,
+-- and links were served behind that.
+abbrev pub EdgeEnds : Site → ServingEnd → Scene → Scene → Type 0
+EdgeEnds site Closed before after =
+    (served : ℕ) × HandsLinks served before after × IsServed site before after
     × Sends before.output.sent (connections_line served) after.output.sent × IsClosed after.door.state
-EdgeEnds slots WriteFault before after =
-    (served : ℕ) × HandsBack served before after × AsksPeer (slots + 1) before after
+EdgeEnds site WriteFault before after =
+    (served : ℕ) × HandsLinks served before after × IsServed site before after
     × SendsFront before.output.sent (connections_line served) after.output.sent × IsClosed after.door.state
-EdgeEnds slots DoorFault before after =
-    (served : ℕ) × HandsBack served before after × (after.output.sent ≡ before.output.sent)
-EdgeEnds slots OutOfMemory before after = ⊤
+EdgeEnds site DoorFault before after =
+    (served : ℕ) × HandsLinks served before after × (after.output.sent ≡ before.output.sent)
+EdgeEnds site OutOfMemory before after = ⊤

@@ -3,11 +3,10 @@ use Rattle.std.specs.Prelude.{◌≡◌, ⊤, ℕ, ◌==◌, Bool, List, length,
 use Rattle.unl_base.specs.Faults.{Rose}
 use Rattle.unl_base.specs.Streams.{Sends, SendsFront}
 use Rattle.unl_base.specs.declared.draws.Draw.{Draw}
-use Rattle.unl_context.specs.Context.{Fields}
 use Rattle.unl_edge.specs.Edges.{EdgeEnds}
 use Rattle.unl_edge.specs.Follows.{FollowEnds}
-use Rattle.unl_edge.specs.OwnBook.{own_book}
-use Rattle.unl_edge.specs.Scene.{Scene}
+use Rattle.unl_edge.specs.Scene.{Scene, ServingFailed}
+use Rattle.unl_edge.specs.Sites.{site_of}
 use Rattle.unl_edge.specs.Status.{FailsToKeep, check_status, code_of, ending_status, explain_status, follow_status}
 use Rattle.unl_edge.specs.Status.{lines_status, load_status}
 use Rattle.unl_edge.specs.Status.{serving_status, upstream_status, words_status}
@@ -20,7 +19,6 @@ use Rattle.unl_edge.specs.declared.status.Status.{Status}
 use Rattle.unl_edge.specs.declared.status.Status.TheVariants as status
 use Rattle.unl_explain.specs.Running.{Explains, explained}
 use Rattle.unl_input.specs.Answer.{Outcome, Says, SaysFront, outcome_of}
-use Rattle.unl_input.specs.declared.refusal.InputRefusal.{InputRefusal}
 use Rattle.unl_input.specs.declared.refusal.SayFault.{SayFault}
 use Rattle.unl_input.specs.declared.refusal.SayFault.TheVariants as say
 use Rattle.unl_lines.specs.Whole.{TakesLines}
@@ -30,9 +28,9 @@ use Rattle.unl_load.specs.declared.fault.LoadFault.TheVariants as load
 use Rattle.unl_replay.specs.Replay.{line_answer, opening, replay_of}
 use Rattle.unl_spec_runner.specs.Check.{accepted, report_of, text_of}
 use Rattle.unl_spec_runner.specs.Report.{Report}
+use Rattle.unl_words.specs.OwnBook.{own_book}
 use Rattle.unl_words.specs.Words.{WordsReading}
 use Rattle.unl_words.specs.declared.refusal.WordsRefusal.TheVariants.{Bad, Memory}
-use Rattle.unl_words.specs.declared.words.Words.{Words}
 use Rattle.unl_words.specs.declared.words.Words.TheVariants.{Replay, Check, Edge, Explain, Follow, Load, Upstream}
 
 -- ---- a check
@@ -58,8 +56,8 @@ pub record SaysOfInput (draw : Draw) (end : CheckEnd) (left left_after old new :
   pub says : Says (accepted draw) text_of outcome left left_after old new
   pub ends : end ≡ outcome_end outcome
 
--- How a check ends, also where the input tells no bytes. Where the input failed, nothing was sent; where the output failed, a
--- front was sent of what is said of the input.
+-- How a check ends, also where the input tells no bytes. Where the input failed or memory ran out, nothing was sent; where the
+-- output failed, a front was sent of what is said of the input.
 abbrev pub CheckEnds : Draw → CheckEnd → Option (List ℕ) → Option (List ℕ) → Option (List ℕ) → Option (List ℕ) → Type 0
 CheckEnds draw Passed left left_after old new = SaysOfInput draw Passed left left_after old new
 CheckEnds draw TestsFailed left left_after old new = SaysOfInput draw TestsFailed left left_after old new
@@ -67,7 +65,7 @@ CheckEnds draw Refused left left_after old new = SaysOfInput draw Refused left l
 CheckEnds draw ReadFault left left_after old new = new ≡ old
 CheckEnds draw WriteFault left left_after old new =
     (outcome : Outcome Report) × SaysFront (accepted draw) text_of outcome left left_after old new
-CheckEnds draw OutOfMemory left left_after old new = ⊤
+CheckEnds draw OutOfMemory left left_after old new = new ≡ old
 
 -- ---- a load
 
@@ -83,11 +81,11 @@ LoadEnds seed count (Err load.Memory) old new = ⊤
 abbrev pub bad_words : List ℕ
 bad_words = codes "unl_edge: bad words\n"
 
--- it was sent, or a front of it, or memory ran out before the words were read
+-- it was sent, or a front of it, or memory ran out before the words were read, and nothing was sent
 abbrev pub SaysBadWords : WordsEnd → Option (List ℕ) → Option (List ℕ) → Type 0
 SaysBadWords words.Bad old new = Sends old bad_words new
 SaysBadWords words.WriteFault old new = SendsFront old bad_words new
-SaysBadWords words.OutOfMemory old new = ⊤
+SaysBadWords words.OutOfMemory old new = new ≡ old
 
 -- ---- the program
 
@@ -96,25 +94,6 @@ pub record Ended {E : Type 0} (status_of : E → Status) (Ends : E → Type 0) (
   pub end : E
   pub is : status ≡ status_of end
   pub ends : Ends end
-
--- the words ask for an edge
-abbrev pub AreOfEdge : Words → Type 0
-AreOfEdge words =
-    (port : ℕ) × (upstream : List ℕ) × (upstream_tokens : List (List ℕ)) × (tokens : List (List ℕ)) × (host : List ℕ) × (workers : ℕ)
-    × (interval : ℕ) × (connections : ℕ) × (delta : Bool)
-    × (words ≡ Edge port upstream upstream_tokens tokens host workers interval connections delta)
-
--- for an upstream
-abbrev pub AreOfUpstream : Words → Type 0
-AreOfUpstream words =
-    (port : ℕ) × (secret : List ℕ) × (environments : List (List ℕ)) × (client_tokens : List (List ℕ)) × (frontend_tokens : List (List ℕ))
-    × (connections : ℕ) × (epoch : ℕ) × (words ≡ Upstream port secret environments client_tokens frontend_tokens connections epoch)
-
--- for the turns of a replica
-abbrev pub AreOfFollow : Words → Type 0
-AreOfFollow words =
-    (upstream : List ℕ) × (token : List ℕ) × (feature : List ℕ) × (context : Fields) × (delta : Bool) × (turns : ℕ) × (interval : ℕ)
-    × (words ≡ Follow upstream token feature context delta turns interval)
 
 -- How the program ends, by what its words ask for.
 abbrev pub Ends : WordsReading → Status → Scene → Scene → Type 0
@@ -128,13 +107,13 @@ Ends (Ok (Check now word)) status before after =
 Ends (Ok Explain) status before after =
     Ended explain_status
     (λ end. Explains end before.input.left after.input.left before.output.sent after.output.sent) status
-Ends (Ok (Edge port upstream upstream_tokens tokens host workers interval connections delta)) status before after =
-    Ended serving_status (λ end. EdgeEnds (length upstream_tokens) end before after) status
-Ends (Ok (Upstream port secret environments client_tokens frontend_tokens connections epoch)) status before after =
+Ends (Ok (Edge edge)) status before after =
+    Ended serving_status (λ end. EdgeEnds (site_of edge.tokens edge.upstream_tokens edge.workers) end before after) status
+Ends (Ok (Upstream up)) status before after =
     Ended upstream_status
-    (λ end. UpstreamRuns secret environments (own_book client_tokens frontend_tokens) epoch end before after) status
-Ends (Ok (Follow upstream token feature context delta turns interval)) status before after =
-    Ended follow_status (λ end. FollowEnds turns delta feature context end before after) status
+    (λ end. UpstreamRuns up.secret up.environments (own_book up.client_tokens up.frontend_tokens) up.epoch end before after) status
+Ends (Ok (Follow replica)) status before after =
+    Ended follow_status (λ end. FollowEnds replica.turns replica.delta replica.feature replica.context end before after) status
 Ends (Ok (Load seed count)) status before after =
     Ended load_status (λ end. LoadEnds seed count end before.output.sent after.output.sent) status
 Ends (Err Bad) status before after = Ended words_status (λ end. SaysBadWords end before.output.sent after.output.sent) status
@@ -144,12 +123,12 @@ Ends (Err Memory) s before after = s ≡ status.OutOfMemory
 abbrev pub Exits : ℕ → (Status → Type 0) → Type 0
 Exits code Ends = (status : Status) × (code ≡ code_of status) × Ends status
 
--- A fault of the input, the output or the door is answered only where that has failed, and one of the keeper only where the
--- count of the maker of keepers rose; then no link was handed out.
+-- A fault of the input or the output is answered only where that has failed, one of serving only where the door failed or no job
+-- could be started, and one of the keeper only where the count of the maker of keepers rose; then no link was handed out.
 pub record HasCauses (code : ℕ) (before after : Scene) : Type 0 where
   pub read : code ≡ 4 → Rose before.input.faults after.input.faults
   pub write : code ≡ 5 → Rose before.output.faults after.output.faults
-  pub door : code ≡ 7 → Rose before.door.faults after.door.faults
+  pub serving : code ≡ 7 → ServingFailed before after
   pub keep : code ≡ 8 → FailsToKeep before after
 
 -- ---- what decides, where nothing fails and memory is found
@@ -167,11 +146,11 @@ IsDecided (Ok (Check now word)) code before after =
     IfSome before.input.left (λ bytes. code ≡ code_of (check_status (outcome_end (report_of (record { now = now; word = word }) bytes))))
 IsDecided (Ok Explain) code before after =
     IfSome before.input.left (λ bytes. code ≡ code_of (explained_status (outcome_of explained bytes)))
-IsDecided (Ok (Edge port upstream upstream_tokens tokens host workers interval connections delta)) code before after = code ≡ 0
-IsDecided (Ok (Upstream port secret environments client_tokens frontend_tokens connections epoch)) code before after =
+IsDecided (Ok (Edge edge)) code before after = code ≡ 0
+IsDecided (Ok (Upstream up)) code before after =
     ¬ (Rose before.keep.faults after.keep.faults)
-    → IsDecidedByLines secret environments (own_book client_tokens frontend_tokens) epoch code before
-IsDecided (Ok (Follow upstream token feature context delta turns interval)) code before after = code ≡ 0
+    → IsDecidedByLines up.secret up.environments (own_book up.client_tokens up.frontend_tokens) up.epoch code before
+IsDecided (Ok (Follow replica)) code before after = code ≡ 0
 IsDecided (Ok (Load seed count)) code before after = code ≡ 0
 IsDecided (Err Bad) code before after = code ≡ 2
 IsDecided (Err Memory) code before after = code ≡ 6

@@ -1,6 +1,7 @@
 -- What the program finds outside, and leaves there: the state of each of its ends. What is not told is none.
-use Rattle.std.specs.Prelude.{ℕ, List, Option}
+use Rattle.std.specs.Prelude.{◌⊎◌, ℕ, List, Option}
 use Rattle.unl_base.specs.Doors.{DoorState}
+use Rattle.unl_base.specs.Faults.{Rose}
 use Rattle.unl_base.specs.Peers.{PeerState}
 use Rattle.unl_base.specs.declared.draws.Draw.{Draw}
 
@@ -39,3 +40,7 @@ pub record Scene : Type 0 where
   pub pace : Option ℕ
   pub spawner : ℕ
   pub keep : KeepEnd
+
+-- the door failed, or a job could not be started
+abbrev pub ServingFailed : Scene → Scene → Type 0
+ServingFailed before after = Rose before.door.faults after.door.faults ⊎ Rose before.spawner after.spawner

@@ -1,19 +1,20 @@
 -- How an upstream ends: it is reopened on a keeper, takes the commands of its input's lines, and then serves the links of its
 -- door.
-use Rattle.std.specs.Prelude.{◌≡◌, ◌≢◌, ◌⊎◌, ⊤, ℕ, Bool, false, List, [], ◌++◌, codes, decimal, Option, Some, IfSome, Result, Ok, Err}
+use Rattle.std.specs.Prelude.{◌≡◌, ◌≢◌, ◌⊎◌, ⊤, ℕ, false, List, [], ◌++◌, codes, decimal, Option, Some, IfSome, Result, Ok, Err}
 use Rattle.std.specs.Prelude.{option_and_then, option_map}
 use Rattle.unl_base.specs.Doors.{DoorState, IsClosed}
 use Rattle.unl_base.specs.Draws.{TakesDraw}
 use Rattle.unl_base.specs.Faults.{Rose}
 use Rattle.unl_base.specs.Streams.{HasEnded, Sends, SendsFront, Takes}
 use Rattle.unl_base.specs.declared.draws.Draw.{Draw}
-use Rattle.unl_edge.specs.Keeping.{Shelf, SpellKept, keeping, shelf_of}
+use Rattle.unl_edge.specs.Keeping.{SpellKept, keeping, shelf_of}
 use Rattle.unl_edge.specs.Scene.{KeepEnd, Scene}
 use Rattle.unl_edge.specs.declared.ends.ServingEnd.{ServingEnd}
 use Rattle.unl_edge.specs.declared.ends.ServingEnd.TheVariants.{Closed, WriteFault, DoorFault, OutOfMemory}
 use Rattle.unl_edge.specs.declared.ends.UpstreamEnd.{UpstreamEnd}
 use Rattle.unl_edge.specs.declared.ends.UpstreamEnd.TheVariants.{OutOfMemory as NoMemory, KeeperFault, Row, Lines, Links}
 use Rattle.unl_edge.specs.Status.{code_of, ending_status}
+use Rattle.unl_input.specs.Refusal.{SaysLine}
 use Rattle.unl_input.specs.declared.refusal.SayFault.{SayFault}
 use Rattle.unl_input.specs.declared.refusal.SayFault.TheVariants as say
 use Rattle.unl_lines.specs.Lines.{lines}
@@ -22,8 +23,8 @@ use Rattle.unl_lines.specs.Whole.{TakesLines}
 use Rattle.unl_tokens.specs.declared.token.Token.{Token}
 use Rattle.unl_exchange.specs.Answering.{Coming}
 use Rattle.unl_exchange.specs.Linked.{ServesLinks as ServesTold, linking}
-use Rattle.unl_upstream.specs.Kept.{KeeperState, KeptState, kept_commands, kept_rows, kept_state}
-use Rattle.unl_upstream.specs.KeptHosting.{Hosts, LinkServed, LinksName}
+use Rattle.unl_upstream.specs.Kept.{HoldsOn, KeeperState, KeptState, acknowledged, commands_in, kept_commands, kept_rows, kept_state}
+use Rattle.unl_upstream.specs.KeptHosting.{Hosts, LinkServed, LinksName, NoKeeperFaults}
 use Rattle.unl_upstream.specs.Lines.{obeyed_line}
 use Rattle.unl_upstream.specs.Reopening.{IsOpening, IsSameKeeper, Reopens}
 use Rattle.unl_upstream.specs.Upstream.{UpstreamState, opening}
@@ -40,12 +41,6 @@ connections_line served = codes "connections " ++ (decimal served ++ codes "\n")
 -- what is printed of a row that is refused
 abbrev pub row_line : ℕ → List ℕ
 row_line place = codes "refused: row " ++ (decimal place ++ codes "\n")
-
--- a line was sent, or its front, or memory ran out before
-abbrev pub SaysLine : Result (Unit {0}) SayFault → List ℕ → Option (List ℕ) → Option (List ℕ) → Type 0
-SaysLine (Ok u) line old new = Sends old line new
-SaysLine (Err say.WriteFault) line old new = SendsFront old line new
-SaysLine (Err say.Memory) line old new = ⊤
 
 -- how serving ends once the door is closed, by how the count of its links was said
 abbrev pub line_end : Result (Unit {0}) SayFault → ServingEnd
@@ -71,9 +66,11 @@ facing_of scene = facing scene.output.sent scene.door.state scene.draws
 
 -- ---- the links
 
--- so many links were served by an upstream and its keeper
-abbrev pub ServesLinks : KeptState → KeptState → Facing → Facing → ℕ → Type 0
-ServesLinks state last before after served = Hosts (linking state before.coming before.door) (linking last after.coming after.door) served
+-- So many links were served by an upstream and its keeper. Whatever the door tells, what was to be kept of the links is all that
+-- changed these.
+pub record ServesLinks (state last : KeptState) (before after : Facing) (served : ℕ) : Type 0 where
+  pub hosts : Hosts (linking state before.coming before.door) (linking last after.coming after.door) served
+  pub carries : HoldsOn state last
 
 -- How the links of a door were served: until it was closed, and then the last line was sent, or its front; or until it failed.
 abbrev pub LinksEnd : KeptState → KeptState → ServingEnd → Facing → Facing → Type 0
@@ -87,15 +84,16 @@ LinksEnd state last DoorFault before after =
 LinksEnd state last OutOfMemory before after = ⊤
 
 -- The links of a door that tells them, by commands and draws from the opening on. The first is served after those of the lines,
--- and each adds the commands of its requests that were kept. So the keeper keeps all of them, behind those of the opening.
+-- and each adds the commands of its requests that were kept. So the keeper keeps all of them, behind those of the opening. Where
+-- it has never failed, no reply is 503 `KeeperFault`.
 pub record NamesLinks
     (opened : KeptState) (commands : List Command) (kept last : KeptState) (before after : Facing) (served : ℕ)
     (links : List (List ℕ)) (returned : List (List ℕ × ℕ)) : Type 0 where
   pub serves : ServesTold LinkServed (linking kept before.coming before.door) (linking last after.coming after.door) served links returned
   pub names : LinksName opened.up opened.keeper.count before.coming commands 0 kept serves.given_links serves.backs last after.coming
-  pub more : List Command
-  pub begins : names.commands_after ≡ commands ++ more
   pub keeps : kept_commands last.keeper ≡ option_map (λ kept. kept ++ names.commands_after) (kept_commands opened.keeper)
+  pub calm : last.keeper.faults ≡ 0 → NoKeeperFaults opened.up opened.keeper.count before.coming commands 0 kept serves.given_links
+      serves.backs names.commands_after names.gone_after last names.linked
 
 -- ---- the lines
 
@@ -104,7 +102,8 @@ abbrev pub obeying : Taking UpstreamState
 obeying number up line = obeyed_line up line
 
 -- The input was read to its end, and the commands of all its lines were accepted and kept. Then so many links were handed
--- out, each was served from what the one before it left, and each was handed back.
+-- out, each was served from what the one before it left, and each was handed back. So the keeper keeps the commands of the
+-- lines behind those of the opening, and behind these what was kept of the links.
 pub record ServesAfterLines
     (opened : KeptState) (last : KeeperState) (left left_after : Option (List ℕ)) (before after : Facing) (served : ℕ) : Type 0 where
   pub read : List ℕ
@@ -114,7 +113,9 @@ pub record ServesAfterLines
   pub accepted : outcome_of keeping (shelf_of opened) read ≡ record { text = []; ending = done; desk = shelf_of kept }
   pub spelled : SpellKept (shelf_of opened) (lines read) (shelf_of kept)
   pub up : UpstreamState
-  pub hosts : ServesLinks kept (kept_state up last) before after served
+  pub serves : ServesLinks kept (kept_state up last) before after served
+  pub keeps : kept_commands last
+      ≡ option_map (λ kept. kept ++ (spelled.commands ++ acknowledged serves.carries.some.tried)) (kept_commands opened.keeper)
   pub named : (links : List (List ℕ)) (returned : List (List ℕ × ℕ)) → before.door.links ≡ Some links
       → before.door.returned ≡ Some returned
       → NamesLinks opened spelled.commands kept (kept_state up last) before after served links returned
@@ -144,10 +145,12 @@ pub record IsMade (held : Option (List (List ℕ))) (keeper : KeeperState) : Typ
   pub faultless : keeper.faults ≡ 0
   pub empty : IfSome held (λ _. keeper.rows ≡ Some [])
 
--- a keeper came back to its maker, which holds what that one kept, and has counted its faults
+-- A keeper came back to its maker, which holds what that one kept, and has counted its faults: where its count didn't rise, the
+-- keeper has never failed.
 pub record ComesBack (keeper : KeeperState) (before after : KeepEnd) : Type 0 where
   pub held : after.held ≡ option_and_then (λ _. kept_rows keeper) before.held
   pub rose : keeper.faults ≢ 0 → Rose before.faults after.faults
+  pub calm : ¬ (Rose before.faults after.faults) → keeper.faults ≡ 0
 
 -- an upstream was given no command
 pub record IsNew (up : UpstreamState) : Type 0 where
@@ -191,7 +194,8 @@ KeeperEnd start (Lines fault) last left left_after before after = EndsReopened s
 KeeperEnd start (Links end) last left left_after before after = EndsReopened start (Links end) last left left_after before after
 
 -- A keeper was made for an upstream, which ended so, and came back. Where its maker tells what comes back, to be reopened on it
--- changes no upstream, and nothing is kept then.
+-- changes no upstream, and nothing is kept then: all that its maker holds in the end is what was kept behind that. So where links
+-- were served it holds the commands of the lines, and then those of the links.
 pub record EndsKept (start : UpstreamState) (end : UpstreamEnd) (before after : Scene) : Type 0 where
   pub made : KeeperState
   pub is_made : IsMade before.keep.held made
@@ -200,6 +204,9 @@ pub record EndsKept (start : UpstreamState) (end : UpstreamEnd) (before after : 
   pub last : KeeperState
   pub ends : KeeperEnd (kept_state start made) end last before.input.left after.input.left (facing_of before) (facing_of after)
   pub back : ComesBack last before.keep after.keep
+  pub holds : (reopened : ℕ) (opened : KeptState) (commands : List Command) → Opens (kept_state start made) reopened opened
+      → kept_commands last ≡ option_map (λ kept. kept ++ commands) (kept_commands opened.keeper)
+      → IfSome after.keep.held (λ texts. commands_in texts ≡ commands)
 
 -- How an upstream ends, from what it begins with. Where no keeper could be made no link was handed out.
 abbrev pub UpstreamEnds : UpstreamState → UpstreamEnd → Scene → Scene → Type 0

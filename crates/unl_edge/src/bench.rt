@@ -74,32 +74,13 @@ pub fn joined(alloc: Global, text: &str) -> Option<String> {
 }
 
 /// What the replay of an input prints, up to 65,536 bytes.
-pub fn printed<W: Threads + Wait>(alloc: Global, input: &str, rt: &W) -> Option<Vec<u8>> {
+pub fn printed<W: Threads + Wait + Sync>(alloc: Global, input: &str, rt: &W) -> Option<Vec<u8>> {
     let words = words_of(alloc, "replay").ok()?;
     let source = MemorySource::new(input.as_bytes().to_vec(alloc).ok()?, 4096, Vec::new(alloc));
     let sink = MemorySink::new(alloc, 65_536, Vec::new(alloc)).ok()?;
     let mut world = quiet(alloc, source, sink, rt)?;
     run(alloc, &words, &mut world);
     world.output.sent().to_vec(alloc).ok()
-}
-
-/// A door with one link, which gives a text.
-pub fn door_of_one(
-    alloc: Global,
-    asked: &str,
-    failing: Vec<u64>,
-) -> Result<MemoryDoor, BaseMemory> {
-    let link = MemoryLink::new(
-        alloc,
-        asked.as_bytes().to_vec(alloc)?,
-        7,
-        4096,
-        Vec::new(alloc),
-    )?;
-    match vec![in alloc; Some(link)] {
-        Ok(links) => Ok(MemoryDoor::new(links, failing)),
-        Err(_) => Err(BaseMemory),
-    }
 }
 
 /// A door with a link for each of two texts.

@@ -1,121 +1,136 @@
 //! The command `edge`: it asks its upstream for what stands, and serves the links of its door over that.
-ghost use Rattle.std.specs.Prelude.{◌≡◌, ◌≤◌, ℕ, OnOk, length, true};
-ghost use Rattle.unl_base.specs.Doors.{IsClosed};
-ghost use Rattle.unl_base.specs.Faults.{HasCause, Rose};
-ghost use Rattle.unl_edge.specs.Edges.{Connects, CountsAll, EdgeEnds};
+ghost use Rattle.std.specs.Prelude.{◌≡◌, ◌<◌, ◌≤◌, ℕ, [], IfOk, length, map, true};
+ghost use Rattle.unl_base.specs.Faults.{Rose};
+ghost use Rattle.unl_core.specs.Board.{AreSlots};
+ghost use Rattle.unl_edge.specs.Edges.{EdgeEnds};
+ghost use Rattle.unl_edge.specs.Scene.{ServingFailed};
+ghost use Rattle.unl_edge.specs.Sites.{opened, site_of};
 ghost use Rattle.unl_edge.specs.Status.{Caused, serving_status};
+ghost use Rattle.unl_words.specs.Lists.{are_upstream_tokens, environment_of};
 ghost use Rattle.unl_words.specs.Ranges.{IsEdge};
 
 use crate::ends::ServingEnd;
-use crate::replica::Replica;
-use crate::serving::EdgeServer;
+use crate::site::serve_site;
 use crate::upstreams::say_connections;
 use crate::world::World;
 use std::alloc::Global;
 use std::sync::Wait;
-use unl_base::{Door, Draws, Failed, Pace, Peer, Sink, Source, Spawner};
+use unl_base::{Door, Draws, Pace, Peer, Sink, Source, Spawner};
+use unl_core::Board;
 use unl_documents::{List, Memory, Text};
-use unl_exchange::host;
 use unl_keeper::KeepMaker;
+use unl_upkeep::Upkeep;
+use unl_words::{EdgeWords, token_environments};
+use unl_workers::BesideFault;
 
-/// Begins a replica, whose boot number is the word of a draw, asks the upstream for what stands, and then serves the links of
-/// the door, one after the other. Before each of them the upstream is asked again.
-pub fn run_edge<
-    I: Source,
-    O: Sink,
-    D: Door,
-    P: Peer,
-    R: Draws,
-    T: Pace,
-    S: Spawner,
-    Q: KeepMaker,
-    W: Wait,
->(
+/// Begins a board, whose boot number is the word of a draw, asks the upstream for what stands, and then serves the links of the
+/// door by so many workers, side by side. Beside them the upstream is asked again at a pace.
+pub fn run_edge<I: Source, O: Sink, D: Door, P, R, T, S: Spawner, Q: KeepMaker, W: Wait + Sync>(
     alloc: Global,
-    port: u16,
-    upstream: &Text,
-    upstream_tokens: &List<Text>,
-    tokens: &List<Text>,
-    host: &Text,
-    delta: bool,
+    words: &EdgeWords,
     world: &mut World<I, O, D, P, R, T, S, Q, W>,
 ) -> ServingEnd
-    requires { (workers : ℕ) × (interval : ℕ) × IsEdge port upstream.now upstream_tokens.now tokens.now host.now workers interval }
-    ensures ends { EdgeEnds (length upstream_tokens.now) result world.old world.new }
+where
+    D::L: Drop + Send,
+    P: Peer + Send,
+    R: Draws + Drop + Send,
+    T: Pace + Send,
+    requires { IsEdge words.now }
+    ensures ends { EdgeEnds (site_of words.now.tokens words.now.upstream_tokens words.now.workers) result world.old world.new }
     ensures caused { Caused (serving_status result) ⊥ (Rose world.old.output.faults world.new.output.faults)
-        (Rose world.old.door.faults world.new.door.faults) ⊥ }
+        (ServingFailed world.old world.new) ⊥ }
 {
     let boot = world.draws.draw().word;
-    match Replica::new(alloc, boot, upstream, upstream_tokens, tokens, host, delta) {
-        Ok(mut replica) => serve_links(alloc, port, &mut replica, world),
+    match begin_site(alloc, boot, words) {
+        Ok((board, upkeep)) => serve_links(alloc, words.port, words.workers, board, upkeep, world),
         Err(Memory) => ServingEnd::OutOfMemory,
     }
 }
 
-/// Listens, makes the first turn, serves the links of the door until it is closed, and says how many these were.
-fn serve_links<
-    I: Source,
-    O: Sink,
-    D: Door,
-    P: Peer,
-    R: Draws,
-    T: Pace,
-    S: Spawner,
-    Q: KeepMaker,
-    W: Wait,
->(
+/// A board with an empty slot for each of the upstream's tokens, and what keeps it up to date.
+#[tactic(auto, using(crate::proofs::Fitting::address_fits, crate::proofs::Fitting::tokens_fit, crate::proofs::Fitting::opened_places))]
+fn begin_site(alloc: Global, boot: u64, words: &EdgeWords) -> Result<(Board, Upkeep), Memory>
+    requires { IsEdge words.now }
+    ensures slots { IfOk result (λ site. AreSlots site.0.slots) }
+    ensures opening { IfOk result (λ site. opened site.0 ≡ (site_of words.now.tokens words.now.upstream_tokens 0).opening) }
+    ensures known { IfOk result (λ site. site.1.known ≡ words.now.tokens) }
+    ensures feeders { IfOk result (λ site. site.1.slots ≡ length (opened site.0).places) }
+{
+    let environments = token_environments(alloc, &words.upstream_tokens)?;
+    let board = board_of(
+        alloc,
+        boot,
+        &words.upstream_tokens,
+        &environments,
+        &words.host,
+    )?;
+    let upkeep = Upkeep::new(
+        alloc,
+        &words.upstream,
+        &words.upstream_tokens,
+        &environments,
+        &words.tokens,
+        words.delta,
+    )?;
+    Ok((board, upkeep))
+}
+
+/// A board with an empty slot for each of the environments of the upstream's tokens.
+#[tactic(auto, using(crate::proofs::Fitting::few_tokens, crate::proofs::Fitting::names_differ))]
+fn board_of(
+    alloc: Global,
+    boot: u64,
+    upstream_tokens: &List<Text>,
+    environments: &List<Text>,
+    host: &Text,
+) -> Result<Board, Memory>
+    requires tokens { are_upstream_tokens upstream_tokens.now ≡ true }
+    requires environments { environments.now ≡ map environment_of upstream_tokens.now }
+    ensures slots { IfOk result (λ board. AreSlots board.slots) }
+    ensures opening { IfOk result (λ board. opened board ≡ (site_of [] upstream_tokens.now 0).opening) }
+{
+    Board::new(alloc, boot, host.as_str(), environments)
+}
+
+/// Listens, serves the links of the door until it is closed, and says how many these were.
+fn serve_links<I: Source, O: Sink, D: Door, P, R, T, S: Spawner, Q: KeepMaker, W: Wait + Sync>(
     alloc: Global,
     port: u16,
-    replica: &mut Replica,
+    workers: u32,
+    board: Board,
+    upkeep: Upkeep,
     world: &mut World<I, O, D, P, R, T, S, Q, W>,
 ) -> ServingEnd
-    requires front { replica.old.desk.front ≡ 0 }
-    requires slots { length replica.old.feeders.items ≤ length replica.old.desk.places }
-    requires few { length replica.old.feeders.items ≤ 8 }
-    ensures ends { EdgeEnds (length replica.old.feeders.items) result world.old world.new }
+where
+    D::L: Drop + Send,
+    P: Peer + Send,
+    R: Draws + Drop + Send,
+    T: Pace + Send,
+    requires workers { (0 < workers) × (workers ≤ 16) }
+    requires slots { AreSlots board.slots }
+    requires feeders { upkeep.slots ≡ length (opened board).places }
+    ensures ends { EdgeEnds (record { known = upkeep.known; opening = opened board; workers = workers }) result world.old world.new }
     ensures caused { Caused (serving_status result) ⊥ (Rose world.old.output.faults world.new.output.faults)
-        (Rose world.old.door.faults world.new.door.faults) ⊥ }
+        (ServingFailed world.old world.new) ⊥ }
 {
     if world.door.listen(port).is_err() {
         return ServingEnd::DoorFault;
     }
-    match replica.turn(alloc, &mut world.peer) {
-        Ok(()) => {}
-        Err(Memory) => return ServingEnd::OutOfMemory,
-    }
-    match serve_all(
+    match serve_site(
         alloc,
-        replica,
         &world.rt,
+        workers,
+        board,
+        upkeep,
         &mut world.door,
         &mut world.peer,
         &mut world.draws,
+        &mut world.pace,
+        &mut world.spawner,
     ) {
-        Ok(served) => ServingEnd::of_line(say_connections(alloc, &mut world.output, served)),
-        Err(_) => ServingEnd::DoorFault,
+        Ok(links) => ServingEnd::of_line(say_connections(alloc, &mut world.output, links)),
+        Err(BesideFault::Door) => ServingEnd::DoorFault,
+        Err(BesideFault::Spawner) => ServingEnd::DoorFault,
+        Err(BesideFault::Memory) => ServingEnd::OutOfMemory,
     }
-}
-
-/// Serves one link after the other and hands each back, until the door is closed, and answers how many these were. Behind
-/// each of them the upstream is asked again.
-///
-/// # Errors
-/// `Failed`: the door could hand out no link, which it counted.
-fn serve_all<D: Door, P: Peer, R: Draws, W: Wait>(
-    alloc: Global,
-    replica: &mut Replica,
-    rt: &W,
-    door: &mut D,
-    peer: &mut P,
-    draws: &mut R,
-) -> Result<u64, Failed>
-    requires { (D.state door.old).listening ≡ true }
-    ensures hands { CountsAll result (D.state door.old) (D.state door.new) }
-    ensures closed { OnOk result (IsClosed (D.state door.new)) }
-    ensures connects { Connects 0
-        (P.state peer.old).replies (P.Source.faults peer.old) (P.state peer.new).replies (P.Source.faults peer.new) }
-    ensures cause { HasCause (D.faults door.old) (D.faults door.new) result }
-{
-    let mut server = EdgeServer { replica, peer };
-    host(rt, alloc, &mut server, door, draws)
 }

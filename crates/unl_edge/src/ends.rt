@@ -29,7 +29,7 @@ pub enum ServingEnd {
     Closed,
     /// Until the door was closed, and then the output failed.
     WriteFault,
-    /// Until the door failed.
+    /// Until the door failed; or a thread couldn't be started.
     DoorFault,
     /// Memory ran out.
     OutOfMemory,

@@ -117,7 +117,7 @@ turn 2 repeat number 5 on -
 ];
 
 /// The status of a run of these words, and the world after it.
-fn ran<'a, W: Threads + Wait>(
+fn ran<'a, W: Threads + Wait + Sync>(
     alloc: Global,
     words: &str,
     output: MemorySink,
@@ -142,7 +142,7 @@ fn ran<'a, W: Threads + Wait>(
 }
 
 /// What a case prints, and its status.
-fn told<W: Threads + Wait>(alloc: Global, case: &Case<'_>, rt: &W) -> Option<(Vec<u8>, u8)> {
+fn told<W: Threads + Wait + Sync>(alloc: Global, case: &Case<'_>, rt: &W) -> Option<(Vec<u8>, u8)> {
     let mut texts = Vec::new(alloc);
     for reply in case.replies {
         texts.push(reply.as_bytes().to_vec(alloc).ok()?).ok()?;
@@ -281,7 +281,7 @@ fn replies(alloc: Global) -> Option<Vec<Vec<u8>>> {
 }
 
 /// The world after two turns over these replies.
-fn behind<'a, W: Threads + Wait>(
+fn behind<'a, W: Threads + Wait + Sync>(
     alloc: Global,
     replies: Vec<Vec<u8>>,
     rt: &'a W,

@@ -1,17 +1,15 @@
 //! The command `follow`: a replica behind a server, which tells of a feature turn by turn.
-ghost use Rattle.std.specs.Prelude.{ℕ};
 ghost use Rattle.unl_base.specs.Faults.{Rose};
 ghost use Rattle.unl_edge.specs.Follows.{subject_of};
 ghost use Rattle.unl_edge.specs.Status.{Caused, follow_status};
 ghost use Rattle.unl_follow.specs.Run.{Runs};
 ghost use Rattle.unl_words.specs.Ranges.{IsFollow};
 
-use crate::feeder::first_ask;
 use std::alloc::Global;
 use unl_base::{Draws, Pace, Peer, Sink};
-use unl_context::Context;
-use unl_documents::Text;
 use unl_follow::{FollowFault, Subject, follow};
+use unl_upkeep::first_ask;
+use unl_words::FollowWords;
 
 /// Asks an upstream with a token turn by turn, and prints at each turn whether a feature is on in a context.
 ///
@@ -20,19 +18,14 @@ use unl_follow::{FollowFault, Subject, follow};
 #[tactic(auto, using(crate::proofs::Fitting::address_fits, crate::proofs::Fitting::token_fits))]
 pub fn run_follow<P: Peer, R: Draws, T: Pace, O: Sink>(
     alloc: Global,
-    upstream: &Text,
-    token: &Text,
-    feature: &Text,
-    context: &Context,
-    delta: bool,
-    turns: u32,
+    words: &FollowWords,
     peer: &mut P,
     draws: &mut R,
     pace: &mut T,
     output: &mut O,
 ) -> Result<(), FollowFault>
-    requires { (interval : ℕ) × IsFollow upstream.now token.now feature.now context.now turns interval }
-    ensures runs { Runs turns (T.turns pace.old) delta (subject_of feature.now context.now)
+    requires { IsFollow words.now }
+    ensures runs { Runs words.now.turns (T.turns pace.old) words.now.delta (subject_of words.now.feature words.now.context)
         (record {
           replies = (P.state peer.old).replies;
           faults = P.Source.faults peer.old;
@@ -48,10 +41,10 @@ pub fn run_follow<P: Peer, R: Draws, T: Pace, O: Sink>(
         }) }
     ensures caused { Caused (follow_status result) ⊥ (Rose (O.faults output.old) (O.faults output.new)) ⊥ ⊥ }
 {
-    let ask = first_ask(alloc, upstream, token, delta)?;
+    let ask = first_ask(alloc, &words.upstream, &words.token, words.delta)?;
     let subject = Subject {
-        feature: feature.as_str(),
-        context,
+        feature: words.feature.as_str(),
+        context: &words.context,
     };
-    follow(alloc, &subject, ask, turns, peer, draws, pace, output)
+    follow(alloc, &subject, ask, words.turns, peer, draws, pace, output)
 }

@@ -110,7 +110,7 @@ impl KeepMaker for OneRowMaker {
 }
 
 /// What stands outside, with a maker of keepers.
-type Kept<'a, Q, W> = World<
+pub(crate) type Kept<'a, Q, W> = World<
     MemorySource,
     MemorySink,
     MemoryDoor,
@@ -123,7 +123,7 @@ type Kept<'a, Q, W> = World<
 >;
 
 /// The status of an upstream over a maker of keepers, lines and two links, and the world after it.
-fn served<'a, Q: KeepMaker + Drop, W: Threads + Wait>(
+pub(crate) fn served<'a, Q: KeepMaker + Drop, W: Threads + Wait + Sync>(
     alloc: Global,
     keep: Q,
     lines: &str,

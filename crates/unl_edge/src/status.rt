@@ -27,7 +27,7 @@ pub enum Status {
     WriteFault,
     /// Memory ran out.
     OutOfMemory,
-    /// The door failed.
+    /// The door failed, or a thread couldn't be started.
     DoorFault,
     /// The keeper failed before an upstream served a link, or none could be made.
     KeeperFault,

@@ -46,7 +46,7 @@ fn list_of(alloc: Global, call: Option<u64>) -> Option<Vec<u64>> {
 }
 
 /// The status of an upstream over lines and two links, and the world after it.
-fn served<'a, W: Threads + Wait>(
+fn served<'a, W: Threads + Wait + Sync>(
     alloc: Global,
     lines: &str,
     asked: [&str; 2],
@@ -101,6 +101,25 @@ fn each_end_of_an_upstream(rt: HostRuntime) -> Result<(), Fail> {
     Ok(())
 }
 
+const HEALTH: &str = "GET /internal-backstage/health HTTP/1.1\r\nHost: x\r\n\r\n";
+
+const HEALTHY: &str =
+    "HTTP/1.1 200 OK\r\nContent-Type: application/json\r\nContent-Length: 15\r\n\r\n{\"status\":\"OK\"}";
+
+// The first link was answered whole, and handed back.
+#[test]
+fn a_door_that_fails_at_its_second_link(rt: HostRuntime) -> Result<(), Fail> {
+    let failing = (None, None, Some(2));
+    let (status, world) = served(rt.alloc(), "", [HEALTH, HEALTH], failing, &rt).expect(
+        &rt,
+        "there is memory",
+    );
+    assert_eq!(rt; status, 7);
+    assert!(rt; world.door.sent(0) == Some(HEALTHY.as_bytes()));
+    assert!(rt; world.door.sent(1).is_none());
+    Ok(())
+}
+
 const NUMBER_2: &str =
     "HTTP/1.1 200 OK\r\nContent-Type: application/json\r\nContent-Length: 12\r\n\r\n{\"number\":2}";
 
@@ -135,7 +154,12 @@ const TOKENS_LINE: &str = r#"{"op":"tokens","tokens":[{"token":"*:dev.f","type":
 const ASK_LINE: &str = r#"{"op":"ask","token":"*:dev.f","target":"/api/frontend"}"#;
 
 /// What a replay prints that takes what an upstream gave, as a line's key and value, and is then asked.
-fn asked_after<W: Threads + Wait>(alloc: Global, op: &str, given: &str, rt: &W) -> Option<Vec<u8>> {
+fn asked_after<W: Threads + Wait + Sync>(
+    alloc: Global,
+    op: &str,
+    given: &str,
+    rt: &W,
+) -> Option<Vec<u8>> {
     let line = format!(in alloc; r#"{{"op":"{op}","environment":"dev","{op}":{given}}}"#).ok()?;
     let mut input = String::from_str(alloc, TOKENS_LINE).ok()?;
     for text in ["\n", line.as_str(), "\n", ASK_LINE] {

@@ -1,29 +1,29 @@
 //! The command `upstream`: it is reopened on a keeper, takes the commands of its input, and then serves the links of its door.
-ghost use Rattle.std.specs.Prelude.{◌≡◌, ◌≢◌, ℕ, true, IfOk, IsErrOf, OnOk, string_bytes};
+ghost use Rattle.std.specs.Prelude.{◌≡◌, ◌≢◌, true, IfOk, IsErrOf, string_bytes};
 ghost use Rattle.unl_base.specs.Faults.{Rose};
-ghost use Rattle.unl_base.specs.Streams.{Sends, SendsFront};
-ghost use Rattle.unl_edge.specs.OwnBook.{own_book};
 ghost use Rattle.unl_edge.specs.Status.{Caused, IsCaused, row_status, serving_status, upstream_status};
-ghost use Rattle.unl_edge.specs.Upstreams.{IsNew, KeeperEnd, LinesEnd, LinksEnd, SaysLine, UpstreamEnds, UpstreamRuns};
+ghost use Rattle.unl_edge.specs.Upstreams.{IsNew, KeeperEnd, LinesEnd, LinksEnd, UpstreamEnds, UpstreamRuns};
 ghost use Rattle.unl_edge.specs.Upstreams.{connections_line, facing, row_line};
+ghost use Rattle.unl_input.specs.Refusal.{SaysLine};
 ghost use Rattle.unl_upstream.specs.Kept.{keeper_by, kept_state};
 ghost use Rattle.unl_upstream.specs.Reopening.{IsOpening};
 ghost use Rattle.unl_upstream.specs.Upstream.{opening};
+ghost use Rattle.unl_words.specs.OwnBook.{own_book};
 ghost use Rattle.unl_words.specs.Ranges.{IsUpstream};
 
 use crate::ends::{ServingEnd, UpstreamEnd};
 use crate::kept_upstream::KeptUpstream;
-use crate::own_book::own_book;
 use crate::world::World;
 use std::alloc::{AllocError, Global};
 use std::marker::Model;
 use std::sync::Wait;
 use unl_base::{Door, Draws, Pace, Peer, Sink, Source, Spawner, write_all};
-use unl_documents::{List, Memory, Text};
+use unl_documents::Memory;
 use unl_input::SayFault;
 use unl_keeper::{KeepMaker, KeepRefusal, Keeper};
 use unl_lines::{LinesFault, take_lines};
 use unl_upstream::{ReopenFault, Upstream, host_kept, reopen};
+use unl_words::{UpstreamWords, own_book};
 
 /// Begins an upstream, whose boot number is the word of a draw, reopens it on a keeper, takes the commands of the input's
 /// lines, and then serves the links of the door, one after the other.
@@ -37,32 +37,15 @@ pub fn run_upstream<
     S: Spawner,
     Q: KeepMaker,
     W: Wait,
->(
-    alloc: Global,
-    port: u16,
-    secret: &Text,
-    environments: &List<Text>,
-    client_tokens: &List<Text>,
-    frontend_tokens: &List<Text>,
-    epoch: u64,
-    world: &mut World<I, O, D, P, R, T, S, Q, W>,
-) -> UpstreamEnd
-    requires { IsUpstream port secret.now environments.now client_tokens.now frontend_tokens.now }
-    ensures runs { UpstreamRuns secret.now environments.now (own_book client_tokens.now frontend_tokens.now) epoch result
-        world.old world.new }
+>(alloc: Global, words: &UpstreamWords, world: &mut World<I, O, D, P, R, T, S, Q, W>) -> UpstreamEnd
+    requires { IsUpstream words.now }
+    ensures runs { UpstreamRuns words.now.secret words.now.environments (own_book words.now.client_tokens words.now.frontend_tokens)
+        words.now.epoch result world.old world.new }
     ensures caused { IsCaused (upstream_status result) world.old world.new }
 {
     let boot = world.draws.draw().word;
-    match begin(
-        alloc,
-        boot,
-        secret,
-        environments,
-        client_tokens,
-        frontend_tokens,
-        epoch,
-    ) {
-        Ok(fresh) => run_kept(alloc, port, fresh, world),
+    match begin(alloc, boot, words) {
+        Ok(fresh) => run_kept(alloc, words.port, fresh, world),
         Err(Memory) => UpstreamEnd::OutOfMemory,
     }
 }
@@ -95,21 +78,20 @@ impl NewUpstream {
 }
 
 /// An upstream that was given no command.
-fn begin(
-    alloc: Global,
-    boot: u64,
-    secret: &Text,
-    environments: &List<Text>,
-    client_tokens: &List<Text>,
-    frontend_tokens: &List<Text>,
-    epoch: u64,
-) -> Result<NewUpstream, Memory>
-    requires { (port : ℕ) × IsUpstream port secret.now environments.now client_tokens.now frontend_tokens.now }
-    ensures { IfOk result (λ fresh.
-        fresh ≡ opening boot secret.now environments.now (own_book client_tokens.now frontend_tokens.now) epoch) }
+fn begin(alloc: Global, boot: u64, words: &UpstreamWords) -> Result<NewUpstream, Memory>
+    requires { IsUpstream words.now }
+    ensures { IfOk result (λ fresh. fresh ≡ opening boot words.now.secret words.now.environments
+        (own_book words.now.client_tokens words.now.frontend_tokens) words.now.epoch) }
 {
-    let book = own_book(alloc, client_tokens, frontend_tokens)?;
-    let up = Upstream::new(alloc, boot, secret.as_str(), environments, book, epoch)?;
+    let book = own_book(alloc, &words.client_tokens, &words.frontend_tokens)?;
+    let up = Upstream::new(
+        alloc,
+        boot,
+        words.secret.as_str(),
+        &words.environments,
+        book,
+        words.epoch,
+    )?;
     let fresh = NewUpstream { up };
     Ok(fresh)
 }
@@ -263,7 +245,7 @@ fn serve_links<K: Keeper, O: Sink, D: Door, R: Draws, W: Wait>(
 /// Says which row of a keeper is refused, by its place.
 ///
 /// # Errors
-/// `WriteFault` where the output failed, and a front of the line was sent; `Memory` where memory ran out.
+/// `WriteFault` where the output failed, and a front of the line was sent; `Memory` where memory ran out, and nothing was.
 fn say_row<O: Sink>(alloc: Global, output: &mut O, place: u64) -> Result<(), SayFault>
     ensures said { SaysLine result (row_line place) (O.sent output.old) (O.sent output.new) }
     ensures write { Caused (row_status result) ⊥ (Rose (O.faults output.old) (O.faults output.new)) ⊥ ⊥ }
@@ -286,14 +268,13 @@ fn row_line(alloc: Global, place: u64) -> Result<String, AllocError>
 /// Says how many links were served.
 ///
 /// # Errors
-/// `WriteFault` where the output failed, and a front of the line was sent; `Memory` where memory ran out.
+/// `WriteFault` where the output failed, and a front of the line was sent; `Memory` where memory ran out, and nothing was.
 pub(crate) fn say_connections<O: Sink>(
     alloc: Global,
     output: &mut O,
     served: u64,
 ) -> Result<(), SayFault>
-    ensures said { OnOk result (Sends (O.sent output.old) (connections_line served) (O.sent output.new)) }
-    ensures broken { IsErrOf result SayFault.WriteFault → SendsFront (O.sent output.old) (connections_line served) (O.sent output.new) }
+    ensures said { SaysLine result (connections_line served) (O.sent output.old) (O.sent output.new) }
     ensures write { IsErrOf result SayFault.WriteFault → Rose (O.faults output.old) (O.faults output.new) }
 {
     let Ok(line) = connections_line(alloc, served) else {

@@ -1,15 +1,20 @@
 -- What it means of the parts of a reader that they may be handed to another thread.
 use denote.RattleType.{RattleType}
+use denote.Ref.{NamedLft}
 use Rattle.left_right.specs.contracts.reader.Reader as Seat
+use Rattle.left_right.specs.contracts.writer.Writer as Sides
 use Rattle.std.specs.contracts.alloc.Global as Global
 use Rattle.std.specs.contracts.impls.GlobalAllocator.TheImpl as global
 use Rattle.unl_core.specs.contracts.board.Install as Install
 use Rattle.unl_edge_state.specs.contracts.edition.Edition as Edition
 use Rattle.unl_edge_state.specs.contracts.edition.EditionAbsorbInstall.TheImpl as absorb
 use Rattle.unl_edge_state.specs.contracts.edition.EditionCountedInstall.TheImpl as counted
+use Rattle.unl_edge_state.specs.contracts.writer.EdgeWriter as Writer
 use Rattle.unl_published.specs.contracts.knowledge.Knowledge as Knowledge
+use Rattle.unl_published.specs.contracts.publisher.Publisher as Publisher
 use Rattle.unl_published.specs.contracts.reader.Reader as Reader
 use Rattle.unl_published.specs.contracts.rule.Ruled as Ruled
+use Rattle.unl_published.specs.contracts.writer.Writer as Publishing
 use Rattle.unl_published.specs.contracts.rule.RuledProtocolKnowledgeState.TheImpl as ruled
 
 -- the seat of a reader of editions, as the logic's type
@@ -24,3 +29,28 @@ abbrev pub reader_type : RattleType
 reader_type =
     Reader.the_row Edition.the_row Install.the_row (Ruled.the_row Install.the_row) Edition.the_row counted.ghosts absorb.ghosts
     (ruled.ghosts Edition.the_row Install.the_row Edition.the_row counted.ghosts ruled.no_dict absorb.ghosts ruled.no_dict ruled.no_dict)
+
+-- the sides of a writer of editions, as the logic's type
+abbrev pub sides_type : RattleType
+sides_type =
+    Sides.the_row Edition.the_row Install.the_row (Knowledge.the_row Edition.the_row Install.the_row) (Ruled.the_row Install.the_row)
+    Global.the_row Edition.the_row absorb.ghosts
+    (ruled.ghosts Edition.the_row Install.the_row Edition.the_row counted.ghosts ruled.no_dict absorb.ghosts ruled.no_dict ruled.no_dict)
+    global.ghosts
+
+-- a writer of editions by installs, as the logic's type
+abbrev pub publishing_type : RattleType
+publishing_type =
+    Publishing.the_row Edition.the_row Install.the_row (Ruled.the_row Install.the_row) Edition.the_row counted.ghosts absorb.ghosts
+    (ruled.ghosts Edition.the_row Install.the_row Edition.the_row counted.ghosts ruled.no_dict absorb.ghosts ruled.no_dict ruled.no_dict)
+
+-- the same as one value that changes in place, and waits by this for so long
+abbrev pub publisher_type : NamedLft → RattleType → RattleType
+publisher_type lifetime wait =
+    Publisher.the_row lifetime wait Edition.the_row Install.the_row (Ruled.the_row Install.the_row) Edition.the_row counted.ghosts
+    absorb.ghosts
+    (ruled.ghosts Edition.the_row Install.the_row Edition.the_row counted.ghosts ruled.no_dict absorb.ghosts ruled.no_dict ruled.no_dict)
+
+-- a writer of a board that waits by this for so long, as the logic's type
+abbrev pub writer_type : NamedLft → RattleType → RattleType
+writer_type lifetime wait = Writer.the_row lifetime wait

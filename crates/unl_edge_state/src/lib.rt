@@ -12,7 +12,7 @@ mod tests;
 mod writer;
 
 pub use beginning::begin;
-pub use crossing::readers_cross;
+pub use crossing::{readers_cross, writers_cross};
 pub use edition::Edition;
 pub use reader::{EdgeReader, Told};
 pub use writer::EdgeWriter;

@@ -1,5 +1,5 @@
 -- The explanation that an input asks for, and how explaining it ends.
-use Rattle.std.specs.Prelude.{◌≡◌, ⊤, ℕ, List, [], Option, Result, Ok, Err}
+use Rattle.std.specs.Prelude.{◌≡◌, ℕ, List, [], Option, Result, Ok, Err}
 use Rattle.unl_documents.specs.Reading.{Reading, ◌>>=◌}
 use Rattle.unl_explain.specs.declared.question.Question.{Question}
 use Rattle.unl_explain.specs.declared.reason.Reason.{Reason}
@@ -46,4 +46,4 @@ Explains (Err (BadInput fault)) left left_after old new = SaysOfInput (Err (refu
 Explains (Err TooLarge) left left_after old new = SaysOfInput (Err refusal.TooLarge) left left_after old new
 Explains (Err ReadFault) left left_after old new = new ≡ old
 Explains (Err WriteFault) left left_after old new = SaysFrontOfInput left left_after old new
-Explains (Err Memory) left left_after old new = ⊤
+Explains (Err Memory) left left_after old new = new ≡ old

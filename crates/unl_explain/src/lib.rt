@@ -18,5 +18,3 @@ pub use running::{ExplainFault, explain_run};
 
 #[cfg(test)]
 mod run_tests;
-#[cfg(test)]
-mod tests;

@@ -37,7 +37,7 @@ pub enum ExplainFault {
 /// # Errors
 /// `TooLarge` exactly where the input has more than 16,777,216 bytes, and then `BadInput` exactly where it has a fault, its
 /// first: the line `refused: <cause>` was written. `ReadFault` where the source failed: nothing was written. `WriteFault` where
-/// the sink failed: a front of the one line or the other was written. `Memory` where memory ran out.
+/// the sink failed: a front of the one line or the other was written. `Memory` where memory ran out: nothing was written.
 pub fn explain_run<S: Source, K: Sink>(
     alloc: Global,
     source: &mut S,

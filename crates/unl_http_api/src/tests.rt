@@ -1,5 +1,7 @@
 ghost use Rattle.std.specs.Prelude.{◌<◌};
 
+mod reading;
+
 use crate::{BadReply, Got, Method, ReplyReader, fits_line, has_one_reply, write_request};
 use std::alloc::Global;
 use std::test::Fail;

@@ -1,5 +1,5 @@
 -- What is answered of a whole input, and what is sent of it.
-use Rattle.std.specs.Prelude.{◌≡◌, ⊤, ℕ, List, Option, Result, Ok, Err, nat_lt, length, if◌then◌else◌}
+use Rattle.std.specs.Prelude.{◌≡◌, ℕ, List, Option, Result, Ok, Err, nat_lt, length, if◌then◌else◌}
 use Rattle.unl_base.specs.Streams.{Sends, SendsFront}
 use Rattle.unl_documents.specs.Reading.{Reading}
 use Rattle.unl_input.specs.declared.answering.AnswerFault.{AnswerFault}
@@ -70,4 +70,4 @@ Answers reads says (Ok answer) left left_after old new = Says reads says (Ok ans
 Answers reads says (Err (Refused refusal)) left left_after old new = IsRefused reads refusal left left_after old new
 Answers reads says (Err ReadFault) left left_after old new = new ≡ old
 Answers reads says (Err WriteFault) left left_after old new = BreaksOff reads says left left_after old new
-Answers reads says (Err Memory) left left_after old new = ⊤
+Answers reads says (Err Memory) left left_after old new = new ≡ old

@@ -53,7 +53,7 @@ pub enum AnswerFault {
 /// # Errors
 /// `Refused` with `TooLarge` exactly where the input has more than 16,777,216 bytes, and then with `BadInput` exactly where it
 /// has a fault, its first: nothing is written. `ReadFault` where the source failed: nothing is written. `WriteFault` where the
-/// sink failed: a front of the text was written. `Memory` where memory ran out.
+/// sink failed: a front of the text was written. `Memory` where memory ran out: nothing is written.
 pub fn answer_input<A: InputAnswer, S: Source, K: Sink>(
     alloc: Global,
     asked: &A,

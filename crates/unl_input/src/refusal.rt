@@ -1,8 +1,7 @@
 //! Why an input is refused, and the line that says so.
-ghost use Rattle.std.specs.Prelude.{◌≡◌, ◌≤◌, ◌++◌, codes, IfOk, IsErrOf, OnOk, string_bytes};
+ghost use Rattle.std.specs.Prelude.{◌≡◌, ◌≤◌, ◌++◌, codes, IfOk, IsErrOf, string_bytes};
 ghost use Rattle.unl_base.specs.Faults.{Rose};
-ghost use Rattle.unl_base.specs.Streams.{Sends, SendsFront};
-ghost use Rattle.unl_input.specs.Refusal.{refusal_line};
+ghost use Rattle.unl_input.specs.Refusal.{SaysLine, refusal_line};
 
 use std::alloc::{AllocError, Global};
 use unl_base::{Sink, write_all};
@@ -29,14 +28,13 @@ pub enum SayFault {
 /// Says why an input is refused: the line `refused: <cause>`.
 ///
 /// # Errors
-/// `WriteFault` where the sink failed, and a front of the line was sent; `Memory` where memory ran out.
+/// `WriteFault` where the sink failed, and a front of the line was sent; `Memory` where memory ran out, and nothing was.
 pub fn say_refusal<K: Sink>(
     alloc: Global,
     sink: &mut K,
     refusal: &InputRefusal,
 ) -> Result<(), SayFault>
-    ensures said { OnOk result (Sends (K.sent sink.old) (refusal_line refusal.now) (K.sent sink.new)) }
-    ensures broken { IsErrOf result SayFault.WriteFault → SendsFront (K.sent sink.old) (refusal_line refusal.now) (K.sent sink.new) }
+    ensures said { SaysLine result (refusal_line refusal.now) (K.sent sink.old) (K.sent sink.new) }
     ensures write { IsErrOf result SayFault.WriteFault → Rose (K.faults sink.old) (K.faults sink.new) }
     ensures later { K.faults sink.old ≤ K.faults sink.new }
 {

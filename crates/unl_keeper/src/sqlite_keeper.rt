@@ -137,8 +137,8 @@ impl<D: Alter> SqliteKeeper<D> {
         }
     }
 
-    /// The connection, and how often a statement was refused.
-    pub(crate) fn into_connection(self) -> (Connection<D>, u64)
+    /// The connection, which whoever handed it in may close, and how often a statement was refused.
+    pub fn into_connection(self) -> (Connection<D>, u64)
         ensures { result.1 ≡ self.faults }
     {
         let SqliteKeeper {

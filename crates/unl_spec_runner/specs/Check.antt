@@ -1,5 +1,5 @@
 -- The check of an input of test files: the report, or why the input is refused; and what is sent of it.
-use Rattle.std.specs.Prelude.{◌≡◌, ⊤, ℕ, List, Option, Result, Ok, Err}
+use Rattle.std.specs.Prelude.{◌≡◌, ℕ, List, Option, Result, Ok, Err}
 use Rattle.unl_base.specs.declared.draws.Draw.{Draw}
 use Rattle.unl_documents.specs.Reading.{Reading, ◌>>=◌}
 use Rattle.unl_input.specs.declared.refusal.InputRefusal.{InputRefusal}
@@ -45,4 +45,4 @@ Checks (Err (BadFile fault)) draw left left_after old new = IsRefused (accepted 
 Checks (Err TooLarge) draw left left_after old new = IsRefused (accepted draw) refusal.TooLarge left left_after old new
 Checks (Err ReadFault) draw left left_after old new = new ≡ old
 Checks (Err WriteFault) draw left left_after old new = BreaksOff (accepted draw) text_of left left_after old new
-Checks (Err Memory) draw left left_after old new = ⊤
+Checks (Err Memory) draw left left_after old new = new ≡ old

@@ -1,19 +1,23 @@
 -- How many requests a link asked, and the draws that answering them took.
-use Rattle.std.proofs.Common.{◌≡◌, ℕ, ◌+◌, List, [], ◌∷◌, length, Some, None, refl, ap, ◌∙◌, arith}
+use Rattle.std.proofs.Common.{◌≡◌, ℕ, ◌+◌, ◌⊎◌, inl, inr, List, [], ◌∷◌, length, Option, Some, None, refl, ap, ◌∙◌, arith}
 use Rattle.std.proofs.lemmas.List.{drop-drop}
 use Rattle.unl_base.specs.declared.draws.Draw.{Draw}
 use Rattle.unl_base.specs.Draws.{TakesDraw}
-use Rattle.unl_exchange.specs.Answering.{Answerer, Answers, Coming}
-use Rattle.unl_exchange.specs.Conversation.{Answered as AnsweredAll}
+use Rattle.unl_exchange.specs.Answering.{Answerer, Answers, Coming, LacksMemory, answerer}
+use Rattle.unl_exchange.specs.Conversation.{Answered as AnsweredAll, Concludes, GivesUp}
+use Rattle.unl_exchange.proofs.AskedLemmas.{Asks, asks}
+use Rattle.unl_http_api.specs.declared.end.End.{End}
+use Rattle.unl_http_api.specs.declared.end.End.TheVariants as ends
 use Rattle.unl_http_api.specs.declared.reply.Reply.{Reply}
 use Rattle.unl_http_api.specs.declared.request.Request.{Request}
+use Rattle.unl_http_api.specs.Session.{Reads}
 use Rattle.unl_upstream.specs.Linked.{draws_after}
 
 -- what one answer gives a request, with its draw
 abbrev Giving : Type 0 → Type 1
 Giving S = S → Request → Draw → Reply → S → Type 0
 
-pub answered_counts : {S : Type 0} (gives : Giving S) (count : ℕ) (qs : List Request) (text : List ℕ) (before after : Answerer S)
+answered_counts : {S : Type 0} (gives : Giving S) (count : ℕ) (qs : List Request) (text : List ℕ) (before after : Answerer S)
     → AnsweredAll (Answers gives) count before qs text after → after.count ≡ before.count + length qs
 answered_counts {S} gives count [] text before after answered = ap (λ (s : Answerer S). s.count) answered.1 ∙ omega arith
 answered_counts {S} gives count (q ∷ qs) text before after answered =
@@ -32,12 +36,12 @@ draws_none None = refl
 draws_none (Some told) = refl
 
 -- one draw
-pub draws_one : (coming : Coming) (draw : Draw) (coming_after : Coming) → TakesDraw coming draw coming_after → coming_after ≡ draws_after 1 coming
+draws_one : (coming : Coming) (draw : Draw) (coming_after : Coming) → TakesDraw coming draw coming_after → coming_after ≡ draws_after 1 coming
 draws_one None draw coming_after taken = taken
 draws_one (Some ([], last)) draw coming_after taken = taken.1
 draws_one (Some (first ∷ rest, last)) draw coming_after taken = taken.1
 
-pub answered_draws : {S : Type 0} (gives : Giving S) (count : ℕ) (qs : List Request) (text : List ℕ) (before after : Answerer S)
+answered_draws : {S : Type 0} (gives : Giving S) (count : ℕ) (qs : List Request) (text : List ℕ) (before after : Answerer S)
     → AnsweredAll (Answers gives) count before qs text after → after.coming ≡ draws_after (length qs) before.coming
 answered_draws {S} gives count [] text before after answered = ap (λ (s : Answerer S). s.coming) answered.1 ∙ draws_none before.coming
 answered_draws {S} gives count (q ∷ qs) text before after answered =
@@ -48,3 +52,69 @@ answered_draws {S} gives count (q ∷ qs) text before after answered =
     ∙ ap (draws_after (length qs)) (draws_one before.coming step.draw middle.coming step.taken)
     ∙ draws_both (length qs) 1 before.coming
     ∙ ap (λ n. draws_after n before.coming) longer
+
+-- ---- a link that was served
+
+-- by one that want of memory leaves as it was
+abbrev pub Stays : {S : Type 0} → S → Request → Draw → S → Type 0
+Stays before q draw after = after ≡ before
+
+-- What it asked first, as many requests as were answered, and how many draws that took: as many, and at want of memory perhaps
+-- one more.
+pub record Took
+    {S : Type 0} (gives : Giving S) (bytes : List ℕ) (before : S) (coming : Coming) (end : End) (count : ℕ) (after : S) (coming_after : Coming) : Type 0 where
+  pub requests : List Request
+  pub rest : List ℕ
+  pub reads : Reads bytes requests rest
+  pub counted : length requests ≡ count
+  pub text : List ℕ
+  pub reached : Answerer S
+  pub answered : AnsweredAll (Answers gives) 0 (answerer before 0 coming) requests text reached
+  pub state : after ≡ reached.state
+  pub taken : ℕ
+  pub takes : (taken ≡ count) ⊎ ((end ≡ ends.Memory) × (taken ≡ count + 1))
+  pub draws : coming_after ≡ draws_after taken coming
+
+pub took : {S : Type 0} (gives : Giving S) (bytes : List ℕ) (back : List ℕ × ℕ) (before : S) (coming : Coming) (end : End) (count : ℕ) (after : S)
+    (coming_after : Coming) (left_after : Option (List ℕ))
+    → Concludes (Answers gives) bytes (Some []) (answerer before 0 coming) end (answerer after count coming_after) left_after (Some back.0)
+    → (end ≡ ends.Memory → GivesUp (Answers gives) (LacksMemory Stays) bytes (Some []) 0 (answerer before 0 coming) (answerer after count coming_after) (Some back.0) back.1)
+    → Took gives bytes before coming end count after coming_after
+took {S} gives bytes back before coming end count after coming_after left_after conversation memory = by_next asked.next
+  where
+    asked : Asks (Answers gives) (LacksMemory Stays) bytes (answerer before 0 coming) end (answerer after count coming_after)
+    asked = asks bytes (answerer before 0 coming) (answerer after count coming_after) end (Some []) left_after (Some back.0) 0 back.1 conversation memory
+
+    counts : asked.reached.count ≡ 0 + length asked.requests
+    counts = answered_counts gives 0 asked.requests asked.text (answerer before 0 coming) asked.reached asked.answered
+
+    draws : asked.reached.coming ≡ draws_after (length asked.requests) coming
+    draws = answered_draws gives 0 asked.requests asked.text (answerer before 0 coming) asked.reached asked.answered
+
+    so_many : (taken : ℕ) → after ≡ asked.reached.state → count ≡ asked.reached.count → coming_after ≡ draws_after taken coming
+        → (taken ≡ count) ⊎ ((end ≡ ends.Memory) × (taken ≡ count + 1)) → Took gives bytes before coming end count after coming_after
+    so_many taken state notes come takes = record {
+      requests = asked.requests;
+      rest = asked.rest;
+      reads = asked.reads;
+      counted = omega (arith, notes, counts);
+      text = asked.text;
+      reached = asked.reached;
+      answered = asked.answered;
+      state = state;
+      taken = taken;
+      takes = takes;
+      draws = come;
+    }
+
+    by_next : (answerer after count coming_after ≡ asked.reached)
+        ⊎ ((end ≡ ends.Memory) × (request : Request) × LacksMemory Stays asked.reached request (answerer after count coming_after))
+        → Took gives bytes before coming end count after coming_after
+    by_next (inl same) =
+        let notes : count ≡ asked.reached.count = ap (λ (s : Answerer S). s.count) same in
+        so_many (length asked.requests) (ap (λ (s : Answerer S). s.state) same) notes (ap (λ (s : Answerer S). s.coming) same ∙ draws) (inl (omega (arith, notes, counts)))
+    by_next (inr lacks) =
+        let notes : count ≡ asked.reached.count = lacks.2.counted in
+        so_many (length asked.requests + 1) lacks.2.given_up notes
+        (draws_one asked.reached.coming lacks.2.draw coming_after lacks.2.taken ∙ ap (draws_after 1) draws ∙ draws_both 1 (length asked.requests) coming)
+        (inr (lacks.0, omega (arith, notes, counts)))

@@ -1,5 +1,5 @@
 -- What keeping commands carries on.
-use Rattle.std.proofs.Common.{◌≡◌, ◌≢◌, ◌<◌, ◌≤◌, ◌⊎◌, inl, inr, ℕ, ◌+◌, ◌-◌, ◌^◌, Bool, true, false, cond, List, [], ◌∷◌, ◌++◌, take, drop, length, length-append, Option, Some, None, Result, Ok, Err, IsOk, IfErr, option_map, IfSome, refl, sym, ap, ◌∙◌, subst, arith, append_assoc, append-nil}
+use Rattle.std.proofs.Common.{◌≡◌, ◌≢◌, ◌<◌, ◌≤◌, ◌⊎◌, inl, inr, ℕ, ◌+◌, Bool, true, false, cond, List, [], ◌∷◌, ◌++◌, take, drop, length, length-append, Option, Some, None, Result, Ok, Err, IsOk, IfErr, option_map, IfSome, refl, sym, ap, ◌∙◌, subst, arith, append_assoc, append-nil}
 use Rattle.std.specs.Prelude.{nat_lt}
 use Rattle.std.specs.Result.{IsErrAnd}
 use Rattle.std.proofs.lemmas.Bool.{le-ltb, lt-ltb}
@@ -16,12 +16,12 @@ use Rattle.unl_upstream.specs.declared.refusal.KeepCommandRefusal.{KeepCommandRe
 use Rattle.unl_upstream.specs.declared.refusal.KeepCommandRefusal.TheVariants.{NoSuchEnvironment, NoSuchFeature, NoSuchSegment, TooMany, KeeperFull, KeeperFault, Memory}
 use Rattle.unl_upstream.specs.Command.{command_in}
 use Rattle.unl_upstream.specs.History.{accepted, after_commands, if_accepted, up_after}
-use Rattle.unl_upstream.specs.Kept.{Acknowledges, AreLeft, Carries, FailsToKeep, HasKept, IsFailed, IsLeft, IsWritten, KeeperState, Keeps, KeepsAll, KeptState, LeadTo, LeavesOne, Moves, Puts, Tried, acknowledged, commands_in, failed_after, faults_among, if_kept, keepable, kept_commands, kept_rows, most_rows, past_rows, with_room}
+use Rattle.unl_upstream.specs.Kept.{Acknowledges, AreLeft, Carries, FailsToKeep, HasKept, HoldsOn, IsFailed, IsLeft, IsWritten, KeeperState, Keeps, KeepsAll, KeepsSome, KeptState, LeadTo, LeavesOne, Moves, Puts, Tried, acknowledged, commands_in, failed_after, faults_among, if_kept, keepable, kept_commands, kept_rows, most_rows, past_rows, with_room}
 use Rattle.unl_upstream.specs.Upstream.{Obeyed, Obeying, Prepared, UpstreamState, commanded, committed, prepared, refused_as}
 use Rattle.unl_upstream.specs.Writing.{command_text}
 use Rattle.unl_upstream.proofs.Leading.{command_one, commands_both, lead_more}
 use Rattle.unl_upstream.proofs.Served.{after_both}
-use Rattle.unl_upstream.proofs.Standing.{accepted_both}
+use Rattle.unl_upstream.proofs.Standing.{accepted_both, are_added}
 
 -- ---- what was ready
 
@@ -204,28 +204,36 @@ has_failed text before after has row = by_rows row.rows
 
 -- ---- what changed
 
+-- commands that were acknowledged and accepted changed the upstream alone, and are counted
+moves_by : (tried : List Tried) (before after : KeptState) → after.up ≡ after_commands (acknowledged tried) before.up
+    → accepted (acknowledged tried) before.up ≡ acknowledged tried → after.keeper.count ≡ before.keeper.count + length (acknowledged tried)
+    → Moves tried before after
+moves_by tried before after leads all counted = record {
+  leads = leads;
+  all_accepted = all;
+  versions = are_added (acknowledged tried) before.up after.up leads all;
+  counted = counted;
+}
+
 moves_same : (one : Tried) → acknowledged (one ∷ []) ≡ [] → (before after : KeptState) → after ≡ before → Moves (one ∷ []) before after
 moves_same one none before after same =
     let zero_more : length (acknowledged (one ∷ [])) ≡ 0 = ap (λ (cs : List Command). length cs) none in
-    subst (λ (s : KeptState). Moves (one ∷ []) before s) (sym same) (record {
-      leads = ap (λ (cs : List Command). after_commands cs before.up) (sym none);
-      all_accepted = ap (λ (cs : List Command). accepted cs before.up) none ∙ sym none;
-      counted = omega (arith, zero_more);
-    })
+    subst (λ (s : KeptState). Moves (one ∷ []) before s) (sym same)
+    (moves_by (one ∷ []) before before (ap (λ (cs : List Command). after_commands cs before.up) (sym none))
+    (ap (λ (cs : List Command). accepted cs before.up) none ∙ sym none) (omega (arith, zero_more)))
 
 moves_written : (command : Command) (before : KeptState) (number : ℕ) (after : KeptState) → Acknowledges command before number after
     → Moves (record { command = command; result = Ok number } ∷ []) before after
 moves_written command before number after told =
     let accepts : commanded command before.up ≡ Ok (record { up = after.up; number = number }) =
-    accepted_kept command before (record { up = after.up; number = number }) told.obeyed in record {
-      leads = sym (ap (up_after before.up) accepts);
-      all_accepted = ap (λ (r : Obeying Obeyed). if_accepted command r []) accepts;
-      counted = told.row.counted;
-    }
+    accepted_kept command before (record { up = after.up; number = number }) told.obeyed in
+    moves_by (record { command = command; result = Ok number } ∷ []) before after (sym (ap (up_after before.up) accepts))
+    (ap (λ (r : Obeying Obeyed). if_accepted command r []) accepts) told.row.counted
 
 moves_failed : (command : Command) (before after : KeptState) → FailsToKeep command before after
     → Moves (record { command = command; result = Err KeeperFault } ∷ []) before after
-moves_failed command before after told = record { leads = told.up; all_accepted = refl; counted = told.row.counted ∙ omega arith }
+moves_failed command before after told =
+    moves_by (record { command = command; result = Err KeeperFault } ∷ []) before after told.up refl (told.row.counted ∙ omega arith)
 
 moves_one : (command : Command) (before : KeptState) (result : Result ℕ KeepCommandRefusal) (after : KeptState) → Keeps command before result after
     → Moves (record { command = command; result = result } ∷ []) before after
@@ -247,20 +255,19 @@ moves_more : (one : Tried) (others : List Tried) (before middle after : KeptStat
 moves_more one others before middle after first second =
     let both : acknowledged (one ∷ []) ++ acknowledged others ≡ acknowledged (one ∷ others) = if_kept_both one.command one.result (acknowledged others) in
     let lengths : length (acknowledged (one ∷ others)) ≡ length (acknowledged (one ∷ [])) + length (acknowledged others) =
-    sym (ap (λ (cs : List Command). length cs) both) ∙ length-append (acknowledged (one ∷ [])) (acknowledged others) in record {
-      leads = second.leads ∙ ap (after_commands (acknowledged others)) first.leads
-          ∙ sym (after_both (acknowledged (one ∷ [])) (acknowledged others) before.up) ∙ ap (λ (cs : List Command). after_commands cs before.up) both;
-      all_accepted = sym (ap (λ (cs : List Command). accepted cs before.up) both)
-          ∙ accepted_both (acknowledged (one ∷ [])) (acknowledged others) before.up
-          ∙ (λ i. first.all_accepted i ++ accepted (acknowledged others) (sym first.leads i))
-          ∙ ap (λ (cs : List Command). acknowledged (one ∷ []) ++ cs) second.all_accepted ∙ both;
-      counted = omega (arith, first.counted, second.counted, lengths);
-    }
+    sym (ap (λ (cs : List Command). length cs) both) ∙ length-append (acknowledged (one ∷ [])) (acknowledged others) in
+    moves_by (one ∷ others) before after
+    (second.leads ∙ ap (after_commands (acknowledged others)) first.leads
+    ∙ sym (after_both (acknowledged (one ∷ [])) (acknowledged others) before.up) ∙ ap (λ (cs : List Command). after_commands cs before.up) both)
+    (sym (ap (λ (cs : List Command). accepted cs before.up) both)
+    ∙ accepted_both (acknowledged (one ∷ [])) (acknowledged others) before.up
+    ∙ (λ i. first.all_accepted i ++ accepted (acknowledged others) (sym first.leads i))
+    ∙ ap (λ (cs : List Command). acknowledged (one ∷ []) ++ cs) second.all_accepted ∙ both)
+    (omega (arith, first.counted, second.counted, lengths))
 
 -- what keeping commands, one after another, changes
 pub moves_all : (tried : List Tried) (before after : KeptState) → KeepsAll tried before after → Moves tried before after
-moves_all [] before after keeps =
-    subst (λ (s : KeptState). Moves [] before s) (sym keeps) (record { leads = refl; all_accepted = refl; counted = omega arith })
+moves_all [] before after keeps = subst (λ (s : KeptState). Moves [] before s) (sym keeps) (moves_by [] before before refl refl (omega arith))
 moves_all (one ∷ others) before after keeps =
     moves_more one others before keeps.0 after (moves_one one.command before one.result keeps.0 keeps.1) (moves_all others keeps.0 after keeps.2)
 
@@ -393,13 +400,11 @@ has_one command before (Err Memory) after has keeps = has_same before after has 
 
 -- ---- one after another
 
-joined : (one : Tried) (others : List Tried) (o : Option (List Command))
-    → option_map (λ commands. commands ++ acknowledged others) (option_map (λ commands. commands ++ acknowledged (one ∷ [])) o)
-    ≡ option_map (λ commands. commands ++ acknowledged (one ∷ others)) o
-joined one others None = refl
-joined one others (Some commands) =
-    ap Some (append_assoc commands (acknowledged (one ∷ [])) (acknowledged others)
-    ∙ ap (λ (cs : List Command). commands ++ cs) (if_kept_both one.command one.result (acknowledged others)))
+-- commands behind others
+pub both_behind : (first second : List Command) (o : Option (List Command))
+    → option_map (λ commands. commands ++ second) (option_map (λ commands. commands ++ first) o) ≡ option_map (λ commands. commands ++ (first ++ second)) o
+both_behind first second None = refl
+both_behind first second (Some commands) = ap Some (append_assoc commands first second)
 
 carries_more : (one : Tried) (others : List Tried) (before middle after : KeptState) → Carries (one ∷ []) before middle → Carries others middle after
     → Carries (one ∷ others) before after
@@ -407,7 +412,9 @@ carries_more one others before middle after first second = record {
   stands = λ opening holds. second.stands opening (first.stands opening holds);
   moves = moves_more one others before middle after first.moves second.moves;
   appended = second.appended ∙ ap (option_map (λ commands. commands ++ acknowledged others)) first.appended
-      ∙ joined one others (kept_commands before.keeper);
+      ∙ both_behind (acknowledged (one ∷ [])) (acknowledged others) (kept_commands before.keeper)
+      ∙ ap (λ (cs : List Command). option_map (λ commands. commands ++ cs) (kept_commands before.keeper))
+      (if_kept_both one.command one.result (acknowledged others));
   left = λ failed left. second.left (failed_after failed (one ∷ [])) (first.left failed left);
   faults = omega (arith, first.faults, second.faults);
 }
@@ -416,7 +423,7 @@ carries_nothing : (before after : KeptState) → after ≡ before → Carries []
 carries_nothing before after same =
     subst (λ (s : KeptState). Carries [] before s) (sym same) (record {
       stands = λ opening holds. holds;
-      moves = record { leads = refl; all_accepted = refl; counted = omega arith };
+      moves = moves_by [] before before refl refl (omega arith);
       appended = sym (append_none (kept_commands before.keeper));
       left = λ failed left. left;
       faults = omega arith;
@@ -434,3 +441,37 @@ pub keeps_both : (first second : List Tried) (before middle after : KeptState) �
     → KeepsAll (first ++ second) before after
 keeps_both [] second before middle after one two = subst (λ (s : KeptState). KeepsAll second s after) one two
 keeps_both (t ∷ first) second before middle after one two = (one.0, one.1, keeps_both first second one.0 middle after one.2 two)
+
+-- what was acknowledged of some and then of others
+pub acknowledged_both : (first second : List Tried) → acknowledged (first ++ second) ≡ acknowledged first ++ acknowledged second
+acknowledged_both [] second = refl
+acknowledged_both (one ∷ first) second = decided one.result (acknowledged_both first second)
+  where
+    decided : (r : Result ℕ KeepCommandRefusal) → acknowledged (first ++ second) ≡ acknowledged first ++ acknowledged second
+        → if_kept one.command r (acknowledged (first ++ second)) ≡ if_kept one.command r (acknowledged first) ++ acknowledged second
+    decided (Ok number) others = ap (λ (cs : List Command). one.command ∷ cs) others
+    decided (Err refusal) others = others
+
+-- at how many of both the keeper failed
+pub faults_both : (first second : List Tried) → faults_among (first ++ second) ≡ faults_among first + faults_among second
+faults_both [] second = omega arith
+faults_both (one ∷ first) second = let others : faults_among (first ++ second) ≡ faults_among first + faults_among second = faults_both first second in omega (arith, others)
+
+-- ---- whatever was to be kept
+
+-- what some kept commands lead to leads on
+pub keeps_more : (start before after : KeptState) (tried : List Tried) → KeepsSome start before → KeepsAll tried before after → KeepsSome start after
+keeps_more start before after tried led keeps =
+    record { tried = led.tried ++ tried; keeps = keeps_both led.tried tried start before after led.keeps keeps }
+
+pub holds_on : (before after : KeptState) → HasKept before.keeper → KeepsSome before after → HoldsOn before after
+holds_on before after has some = record { some = some; carries = carries_all some.tried before after has some.keeps }
+
+-- nothing was
+pub holds_still : (state : KeptState) → HasKept state.keeper → HoldsOn state state
+holds_still state has = holds_on state state has (record { tried = []; keeps = refl })
+
+-- the same where this stands last
+pub holds_same : (before after : KeptState) (up : UpstreamState) (keeper : KeeperState) → HoldsOn before after → after.up ≡ up → after.keeper ≡ keeper
+    → HoldsOn before (record { up = up; keeper = keeper })
+holds_same before after up keeper holds first second = subst (HoldsOn before) (λ i. record { up = first i; keeper = second i }) holds

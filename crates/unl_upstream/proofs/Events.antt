@@ -1,17 +1,17 @@
 -- The events that commands come to, and the histories that these make.
 use Rattle.std.proofs.Common.{◌≡◌, ℕ, ◌<◌, ◌≤◌, ◌+◌, List, [], ◌∷◌, ◌++◌, length, Bool, true, false, cond, Option, Some, None, Ok, Err, ap, refl, sym, subst, ◌∙◌, arith, length-append, inl}
-use Rattle.std.specs.Prelude.{◌==◌, ◌||◌, nat_lt, ok_or}
+use Rattle.std.specs.Prelude.{◌==◌, ◌||◌, filter, nat_lt, ok_or}
 use Rattle.std.specs.List.{AllByRecursion as Every}
 use Rattle.unl_delta.specs.declared.event.Event.{Event}
 use Rattle.unl_delta.specs.declared.event.Event.TheVariants.{Hydration, FeatureUpdated, FeatureRemoved, SegmentUpdated, SegmentRemoved}
 use Rattle.unl_delta.specs.declared.version.EnvVersion.{EnvVersion}
 use Rattle.unl_delta.specs.Batch.{empty_at, go_on}
-use Rattle.unl_delta.specs.History.{IsHistory, IsTrueOf, StandsFor, everything}
+use Rattle.unl_delta.specs.History.{IsHistory, IsTrueOf, StandsFor, everything, revision}
 use Rattle.unl_delta.specs.State.{empty_state, fold_events, is_change, later, number_of, project_of, step, up_to}
 use Rattle.unl_delta.specs.Valid.{NeverFall}
 use Rattle.unl_delta.proofs.Every.{every_weaker}
 use Rattle.unl_delta.proofs.Growth.{stands_after_one}
-use Rattle.unl_delta.proofs.Numbers.{later_all, never_fall_lower}
+use Rattle.unl_delta.proofs.Numbers.{never_fall_lower, up_to_all}
 use Rattle.unl_documents.specs.declared.feature.Feature.{Feature}
 use Rattle.unl_documents.specs.declared.segment.Segment.{Segment}
 use Rattle.unl_documents.specs.declared.state.State.{State}
@@ -130,22 +130,28 @@ one_more n s (d ∷ ds) c =
     ap (λ (es : List Event). e ∷ es) (one_more (n + 1) (step e s) ds c
     ∙ ap (λ (m : ℕ). events_from (n + 1) (step e s) ds ++ event_at m (fold_events (events_from (n + 1) (step e s) ds) (step e s)) c ∷ []) (omega arith))
 
-folded : (es : List Event) (e : Event) (s : State) → fold_events (es ++ e ∷ []) s ≡ step e (fold_events es s)
-folded [] e s = refl
-folded (x ∷ xs) e s = folded xs e (step x s)
+-- ---- a version that stands for the history of accepted commands
 
--- ---- a version that follows accepted commands
-
-pub record Follows (epoch : ℕ) (commands : List Command) (v : EnvVersion) : Type 0 where
-  pub history : IsHistoryOf epoch commands v
-  pub state : v.state ≡ fold_events (history_of commands) empty_state
-
-pub nothing_follows : (epoch : ℕ) → Follows epoch [] (empty_at epoch)
+pub nothing_stands : (epoch : ℕ) → IsHistoryOf epoch [] (empty_at epoch)
 unfolding later up_to
-nothing_follows epoch = record {
-  history = record { era = refl; stands = record { moment = inl refl; state = refl; base = omega arith; entries = refl }; number = refl };
-  state = refl;
-}
+nothing_stands epoch = record { era = refl; stands = record { moment = inl refl; state = refl; base = omega arith; entries = refl }; number = refl }
+
+-- its number is that of the last of them
+none_later : (epoch : ℕ) (commands : List Command) (v : EnvVersion) → IsHistoryOf epoch commands v → Every (λ x. number_of x ≤ v.number) (history_of commands)
+none_later epoch commands v is =
+    subst (λ (n : ℕ). Every (λ (x : Event). number_of x ≤ n) (history_of commands)) (omega (arith, is.number)) (numbers_within 0 empty_state commands)
+
+all_seen : (features : List Feature) → filter (λ feature. everything feature.project) features ≡ features
+all_seen [] = refl
+all_seen (feature ∷ features) = ap (λ (fs : List Feature). feature ∷ fs) (all_seen features)
+
+-- its state is the one that they lead to
+state_is : (epoch : ℕ) (commands : List Command) (v : EnvVersion) → IsHistoryOf epoch commands v → v.state ≡ fold_events (history_of commands) empty_state
+state_is epoch commands v is =
+    let whole : State = revision (history_of commands) v.number in
+    is.stands.state
+    ∙ ap (λ (fs : List Feature). record { features = fs; segments = whole.segments }) (all_seen whole.features)
+    ∙ ap (λ (es : List Event). fold_events es empty_state) (up_to_all number_of v.number (history_of commands) (none_later epoch commands v is))
 
 goes_on : (v : EnvVersion) (e : Event) → is_change e ≡ true → version_after v e ≡ go_on v (e ∷ [])
 goes_on v (Hydration n state) change = absurd cc
@@ -154,22 +160,21 @@ goes_on v (FeatureRemoved n name project) change = refl
 goes_on v (SegmentUpdated n segment) change = refl
 goes_on v (SegmentRemoved n id) change = refl
 
-pub one_follows : (epoch : ℕ) (commands : List Command) (c : Command) (v : EnvVersion) (e : Event) → Follows epoch commands v → event_of c v ≡ Ok e → Follows epoch (commands ++ c ∷ []) (version_after v e)
-one_follows epoch commands c v e follows told =
+pub one_stands : (epoch : ℕ) (commands : List Command) (c : Command) (v : EnvVersion) (e : Event) → IsHistoryOf epoch commands v → event_of c v ≡ Ok e
+    → IsHistoryOf epoch (commands ++ c ∷ []) (version_after v e)
+one_stands epoch commands c v e is told =
     let comes : ComesTo v c e = comes_to c v e told in
-    let count : v.number ≡ length commands = follows.history.number in
+    let count : v.number ≡ length commands = is.number in
     let grown : history_of (commands ++ c ∷ []) ≡ history_of commands ++ e ∷ [] =
     one_more 0 empty_state commands c ∙ ap (λ (x : Event). history_of commands ++ x ∷ []) (
     ap (λ (n : ℕ). event_at n (fold_events (history_of commands) empty_state) c) (omega arith)
-    ∙ ap (λ (s : State). event_at (v.number + 1) s c) (sym follows.state) ∙ sym comes.is) in
+    ∙ ap (λ (s : State). event_at (v.number + 1) s c) (sym (state_is epoch commands v is)) ∙ sym comes.is) in
     let news : v.number < number_of e = omega (arith, comes.number) in
     let whole : IsHistory (history_of commands ++ e ∷ []) = subst IsHistory grown (is_history (commands ++ c ∷ [])) in
-    let old : Every (λ x. number_of x ≤ v.number) (history_of commands) = subst (λ (n : ℕ). Every (λ (x : Event). number_of x ≤ n) (history_of commands)) (omega arith) (numbers_within 0 empty_state commands) in
-    let stands : StandsFor (history_of commands ++ e ∷ []) everything (go_on v (e ∷ [])) = stands_after_one (history_of commands) v e whole follows.history.stands old news comes.is_true in
-    let state : (go_on v (e ∷ [])).state ≡ fold_events (history_of commands ++ e ∷ []) empty_state =
-    ap (λ (es : List Event). fold_events es v.state) (later_all number_of v.number (e ∷ []) (news, tt)) ∙ ap (step e) follows.state ∙ sym (folded (history_of commands) e empty_state) in
-    let number : (go_on v (e ∷ [])).number ≡ length (commands ++ c ∷ []) = comes.number ∙ omega (arith, length-append commands (c ∷ [])) in
-    subst (Follows epoch (commands ++ c ∷ [])) (sym (goes_on v e comes.change)) (record {
-      history = record { era = follows.history.era; stands = subst (λ (h : List Event). StandsFor h everything (go_on v (e ∷ []))) (sym grown) stands; number = number };
-      state = state ∙ ap (λ (h : List Event). fold_events h empty_state) (sym grown);
+    let stands : StandsFor (history_of commands ++ e ∷ []) everything (go_on v (e ∷ [])) =
+    stands_after_one (history_of commands) v e whole is.stands (none_later epoch commands v is) news comes.is_true in
+    subst (IsHistoryOf epoch (commands ++ c ∷ [])) (sym (goes_on v e comes.change)) (record {
+      era = is.era;
+      stands = subst (λ (h : List Event). StandsFor h everything (go_on v (e ∷ []))) (sym grown) stands;
+      number = comes.number ∙ omega (arith, length-append commands (c ∷ []));
     })

@@ -1,85 +1,61 @@
 -- What links hand on, by the commands that were kept and by how many draws are gone.
-use Rattle.std.proofs.Common.{◌≡◌, ℕ, ◌+◌, ◌⊎◌, inl, inr, List, [], ◌∷◌, ◌++◌, length, length-append, Some, refl, sym, ap, ◌∙◌, subst, arith}
+use Rattle.std.proofs.Common.{◌≡◌, ℕ, ◌+◌, List, [], ◌∷◌, ◌++◌, length, length-append, append_assoc, append-nil, refl, sym, ap, ◌∙◌, subst, arith}
 use Rattle.unl_exchange.specs.Answering.{Coming}
-use Rattle.unl_exchange.proofs.AskedLemmas.{Asks, asks}
-use Rattle.unl_http_api.specs.declared.end.End.TheVariants as ends
-use Rattle.unl_http_api.specs.declared.request.Request.{Request}
 use Rattle.unl_upstream.specs.declared.command.Command.{Command}
 use Rattle.unl_upstream.specs.History.{after_commands}
-use Rattle.unl_upstream.specs.Kept.{KeptState, Moves, Tried, acknowledged}
+use Rattle.unl_upstream.specs.Kept.{KeepsAll, KeptState, Moves, Tried, acknowledged, faults_among}
 use Rattle.unl_upstream.specs.KeptHosting.{IsNamed, KeptLinksNameCommands, LinkNames, LinkServed, Linked, LinksName}
-use Rattle.unl_upstream.specs.KeptServing.{Gives, KeptServing, Lacks, Step, serving, tried_in}
+use Rattle.unl_upstream.specs.KeptServing.{Gives, NoKeeperFault, serving, tried_in}
 use Rattle.unl_upstream.specs.Linked.{draws_after}
 use Rattle.unl_upstream.specs.Upstream.{UpstreamState}
-use Rattle.unl_upstream.proofs.Asked.{answered_counts, answered_draws, draws_both, draws_one}
-use Rattle.unl_upstream.proofs.Carrying.{moves_all}
-use Rattle.unl_upstream.proofs.KeptServed.{keeps_in}
+use Rattle.unl_upstream.proofs.Asked.{Took, draws_both, took}
+use Rattle.unl_upstream.proofs.Carrying.{acknowledged_both, faults_both, keeps_both, moves_all}
+use Rattle.unl_upstream.proofs.KeptServed.{calm_in, keeps_in}
 use Rattle.unl_upstream.proofs.Served.{after_both}
 
 -- ---- one link
 
+-- a link is named by the commands of these that were kept; where the keeper failed at none of them, no reply is 503 `KeeperFault`
+record NamesCalmly
+    (before : KeptState) (coming : Coming) (bytes : List ℕ) (back : List ℕ × ℕ) (tried : List Tried) (taken : ℕ) (after : KeptState)
+    (coming_after : Coming) : Type 0 where
+  pub names : LinkNames before coming bytes back (acknowledged tried) taken after coming_after
+  pub calm : faults_among tried ≡ 0 → NoKeeperFault 0 (serving before 0 coming) names.requests names.text names.reached names.answered
+
 -- a link has such names
 record HasNames (before : KeptState) (coming : Coming) (bytes : List ℕ) (back : List ℕ × ℕ) (after : KeptState) (coming_after : Coming) : Type 0 where
-  pub commands : List Command
+  pub tried : List Tried
+  pub keeps : KeepsAll tried before after
   pub taken : ℕ
-  pub names : LinkNames before coming bytes back commands taken after coming_after
-  pub leads : after.up ≡ after_commands commands before.up
-  pub counted : after.keeper.count ≡ before.keeper.count + length commands
+  pub named : NamesCalmly before coming bytes back tried taken after coming_after
   pub draws : coming_after ≡ draws_after taken coming
 
 link_names : (before : KeptState) (coming : Coming) (bytes : List ℕ) (back : List ℕ × ℕ) (after : KeptState) (coming_after : Coming)
     → LinkServed before coming bytes back after coming_after → HasNames before coming bytes back after coming_after
-link_names before coming bytes back after coming_after served = by_next asked.next
-  where
-    asked : Asks Step Lacks bytes (serving before 0 coming) served.end (serving after served.count coming_after)
-    asked = asks bytes (serving before 0 coming) (serving after served.count coming_after) served.end (Some []) served.left_after (Some back.0) 0 back.1
-        served.conversation served.memory
-
-    tried : List Tried
-    tried = tried_in 0 (serving before 0 coming) asked.requests asked.text asked.reached asked.answered
-
-    moves : Moves tried before asked.reached.state
-    moves = moves_all tried before asked.reached.state (keeps_in 0 asked.requests asked.text (serving before 0 coming) asked.reached asked.answered)
-
-    counts : asked.reached.count ≡ 0 + length asked.requests
-    counts = answered_counts Gives 0 asked.requests asked.text (serving before 0 coming) asked.reached asked.answered
-
-    draws : asked.reached.coming ≡ draws_after (length asked.requests) coming
-    draws = answered_draws Gives 0 asked.requests asked.text (serving before 0 coming) asked.reached asked.answered
-
-    named : (taken : ℕ) → after ≡ asked.reached.state → served.count ≡ asked.reached.count → coming_after ≡ draws_after taken coming
-        → (taken ≡ served.count) ⊎ ((served.end ≡ ends.Memory) × (taken ≡ served.count + 1)) → HasNames before coming bytes back after coming_after
-    named taken state notes come takes = record {
-      commands = acknowledged tried;
-      taken = taken;
-      names = record {
-        served = served;
-        requests = asked.requests;
-        rest = asked.rest;
-        asked = asked.reads;
-        counted = omega (arith, notes, counts);
-        text = asked.text;
-        reached = asked.reached;
-        answered = asked.answered;
-        gives = refl;
-        takes = takes;
+link_names before coming bytes back after coming_after served =
+    let one : Took Gives bytes before coming served.end served.count after coming_after =
+    took Gives bytes back before coming served.end served.count after coming_after served.left_after served.conversation served.memory in
+    let tried : List Tried = tried_in 0 (serving before 0 coming) one.requests one.text one.reached one.answered in record {
+      tried = tried;
+      keeps = subst (KeepsAll tried before) (sym one.state) (keeps_in 0 one.requests one.text (serving before 0 coming) one.reached one.answered);
+      taken = one.taken;
+      named = record {
+        names = record {
+          served = served;
+          requests = one.requests;
+          rest = one.rest;
+          asked = one.reads;
+          counted = one.counted;
+          text = one.text;
+          reached = one.reached;
+          answered = one.answered;
+          gives = refl;
+          takes = one.takes;
+        };
+        calm = calm_in 0 one.requests one.text (serving before 0 coming) one.reached one.answered;
       };
-      leads = ap (λ (s : KeptState). s.up) state ∙ moves.leads;
-      counted = ap (λ (s : KeptState). s.keeper.count) state ∙ moves.counted;
-      draws = come;
+      draws = one.draws;
     }
-
-    by_next : (serving after served.count coming_after ≡ asked.reached)
-        ⊎ ((served.end ≡ ends.Memory) × (request : Request) × Lacks asked.reached request (serving after served.count coming_after))
-        → HasNames before coming bytes back after coming_after
-    by_next (inl same) =
-        let notes : served.count ≡ asked.reached.count = ap (λ (s : KeptServing). s.count) same in
-        named (length asked.requests) (ap (λ (s : KeptServing). s.state) same) notes (ap (λ (s : KeptServing). s.coming) same ∙ draws) (inl (omega (arith, notes, counts)))
-    by_next (inr lacks) =
-        let notes : served.count ≡ asked.reached.count = lacks.2.counted in
-        named (length asked.requests + 1) lacks.2.given_up notes
-        (draws_one asked.reached.coming lacks.2.draw coming_after lacks.2.taken ∙ ap (draws_after 1) draws ∙ draws_both 1 (length asked.requests) coming)
-        (inr (lacks.0, omega (arith, notes, counts)))
 
 -- ---- links one after another
 
@@ -92,6 +68,10 @@ links_name [] [] start reopened coming commands gone state last coming_last name
   linked = (refl, refl, linked.0);
   named = subst (IsNamed start reopened commands) (sym linked.0) named;
   draws = linked.1;
+  tried = [];
+  keeps = linked.0;
+  adds = sym (append-nil commands);
+  calm = λ none. tt;
 }
 links_name [] (back ∷ backs) start reopened coming commands gone state last coming_last named linked = absurd linked
 links_name (bytes ∷ links) [] start reopened coming commands gone state last coming_last named linked = absurd linked
@@ -99,28 +79,31 @@ links_name (bytes ∷ links) (back ∷ backs) start reopened coming commands gon
     let middle : KeptState = linked.0 in
     let one : HasNames state (draws_after gone coming) bytes back middle linked.1 =
     link_names state (draws_after gone coming) bytes back middle linked.1 linked.2 in
-    let longer : length (commands ++ one.commands) ≡ length commands + length one.commands = length-append commands one.commands in
-    let next : IsNamed start reopened (commands ++ one.commands) middle = record {
-      up = one.leads ∙ ap (after_commands one.commands) named.up ∙ sym (after_both commands one.commands start);
-      count = omega (arith, one.counted, named.count, longer);
+    let more : List Command = acknowledged one.tried in
+    let moves : Moves one.tried state middle = moves_all one.tried state middle one.keeps in
+    let longer : length (commands ++ more) ≡ length commands + length more = length-append commands more in
+    let next : IsNamed start reopened (commands ++ more) middle = record {
+      up = moves.leads ∙ ap (after_commands more) named.up ∙ sym (after_both commands more start);
+      count = omega (arith, moves.counted, named.count, longer);
     } in
     let draws : linked.1 ≡ draws_after (gone + one.taken) coming = one.draws ∙ draws_both one.taken gone coming in
-    let others : LinksName start reopened coming (commands ++ one.commands) (gone + one.taken) middle links backs last coming_last =
-    links_name links backs start reopened coming (commands ++ one.commands) (gone + one.taken) middle last coming_last next
+    let first : NamesCalmly state (draws_after gone coming) bytes back one.tried one.taken middle (draws_after (gone + one.taken) coming) =
+    subst (λ (c : Coming). NamesCalmly state (draws_after gone coming) bytes back one.tried one.taken middle c) draws one.named in
+    let others : LinksName start reopened coming (commands ++ more) (gone + one.taken) middle links backs last coming_last =
+    links_name links backs start reopened coming (commands ++ more) (gone + one.taken) middle last coming_last next
     (subst (λ (c : Coming). Linked middle c links backs last coming_last) draws linked.3) in
+    let faults : faults_among (one.tried ++ others.tried) ≡ faults_among one.tried + faults_among others.tried = faults_both one.tried others.tried in
     record {
       commands_after = others.commands_after;
       gone_after = others.gone_after;
-      linked = (
-        one.commands,
-        one.taken,
-        middle,
-        subst (λ (c : Coming). LinkNames state (draws_after gone coming) bytes back one.commands one.taken middle c) draws one.names,
-        next,
-        others.linked,
-      );
+      linked = (more, one.taken, middle, first.names, next, others.linked);
       named = others.named;
       draws = others.draws;
+      tried = one.tried ++ others.tried;
+      keeps = keeps_both one.tried others.tried state middle last one.keeps others.keeps;
+      adds = others.adds ∙ append_assoc commands more (acknowledged others.tried)
+          ∙ ap (λ (cs : List Command). commands ++ cs) (sym (acknowledged_both one.tried others.tried));
+      calm = λ none. (first.calm (omega (arith, none, faults)), others.calm (omega (arith, none, faults)));
     }
 
 pub links_are_named : KeptLinksNameCommands

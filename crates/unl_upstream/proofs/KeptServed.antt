@@ -10,7 +10,6 @@ use Rattle.unl_http_api.specs.declared.end.End.TheVariants as ends
 use Rattle.unl_http_api.specs.declared.reply.Reply.{Reply}
 use Rattle.unl_http_api.specs.declared.request.Request.{Request}
 use Rattle.http.specs.StatusCode.{IsStatusCode}
-use Rattle.unl_keeper.specs.declared.refusal.KeepRefusal.{KeepRefusal}
 use Rattle.unl_keeper.specs.declared.refusal.KeepRefusal.TheVariants as fault
 use Rattle.unl_documents.specs.declared.memory.Memory.{Memory as Wanting}
 use Rattle.unl_upstream.specs.declared.command.Command.{Command}
@@ -19,14 +18,14 @@ use Rattle.unl_upstream.specs.declared.refusal.KeepCommandRefusal.{KeepCommandRe
 use Rattle.unl_upstream.specs.declared.refusal.KeepCommandRefusal.TheVariants.{KeeperFault, Memory}
 use Rattle.unl_upstream.specs.Answer.{done, numbered, order_of, refused, upstream_answer}
 use Rattle.unl_upstream.specs.Command.{command_in}
-use Rattle.unl_upstream.specs.Kept.{HasKept, KeepsAll, KeptState, Puts, Tried, keepable, with_room}
-use Rattle.unl_upstream.specs.KeptServing.{CarriesAnswer, Gives, GivesUp, KeepsOn, KeptServing, Lacks, RepliesTo, Step, Tells, kept_reply, tried_in, tried_of}
+use Rattle.unl_upstream.specs.Kept.{HasKept, KeepsAll, KeptState, Puts, Tried, faults_among, keepable, with_room}
+use Rattle.unl_upstream.specs.KeptServing.{CarriesAnswer, Gives, GivesUp, KeepsOn, KeptServing, Lacks, NoKeeperFault, RepliesTo, Step, Tells, tried_in, tried_of}
 use Rattle.unl_upstream.specs.Requests.{command_given}
 use Rattle.unl_upstream.specs.Upstream.{Prepared, prepared}
 use Rattle.unl_upstream.specs.Writing.{command_text}
 use Rattle.unl_upstream.proofs.Given.{order_has, ordered}
-use Rattle.unl_upstream.proofs.Carrying.{carries_all, kept_so, refuses_so}
-use Rattle.unl_upstream.proofs.Statuses.{answered_status, refused_status}
+use Rattle.unl_upstream.proofs.Carrying.{carries_all, faults_both, kept_so, refuses_so}
+use Rattle.unl_upstream.proofs.Statuses.{answered_calmly, answered_status, kept_calmly, kept_status}
 
 -- ---- what is seen of the parts that answer
 
@@ -84,6 +83,25 @@ keeps_in count (q ∷ qs) text before after (reply, middle, more, step, split, r
     keeps_first (command_given before.state.up.secret q) before.state middle.state after.state q step.draw reply (tried_in (count + 1) middle qs more after rest)
     step.given (keeps_in (count + 1) qs more middle after rest)
 
+-- a reply isn't 503 `KeeperFault`, unless the keeper failed at the command of its request
+tells_calm : (given : Option Command) (before after : KeptState) (q : Request) (draw : Draw) (reply : Reply) (tells : Tells given before q draw reply after)
+    → faults_among (tried_of given before q draw reply after tells) ≡ 0 → reply ≢ refused KeeperFault
+tells_calm None before after q draw reply tells none = answered_calmly reply before.up before.up q draw tells.1
+tells_calm (Some command) before after q draw reply tells none = λ is. kept_calmly tells.result (omega (arith, none)) (sym tells.is ∙ is)
+
+-- so none is where it failed at none of them
+pub calm_in : (count : ℕ) (qs : List Request) (text : List ℕ) (before after : KeptServing) (answered : AnsweredAll Step count before qs text after)
+    → faults_among (tried_in count before qs text after answered) ≡ 0 → NoKeeperFault count before qs text after answered
+calm_in count [] text before after answered none = tt
+calm_in count (q ∷ qs) text before after (reply, middle, more, step, split, rest) none =
+    let given : Option Command = command_given before.state.up.secret q in
+    let first : List Tried = tried_of given before.state q step.draw reply middle.state step.given in
+    let others : List Tried = tried_in (count + 1) middle qs more after rest in
+    let both : faults_among (first ++ others) ≡ faults_among first + faults_among others = faults_both first others in (
+      tells_calm given before.state middle.state q step.draw reply step.given (omega (arith, none, both)),
+      calm_in (count + 1) qs more middle after rest (omega (arith, none, both)),
+    )
+
 -- so many requests were answered, and what was to be kept of them is all that changed the upstream and its keeper
 pub keeps_on : (before after : KeptServing) (end : End) (count : ℕ) → HasKept before.state.keeper → Reaches Step Lacks before end after count
     → KeepsOn before end count after
@@ -96,6 +114,7 @@ keeps_on before after end count has reaches =
       are = refl;
       keeps = keeps;
       carries = carries_all tried before.state after.state has keeps;
+      calm = calm_in 0 reaches.requests reaches.text before reaches.reached reaches.answered;
     }
   where
     by_next : (after ≡ reaches.reached) ⊎ ((end ≡ ends.Memory) × (request : Request) × Lacks reaches.reached request after) → after.state ≡ reaches.reached.state
@@ -172,16 +191,15 @@ keeps_given (Some command) before after q draw reply tells = (after, tells.keeps
 
 pub carries_answer : (before after : KeptState) (q : Request) (draw : Draw) (reply : Reply) → HasKept before.keeper → Gives before q draw reply after
     → CarriesAnswer before q draw reply after
-carries_answer before after q draw reply has gives = record {
-  gives = gives;
-  carries = carries_all (tried_of (command_given before.up.secret q) before q draw reply after gives) before after has
-      (keeps_given (command_given before.up.secret q) before after q draw reply gives);
-}
-
--- the replies to commands have a status of HTTP
-kept_status : (result : Result ℕ KeepCommandRefusal) → IsStatusCode (kept_reply result).status
-kept_status (Ok number) = omega arith
-kept_status (Err refusal) = refused_status refusal
+carries_answer before after q draw reply has gives =
+    let given : Option Command = command_given before.up.secret q in
+    let tried : List Tried = tried_of given before q draw reply after gives in record {
+      gives = gives;
+      tried = tried;
+      are = refl;
+      carries = carries_all tried before after has (keeps_given given before after q draw reply gives);
+      calm = tells_calm given before after q draw reply gives;
+    }
 
 tells_status : (given : Option Command) (before after : KeptState) (q : Request) (draw : Draw) (reply : Reply) → Tells given before q draw reply after
     → IsStatusCode reply.status

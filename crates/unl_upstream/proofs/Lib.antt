@@ -16,5 +16,4 @@ pub mod Elsewhere
 pub mod Carrying
 pub mod Reopened
 pub mod KeptServed
-pub mod KeptLinking
 pub mod KeptNaming

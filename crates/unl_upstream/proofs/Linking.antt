@@ -1,18 +1,21 @@
 -- A link that was served, as it comes back to a door that tells its links.
-use Rattle.std.proofs.Common.{ℕ, List, [], Option, Some, Result, Ok, Err, refl, subst}
+use Rattle.std.proofs.Common.{ℕ, zero, suc, List, [], Option, Some, Result, Ok, Err, refl, ap, subst}
 use Rattle.unl_base.specs.declared.Failed.{Failed}
+use Rattle.unl_exchange.specs.Answering.{Answerer, Coming, answerer}
 use Rattle.unl_exchange.specs.Conversation.{Concludes, GivesUp}
-use Rattle.unl_exchange.specs.Hosting.{Hosting as Served, HostsAll as HostsServed}
-use Rattle.unl_exchange.specs.Linked.{linking}
+use Rattle.unl_exchange.specs.Hosting.{Hosting as Served, Hosts as HostsServed, HostsAll as HostsAllServed, HostsLink, hosting}
+use Rattle.unl_exchange.specs.Linked.{HandsBack, linking}
+use Rattle.unl_exchange.specs.Links.{LinkState}
 use Rattle.unl_exchange.proofs.HostingLemmas.{Tells, hands_back, sent_told}
-use Rattle.unl_http_api.specs.declared.end.End.TheVariants as ends
-use Rattle.unl_upstream.specs.Hosting.{HostsAll, LinkServed}
-use Rattle.unl_upstream.specs.Serving.{Lacks, ServesLink, Step, serving}
-use Rattle.unl_upstream.specs.Upstream.{UpstreamState}
+use Rattle.unl_http_api.specs.declared.end.End.{End}
+use Rattle.unl_http_api.specs.declared.reply.Reply.{Reply}
+use Rattle.unl_http_api.specs.declared.request.Request.{Request}
+use Rattle.unl_upstream.specs.Served.{HostsAllBy, LinkServedBy, ServesLinkBy}
 
--- what an upstream does on a link is told where the link is
-pub tells : Tells ServesLink LinkServed
-tells up coming bytes link_after up_after coming_after served =
+-- what is done on a link is told where the link is
+tells : {S : Type 0} (Step : Answerer S → Request → Reply → Answerer S → Type 0) (Lacks : Answerer S → Request → Answerer S → Type 0)
+    (Changes : Answerer S → End → ℕ → Answerer S → Type 0) → Tells (ServesLinkBy Step Lacks Changes) (LinkServedBy Step Lacks Changes)
+tells Step Lacks Changes before coming bytes link_after after coming_after served =
     let told = sent_told bytes link_after served.conversation in record {
       text = told.0;
       sent = told.1;
@@ -20,18 +23,57 @@ tells up coming bytes link_after up_after coming_after served =
         count = served.count;
         end = served.end;
         left_after = link_after.left;
-        conversation = subst (λ (sent : Option (List ℕ)). Concludes Step bytes (Some []) (serving up 0 coming) served.end
-            (serving up_after served.count coming_after) link_after.left sent) told.1 (served.conversation.session bytes refl);
-        memory = λ is. subst (λ (sent : Option (List ℕ)). GivesUp Step Lacks bytes (Some []) 0 (serving up 0 coming)
-            (serving up_after served.count coming_after) sent link_after.faults) told.1 (served.conversation.memory bytes refl is);
-        obeyed = served.obeyed;
+        conversation = subst (λ (sent : Option (List ℕ)). Concludes Step bytes (Some []) (answerer before 0 coming) served.end
+            (answerer after served.count coming_after) link_after.left sent) told.1 (served.conversation.session bytes refl);
+        memory = λ is. subst (λ (sent : Option (List ℕ)). GivesUp Step Lacks bytes (Some []) 0 (answerer before 0 coming)
+            (answerer after served.count coming_after) sent link_after.faults) told.1 (served.conversation.memory bytes refl is);
+        changes = served.changes;
         read_cause = served.conversation.read_cause;
         write_cause = served.conversation.write_cause;
       };
     }
 
+-- ---- what is seen of the parts that serve
+
+-- what serving a link by the parts does, by what is seen of them
+abbrev pub Over : {S T : Type 0} → (T → Coming → LinkState → LinkState → T → Coming → Type 0) → (S → T) → S → Coming → LinkState → LinkState → S → Coming → Type 0
+Over Serves seen server coming link link_after after coming_after = Serves (seen server) coming link link_after (seen after) coming_after
+
+abbrev pub seen_of : {S T : Type 0} → (S → T) → Served S → Served T
+seen_of seen h = hosting (seen h.server) h.coming h.door
+
+link_seen : {S T : Type 0} (Serves : T → Coming → LinkState → LinkState → T → Coming → Type 0) (seen : S → T) (before after : Served S)
+    → HostsLink (Over Serves seen) before after → HostsLink Serves (seen_of seen before) (seen_of seen after)
+link_seen Serves seen before after one = record {
+  link = one.link;
+  link_after = one.link_after;
+  closed = one.closed;
+  is_open = one.is_open;
+  fresh = one.fresh;
+  served = one.served;
+  door = one.door;
+}
+
+hosts_seen : {S T : Type 0} (Serves : T → Coming → LinkState → LinkState → T → Coming → Type 0) (seen : S → T) (n : ℕ) (before after : Served S)
+    → HostsServed (Over Serves seen) n before after → HostsServed Serves n (seen_of seen before) (seen_of seen after)
+hosts_seen Serves seen zero before after hosts = ap (seen_of seen) hosts
+hosts_seen Serves seen (suc n) before after hosts =
+    (seen_of seen hosts.0, hosts_seen Serves seen n before hosts.0 hosts.1, link_seen Serves seen hosts.0 after hosts.2)
+
 -- the links of a door were served, as far as it tells them
-pub hosts_told : (result : Result ℕ Failed) (before after : Served UpstreamState) → HostsServed ServesLink result before after
-    → HostsAll result (linking before.server before.coming before.door) (linking after.server after.coming after.door)
-hosts_told (Ok served) before after hosts = hands_back ServesLink LinkServed tells served before after hosts
-hosts_told (Err failed) before after hosts = (hosts.0, hands_back ServesLink LinkServed tells hosts.0 before after hosts.1)
+pub hosts_told : {S T : Type 0} (Step : Answerer T → Request → Reply → Answerer T → Type 0) (Lacks : Answerer T → Request → Answerer T → Type 0)
+    (Changes : Answerer T → End → ℕ → Answerer T → Type 0) (seen : S → T) (result : Result ℕ Failed) (before after : Served S)
+    → HostsAllServed (Over (ServesLinkBy Step Lacks Changes) seen) result before after
+    → HostsAllBy (LinkServedBy Step Lacks Changes) result (linking (seen before.server) before.coming before.door) (linking (seen after.server) after.coming after.door)
+hosts_told {S} {T} Step Lacks Changes seen result before after = by_result result
+  where
+    so_many : (n : ℕ) → HostsServed (Over (ServesLinkBy Step Lacks Changes) seen) n before after
+        → HandsBack (LinkServedBy Step Lacks Changes) (linking (seen before.server) before.coming before.door) (linking (seen after.server) after.coming after.door) n
+    so_many n hosts =
+        hands_back (ServesLinkBy Step Lacks Changes) (LinkServedBy Step Lacks Changes) (tells Step Lacks Changes) n (seen_of seen before) (seen_of seen after)
+        (hosts_seen (ServesLinkBy Step Lacks Changes) seen n before after hosts)
+
+    by_result : (result : Result ℕ Failed) → HostsAllServed (Over (ServesLinkBy Step Lacks Changes) seen) result before after
+        → HostsAllBy (LinkServedBy Step Lacks Changes) result (linking (seen before.server) before.coming before.door) (linking (seen after.server) after.coming after.door)
+    by_result (Ok served) hosts = so_many served hosts
+    by_result (Err failed) hosts = (hosts.0, so_many hosts.0 hosts.1)

@@ -1,17 +1,14 @@
 -- What links hand on, by the commands that were accepted and by how many draws are gone.
-use Rattle.std.proofs.Common.{◌≡◌, ℕ, ◌+◌, ◌⊎◌, inl, inr, List, [], ◌∷◌, ◌++◌, length, Some, refl, sym, ap, ◌∙◌, subst, arith}
-use Rattle.unl_http_api.specs.declared.end.End.TheVariants as ends
-use Rattle.unl_http_api.specs.declared.request.Request.{Request}
+use Rattle.std.proofs.Common.{◌≡◌, ℕ, ◌+◌, List, [], ◌∷◌, ◌++◌, refl, sym, ap, ◌∙◌, subst}
 use Rattle.unl_upstream.specs.declared.command.Command.{Command}
 use Rattle.unl_upstream.specs.History.{accepted, after_commands}
 use Rattle.unl_exchange.specs.Answering.{Coming}
 use Rattle.unl_upstream.specs.Hosting.{LinkServed, Linked}
 use Rattle.unl_upstream.specs.Laws.{LinksAddAccepted, LinksNameCommands}
 use Rattle.unl_upstream.specs.Linked.{LinkNames, LinkedBy, LinksName, draws_after}
-use Rattle.unl_upstream.specs.Serving.{Gives, Lacks, Serving, Step, commands_given, serving}
+use Rattle.unl_upstream.specs.Serving.{Gives, commands_given, serving}
 use Rattle.unl_upstream.specs.Upstream.{UpstreamState}
-use Rattle.unl_exchange.proofs.AskedLemmas.{Asks, asks}
-use Rattle.unl_upstream.proofs.Asked.{answered_counts, answered_draws, draws_both, draws_one}
+use Rattle.unl_upstream.proofs.Asked.{Took, draws_both, took}
 use Rattle.unl_upstream.proofs.Served.{after_both, requests_up}
 use Rattle.unl_upstream.proofs.Standing.{accepted_both, others_are_accepted, others_lead_there}
 
@@ -27,51 +24,24 @@ record HasNames (up : UpstreamState) (coming : Coming) (bytes : List ℕ) (back 
 
 link_names : (up : UpstreamState) (coming : Coming) (bytes : List ℕ) (back : List ℕ × ℕ) (up_after : UpstreamState) (coming_after : Coming)
     → LinkServed up coming bytes back up_after coming_after → HasNames up coming bytes back up_after coming_after
-link_names up coming bytes back up_after coming_after served = by_next asked.next
-  where
-    asked : Asks Step Lacks bytes (serving up 0 coming) served.end (serving up_after served.count coming_after)
-    asked = asks bytes (serving up 0 coming) (serving up_after served.count coming_after) served.end (Some []) served.left_after (Some back.0) 0 back.1
-        served.conversation served.memory
-
-    leads : asked.reached.state ≡ after_commands (accepted (commands_given up.secret asked.requests) up) up
-    leads = requests_up 0 asked.requests asked.text (serving up 0 coming) asked.reached asked.answered
-        ∙ sym (others_lead_there (commands_given up.secret asked.requests) up)
-
-    counts : asked.reached.count ≡ 0 + length asked.requests
-    counts = answered_counts Gives 0 asked.requests asked.text (serving up 0 coming) asked.reached asked.answered
-
-    draws : asked.reached.coming ≡ draws_after (length asked.requests) coming
-    draws = answered_draws Gives 0 asked.requests asked.text (serving up 0 coming) asked.reached asked.answered
-
-    named : (taken : ℕ) → up_after ≡ asked.reached.state → served.count ≡ asked.reached.count → coming_after ≡ draws_after taken coming
-        → (taken ≡ served.count) ⊎ ((served.end ≡ ends.Memory) × (taken ≡ served.count + 1)) → HasNames up coming bytes back up_after coming_after
-    named taken desk notes come takes = record {
-      commands = accepted (commands_given up.secret asked.requests) up;
-      taken = taken;
+link_names up coming bytes back up_after coming_after served =
+    let one : Took Gives bytes up coming served.end served.count up_after coming_after =
+    took Gives bytes back up coming served.end served.count up_after coming_after served.left_after served.conversation served.memory in record {
+      commands = accepted (commands_given up.secret one.requests) up;
+      taken = one.taken;
       names = record {
         served = served;
-        requests = asked.requests;
-        rest = asked.rest;
-        asked = asked.reads;
-        answered = omega (arith, notes, counts);
+        requests = one.requests;
+        rest = one.rest;
+        asked = one.reads;
+        answered = one.counted;
         gives = refl;
-        takes = takes;
+        takes = one.takes;
       };
-      leads = desk ∙ leads;
-      draws = come;
+      leads = one.state ∙ requests_up 0 one.requests one.text (serving up 0 coming) one.reached one.answered
+          ∙ sym (others_lead_there (commands_given up.secret one.requests) up);
+      draws = one.draws;
     }
-
-    by_next : (serving up_after served.count coming_after ≡ asked.reached)
-        ⊎ ((served.end ≡ ends.Memory) × (request : Request) × Lacks asked.reached request (serving up_after served.count coming_after))
-        → HasNames up coming bytes back up_after coming_after
-    by_next (inl same) =
-        let notes : served.count ≡ asked.reached.count = ap (λ (s : Serving). s.count) same in
-        named (length asked.requests) (ap (λ (s : Serving). s.state) same) notes (ap (λ (s : Serving). s.coming) same ∙ draws) (inl (omega (arith, notes, counts)))
-    by_next (inr lacks) =
-        let notes : served.count ≡ asked.reached.count = lacks.2.counted in
-        named (length asked.requests + 1) lacks.2.given_up notes
-        (draws_one asked.reached.coming lacks.2.draw coming_after lacks.2.taken ∙ ap (draws_after 1) draws ∙ draws_both 1 (length asked.requests) coming)
-        (inr (lacks.0, omega (arith, notes, counts)))
 
 -- ---- links one after another
 

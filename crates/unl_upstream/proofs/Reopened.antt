@@ -1,5 +1,5 @@
 -- Rows that were applied, one after another.
-use Rattle.std.proofs.Common.{◌≡◌, ◌≢◌, ◌≤◌, ◌<◌, ◌+◌, ◌^◌, ℕ, zero, suc, List, [], ◌∷◌, ◌++◌, take, drop, length, length-append, slice_get, Option, Some, None, Result, Ok, Err, IsOk, true, option_map, IfSome, refl, sym, ap, ◌∙◌, subst, arith, append-nil, take-append-drop}
+use Rattle.std.proofs.Common.{◌≡◌, ◌≢◌, ◌≤◌, ◌<◌, ◌+◌, ℕ, zero, suc, List, [], ◌∷◌, ◌++◌, take, drop, length, length-append, slice_get, Option, Some, None, Result, Ok, Err, IsOk, true, option_map, IfSome, refl, sym, ap, ◌∙◌, subst, arith, append-nil, take-append-drop}
 use Rattle.std.proofs.lemmas.List.{take_all, drop_all}
 use Rattle.unl_keeper.specs.Rows.{kept}
 use Rattle.unl_upstream.specs.declared.command.Command.{Command}

@@ -1,18 +1,26 @@
 -- What the commands of a connection do to an upstream.
 use Rattle.std.proofs.Common.{◌≡◌, ℕ, ◌+◌, ◌⊎◌, inl, inr, List, [], ◌∷◌, ◌++◌, refl, sym, ap, ◌∙◌}
 use Rattle.std.specs.Prelude.{option_to_list}
+use Rattle.unl_base.specs.declared.draws.Draw.{Draw}
 use Rattle.unl_exchange.specs.Conversation.{Answered as AnsweredAll, Reaches}
 use Rattle.unl_http_api.specs.declared.end.End.{End}
 use Rattle.unl_http_api.specs.declared.end.End.TheVariants as ends
+use Rattle.unl_http_api.specs.declared.reply.Reply.{Reply}
 use Rattle.unl_http_api.specs.declared.request.Request.{Request}
 use Rattle.unl_upstream.specs.declared.command.Command.{Command}
-use Rattle.unl_upstream.specs.Answer.{Answered}
-use Rattle.unl_upstream.specs.History.{after_command, after_commands}
+use Rattle.unl_upstream.specs.Answer.{Answered, upstream_answer}
+use Rattle.unl_upstream.specs.History.{AreAdded, accepted, after_command, after_commands}
 use Rattle.unl_upstream.specs.Requests.{command_given}
 use Rattle.unl_upstream.specs.Serving.{Lacks, Obeys, Serving, Step, commands_given}
 use Rattle.unl_upstream.specs.Upstream.{UpstreamState}
 use Rattle.unl_upstream.proofs.Given.{answer_leads}
-use Rattle.unl_upstream.proofs.Standing.{secret_stays}
+use Rattle.unl_upstream.proofs.Standing.{secret_stays, some_added}
+
+-- the command that a request gives is added, where it is accepted
+pub answer_adds : (up after : UpstreamState) (q : Request) (draw : Draw) (reply : Reply) → upstream_answer up q draw ≡ record { reply = reply; up = after }
+    → AreAdded (accepted (option_to_list (command_given up.secret q)) up) up after
+answer_adds up after q draw reply is =
+    some_added (option_to_list (command_given up.secret q)) up after (sym (ap (λ (a : Answered). a.up) is) ∙ answer_leads up q draw)
 
 -- no command changes the secret
 commands_secret : (commands : List Command) (up : UpstreamState) → (after_commands commands up).secret ≡ up.secret
@@ -46,6 +54,7 @@ obeys before after end count reaches = record {
   requests = reaches.requests;
   counted = reaches.counted;
   obeyed = by_next reaches.next;
+  versions = some_added (commands_given before.state.secret reaches.requests) before.state after.state (by_next reaches.next);
 }
   where
     answered_up : reaches.reached.state ≡ after_commands (commands_given before.state.secret reaches.requests) before.state

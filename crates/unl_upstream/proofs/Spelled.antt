@@ -4,7 +4,7 @@ use Rattle.std.specs.Prelude.{codes}
 use Rattle.unl_documents.specs.Reading.{Reading}
 use Rattle.unl_lines.specs.Lines.{lines}
 use Rattle.unl_lines.specs.Reading.{longest_line}
-use Rattle.unl_lines.specs.Taken.{LineResult, Outcome, Taken, done, followed, most_lines, take_from, take_line}
+use Rattle.unl_lines.specs.Taken.{LineResult, Outcome, Taken, Taking, done, followed, most_lines, take_from, take_line}
 use Rattle.unl_upstream.specs.declared.command.Command.{Command}
 use Rattle.unl_upstream.specs.Command.{command_in}
 use Rattle.unl_upstream.specs.History.{accepted, after_commands, if_accepted, up_after}
@@ -25,12 +25,13 @@ abbrev desk_after : LineResult UpstreamState → UpstreamState → UpstreamState
 desk_after (Ok taken) up = taken.desk
 desk_after (Err cause) up = up
 
--- a line within the limits
-within : (up : UpstreamState) (line : List ℕ) (k : ℕ) (taken : Taken UpstreamState) → take_line obeying k up line ≡ Ok taken → obeyed_line up line ≡ Ok taken
-within up line k taken is = limited (ltb most_lines k) (ltb longest_line (length line)) is
+-- a line that is taken is within the limits
+pub within : {D : Type 0} (taking : Taking D) (desk : D) (line : List ℕ) (k : ℕ) (taken : Taken D) → take_line taking k desk line ≡ Ok taken
+    → taking k desk line ≡ Ok taken
+within taking desk line k taken is = limited (ltb most_lines k) (ltb longest_line (length line)) is
   where
-    limited : (many long : Bool) → cond many (Err (codes "TooManyLines")) (cond long (Err (codes "LineTooLong")) (obeyed_line up line)) ≡ Ok taken
-        → obeyed_line up line ≡ Ok taken
+    limited : (many long : Bool) → cond many (Err (codes "TooManyLines")) (cond long (Err (codes "LineTooLong")) (taking k desk line)) ≡ Ok taken
+        → taking k desk line ≡ Ok taken
     limited true long is = absurd (cc is)
     limited false true is = absurd (cc is)
     limited false false is = is
@@ -74,7 +75,7 @@ spells_step : (up : UpstreamState) (k : ℕ) (line : List ℕ) (more : List (Lis
     → ((now : UpstreamState) → (rest_from (k + 1) more now).ending ≡ done → SpellAccepted now more (rest_from (k + 1) more now).desk)
     → (followed k up comes (rest_from (k + 1) more)).ending ≡ done → SpellAccepted up (line ∷ more) (followed k up comes (rest_from (k + 1) more)).desk
 spells_step up k line more (Ok taken) comes_so later ends =
-    spells_more up line more taken.desk (rest_from (k + 1) more taken.desk).desk (spells_one up line taken (within up line k taken comes_so)) (later taken.desk ends)
+    spells_more up line more taken.desk (rest_from (k + 1) more taken.desk).desk (spells_one up line taken (within obeying up line k taken comes_so)) (later taken.desk ends)
 spells_step up k line more (Err cause) comes_so later ends = absurd (cc ends)
 
 spells_from : (ls : List (List ℕ)) (k : ℕ) (up : UpstreamState) → (rest_from k ls up).ending ≡ done → SpellAccepted up ls (rest_from k ls up).desk

@@ -2,6 +2,7 @@
 use Rattle.std.proofs.Common.{◌≡◌, ℕ, List, [], ◌∷◌, ◌++◌, Bool, true, false, cond, Option, Some, None, Ok, Err, ap, refl, sym, subst, ◌∙◌, arith, append_assoc}
 use Rattle.std.specs.Prelude.{is_some, ok_or}
 use Rattle.std.proofs.lemmas.List.{append-nil}
+use Rattle.std.proofs.lemmas.List.Elements.{filter-append}
 use Rattle.unl_core.specs.declared.board.Slot.{Slot}
 use Rattle.unl_core.specs.Board.{same_text, slot_of, snapshot_in}
 use Rattle.unl_core.proofs.Same.{text_same}
@@ -17,9 +18,9 @@ use Rattle.unl_upstream.specs.declared.refusal.CommandRefusal.{CommandRefusal}
 use Rattle.unl_upstream.specs.declared.refusal.CommandRefusal.TheVariants.{NoSuchEnvironment}
 use Rattle.unl_upstream.specs.Command.{environment_of}
 use Rattle.unl_upstream.specs.Upstream.{Obeyed, Obeying, Prepared, UpstreamState, commanded, committed, event_of, opening, prepared, version_after}
-use Rattle.unl_upstream.specs.History.{accepted, after_command, after_commands, for_environment, history_of, if_accepted, up_after}
+use Rattle.unl_upstream.specs.History.{AreAdded, AreHistories, IsHistoryOf, accepted, after_command, after_commands, for_environment, history_of, if_accepted, up_after}
 use Rattle.unl_upstream.specs.Laws.{EnvironmentsStay, VersionsStand, VersionsStandInLines, line_of}
-use Rattle.unl_upstream.proofs.Events.{Follows, is_history, nothing_follows, one_follows}
+use Rattle.unl_upstream.proofs.Events.{is_history, nothing_stands, one_stands}
 use Rattle.unl_upstream.proofs.Slots.{opened_empty, opened_names, taken_elsewhere, taken_here}
 
 -- ---- one accepted command
@@ -86,13 +87,9 @@ secret_stays command up = decided (commanded command up) refl
 
 -- ---- versions
 
--- the version of an environment follows these commands, in this epoch
+-- the version of an environment stands for the history of these commands
 Holds : ℕ → List ℕ → List Command → UpstreamState → Type 0
-Holds epoch environment commands up = (v : EnvVersion) → snapshot_in environment up.board.slots ≡ Some v → Follows epoch commands v
-
-holds_at_first : (boot : ℕ) (secret : List ℕ) (environments : List (List ℕ)) (book : List Token) (epoch : ℕ) (environment : List ℕ) → Holds epoch environment [] (opening boot secret environments book epoch)
-unfolding Holds
-holds_at_first boot secret environments book epoch environment v is = subst (Follows epoch []) (sym (opened_empty epoch environment environments v is)) (nothing_follows epoch)
+Holds epoch environment commands up = (v : EnvVersion) → snapshot_in environment up.board.slots ≡ Some v → IsHistoryOf epoch commands v
 
 -- a command for the environment is one more
 holds_here : (epoch : ℕ) (environment : List ℕ) (before : List Command) (command : Command) (up : UpstreamState) (obeyed : Obeyed) → IsObeyed command up obeyed
@@ -102,7 +99,7 @@ holds_here epoch environment before command up obeyed o here holds v is =
     let stood : snapshot_in environment up.board.slots ≡ Some o.version = subst (λ (name : List ℕ). snapshot_in name up.board.slots ≡ Some o.version) here o.stood in
     let same : Some (version_after o.version o.event) ≡ Some v = sym (new_here command up obeyed o environment here) ∙ is in
     let this : version_after o.version o.event ≡ v = cc in
-    subst (Follows epoch (before ++ command ∷ [])) this (one_follows epoch before command o.version o.event (holds o.version stood) o.told)
+    subst (IsHistoryOf epoch (before ++ command ∷ [])) this (one_stands epoch before command o.version o.event (holds o.version stood) o.told)
 
 -- one for another changes nothing here
 holds_elsewhere : (epoch : ℕ) (environment : List ℕ) (before : List Command) (command : Command) (up : UpstreamState) (obeyed : Obeyed) → IsObeyed command up obeyed
@@ -132,12 +129,41 @@ all_hold epoch environment before (command ∷ commands) up holds = decided (com
     decided (Err refusal) is others = others before up holds
     decided (Ok obeyed) is others = counted obeyed (same_text (environment_of command) environment) (obeyed_by command up obeyed is) refl others
 
-pub versions_follow : VersionsStand
+-- the accepted ones of commands are added to the histories
+all_added : (commands : List Command) (up : UpstreamState) → AreAdded (accepted commands up) up (after_commands commands up)
 unfolding Holds
-versions_follow boot secret environments book epoch commands environment v is =
-    let begun : UpstreamState = opening boot secret environments book epoch in
-    let follows : Follows epoch (for_environment environment (accepted commands begun)) v = all_hold epoch environment [] commands begun (holds_at_first boot secret environments book epoch environment) v is in
-    follows.history
+all_added commands up epoch before are environment v is =
+    subst (λ (cs : List Command). IsHistoryOf epoch cs v)
+    (sym (filter-append (λ (command : Command). same_text (environment_of command) environment) before (accepted commands up)))
+    (all_hold epoch environment (for_environment environment before) commands up (are environment) v is)
+
+pub some_added : (commands : List Command) (up after : UpstreamState) → after ≡ after_commands commands up → AreAdded (accepted commands up) up after
+some_added commands up after leads = subst (λ (u : UpstreamState). AreAdded (accepted commands up) up u) (sym leads) (all_added commands up)
+
+-- those of commands that were all accepted
+pub are_added : (commands : List Command) (up after : UpstreamState) → after ≡ after_commands commands up → accepted commands up ≡ commands → AreAdded commands up after
+are_added commands up after leads all = subst (λ (cs : List Command). AreAdded cs up after) all (some_added commands up after leads)
+
+-- that of a command that was obeyed
+pub one_added : (command : Command) (up after : UpstreamState) (number : ℕ) → commanded command up ≡ Ok (record { up = after; number = number })
+    → AreAdded (command ∷ []) up after
+one_added command up after number is =
+    are_added (command ∷ []) up after (sym (ap (up_after up) is)) (ap (λ (r : Obeying Obeyed). if_accepted command r []) is)
+
+-- at first the versions stand for no command
+none_added : (boot : ℕ) (secret : List ℕ) (environments : List (List ℕ)) (book : List Token) (epoch : ℕ)
+    → AreHistories epoch [] (opening boot secret environments book epoch)
+none_added boot secret environments book epoch environment v is =
+    subst (IsHistoryOf epoch []) (sym (opened_empty epoch environment environments v is)) (nothing_stands epoch)
+
+pub opens_without : (up : UpstreamState) (boot : ℕ) (secret : List ℕ) (environments : List (List ℕ)) (book : List Token) (epoch : ℕ)
+    → up ≡ opening boot secret environments book epoch → AreHistories epoch [] up
+opens_without up boot secret environments book epoch is =
+    subst (AreHistories epoch []) (sym is) (none_added boot secret environments book epoch)
+
+pub versions_follow : VersionsStand
+versions_follow boot secret environments book epoch commands =
+    all_added commands (opening boot secret environments book epoch) epoch [] (none_added boot secret environments book epoch)
 
 pub versions_stand_in_lines : VersionsStandInLines
 versions_stand_in_lines epoch commands v is =

@@ -1,61 +1,228 @@
--- Each reply of an upstream has a status of HTTP.
-use Rattle.std.proofs.Common.{◌≡◌, subst, refl, ℕ, List, Bool, true, false, Option, Some, None, cond, arith, Ok, Err}
+-- The statuses of an upstream's replies: each is one of HTTP, and none but of a command that was to be kept is 503 `KeeperFault`.
+use Rattle.std.proofs.Common.{◌≡◌, ◌≢◌, ◌≤◌, ◌⊎◌, inl, inr, sym, subst, refl, ap, ◌∙◌, ℕ, List, length, Bool, true, false, ◌||◌, Option, Some, None, cond, arith, Result, Ok, Err}
+use Rattle.std.specs.Prelude.{codes}
 use Rattle.std.specs.Str.{bytes_eq}
 use Rattle.http.specs.StatusCode.{IsStatusCode}
+use Rattle.serde_json.specs.Data.{Data}
+use Rattle.serde_json.proofs.OnLiterals.{serde_json_on_literals}
 use Rattle.unl_base.specs.declared.draws.Draw.{Draw}
-use Rattle.unl_core.specs.Answer.{answer_of}
-use Rattle.unl_core.proofs.Statuses.{told_status}
+use Rattle.unl_core.specs.declared.board.Board.{Board}
+use Rattle.unl_core.specs.declared.desk.Answer.{Answer as DeskAnswer}
+use Rattle.unl_core.specs.declared.shown.Unseen.{Unseen}
+use Rattle.unl_core.specs.declared.shown.Unseen.TheVariants.{NoToken, UnknownToken, WrongKind, NotReady}
+use Rattle.unl_core.specs.Answer.{accepted_if, answer_of, asked_context, at_route, by_route, delta_reply, document_reply, feature_reply, feed_reply, feed_state, feed_tag, feed_with, has_tag, news, plain, refusal, registered, reported, seen, still_at, toggles_for, toggles_reply, unseen_reply, validated}
+use Rattle.unl_core.specs.Client.{knows_no_segments}
+use Rattle.unl_core.specs.Shown.{Shown, Ready, shown_by, ready_by}
+use Rattle.unl_core.specs.Tag.{since_of}
+use Rattle.unl_delta.specs.Batch.{delta_answer}
+use Rattle.unl_delta.specs.declared.batch.DeltaAnswer.{DeltaAnswer}
+use Rattle.unl_delta.specs.declared.batch.DeltaAnswer.TheVariants.{Same, Batch as Sent}
+use Rattle.unl_documents.specs.declared.feature.Feature.{Feature}
+use Rattle.unl_documents.specs.declared.inlining.InlineRefusal.{InlineRefusal}
+use Rattle.unl_documents.specs.declared.state.State.{State}
 use Rattle.unl_documents.specs.Reading.{Reading}
+use Rattle.unl_documents.specs.Results.{object_in}
 use Rattle.unl_http_api.specs.declared.reply.Reply.{Reply as AReply}
 use Rattle.unl_http_api.specs.declared.request.Request.{Request}
-use Rattle.unl_http_api.specs.Route.{is_post, route_of}
+use Rattle.unl_http_api.specs.declared.route.Route.{Route}
+use Rattle.unl_http_api.specs.declared.route.Route.TheVariants as route
+use Rattle.unl_http_api.specs.Route.{allows, is_commands, is_post, methods_of, route_of}
+use Rattle.unl_tokens.specs.declared.fault.BadRequest.{BadRequest}
+use Rattle.unl_tokens.specs.declared.kind.Kind.TheVariants.{Client, Frontend}
+use Rattle.unl_tokens.specs.Names.{sees}
+use Rattle.unl_tokens.specs.Requests.{asked_in}
 use Rattle.unl_upstream.specs.declared.command.Command.{Command}
 use Rattle.unl_upstream.specs.declared.order.Order.{Order}
+use Rattle.unl_upstream.specs.declared.refusal.CommandRefusal.{CommandRefusal}
+use Rattle.unl_upstream.specs.declared.refusal.CommandRefusal.TheVariants as plainly
 use Rattle.unl_upstream.specs.declared.refusal.KeepCommandRefusal.{KeepCommandRefusal}
 use Rattle.unl_upstream.specs.declared.refusal.KeepCommandRefusal.TheVariants.{NoSuchEnvironment, NoSuchFeature, NoSuchSegment, TooMany, KeeperFull, KeeperFault, Memory}
-use Rattle.unl_upstream.specs.Answer.{Answered, done, names_commands, order_at, order_in, order_of, order_with, refused, told, upstream_answer}
+use Rattle.unl_upstream.specs.Answer.{Answered, done, names_commands, order_in, order_of, order_with, refused, told, upstream_answer}
 use Rattle.unl_upstream.specs.Command.{command_in}
+use Rattle.unl_upstream.specs.Kept.{fault_of}
+use Rattle.unl_upstream.specs.KeptServing.{kept_reply}
 use Rattle.unl_upstream.specs.Upstream.{Obeyed, Obeying, UpstreamState, commanded, refused_as}
 
-HasStatus : UpstreamState → Order → Type 0
-HasStatus up order = IsStatusCode (done up order).reply.status
+-- a status of at most 500, or one of two words with 503
+abbrev IsPlain : AReply → Type 0
+IsPlain r = ((100 ≤ r.status) × (r.status ≤ 500)) ⊎ ((r ≡ refusal 503 (codes "NotReady")) ⊎ (r ≡ refusal 503 (codes "TooManyConstraints")))
 
-either : (up : UpstreamState) (b : Bool) (x y : Order) → HasStatus up x → HasStatus up y → HasStatus up (cond b x y)
-either up true x y p q = p
-either up false x y p q = q
+plain_status : (r : AReply) → IsPlain r → IsStatusCode r.status
+plain_status r (inl within) = omega (arith, within.0, within.1)
+plain_status r (inr (inl is)) = subst (λ (x : AReply). IsStatusCode x.status) (sym is) (omega arith)
+plain_status r (inr (inr is)) = subst (λ (x : AReply). IsStatusCode x.status) (sym is) (omega arith)
 
-pub refused_status : (refusal : KeepCommandRefusal) → IsStatusCode (refused refusal).status
-refused_status NoSuchEnvironment = omega arith
-refused_status NoSuchFeature = omega arith
-refused_status NoSuchSegment = omega arith
-refused_status (TooMany n) = omega arith
-refused_status (KeeperFull n) = omega arith
-refused_status KeeperFault = omega arith
-refused_status Memory = omega arith
+-- the word of a keeper's fault is neither of them
+plain_differs : (r : AReply) → IsPlain r → r ≢ refused KeeperFault
+unfolding serde_json_on_literals
+plain_differs r (inl within) is = let status : r.status ≡ 503 = ap (λ (x : AReply). x.status) is in absurd (omega (arith, within.1, status))
+plain_differs r (inr (inl is)) same = let few : 20 ≡ 23 = ap (λ (x : AReply). length x.body) (sym is ∙ same) in absurd (omega (arith, few))
+plain_differs r (inr (inr is)) same = let many : 30 ≡ 23 = ap (λ (x : AReply). length x.body) (sym is ∙ same) in absurd (omega (arith, many))
 
-told_of : (up : UpstreamState) (obeying : Obeying Obeyed) → IsStatusCode (told up obeying).reply.status
-told_of up (Ok obeyed) = omega arith
-told_of up (Err cause) = refused_status (refused_as cause)
+-- ---- what a board answers
 
-body_status : (up : UpstreamState) (reading : Reading Command) → HasStatus up (order_in reading)
-unfolding HasStatus
-body_status up (Ok command) = told_of up (commanded command up)
-body_status up (Err fault) = omega arith
+-- what a function takes
+abbrev ArgumentOf : {A B : Type 0} → (A → B) → Type 0
+ArgumentOf {A} f = A
 
-token_status : (up : UpstreamState) (q : Request) (token : Option (List ℕ)) → HasStatus up (order_with up q token)
-unfolding HasStatus
-token_status up q None = omega arith
-token_status up q (Some token) = either up (bytes_eq token up.secret) _ _ (body_status up (command_in q.body)) (omega arith)
+either : (b : Bool) (x y : AReply) → IsPlain x → IsPlain y → IsPlain (cond b x y)
+either true x y p q = p
+either false x y p q = q
 
-command_status : (up : UpstreamState) (q : Request) → HasStatus up (order_at up q)
-unfolding HasStatus
-command_status up q = either up (is_post q.method) _ _ (token_status up q q.token) (omega arith)
+unseen : (why : Unseen) → IsPlain (unseen_reply why)
+unseen NoToken = inl (omega arith)
+unseen UnknownToken = inl (omega arith)
+unseen WrongKind = inl (omega arith)
+unseen NotReady = inr (inl refl)
 
-order_status : (up : UpstreamState) (q : Request) (draw : Draw) → HasStatus up (order_of up q draw)
-unfolding order_of HasStatus
-order_status up q draw = either up (names_commands (route_of q.target)) _ _ (command_status up q) (told_status (answer_of up.board q draw) up.board q draw refl)
+tokens_told : (board : Board) (asked : Result (List (List ℕ)) BadRequest) → IsPlain (validated board asked)
+tokens_told board (Err fault) = inl (omega arith)
+tokens_told board (Ok texts) = inl (omega arith)
 
--- the reply of an answer
+object_taken : (found : Option Data) → IsPlain (accepted_if found)
+object_taken None = inl (omega arith)
+object_taken (Some value) = inl (omega arith)
+
+client_taken : (q : Request) (shown : Result Shown Unseen) → IsPlain (registered q shown)
+client_taken q (Err why) = unseen why
+client_taken q (Ok shown) = object_taken (object_in q.body)
+
+in_context : (board : Board) (draw : Draw) (all : Bool) (ready : Ready) (context : ArgumentOf (toggles_for board draw all ready)) → IsPlain (toggles_for board draw all ready context)
+in_context board draw all ready (Err fault) = inl (omega arith)
+in_context board draw all ready (Ok context) = inl (omega arith)
+
+toggles_told : (board : Board) (q : Request) (draw : Draw) (all : Bool) (ready : Result Ready Unseen) → IsPlain (toggles_reply board q draw all ready)
+toggles_told board q draw all (Err why) = unseen why
+toggles_told board q draw all (Ok ready) = in_context board draw all ready (asked_context q)
+
+document_told : (found : Option Feature) → IsPlain (document_reply found)
+document_told None = inl (omega arith)
+document_told (Some feature) = inl (omega arith)
+
+feature_told : (name : Option (List ℕ)) (ready : Result Ready Unseen) → IsPlain (feature_reply name ready)
+feature_told name (Err why) = unseen why
+feature_told name (Ok ready) = document_told _
+
+inlined_told : (ready : Ready) (tag : List ℕ) (state : Result State InlineRefusal) → IsPlain (feed_with ready tag state)
+inlined_told ready tag (Err fault) = inr (inr refl)
+inlined_told ready tag (Ok state) = inl (omega arith)
+
+feed_told : (board : Board) (q : Request) (ready : Result Ready Unseen) → IsPlain (feed_reply board q ready)
+feed_told board q (Err why) = unseen why
+feed_told board q (Ok ready) =
+    let inlined : Bool = knows_no_segments q in
+    either (has_tag (feed_tag board inlined ready) q.tag) _ _ (inl (omega arith))
+    (inlined_told ready (feed_tag board inlined ready) (feed_state inlined (seen ready)))
+
+still_told : (board : Board) (ready : Ready) (since : Option ℕ) → IsPlain (still_at board ready since)
+still_told board ready None = inl (omega arith)
+still_told board ready (Some n) = inl (omega arith)
+
+news_told : (board : Board) (ready : Ready) (since : Option ℕ) (answer : DeltaAnswer) → IsPlain (news board ready since answer)
+news_told board ready since Same = still_told board ready since
+news_told board ready since (Sent batch) = inl (omega arith)
+
+delta_told : (board : Board) (q : Request) (ready : Result Ready Unseen) → IsPlain (delta_reply board q ready)
+delta_told board q (Err why) = unseen why
+delta_told board q (Ok ready) =
+    let since : Option ℕ = since_of board ready.place ready.version.epoch q.tag in
+    news_told board ready since (delta_answer ready.version since (sees ready.token.projects))
+
+report_taken : (shown : Result Shown Unseen) (reading : ArgumentOf (reported shown)) → IsPlain (reported shown reading).reply
+report_taken (Err why) reading = unseen why
+report_taken (Ok shown) (Err fault) = inl (omega arith)
+report_taken (Ok shown) (Ok report) = inl (omega arith)
+
+route_told : (board : Board) (q : Request) (draw : Draw) (r : Route) → IsPlain (at_route board q draw r).reply
+route_told board q draw route.Health = inl (omega arith)
+route_told board q draw route.Validate = tokens_told board (asked_in q.body)
+route_told board q draw route.Features = feed_told board q (ready_by board q Client)
+route_told board q draw (route.Feature name) = feature_told name (ready_by board q Client)
+route_told board q draw route.Delta = delta_told board q (ready_by board q Client)
+route_told board q draw route.Enabled = toggles_told board q draw false (ready_by board q Frontend)
+route_told board q draw route.All = toggles_told board q draw true (ready_by board q Frontend)
+route_told board q draw route.Register = client_taken q (shown_by board q Client)
+route_told board q draw route.FrontRegister = client_taken q (shown_by board q Frontend)
+route_told board q draw route.Metrics = report_taken (shown_by board q Client) _
+route_told board q draw route.FrontMetrics = report_taken (shown_by board q Frontend) _
+route_told board q draw route.Bulk = report_taken (shown_by board q Client) _
+route_told board q draw route.Commands = inl (omega arith)
+
+allowed : (b : Bool) (x : DeskAnswer) (y : AReply) → IsPlain x.reply → IsPlain y → IsPlain (cond b x (plain y)).reply
+allowed true x y p q = p
+allowed false x y p q = q
+
+board_told : (board : Board) (q : Request) (draw : Draw) → IsPlain (answer_of board q draw).reply
+unfolding answer_of
+board_told board q draw = by_known (route_of q.target)
+  where
+    by_known : (o : Option Route) → IsPlain (by_route board q draw o).reply
+    by_known None = inl (omega arith)
+    by_known (Some route) = allowed (is_commands route || allows (methods_of route) q.method) _ _ (route_told board q draw route) (inl (omega arith))
+
+-- ---- what an upstream answers
+
+refused_plainly : (cause : CommandRefusal) → IsPlain (refused (refused_as cause))
+refused_plainly plainly.NoSuchEnvironment = inl (omega arith)
+refused_plainly plainly.NoSuchFeature = inl (omega arith)
+refused_plainly plainly.NoSuchSegment = inl (omega arith)
+refused_plainly (plainly.TooMany n) = inl (omega arith)
+refused_plainly plainly.Memory = inl (omega arith)
+
+command_told : (up : UpstreamState) (obeying : Obeying Obeyed) → IsPlain (told up obeying).reply
+command_told up (Ok obeyed) = inl (omega arith)
+command_told up (Err cause) = refused_plainly cause
+
+either_order : (up : UpstreamState) (b : Bool) (x y : Order) → IsPlain (done up x).reply → IsPlain (done up y).reply → IsPlain (done up (cond b x y)).reply
+either_order up true x y p q = p
+either_order up false x y p q = q
+
+body_told : (up : UpstreamState) (reading : Reading Command) → IsPlain (done up (order_in reading)).reply
+body_told up (Ok command) = command_told up (commanded command up)
+body_told up (Err fault) = inl (omega arith)
+
+token_told : (up : UpstreamState) (q : Request) (token : Option (List ℕ)) → IsPlain (done up (order_with up q token)).reply
+token_told up q None = inl (omega arith)
+token_told up q (Some token) = either_order up (bytes_eq token up.secret) _ _ (body_told up (command_in q.body)) (inl (omega arith))
+
+answered_plainly : (up : UpstreamState) (q : Request) (draw : Draw) → IsPlain (upstream_answer up q draw).reply
+unfolding upstream_answer order_of
+answered_plainly up q draw =
+    either_order up (names_commands (route_of q.target)) _ _ (either_order up (is_post q.method) _ _ (token_told up q q.token) (inl (omega arith)))
+    (board_told up.board q draw)
+
+-- so the reply of an answer has a status of HTTP
 pub answered_status : (r : AReply) (up after : UpstreamState) (q : Request) (draw : Draw) → upstream_answer up q draw ≡ record { reply = r; up = after } → IsStatusCode r.status
-unfolding HasStatus upstream_answer
-answered_status r up after q draw is = subst (λ (a : Answered). IsStatusCode a.reply.status) is (order_status up q draw)
+answered_status r up after q draw is =
+    subst (λ (a : Answered). IsStatusCode a.reply.status) is (plain_status (upstream_answer up q draw).reply (answered_plainly up q draw))
+
+-- and isn't 503 `KeeperFault`
+pub answered_calmly : (r : AReply) (up after : UpstreamState) (q : Request) (draw : Draw) → upstream_answer up q draw ≡ record { reply = r; up = after } → r ≢ refused KeeperFault
+answered_calmly r up after q draw is =
+    subst (λ (a : Answered). a.reply ≢ refused KeeperFault) is (plain_differs (upstream_answer up q draw).reply (answered_plainly up q draw))
+
+-- ---- what comes of a command that was to be kept
+
+kept_plainly : (result : Result ℕ KeepCommandRefusal) → fault_of result ≡ 0 → IsPlain (kept_reply result)
+kept_plainly (Ok number) none = inl (omega arith)
+kept_plainly (Err NoSuchEnvironment) none = inl (omega arith)
+kept_plainly (Err NoSuchFeature) none = inl (omega arith)
+kept_plainly (Err NoSuchSegment) none = inl (omega arith)
+kept_plainly (Err (TooMany n)) none = inl (omega arith)
+kept_plainly (Err (KeeperFull n)) none = inl (omega arith)
+kept_plainly (Err KeeperFault) none = absurd (omega (arith, none))
+kept_plainly (Err Memory) none = inl (omega arith)
+
+pub kept_status : (result : Result ℕ KeepCommandRefusal) → IsStatusCode (kept_reply result).status
+kept_status (Ok number) = omega arith
+kept_status (Err NoSuchEnvironment) = omega arith
+kept_status (Err NoSuchFeature) = omega arith
+kept_status (Err NoSuchSegment) = omega arith
+kept_status (Err (TooMany n)) = omega arith
+kept_status (Err (KeeperFull n)) = omega arith
+kept_status (Err KeeperFault) = omega arith
+kept_status (Err Memory) = omega arith
+
+-- it is 503 `KeeperFault` where the keeper failed alone
+pub kept_calmly : (result : Result ℕ KeepCommandRefusal) → fault_of result ≡ 0 → kept_reply result ≢ refused KeeperFault
+kept_calmly result none = plain_differs (kept_reply result) (kept_plainly result none)

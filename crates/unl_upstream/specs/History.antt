@@ -1,6 +1,6 @@
 -- The history of an environment of an upstream: the commands that were accepted.
-use Rattle.std.specs.Prelude.{◌≡◌, ℕ, ◌+◌, List, [], ◌∷◌, length, filter, unwrap_or, Ok, Err}
-use Rattle.unl_core.specs.Board.{same_text}
+use Rattle.std.specs.Prelude.{◌≡◌, ℕ, ◌+◌, List, [], ◌∷◌, ◌++◌, length, filter, unwrap_or, Some, Ok, Err}
+use Rattle.unl_core.specs.Board.{same_text, snapshot_in}
 use Rattle.unl_delta.specs.declared.event.Event.{Event}
 use Rattle.unl_delta.specs.declared.event.Event.TheVariants.{FeatureUpdated, FeatureRemoved, SegmentUpdated, SegmentRemoved}
 use Rattle.unl_delta.specs.declared.version.EnvVersion.{EnvVersion}
@@ -65,3 +65,15 @@ pub record IsHistoryOf (epoch : ℕ) (commands : List Command) (v : EnvVersion) 
   pub era : v.epoch ≡ epoch
   pub stands : StandsFor (history_of commands) everything v
   pub number : v.number ≡ length commands
+
+-- ---- what an upstream's versions stand for
+
+-- the version of each environment stands for the history of those of these commands that are for it
+abbrev pub AreHistories : ℕ → List Command → UpstreamState → Type 0
+AreHistories epoch commands up = (environment : List ℕ) (v : EnvVersion) → snapshot_in environment up.board.slots ≡ Some v
+    → IsHistoryOf epoch (for_environment environment commands) v
+
+-- of whatever commands the versions stood for the histories, they stand for those of these and some more then
+abbrev pub AreAdded : List Command → UpstreamState → UpstreamState → Type 0
+AreAdded more up after = (epoch : ℕ) (commands : List Command) → AreHistories epoch commands up
+    → AreHistories epoch (commands ++ more) after

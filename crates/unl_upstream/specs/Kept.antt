@@ -1,5 +1,5 @@
 -- The commands that a keeper of an upstream keeps, and what keeping one more does.
-use Rattle.std.specs.Prelude.{◌≡◌, ◌≢◌, ◌<◌, ◌≤◌, ◌⊎◌, ℕ, ◌+◌, ◌-◌, ◌^◌, min, nat_lt, Bool, true, List, [], ◌∷◌, ◌++◌}
+use Rattle.std.specs.Prelude.{◌≡◌, ◌≤◌, ◌⊎◌, ℕ, ◌+◌, ◌-◌, ◌^◌, min, nat_lt, Bool, true, List, [], ◌∷◌, ◌++◌}
 use Rattle.std.specs.Prelude.{drop, filter_map, length, map}
 use Rattle.std.specs.Prelude.{if◌then◌else◌, Option, option_map, Result, Ok, Err, IsOk, IfSome, ⊤}
 use Rattle.unl_keeper.specs.declared.refusal.KeepRefusal.{KeepRefusal}
@@ -11,7 +11,7 @@ use Rattle.unl_upstream.specs.declared.refusal.KeepCommandRefusal.{KeepCommandRe
 use Rattle.unl_upstream.specs.declared.refusal.KeepCommandRefusal.TheVariants.{NoSuchEnvironment, NoSuchFeature}
 use Rattle.unl_upstream.specs.declared.refusal.KeepCommandRefusal.TheVariants.{NoSuchSegment, TooMany, KeeperFull, KeeperFault, Memory}
 use Rattle.unl_upstream.specs.Command.{command_in}
-use Rattle.unl_upstream.specs.History.{accepted, after_commands}
+use Rattle.unl_upstream.specs.History.{AreAdded, accepted, after_commands}
 use Rattle.unl_upstream.specs.Requests.{if_read}
 use Rattle.unl_upstream.specs.Upstream.{Obeyed, Obeying, Prepared, UpstreamState, commanded, committed, refused_as}
 use Rattle.unl_upstream.specs.Writing.{command_text}
@@ -228,10 +228,11 @@ LeavesOne state failed = IfSome (past_rows state.keeper) (AreLeft state.up faile
 abbrev pub RoseBy : ℕ → ℕ → ℕ → Type 0
 RoseBy n before now = min (before + n) (2 ^ 64 - 1) ≤ now
 
--- the acknowledged commands alone changed the upstream, and are counted
+-- the acknowledged commands alone changed the upstream, whose versions stand for theirs too, and they are counted
 pub record Moves (tried : List Tried) (before after : KeptState) : Type 0 where
   pub leads : after.up ≡ after_commands (acknowledged tried) before.up
   pub all_accepted : accepted (acknowledged tried) before.up ≡ acknowledged tried
+  pub versions : AreAdded (acknowledged tried) before.up after.up
   pub counted : after.keeper.count ≡ before.keeper.count + length (acknowledged tried)
 
 -- What holds of an upstream and its keeper holds on, once these were to be kept.
@@ -246,6 +247,16 @@ pub record Carries (tried : List Tried) (before after : KeptState) : Type 0 wher
   pub left : (failed : List Command) → LeavesOne before failed → LeavesOne after (failed_after failed tried)
   -- the keeper failed as often at least as commands weren't kept for its faults
   pub faults : RoseBy (faults_among tried) before.keeper.faults after.keeper.faults
+
+-- some commands were to be kept, one after another, and nothing else changed the upstream and its keeper
+pub record KeepsSome (before after : KeptState) : Type 0 where
+  pub tried : List Tried
+  pub keeps : KeepsAll tried before after
+
+-- the same, and what held of the upstream and its keeper holds on
+pub record HoldsOn (before after : KeptState) : Type 0 where
+  pub some : KeepsSome before after
+  pub carries : Carries some.tried before after
 
 -- a keeper has as many rows as it keeps
 abbrev pub HasKept : KeeperState → Type 0

@@ -1,41 +1,31 @@
 -- Links that a door hands out, served one after another by an upstream that keeps its commands. What is not told of a door,
 -- of its links or of draws is none.
-use Rattle.std.specs.Prelude.{◌≡◌, ℕ, ◌+◌, ◌⊎◌, List, [], ◌∷◌, ◌++◌, length, Option, Some, Result, Ok, Err}
-use Rattle.unl_base.specs.Faults.{Rose}
+use Rattle.std.specs.Prelude.{◌≡◌, ℕ, ◌+◌, ◌⊎◌, List, [], ◌∷◌, ◌++◌, length, Result, ⊤}
 use Rattle.unl_base.specs.declared.Failed.{Failed}
 use Rattle.unl_exchange.specs.Answering.{Coming}
-use Rattle.unl_exchange.specs.Conversation.{Answered, Concludes, GivesUp}
+use Rattle.unl_exchange.specs.Conversation.{Answered}
 use Rattle.unl_exchange.specs.Linked.{HandsBack, Linked as LinkedBy, Linking}
-use Rattle.unl_http_api.specs.declared.end.End.{End}
-use Rattle.unl_http_api.specs.declared.end.End.TheVariants.{ReadFault, WriteFault, Memory}
+use Rattle.unl_http_api.specs.declared.end.End.TheVariants.{Memory}
 use Rattle.unl_http_api.specs.declared.request.Request.{Request}
 use Rattle.unl_http_api.specs.Session.{Reads}
 use Rattle.unl_upstream.specs.declared.command.Command.{Command}
 use Rattle.unl_upstream.specs.History.{after_commands}
-use Rattle.unl_upstream.specs.Kept.{KeptState, acknowledged}
-use Rattle.unl_upstream.specs.KeptServing.{KeepsOn, KeptServing, Lacks, Step, serving, tried_in}
+use Rattle.unl_upstream.specs.Kept.{KeepsAll, KeepsSome, KeptState, Tried, acknowledged, faults_among}
+use Rattle.unl_upstream.specs.KeptServing.{KeepsOn, KeptServing, Lacks, NoKeeperFault, Step, serving, tried_in}
 use Rattle.unl_upstream.specs.Linked.{draws_after}
+use Rattle.unl_upstream.specs.Served.{HostsAllBy, LinkServedBy}
 use Rattle.unl_upstream.specs.Upstream.{UpstreamState}
-
--- ---- one link
 
 -- A link that gave these bytes was served, and had then sent and failed as it did. So many of its requests were answered,
 -- each with the next draw, and what was to be kept of them is all that changed the upstream and its keeper.
-pub record LinkServed
-    (before : KeptState) (coming : Coming) (bytes : List ℕ) (back : List ℕ × ℕ) (after : KeptState)
-    (coming_after : Coming) : Type 0 where
-  pub count : ℕ
-  pub end : End
-  pub left_after : Option (List ℕ)
-  pub conversation : Concludes Step bytes (Some []) (serving before 0 coming) end (serving after count coming_after) left_after
-      (Some back.0)
-  pub memory : end ≡ Memory
-      → GivesUp Step Lacks bytes (Some []) 0 (serving before 0 coming) (serving after count coming_after) (Some back.0) back.1
-  pub keeps : KeepsOn (serving before 0 coming) end count (serving after count coming_after)
-  pub read_cause : end ≡ ReadFault → Rose 0 back.1
-  pub write_cause : end ≡ WriteFault → Rose 0 back.1
+abbrev pub LinkServed : KeptState → Coming → List ℕ → List ℕ × ℕ → KeptState → Coming → Type 0
+LinkServed = LinkServedBy Step Lacks KeepsOn
 
 -- ---- links one after another
+
+-- where commands that were to be kept led so far, they lead on
+abbrev pub GoesOn : KeptState → KeptState → Type 0
+GoesOn before after = (start : KeptState) → KeepsSome start before → KeepsSome start after
 
 -- Links that gave these bytes were served one after another, and each had then sent and failed so often.
 abbrev pub Linked : KeptState → Coming → List (List ℕ) → List (List ℕ × ℕ) → KeptState → Coming → Type 0
@@ -51,8 +41,7 @@ Hosts = HandsBack LinkServed
 
 -- as many links as are answered, or at a fault of the door some
 abbrev pub HostsAll : Result ℕ Failed → Hosting → Hosting → Type 0
-HostsAll (Ok served) before after = Hosts before after served
-HostsAll (Err failed) before after = (served : ℕ) × Hosts before after served
+HostsAll = HostsAllBy LinkServed
 
 -- ---- named by the commands that were kept, and by how many draws are gone
 
@@ -91,7 +80,21 @@ LinkedByNames start reopened coming commands gone state (bytes ∷ links) (back 
     × IsNamed start reopened (commands ++ more) middle
     × LinkedByNames start reopened coming (commands ++ more) (gone + taken) middle links backs commands_after gone_after after
 
--- links were served, and what then stands is named by commands and by draws from an upstream on
+-- no reply on these links is 503 `KeeperFault`
+abbrev pub NoKeeperFaults : (start : UpstreamState) (reopened : ℕ) (coming : Coming) (commands : List Command) (gone : ℕ)
+    (state : KeptState) (links : List (List ℕ)) (backs : List (List ℕ × ℕ)) (commands_after : List Command) (gone_after : ℕ)
+    (after : KeptState) → LinkedByNames start reopened coming commands gone state links backs commands_after gone_after after → Type 0
+NoKeeperFaults start reopened coming commands gone state [] [] commands_after gone_after after linked = ⊤
+NoKeeperFaults start reopened coming commands gone state [] (back ∷ backs) commands_after gone_after after linked = ⊤
+NoKeeperFaults start reopened coming commands gone state (bytes ∷ links) [] commands_after gone_after after linked = ⊤
+NoKeeperFaults start reopened coming commands gone state (bytes ∷ links) (back ∷ backs) commands_after gone_after after
+    (more, taken, middle, names, named, others) =
+    NoKeeperFault 0 (serving state 0 (draws_after gone coming)) names.requests names.text names.reached names.answered
+    × NoKeeperFaults start reopened coming (commands ++ more) (gone + taken) middle links backs commands_after gone_after after others
+
+-- Links were served, and what then stands is named by commands and by draws from an upstream on. What was to be kept of all
+-- their requests, in order, is all that changed it and its keeper. Where the keeper failed at none of it, no reply is 503
+-- `KeeperFault`.
 pub record LinksName
     (start : UpstreamState) (reopened : ℕ) (coming : Coming) (commands : List Command) (gone : ℕ) (state : KeptState)
     (links : List (List ℕ)) (backs : List (List ℕ × ℕ)) (after : KeptState) (coming_after : Coming) : Type 0 where
@@ -100,6 +103,11 @@ pub record LinksName
   pub linked : LinkedByNames start reopened coming commands gone state links backs commands_after gone_after after
   pub named : IsNamed start reopened commands_after after
   pub draws : coming_after ≡ draws_after gone_after coming
+  pub tried : List Tried
+  pub keeps : KeepsAll tried state after
+  pub adds : commands_after ≡ commands ++ acknowledged tried
+  pub calm : faults_among tried ≡ 0
+      → NoKeeperFaults start reopened coming commands gone state links backs commands_after gone_after after linked
 
 -- what links hand on has such names
 abbrev pub KeptLinksNameCommands : Type 0

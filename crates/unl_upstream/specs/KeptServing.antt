@@ -1,18 +1,19 @@
 -- What an upstream that keeps its commands does on a connection.
-use Rattle.std.specs.Prelude.{◌≡◌, ◌≢◌, ℕ, ◌+◌, List, [], ◌∷◌, ◌++◌, Option, Some, None, Result, Ok, Err}
+use Rattle.std.specs.Prelude.{◌≡◌, ◌≢◌, ℕ, ◌+◌, List, [], ◌∷◌, ◌++◌, Option, Some, None, Result, Ok, Err, ⊤}
 use Rattle.unl_base.specs.declared.draws.Draw.{Draw}
 use Rattle.unl_exchange.specs.Answering.{Answerer, Answers, Coming, LacksMemory, answerer}
-use Rattle.unl_exchange.specs.Conversation.{Answered, Converses, Reaches}
+use Rattle.unl_exchange.specs.Conversation.{Answered, Reaches}
 use Rattle.unl_exchange.specs.Links.{LinkState}
 use Rattle.unl_http_api.specs.declared.end.End.{End}
 use Rattle.unl_http_api.specs.declared.reply.Reply.{Reply}
 use Rattle.unl_http_api.specs.declared.request.Request.{Request}
 use Rattle.unl_upstream.specs.declared.command.Command.{Command}
 use Rattle.unl_upstream.specs.declared.refusal.KeepCommandRefusal.{KeepCommandRefusal}
-use Rattle.unl_upstream.specs.declared.refusal.KeepCommandRefusal.TheVariants.{Memory}
+use Rattle.unl_upstream.specs.declared.refusal.KeepCommandRefusal.TheVariants.{KeeperFault, Memory}
 use Rattle.unl_upstream.specs.Answer.{numbered, refused, unchanged, upstream_answer}
-use Rattle.unl_upstream.specs.Kept.{Carries, Keeps, KeepsAll, KeptState, Tried}
+use Rattle.unl_upstream.specs.Kept.{Carries, Keeps, KeepsAll, KeptState, Tried, faults_among}
 use Rattle.unl_upstream.specs.Requests.{command_given}
+use Rattle.unl_upstream.specs.Served.{ServesLinkBy}
 
 -- ---- one request
 
@@ -47,10 +48,14 @@ abbrev pub tried_of : (given : Option Command) (before : KeptState) (q : Request
 tried_of None before q draw reply after tells = []
 tried_of (Some command) before q draw reply after tells = record { command = command; result = tells.result } ∷ []
 
--- a request is answered, and what holds of the upstream and its keeper holds on
+-- A request is answered, and what holds of the upstream and its keeper holds on. Unless the keeper failed at its command the
+-- reply isn't 503 `KeeperFault`.
 pub record CarriesAnswer (before : KeptState) (q : Request) (draw : Draw) (reply : Reply) (after : KeptState) : Type 0 where
   pub gives : Gives before q draw reply after
-  pub carries : Carries (tried_of (command_given before.up.secret q) before q draw reply after gives) before after
+  pub tried : List Tried
+  pub are : tried ≡ tried_of (command_given before.up.secret q) before q draw reply after gives
+  pub carries : Carries tried before after
+  pub calm : faults_among tried ≡ 0 → reply ≢ refused KeeperFault
 
 -- ---- a connection
 
@@ -78,19 +83,23 @@ tried_in count before (q ∷ qs) text after (reply, middle, more, step, split, r
     tried_of (command_given before.state.up.secret q) before.state q step.draw reply middle.state step.given
     ++ tried_in (count + 1) middle qs more after rest
 
+-- no reply to requests that were answered is 503 `KeeperFault`
+abbrev pub NoKeeperFault : (count : ℕ) (before : KeptServing) (qs : List Request) (text : List ℕ) (after : KeptServing)
+    → Answered Step count before qs text after → Type 0
+NoKeeperFault count before [] text after answered = ⊤
+NoKeeperFault count before (q ∷ qs) text after (reply, middle, more, step, split, rest) =
+    (reply ≢ refused KeeperFault) × NoKeeperFault (count + 1) middle qs more after rest
+
 -- In every case so many requests were answered one after another, and what was to be kept of them alone changed the upstream
--- and its keeper.
+-- and its keeper. Where the keeper failed at none of it, no reply is 503 `KeeperFault`.
 pub record KeepsOn (before : KeptServing) (end : End) (count : ℕ) (after : KeptServing) : Type 0 where
   pub reaches : Reaches Step Lacks before end after count
   pub tried : List Tried
   pub are : tried ≡ tried_in 0 before reaches.requests reaches.text reaches.reached reaches.answered
   pub keeps : KeepsAll tried before.state after.state
   pub carries : Carries tried before.state after.state
+  pub calm : faults_among tried ≡ 0 → NoKeeperFault 0 before reaches.requests reaches.text reaches.reached reaches.answered
 
 -- a link was served
-pub record ServesLink
-    (before : KeptState) (coming : Coming) (link link_after : LinkState) (after : KeptState) (coming_after : Coming) : Type 0 where
-  pub count : ℕ
-  pub end : End
-  pub conversation : Converses Step Lacks link (serving before 0 coming) end (serving after count coming_after) count link_after
-  pub keeps : KeepsOn (serving before 0 coming) end count (serving after count coming_after)
+abbrev pub ServesLink : KeptState → Coming → LinkState → LinkState → KeptState → Coming → Type 0
+ServesLink = ServesLinkBy Step Lacks KeepsOn

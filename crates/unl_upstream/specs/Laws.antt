@@ -1,5 +1,5 @@
 -- What holds of an upstream after any commands, from its opening on.
-use Rattle.std.specs.Prelude.{◌≡◌, ℕ, List, [], ◌∷◌, Some, is_some}
+use Rattle.std.specs.Prelude.{◌≡◌, ℕ, List, [], ◌∷◌, is_some}
 use Rattle.std.specs.List.{list_any}
 use Rattle.unl_core.specs.Board.{same_text, snapshot_in}
 use Rattle.unl_delta.specs.declared.version.EnvVersion.{EnvVersion}
@@ -9,7 +9,7 @@ use Rattle.unl_lines.specs.Taken.{done, outcome_of}
 use Rattle.unl_tokens.specs.declared.token.Token.{Token}
 use Rattle.unl_upstream.specs.declared.command.Command.{Command}
 use Rattle.unl_upstream.specs.Upstream.{UpstreamState, opening}
-use Rattle.unl_upstream.specs.History.{IsHistoryOf, accepted, after_commands, for_environment, history_of}
+use Rattle.unl_upstream.specs.History.{AreHistories, IsHistoryOf, accepted, after_commands, history_of}
 use Rattle.unl_exchange.specs.Answering.{Coming}
 use Rattle.unl_upstream.specs.Hosting.{Linked}
 use Rattle.unl_upstream.specs.Lines.{SpellAccepted, obeying}
@@ -23,9 +23,8 @@ line_of epoch commands = record { epoch = epoch; history = history_of commands }
 abbrev pub VersionsStand : Type 0
 VersionsStand =
     (boot : ℕ) (secret : List ℕ) (environments : List (List ℕ)) (book : List Token) (epoch : ℕ) (commands : List Command)
-    (environment : List ℕ) (v : EnvVersion)
-    → snapshot_in environment (after_commands commands (opening boot secret environments book epoch)).board.slots ≡ Some v
-    → IsHistoryOf epoch (for_environment environment (accepted commands (opening boot secret environments book epoch))) v
+    → AreHistories epoch (accepted commands (opening boot secret environments book epoch))
+    (after_commands commands (opening boot secret environments book epoch))
 
 -- a version that stands for such a history stands in its line, seen by who sees all
 abbrev pub VersionsStandInLines : Type 0

@@ -4,6 +4,7 @@ pub mod Upstream
 pub mod History
 pub mod Answer
 pub mod Lines
+pub mod Served
 pub mod Serving
 pub mod Requests
 pub mod Kept

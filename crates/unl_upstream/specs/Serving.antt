@@ -2,15 +2,15 @@
 use Rattle.std.specs.Prelude.{◌≡◌, ℕ, List, [], ◌∷◌, ◌++◌, length, option_to_list}
 use Rattle.unl_base.specs.declared.draws.Draw.{Draw}
 use Rattle.unl_exchange.specs.Answering.{Answerer, Answers, Coming, LacksMemory, answerer}
-use Rattle.unl_exchange.specs.Conversation.{Converses}
 use Rattle.unl_exchange.specs.Links.{LinkState}
 use Rattle.unl_http_api.specs.declared.end.End.{End}
 use Rattle.unl_http_api.specs.declared.reply.Reply.{Reply}
 use Rattle.unl_http_api.specs.declared.request.Request.{Request}
 use Rattle.unl_upstream.specs.declared.command.Command.{Command}
 use Rattle.unl_upstream.specs.Answer.{upstream_answer}
-use Rattle.unl_upstream.specs.History.{after_commands}
+use Rattle.unl_upstream.specs.History.{AreAdded, accepted, after_commands}
 use Rattle.unl_upstream.specs.Requests.{command_given}
+use Rattle.unl_upstream.specs.Served.{ServesLinkBy}
 use Rattle.unl_upstream.specs.Upstream.{UpstreamState}
 
 -- ---- one request
@@ -46,18 +46,20 @@ abbrev pub commands_given : List ℕ → List Request → List Command
 commands_given secret [] = []
 commands_given secret (q ∷ qs) = option_to_list (command_given secret q) ++ commands_given secret qs
 
--- so many requests were answered, and what then stands is what their commands leave
+-- So many requests were answered, and what then stands is what their commands leave. The versions stand for those too that
+-- were accepted.
 pub record Obeys (up : UpstreamState) (count : ℕ) (up_after : UpstreamState) : Type 0 where
   pub requests : List Request
   pub counted : length requests ≡ count
   pub obeyed : up_after ≡ after_commands (commands_given up.secret requests) up
+  pub versions : AreAdded (accepted (commands_given up.secret requests) up) up up_after
 
 -- ---- a connection
 
--- a link was served: so many requests were answered, and their commands are all that changed the upstream
-pub record ServesLink
-    (up : UpstreamState) (coming : Coming) (link link_after : LinkState) (up_after : UpstreamState) (coming_after : Coming) : Type 0 where
-  pub count : ℕ
-  pub end : End
-  pub conversation : Converses Step Lacks link (serving up 0 coming) end (serving up_after count coming_after) count link_after
-  pub obeyed : Obeys up count up_after
+-- so many requests were answered, and their commands are all that changed the upstream
+abbrev pub Changes : Serving → End → ℕ → Serving → Type 0
+Changes before end count after = Obeys before.state count after.state
+
+-- a link was served
+abbrev pub ServesLink : UpstreamState → Coming → LinkState → LinkState → UpstreamState → Coming → Type 0
+ServesLink = ServesLinkBy Step Lacks Changes

@@ -1,5 +1,5 @@
 //! What an upstream answers a request.
-ghost use Rattle.std.specs.Prelude.{◌≡◌, IfOk, OnErr};
+ghost use Rattle.std.specs.Prelude.{◌≡◌, IfOk, OnErr, option_to_list};
 ghost use Rattle.serde_json.specs.Data.{object, no_members};
 ghost use Rattle.serde_json.specs.View.{view};
 ghost use Rattle.unl_core.specs.Answer.{refusal};
@@ -9,6 +9,8 @@ ghost use Rattle.unl_http_api.specs.Route.{route_of};
 ghost use Rattle.unl_upstream.specs.Answer.{IsValidOrder, names_commands, numbered, order_at, order_in, order_of};
 ghost use Rattle.unl_upstream.specs.Answer.{refused, told, upstream_answer};
 ghost use Rattle.unl_upstream.specs.Command.{IsValidCommand, command_in};
+ghost use Rattle.unl_upstream.specs.History.{AreAdded, accepted};
+ghost use Rattle.unl_upstream.specs.Requests.{command_given};
 ghost use Rattle.unl_upstream.specs.Upstream.{commanded};
 
 use crate::command::Command;
@@ -32,8 +34,19 @@ impl Upstream {
     ///
     /// # Errors
     /// Want of memory. The upstream is then as before.
-    #[tactic(auto, unfolding(crate::specs::Answer::upstream_answer))]
     pub fn answer(&mut self, alloc: Global, request: &Request, draw: &Draw) -> Result<Reply, Memory>
+        ensures answer { IfOk result (λ reply. upstream_answer self.old request.now draw.entry.now
+            ≡ record { reply = reply; up = self.new }) }
+        ensures versions { IfOk result
+            (λ reply. AreAdded (accepted (option_to_list (command_given self.old.secret request.now)) self.old) self.old self.new) }
+        ensures same { OnErr result (self.new ≡ self.old) }
+    {
+        self.answer_one(alloc, request, draw)
+    }
+
+    /// Answers a request.
+    #[tactic(auto, unfolding(crate::specs::Answer::upstream_answer))]
+    fn answer_one(&mut self, alloc: Global, request: &Request, draw: &Draw) -> Result<Reply, Memory>
         ensures answer { IfOk result (λ reply. upstream_answer self.old request.now draw.entry.now
             ≡ record { reply = reply; up = self.new }) }
         ensures same { OnErr result (self.new ≡ self.old) }

@@ -3,7 +3,7 @@ ghost use Rattle.std.specs.Prelude.{◌≡◌, true, OnOk};
 ghost use Rattle.unl_base.specs.Doors.{IsClosed};
 ghost use Rattle.unl_base.specs.Faults.{HasCause};
 ghost use Rattle.unl_exchange.specs.Linked.{linking};
-ghost use Rattle.unl_upstream.specs.Kept.{keeper_by, kept_state};
+ghost use Rattle.unl_upstream.specs.Kept.{HoldsOn, keeper_by, kept_state};
 ghost use Rattle.unl_upstream.specs.KeptHosting.{HostsAll};
 
 use crate::keeping_server::{KeptUpstream, serve_kept};
@@ -16,13 +16,17 @@ use unl_keeper::Keeper;
 
 impl<'a, K: Keeper> Server for KeptUpstream<'a, K> {
     ghost use Rattle.std.specs.Prelude.{◌≡◌, true};
-    ghost use Rattle.std.proofs.Common.{rules};
+    ghost use Rattle.std.proofs.Common.{◌∙◌, refl};
     ghost use Rattle.unl_upstream.specs.Kept.{keeper_by, kept_state};
+    ghost use Rattle.unl_upstream.specs.KeptHosting.{GoesOn};
     ghost use Rattle.unl_upstream.specs.KeptServing.{ServesLink};
 
     ghost fits = { λ server. K.opened server.keeper.now ≡ true };
 
-    ghost keeps = { λ server after. (after.up.ghost_name ≡ server.up.ghost_name) × (after.keeper.ghost_name ≡ server.keeper.ghost_name) };
+    ghost keeps = { λ server after. (after.up.ghost_name ≡ server.up.ghost_name)
+        × (after.keeper.ghost_name ≡ server.keeper.ghost_name)
+        × GoesOn (kept_state server.up.now (keeper_by K.opened K.faults K.count K.rows server.keeper.now))
+        (kept_state after.up.now (keeper_by K.opened K.faults K.count K.rows after.keeper.now)) };
 
     ghost serves = { λ server coming link link_after after coming_after. ServesLink
         (kept_state server.up.now (keeper_by K.opened K.faults K.count K.rows server.keeper.now)) coming link link_after
@@ -32,9 +36,13 @@ impl<'a, K: Keeper> Server for KeptUpstream<'a, K> {
         serve_kept(alloc, self.up, self.keeper, link, draws);
     }
 
-    ghost keeps_itself = { Prim.search rules };
+    ghost keeps_itself = { λ server. (refl, refl, λ start led. led) };
 
-    ghost keeps_on = { Prim.search rules };
+    ghost keeps_on = { λ first next last one two. (
+      two.0 ∙ one.0,
+      two.1 ∙ one.1,
+      λ start led. two.2 start (one.2 start led),
+    ) };
 }
 
 /// Serves one link after the other as [`Upstream::host`] does, but that commands are kept before they are answered.
@@ -55,6 +63,10 @@ pub fn host_kept<K: Keeper, D: Door, R: Draws, W: Wait>(
     ensures hosts { HostsAll result
         (linking (kept_state up.old (keeper_by K.opened K.faults K.count K.rows keeper.old)) (R.coming draws.old) (D.state door.old))
         (linking (kept_state up.new (keeper_by K.opened K.faults K.count K.rows keeper.new)) (R.coming draws.new) (D.state door.new)) }
+
+    // Whatever the door tells: what was to be kept of the links is all that changed the upstream and its keeper.
+    ensures carries { HoldsOn (kept_state up.old (keeper_by K.opened K.faults K.count K.rows keeper.old))
+        (kept_state up.new (keeper_by K.opened K.faults K.count K.rows keeper.new)) }
     ensures closed { OnOk result (IsClosed (D.state door.new)) }
     ensures listens { (D.state door.new).listening ≡ true }
     ensures cause { HasCause (D.faults door.old) (D.faults door.new) result }

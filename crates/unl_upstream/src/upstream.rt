@@ -1,4 +1,4 @@
-ghost use Rattle.std.specs.Prelude.{◌≡◌, ◌≢◌, ◌≤◌, true, IfErr, IfOk, OnErr, OnOk, Ok, Err, length, map};
+ghost use Rattle.std.specs.Prelude.{◌≡◌, ◌≢◌, ◌≤◌, true, [], ◌∷◌, IfErr, IfOk, OnErr, OnOk, Ok, Err, length, map};
 ghost use Rattle.std.specs.List.{list_all};
 ghost use Rattle.std.specs.Str.{bytes_eq};
 ghost use Rattle.unl_core.specs.Board.{AreDifferent, AreSlots};
@@ -6,6 +6,7 @@ ghost use Rattle.unl_documents.specs.Results.{Gives};
 ghost use Rattle.unl_documents.specs.Texts.{is_name};
 ghost use Rattle.unl_upstream.specs.declared.refusal.CommandRefusal.TheVariants.{Memory as memory};
 ghost use Rattle.unl_upstream.specs.Command.{IsValidCommand};
+ghost use Rattle.unl_upstream.specs.History.{AreAdded, AreHistories};
 ghost use Rattle.unl_upstream.specs.Upstream.{commanded, committed, opening, opening_slot, prepared};
 ghost use Rattle.unl_upstream.specs.Writing.{HasNames};
 
@@ -55,7 +56,8 @@ impl Upstream {
         requires few { length environments.now ≤ 8 }
         requires different { AreDifferent environments.now }
         requires named { list_all is_name environments.now ≡ true }
-        ensures { IfOk result (λ up. up ≡ opening boot secret.now environments.now book epoch) }
+        ensures opens { IfOk result (λ up. up ≡ opening boot secret.now environments.now book epoch) }
+        ensures versions { IfOk result (AreHistories epoch []) }
     {
         let mut board = Board::new(alloc, boot, "", environments)?;
         board.slots = List::from_vec(opening_slots(alloc, environments.as_slice(), epoch)?);
@@ -81,12 +83,24 @@ impl Upstream {
         token == self.secret.as_str().as_bytes()
     }
 
-    /// Obeys a command, and answers the new number of its environment, one above the old.
+    /// Obeys a command, and answers the new number of its environment, one above the old. The version that it makes stands for
+    /// the history with this command, where the one before stood for that without.
     ///
     /// # Errors
     /// The first refusal that fits, or want of memory. The upstream is then as before.
-    #[tactic(auto, unfolding(crate::specs::Upstream::commanded))]
     pub fn apply(&mut self, alloc: Global, command: &Command) -> Result<u64, CommandRefusal>
+        requires { IsValidCommand command.now }
+        ensures applied { IfOk result (λ number. commanded command.now self.old ≡ Ok (record { up = self.new; number = number })) }
+        ensures versions { IfOk result (λ number. AreAdded (command.now ∷ []) self.old self.new) }
+        ensures refused { IfErr result (λ refusal. refusal ≢ memory → commanded command.now self.old ≡ Err refusal) }
+        ensures same { OnErr result (self.new ≡ self.old) }
+    {
+        self.apply_one(alloc, command)
+    }
+
+    /// Obeys a command.
+    #[tactic(auto, unfolding(crate::specs::Upstream::commanded))]
+    fn apply_one(&mut self, alloc: Global, command: &Command) -> Result<u64, CommandRefusal>
         requires { IsValidCommand command.now }
         ensures applied { IfOk result (λ number. commanded command.now self.old ≡ Ok (record { up = self.new; number = number })) }
         ensures refused { IfErr result (λ refusal. refusal ≢ memory → commanded command.now self.old ≡ Err refusal) }

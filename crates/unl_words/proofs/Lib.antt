@@ -5,4 +5,5 @@ pub mod Known
 mod LastSplit
 mod Named
 mod Numbers
+mod OwnTokens
 mod Simple

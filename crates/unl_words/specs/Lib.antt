@@ -1,4 +1,5 @@
 pub mod Lists
+pub mod OwnBook
 pub mod Ranges
 pub mod Refusals
 pub mod Values

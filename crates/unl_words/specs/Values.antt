@@ -93,6 +93,14 @@ mode_of text = if bytes_eq text (codes "delta") then Ok true else passed (bytes_
 abbrev pub mode_or_delta : Option Text → Value Bool
 mode_or_delta given = option_map_or mode_of given (Ok true)
 
+-- whether commands are kept in a database, or in memory
+abbrev pub sqlite_of : Text → Value Bool
+sqlite_of text = if bytes_eq text (codes "sqlite") then Ok true else passed (bytes_eq text (codes "memory")) false
+
+-- they are kept in memory where nothing else is given
+abbrev pub sqlite_or_memory : Option Text → Value Bool
+sqlite_or_memory given = option_map_or sqlite_of given (Ok false)
+
 -- a text that is a name
 abbrev pub name_of : Text → Value Text
 name_of text = passed (is_name text) text

@@ -8,7 +8,7 @@ use Rattle.unl_documents.specs.Results.{◌>>=◌, Gives}
 use Rattle.unl_words.specs.Lists.{are_environments, are_own_tokens, are_tokens, are_upstream_tokens, environment_of, fit_one_book, items_of}
 use Rattle.unl_words.specs.Lists.{token_of}
 use Rattle.unl_words.specs.Values.{address_of, context_by, line_of, mode_or_delta, name_of, number_or, number_within, or_empty, passed}
-use Rattle.unl_words.specs.Values.{placed, required, secret_of}
+use Rattle.unl_words.specs.Values.{placed, required, secret_of, sqlite_or_memory}
 use Rattle.unl_words.specs.declared.refusal.WordsRefusal.{WordsRefusal}
 use Rattle.unl_words.specs.declared.refusal.WordsRefusal.TheVariants.{Bad, Memory}
 use Rattle.unl_words.specs.declared.words.Words.{Words}
@@ -101,7 +101,17 @@ asks_edge rows = do
   interval ← number_or 15 1 3600 (first_of (codes "interval") rows)
   connections ← number_or 0 0 last_number (first_of (codes "connections") rows)
   delta ← mode_or_delta (first_of (codes "mode") rows)
-  Ok (Edge port upstream upstream_tokens tokens host workers interval connections delta)
+  Ok (Edge (record {
+    port = port;
+    upstream = upstream;
+    upstream_tokens = upstream_tokens;
+    tokens = tokens;
+    host = host;
+    workers = workers;
+    interval = interval;
+    connections = connections;
+    delta = delta;
+  }))
 
 -- serves, and asks its upstream again and again
 abbrev pub edge : Command
@@ -114,7 +124,7 @@ unfoldable pub upstream_app : App
 upstream_app = with_options (codes "upstream") (option_named (codes "port")
     ∷ required_named (codes "secret") ∷ required_named (codes "environments")
     ∷ option_named (codes "client-tokens") ∷ option_named (codes "frontend-tokens")
-    ∷ option_named (codes "connections") ∷ option_named (codes "epoch") ∷ [])
+    ∷ option_named (codes "connections") ∷ option_named (codes "epoch") ∷ option_named (codes "keep") ∷ [])
 
 -- what `upstream` is to do
 unfoldable pub asks_upstream : List Row → WordsReading
@@ -126,7 +136,18 @@ asks_upstream rows = do
   frontend_tokens ← or_empty (items_of are_own_tokens) (first_of (codes "frontend-tokens") rows)
   connections ← number_or 0 0 last_number (first_of (codes "connections") rows)
   epoch ← number_or 0 0 last_number (first_of (codes "epoch") rows)
-  passed (fit_one_book client_tokens frontend_tokens) (Upstream port secret environments client_tokens frontend_tokens connections epoch)
+  sqlite ← sqlite_or_memory (first_of (codes "keep") rows)
+  passed (fit_one_book client_tokens frontend_tokens)
+      (Upstream (record {
+        port = port;
+        secret = secret;
+        environments = environments;
+        client_tokens = client_tokens;
+        frontend_tokens = frontend_tokens;
+        connections = connections;
+        epoch = epoch;
+        sqlite = sqlite;
+      }))
 
 -- takes commands and serves what they make
 abbrev pub upstream : Command
@@ -150,7 +171,15 @@ asks_follow rows = do
   delta ← mode_or_delta (first_of (codes "mode") rows)
   turns ← number_or 1 1 1000000 (first_of (codes "turns") rows)
   interval ← number_or 15 1 3600 (first_of (codes "interval") rows)
-  Ok (Follow upstream token feature (placed (environment_of token) context) delta turns interval)
+  Ok (Follow (record {
+    upstream = upstream;
+    token = token;
+    feature = feature;
+    context = placed (environment_of token) context;
+    delta = delta;
+    turns = turns;
+    interval = interval;
+  }))
 
 -- follows an upstream, and tells at each turn whether one feature is on
 abbrev pub follow : Command

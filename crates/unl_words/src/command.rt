@@ -53,7 +53,8 @@ pub(crate) fn upstream<'a>(alloc: Global) -> Result<Command<'a>, AllocError>
     let command = with_option(alloc, command, "client-tokens")?;
     let command = with_option(alloc, command, "frontend-tokens")?;
     let command = with_option(alloc, command, "connections")?;
-    with_option(alloc, command, "epoch")
+    let command = with_option(alloc, command, "epoch")?;
+    with_option(alloc, command, "keep")
 }
 
 /// `follow` must be told its upstream, its token and its feature.

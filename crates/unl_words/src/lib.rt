@@ -1,6 +1,7 @@
 //! The words of the command line: which command they name, and the values of its options.
 #![tactic(auto)]
 
+mod book;
 mod command;
 mod items;
 mod number;
@@ -10,10 +11,11 @@ mod token;
 mod value;
 mod words;
 
+pub use book::own_book;
 pub use read::read_words;
 pub use refusal::WordsRefusal;
 pub use token::{token_environment, token_environments};
-pub use words::Words;
+pub use words::{EdgeWords, FollowWords, UpstreamWords, Words};
 
 #[cfg(test)]
 mod tests;

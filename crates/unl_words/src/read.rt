@@ -11,7 +11,7 @@ ghost use Rattle.unl_words.specs.declared.refusal.WordsRefusal.TheVariants.{Memo
 
 use crate::number::{number_or, required_number};
 use crate::value::given;
-use crate::{Words, WordsRefusal, command, items, value};
+use crate::{EdgeWords, FollowWords, UpstreamWords, Words, WordsRefusal, command, items, value};
 use clap::ArgMatches;
 use std::alloc::Global;
 
@@ -31,8 +31,8 @@ const LAST_MOMENT: u64 = 100_000_000_000_000;
 ///   upstream and both lists must be given.
 /// - `upstream` takes `--port` (4242), `--secret`, which isn't empty, `--environments`, 1 to 8 different names,
 ///   `--client-tokens` and `--frontend-tokens` (empty), in all at most 1,024 of different texts, each with one project or
-///   all, `--connections` (0), and `--epoch`, an unsigned number of 64 bits (0). The secret and the environments must be
-///   given.
+///   all, `--connections` (0), `--epoch`, an unsigned number of 64 bits (0), and `--keep`, `memory` or `sqlite`
+///   (`memory`). The secret and the environments must be given.
 /// - `follow` takes `--upstream` `HOST:PORT`, `--token`, `--feature`, a name, `--context`, a query that
 ///   `Context::read_query` takes (empty), `--mode` as `edge`, `--turns`, 1 to 1,000,000 (1), and `--interval` as `edge`.
 ///   The first three must be given. The context is put into the environment of the token.
@@ -168,7 +168,7 @@ fn asked_edge(alloc: Global, matches: &ArgMatches<'_>) -> Result<Words, WordsRef
     let interval = number_or(given(matches, "interval"), 15, 1, 3600)?;
     let connections = number_or(given(matches, "connections"), 0, 0, u64::MAX)?;
     let delta = value::mode_or_delta(given(matches, "mode"))?;
-    Ok(Words::Edge {
+    Ok(Words::Edge(EdgeWords {
         port: port as u16,
         upstream,
         upstream_tokens,
@@ -178,7 +178,7 @@ fn asked_edge(alloc: Global, matches: &ArgMatches<'_>) -> Result<Words, WordsRef
         interval: interval as u32,
         connections,
         delta,
-    })
+    }))
 }
 
 /// What `upstream` is to do, by the values that were found.
@@ -194,10 +194,11 @@ fn asked_upstream(alloc: Global, matches: &ArgMatches<'_>) -> Result<Words, Word
     let frontend_tokens = items::own_tokens(alloc, given(matches, "frontend-tokens"))?;
     let connections = number_or(given(matches, "connections"), 0, 0, u64::MAX)?;
     let epoch = number_or(given(matches, "epoch"), 0, 0, u64::MAX)?;
+    let sqlite = value::sqlite_or_memory(given(matches, "keep"))?;
     if !items::fit_one_book(&client_tokens, &frontend_tokens) {
         return Err(WordsRefusal::Bad);
     }
-    Ok(Words::Upstream {
+    Ok(Words::Upstream(UpstreamWords {
         port: port as u16,
         secret,
         environments,
@@ -205,7 +206,8 @@ fn asked_upstream(alloc: Global, matches: &ArgMatches<'_>) -> Result<Words, Word
         frontend_tokens,
         connections,
         epoch,
-    })
+        sqlite,
+    }))
 }
 
 /// What `follow` is to do, by the values that were found.
@@ -222,7 +224,7 @@ fn asked_follow(alloc: Global, matches: &ArgMatches<'_>) -> Result<Words, WordsR
     let turns = number_or(given(matches, "turns"), 1, 1, 1_000_000)?;
     let interval = number_or(given(matches, "interval"), 15, 1, 3600)?;
     let context = value::placed(alloc, context, &token)?;
-    Ok(Words::Follow {
+    Ok(Words::Follow(FollowWords {
         upstream,
         token,
         feature,
@@ -230,7 +232,7 @@ fn asked_follow(alloc: Global, matches: &ArgMatches<'_>) -> Result<Words, WordsR
         delta,
         turns: turns as u32,
         interval: interval as u32,
-    })
+    }))
 }
 
 /// What `load` is to do, by the values that were found.

@@ -1,4 +1,6 @@
-use crate::{Words, WordsRefusal, read_words, token_environments};
+use crate::{
+    EdgeWords, FollowWords, UpstreamWords, Words, WordsRefusal, read_words, token_environments,
+};
 use std::alloc::Global;
 use std::test::Fail;
 use unl_context::Context;
@@ -116,7 +118,7 @@ fn texts(alloc: Global, items: &[&str]) -> Result<List<Text>, Memory> {
 #[test]
 fn edge_words(rt: HostRuntime) -> Result<(), Fail> {
     let alloc = rt.alloc();
-    let defaults = Words::Edge {
+    let defaults = Words::Edge(EdgeWords {
         port: 3063,
         upstream: Text::new(alloc, "up:4242")?,
         upstream_tokens: texts(alloc, &["*:dev.s"])?,
@@ -126,10 +128,10 @@ fn edge_words(rt: HostRuntime) -> Result<(), Fail> {
         interval: 15,
         connections: 0,
         delta: true,
-    };
+    });
     let line = "edge --upstream up:4242 --upstream-tokens *:dev.s --tokens []:dev.t";
     assert!(rt; reads(alloc, line, &Ok(defaults)) == Some(true));
-    let all = Words::Edge {
+    let all = Words::Edge(EdgeWords {
         port: 1,
         upstream: Text::new(alloc, "::1:065535")?,
         upstream_tokens: texts(alloc, &["*:dev.s", "a:qa.s.s"])?,
@@ -139,7 +141,7 @@ fn edge_words(rt: HostRuntime) -> Result<(), Fail> {
         interval: 3600,
         connections: u64::MAX,
         delta: false,
-    };
+    });
     let line = "edge --mode feed --connections 18446744073709551615 --interval 3600 --workers=16 \
         --host h --tokens ,a:b:c.d,,a:b:c.d\t --upstream-tokens \t*:dev.s\t,a:qa.s.s \
         --upstream=::1:065535 --port 1";
@@ -197,7 +199,7 @@ fn edge_words_out_of_range(rt: HostRuntime) {
 #[test]
 fn upstream_words(rt: HostRuntime) -> Result<(), Fail> {
     let alloc = rt.alloc();
-    let defaults = Words::Upstream {
+    let defaults = Words::Upstream(UpstreamWords {
         port: 4242,
         secret: Text::new(alloc, "s")?,
         environments: texts(alloc, &["dev"])?,
@@ -205,10 +207,11 @@ fn upstream_words(rt: HostRuntime) -> Result<(), Fail> {
         frontend_tokens: texts(alloc, &[])?,
         connections: 0,
         epoch: 0,
-    };
+        sqlite: false,
+    });
     let line = "upstream --environments dev --secret s";
     assert!(rt; reads(alloc, line, &Ok(defaults)) == Some(true));
-    let all = Words::Upstream {
+    let all = Words::Upstream(UpstreamWords {
         port: 65535,
         secret: Text::new(alloc, "-s")?,
         environments: texts(alloc, &["dev", "qa"])?,
@@ -216,11 +219,36 @@ fn upstream_words(rt: HostRuntime) -> Result<(), Fail> {
         frontend_tokens: texts(alloc, &["a:qa.s"])?,
         connections: 7,
         epoch: u64::MAX,
-    };
+        sqlite: true,
+    });
     let line = "upstream --secret=-s --environments dev,qa --client-tokens *:dev.s,a:dev.s \
-        --frontend-tokens a:qa.s, --port 65535 --connections 7 --epoch 18446744073709551615";
+        --frontend-tokens a:qa.s, --port 65535 --connections 7 --epoch 18446744073709551615 --keep=sqlite";
     assert!(rt; reads(alloc, line, &Ok(all)) == Some(true));
     Ok(())
+}
+
+/// Whether an upstream's commands are kept in a database, by these words behind those that it must be given.
+fn is_sqlite(alloc: Global, more: &str) -> Option<bool> {
+    let line = format!(in alloc; "upstream --secret s --environments dev {more}").ok()?;
+    match read(alloc, line.as_str())? {
+        Ok(Words::Upstream(words)) => Some(words.sqlite),
+        _ => None,
+    }
+}
+
+#[test]
+fn what_keeps_commands(rt: HostRuntime) {
+    let table = [
+        ("", Some(false)),
+        ("--keep memory", Some(false)),
+        ("--keep=sqlite", Some(true)),
+        ("--keep file", None),
+        ("--keep=", None),
+        ("--keep sqlite --keep sqlite", None),
+    ];
+    for (more, kept) in table {
+        assert_eq!(rt; is_sqlite(rt.alloc(), more), kept, "{more}");
+    }
 }
 
 /// Whether `upstream` refuses these values.
@@ -277,7 +305,7 @@ fn follow(
 ) -> Result<Words, Fail> {
     let mut context = Context::read_query(alloc, query.as_bytes())?;
     context.set_environment(alloc, "dev")?;
-    Ok(Words::Follow {
+    Ok(Words::Follow(FollowWords {
         upstream: Text::new(alloc, "up:1")?,
         token: Text::new(alloc, token)?,
         feature: Text::new(alloc, "f")?,
@@ -285,7 +313,7 @@ fn follow(
         delta,
         turns,
         interval,
-    })
+    }))
 }
 
 #[test]

@@ -8,7 +8,7 @@ ghost use Rattle.unl_documents.specs.Results.{Gives};
 ghost use Rattle.unl_documents.specs.Texts.{is_name};
 ghost use Rattle.unl_words.specs.Lists.{environment_of, is_token, token_of};
 ghost use Rattle.unl_words.specs.Values.{address_of, context_by, goes_on, is_address, is_line, is_secret, line_of, mode_or_delta, mode_of};
-ghost use Rattle.unl_words.specs.Values.{name_of, or_empty, passed, placed, required, secret_of};
+ghost use Rattle.unl_words.specs.Values.{name_of, or_empty, passed, placed, required, secret_of, sqlite_or_memory};
 ghost use Rattle.unl_words.specs.declared.refusal.WordsRefusal.TheVariants.{Memory};
 
 use crate::WordsRefusal;
@@ -112,6 +112,17 @@ pub(crate) fn mode_or_delta(given: Option<&str>) -> Result<bool, WordsRefusal>
     match given {
         Some("delta") | None => Ok(true),
         Some("feed") => Ok(false),
+        Some(_) => Err(WordsRefusal::Bad),
+    }
+}
+
+/// Whether commands are kept in a database, or in memory, as they are where nothing is given.
+pub(crate) fn sqlite_or_memory(given: Option<&str>) -> Result<bool, WordsRefusal>
+    ensures { result ≡ sqlite_or_memory (option_copied given.entry) }
+{
+    match given {
+        Some("memory") | None => Ok(false),
+        Some("sqlite") => Ok(true),
         Some(_) => Err(WordsRefusal::Bad),
     }
 }

@@ -15,60 +15,11 @@ pub enum Words {
         word: u64,
     },
     /// Serves, and asks its upstream again and again.
-    Edge {
-        /// The port to listen at, which isn't 0.
-        port: u16,
-        /// The upstream's `HOST:PORT`.
-        upstream: Text,
-        /// 1 to 8 tokens of different environments, for the upstream: one for each slot, in this order.
-        upstream_tokens: List<Text>,
-        /// 1 to 1,024 texts of tokens that may be known.
-        tokens: List<Text>,
-        /// The name of the host.
-        host: Text,
-        /// How many threads serve: 1 to 16.
-        workers: u32,
-        /// How many seconds stand between two turns: 1 to 3,600.
-        interval: u32,
-        /// After how many links the door closes: never, where it is 0.
-        connections: u64,
-        /// Whether the upstream is asked for changes, or for whole feeds.
-        delta: bool,
-    },
+    Edge(EdgeWords),
     /// Takes commands and serves what they make.
-    Upstream {
-        /// The port to listen at, which isn't 0.
-        port: u16,
-        /// What a command must show, which isn't empty.
-        secret: Text,
-        /// 1 to 8 different names.
-        environments: List<Text>,
-        /// The tokens of clients: with those of frontends at most 1,024, of different texts.
-        client_tokens: List<Text>,
-        /// The tokens of frontends.
-        frontend_tokens: List<Text>,
-        /// After how many links the door closes: never, where it is 0.
-        connections: u64,
-        /// The epoch in which each environment begins.
-        epoch: u64,
-    },
+    Upstream(UpstreamWords),
     /// Follows an upstream, and tells at each turn whether one feature is on.
-    Follow {
-        /// The upstream's `HOST:PORT`.
-        upstream: Text,
-        /// The token that is shown to it.
-        token: Text,
-        /// The name of the feature.
-        feature: Text,
-        /// The context that the feature is evaluated in: what the query says, in the environment of the token.
-        context: Context,
-        /// Whether the upstream is asked for changes, or for whole feeds.
-        delta: bool,
-        /// How many turns there are: 1 to 1,000,000.
-        turns: u32,
-        /// How many seconds stand between two turns: 1 to 3,600.
-        interval: u32,
-    },
+    Follow(FollowWords),
     /// Tells why a feature is on or off.
     Explain,
     /// Asks a large input that it makes from a number.
@@ -78,4 +29,67 @@ pub enum Words {
         /// How often a feature is asked for: 1 to 1,000,000.
         count: u64,
     },
+}
+
+/// The values of `edge`.
+#[derive(Debug, Drop)]
+pub struct EdgeWords {
+    /// The port to listen at, which isn't 0.
+    pub port: u16,
+    /// The upstream's `HOST:PORT`.
+    pub upstream: Text,
+    /// 1 to 8 tokens of different environments, for the upstream: one for each slot, in this order.
+    pub upstream_tokens: List<Text>,
+    /// 1 to 1,024 texts of tokens that may be known.
+    pub tokens: List<Text>,
+    /// The name of the host.
+    pub host: Text,
+    /// How many threads serve: 1 to 16.
+    pub workers: u32,
+    /// How many seconds stand between two turns: 1 to 3,600.
+    pub interval: u32,
+    /// After how many links the door closes: never, where it is 0.
+    pub connections: u64,
+    /// Whether the upstream is asked for changes, or for whole feeds.
+    pub delta: bool,
+}
+
+/// The values of `upstream`.
+#[derive(Debug, Drop)]
+pub struct UpstreamWords {
+    /// The port to listen at, which isn't 0.
+    pub port: u16,
+    /// What a command must show, which isn't empty.
+    pub secret: Text,
+    /// 1 to 8 different names.
+    pub environments: List<Text>,
+    /// The tokens of clients: with those of frontends at most 1,024, of different texts.
+    pub client_tokens: List<Text>,
+    /// The tokens of frontends.
+    pub frontend_tokens: List<Text>,
+    /// After how many links the door closes: never, where it is 0.
+    pub connections: u64,
+    /// The epoch in which each environment begins.
+    pub epoch: u64,
+    /// Whether commands are kept in a database, or in memory.
+    pub sqlite: bool,
+}
+
+/// The values of `follow`.
+#[derive(Debug, Drop)]
+pub struct FollowWords {
+    /// The upstream's `HOST:PORT`.
+    pub upstream: Text,
+    /// The token that is shown to it.
+    pub token: Text,
+    /// The name of the feature.
+    pub feature: Text,
+    /// The context that the feature is evaluated in: what the query says, in the environment of the token.
+    pub context: Context,
+    /// Whether the upstream is asked for changes, or for whole feeds.
+    pub delta: bool,
+    /// How many turns there are: 1 to 1,000,000.
+    pub turns: u32,
+    /// How many seconds stand between two turns: 1 to 3,600.
+    pub interval: u32,
 }

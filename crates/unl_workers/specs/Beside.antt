@@ -25,8 +25,8 @@ BesideWorked Attends Worked (Other before) (Other after) = Worked before after
 
 -- The door handed out as many links as are answered, and is closed; at a fault of its own it handed out some; and without
 -- memory or threads it is as before.
-abbrev pub Accepted : {S R N : Type 0} → Result (Beside S R × N) BesideFault → DoorState → DoorState → Type 0
-Accepted (Ok done) before after = HandsOut done.0.links before after × IsClosed after
+abbrev pub Accepted : {S R : Type 0} → Result (Beside S R) BesideFault → DoorState → DoorState → Type 0
+Accepted (Ok done) before after = HandsOut done.links before after × IsClosed after
 Accepted (Err Door) before after = (n : ℕ) × HandsOut n before after
 Accepted (Err Spawner) before after = after ≡ before
 Accepted (Err Memory) before after = after ≡ before

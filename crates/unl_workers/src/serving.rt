@@ -45,26 +45,26 @@ pub enum BesideFault {
 ///
 /// # Errors
 /// `Door` where the door failed, `Spawner` where a job couldn't be started, `Memory` where memory for the queue or the jobs ran
-/// out. The posts and the turn are then dropped.
+/// out. The posts are then dropped.
 pub fn serve_beside<S, R, D: Door, N, T, P: Spawner, W: Wait + Sync>(
     alloc: Global,
     rt: &W,
     spawner: &mut P,
     door: &mut D,
     pace: &mut T,
-    turn: N,
+    turn: &mut N,
     posts: Vec<Post<S, R>>,
-) -> Result<(Beside<S, R>, N), BesideFault>
+) -> Result<Beside<S, R>, BesideFault>
 where
     S: Attendant + Drop + Send,
     R: Draws + Drop + Send,
     D::L: Drop + Send,
-    N: Turn + Drop + Send,
+    N: Turn + Send,
     T: Pace + Send,
     requires { (D.state door.old).listening ≡ true }
     ensures accepts { Accepted result (D.state door.old) (D.state door.new) }
-    ensures posts { IfOk result (λ done. AllZip (Attends S.serves S.keeps R.coming) posts.items done.0.posts.items) }
-    ensures turns { IfOk result (λ done. MakesTurns N.turned N.keeps done.0.turns turn done.1 (T.turns pace.old) (T.turns pace.new)) }
+    ensures posts { IfOk result (λ done. AllZip (Attends S.serves S.keeps R.coming) posts.items done.posts.items) }
+    ensures turns { IfOk result (λ done. MakesTurns N.turned N.keeps done.turns turn.old turn.new (T.turns pace.old) (T.turns pace.new)) }
     ensures causes { HasCauses result (D.faults door.old) (D.faults door.new) (P.faults spawner.old) (P.faults spawner.new) }
 {
     let Ok(queue) = LinkQueue::new(alloc) else {
@@ -87,21 +87,19 @@ where
         return Err(BesideFault::Spawner);
     };
     let Refresher {
-        turn,
-        pace: lent,
+        turn: lent_turn,
+        pace: lent_pace,
         turns,
         ..
     } = refresher;
-    take_back(lent);
+    take_back(lent_turn);
+    take_back(lent_pace);
     match outcome {
-        Ok(links) => {
-            let beside = Beside {
-                links,
-                turns,
-                posts,
-            };
-            Ok((beside, turn))
-        }
+        Ok(links) => Ok(Beside {
+            links,
+            turns,
+            posts,
+        }),
         Err(_) => Err(BesideFault::Door),
     }
 }

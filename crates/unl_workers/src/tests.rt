@@ -279,11 +279,11 @@ fn outcome_of<P: Spawner, W: Wait + Sync>(
     let Ok(posts) = posts_of(alloc, workers) else {
         return Err(BesideFault::Memory);
     };
-    let turn = Counting { seen };
+    let mut turn = Counting { seen };
     let mut pace = CountPace::new(turns);
-    let beside = serve_beside(alloc, rt, spawner, door, &mut pace, turn, posts);
+    let beside = serve_beside(alloc, rt, spawner, door, &mut pace, &mut turn, posts);
     match beside {
-        Ok((beside, _)) => Ok(counts_of(beside)),
+        Ok(beside) => Ok(counts_of(beside)),
         Err(fault) => Err(fault),
     }
 }

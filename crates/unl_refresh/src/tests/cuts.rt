@@ -1,58 +1,77 @@
-//! Exchanges of which a call fails, and replies that are cut or too long.
+//! Exchanges of which a call fails, and replies that are cut or too long. Each is the second exchange of its kind, and
+//! leaves what the first one brought.
 
 use crate::tests::desk::OnePlace;
-use crate::tests::{AT_5, BOOK, TAKEN, ask, book_told, counted, peer, sending_told, texts, told};
+use crate::tests::{
+    AT_5, BOOK, TAKEN, WIDER_BOOK, ask, book_told, counted, is_tag, peer, sending_told, texts, told,
+};
 use std::alloc::Global;
 use std::test::Fail;
-use unl_base::MemoryPeer;
 use unl_delta::Installer;
 
 /// An exchange of a short reply makes so many calls: a connect, a write, a read of the reply, and one that finds its end.
 const CALLS: u64 = 4;
 
-#[test]
-fn each_failing_call(rt: HostRuntime) -> Result<(), Fail> {
-    let alloc = rt.alloc();
-    let texts = texts(alloc).expect(&rt, "texts");
-    for call in 0..CALLS {
-        let mut desk = OnePlace::new(alloc);
-        let mut ask = ask(alloc, true).expect(&rt, "an ask");
-        let mut failing = peer(alloc, &[AT_5], &[call]).expect(&rt, "a peer");
-        let text = told(alloc, &mut desk, &mut ask, &mut failing).expect(&rt, "a text");
-        assert_eq!(rt; text.as_str(), "Err(PeerFault)");
-        assert!(rt; desk.stands() == (None, false) && desk.front() == 0 && ask.tag.is_none());
+const AT_9: &[u8] =
+    b"HTTP/1.1 200 OK\r\nContent-Length: 45\r\n\r\n{\"events\":[{\"type\":\"hydration\",\"eventId\":9}]}";
 
-        let mut failing = peer(alloc, &[BOOK], &[call]).expect(&rt, "a peer");
-        let text = book_told(alloc, &mut desk, &texts, &mut failing).expect(&rt, "a text");
-        assert_eq!(rt; text.as_str(), "Err(PeerFault)");
-        assert!(rt; desk.front() == 0 && desk.tokens() == 0);
+const HEAD_LEN: usize = 39;
 
-        let mut book = counted(alloc).expect(&rt, "a book");
-        let mut failing = peer(alloc, &[TAKEN], &[call]).expect(&rt, "a peer");
-        let text = sending_told(alloc, &mut book, &mut failing).expect(&rt, "a text");
-        assert_eq!(rt; text.as_str(), "Err(PeerFault)");
-        assert_eq!(rt; book.len(), 1);
-    }
-    Ok(())
-}
-
-/// What a refresh of an empty place by this reply comes to, as its text, where it leaves the place empty.
-fn leaves_empty(alloc: Global, reply: &[u8]) -> Option<String> {
+/// What a second refresh comes to, as its text, where it leaves the place at 5 and the ask without its tag.
+fn stays_at_5(alloc: Global, second: &[u8], failing: &[u64]) -> Option<String> {
     let mut desk = OnePlace::new(alloc);
     let mut ask = ask(alloc, true)?;
-    let mut peer: MemoryPeer = peer(alloc, &[reply], &[])?;
+    let mut peer = peer(alloc, &[AT_5, second], failing)?;
+    told(alloc, &mut desk, &mut ask, &mut peer)?;
+    if !is_tag(&ask.tag, br#""five""#) {
+        return None;
+    }
     let text = told(alloc, &mut desk, &mut ask, &mut peer)?;
-    if desk.stands() == (None, false) && desk.front() == 0 {
+    if desk.stands() == (Some(5), false) && desk.front() == 1 && ask.tag.is_none() {
         Some(text)
     } else {
         None
     }
 }
 
-const WHOLE: &[u8] =
-    b"HTTP/1.1 200 OK\r\nContent-Length: 45\r\n\r\n{\"events\":[{\"type\":\"hydration\",\"eventId\":5}]}";
+/// What a second refresh of the book comes to, as its text, where the first book stays.
+fn stays_with_its_book(alloc: Global, failing: &[u64]) -> Option<String> {
+    let mut desk = OnePlace::new(alloc);
+    let texts = texts(alloc)?;
+    let mut peer = peer(alloc, &[BOOK, WIDER_BOOK], failing)?;
+    book_told(alloc, &mut desk, &texts, &mut peer)?;
+    let text = book_told(alloc, &mut desk, &texts, &mut peer)?;
+    if desk.front() == 1 && desk.tokens() == 1 {
+        Some(text)
+    } else {
+        None
+    }
+}
 
-const HEAD_LEN: usize = 39;
+/// What sending comes to, as its text, where the book keeps its key.
+fn stays_counted(alloc: Global, failing: &[u64]) -> Option<String> {
+    let mut book = counted(alloc)?;
+    let mut peer = peer(alloc, &[TAKEN], failing)?;
+    let text = sending_told(alloc, &mut book, &mut peer)?;
+    if book.len() == 1 { Some(text) } else { None }
+}
+
+#[test]
+fn each_failing_call(rt: HostRuntime) -> Result<(), Fail> {
+    let alloc = rt.alloc();
+    for call in 0..CALLS {
+        let text = stays_at_5(alloc, AT_9, &[CALLS + call]).expect(&rt, "the place at 5");
+        assert_eq!(rt; text.as_str(), "Err(PeerFault)");
+        let text = stays_with_its_book(alloc, &[CALLS + call]).expect(&rt, "the first book");
+        assert_eq!(rt; text.as_str(), "Err(PeerFault)");
+        let text = stays_counted(alloc, &[call]).expect(&rt, "a key");
+        assert_eq!(rt; text.as_str(), "Err(PeerFault)");
+    }
+    assert!(rt; stays_at_5(alloc, AT_9, &[]).is_none());
+    assert!(rt; stays_with_its_book(alloc, &[]).is_none());
+    assert!(rt; stays_counted(alloc, &[]).is_none());
+    Ok(())
+}
 
 /// A longer body than a reply may have, and no length before it.
 fn endless(alloc: Global) -> Option<Vec<u8>> {
@@ -65,18 +84,17 @@ fn endless(alloc: Global) -> Option<Vec<u8>> {
 #[test]
 fn replies_that_are_cut_or_too_long(rt: HostRuntime) -> Result<(), Fail> {
     let alloc = rt.alloc();
-    for count in 0..WHOLE.len() {
+    for count in 0..AT_9.len() {
         let outcome = if count < HEAD_LEN {
             "Ok(BadAnswer(Reply(Head)))"
         } else {
             "Ok(BadAnswer(Reply(Short)))"
         };
-        let text = leaves_empty(alloc, &WHOLE[..count]).expect(&rt, "an empty place");
+        let text = stays_at_5(alloc, &AT_9[..count], &[]).expect(&rt, "the place at 5");
         assert_eq!(rt; text.as_str(), outcome);
     }
-    assert!(rt; leaves_empty(alloc, WHOLE).is_none());
     let reply = endless(alloc).expect(&rt, "a reply");
-    let text = leaves_empty(alloc, &reply).expect(&rt, "an empty place");
+    let text = stays_at_5(alloc, &reply, &[]).expect(&rt, "the place at 5");
     assert_eq!(rt; text.as_str(), "Ok(BadAnswer(Reply(TooLarge)))");
     Ok(())
 }

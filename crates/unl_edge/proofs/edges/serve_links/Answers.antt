@@ -1,16 +1,21 @@
-use Rattle.std.proofs.Common.{◌+◌, ◌∙◌, ap, refl, sym}
-use Rattle.unl_base.specs.Doors.{DoorState}
-use Rattle.unl_edge.proofs.Closing.{told_ends}
-use Rattle.unl_edge.proofs.Connecting.{connects_still}
+use Rattle.std.proofs.Common.{◌∙◌, refl, sym}
+use Rattle.unl_edge.specs.Sites.{opened}
+use Rattle.unl_edge.proofs.Closing.{failed_ends, hands_links, hands_none, told_ends}
 use Rattle.unl_edge.proofs.edges.serve_links.Goals as goal
 
-pub returns-in-Ok-serve_all-clause-ends : goal.returns-in-Ok-serve_all-clause-ends
-returns-in-Ok-serve_all-clause-ends g c =
-    told_ends _ c.in-Ok-serve_all.served c.say_connections.result c.of_line.result _ _ _ c.of_line.ensures (sym c.world.view_is)
-    (record {
-      given = c.in-Ok-serve_all.ensures.hands.given ∙ ap (λ (s : DoorState). s.given + c.in-Ok-serve_all.served) c.listen.ensures.listens;
-      back = c.in-Ok-serve_all.ensures.hands.back ∙ ap (λ (s : DoorState). s.back + c.in-Ok-serve_all.served) c.listen.ensures.listens;
-      unread = refl;
-    })
-    (connects_still (c.in-Ok.ensures.first c.requires.front c.requires.slots c.requires.few) c.in-Ok-serve_all.ensures.connects)
-    c.say_connections.ensures.said c.say_connections.ensures.broken c.in-Ok-serve_all.ensures.closed
+pub returns-then-is_err-clause-ends : goal.returns-then-is_err-clause-ends
+returns-then-is_err-clause-ends g c =
+    failed_ends (record { known = c.args.upkeep.known; opening = opened c.args.board; workers = c.args.workers }) 0 _ _ _ (sym c.world.view_is)
+    (hands_none _ _ _ c.listen.ensures.listens refl) refl
+
+pub returns-in-Err-Spawner-clause-ends : goal.returns-in-Err-Spawner-clause-ends
+returns-in-Err-Spawner-clause-ends g c =
+    let handed = rw (c.in-Err-Spawner.field-0-is) at c.in-Err-Spawner.ensures.hands in
+    failed_ends (record { known = c.args.upkeep.known; opening = opened c.args.board; workers = c.args.workers }) 0 _ _ _ (sym c.world.view_is)
+    (hands_none _ _ _ (handed ∙ c.listen.ensures.listens) refl) refl
+
+pub returns-in-Ok-clause-ends : goal.returns-in-Ok-clause-ends
+returns-in-Ok-clause-ends g c =
+    told_ends _ c.in-Ok.links c.say_connections.result c.of_line.result _ _ _ c.of_line.ensures (sym c.world.view_is)
+    (hands_links _ _ _ _ _ c.listen.ensures.listens c.in-Ok.ensures.hands.0 refl) (c.in-Ok.ensures.connects, c.in-Ok.ensures.serves)
+    c.say_connections.ensures.said c.in-Ok.ensures.hands.1

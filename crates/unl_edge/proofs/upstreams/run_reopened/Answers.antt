@@ -3,7 +3,8 @@ use Rattle.std.proofs.Common.{refl, subst}
 use Rattle.unl_upstream.specs.contracts.reopening.ReopenFault as faults
 use Rattle.unl_upstream.specs.declared.reopening.ReopenFault.{ReopenFault}
 use Rattle.unl_upstream.specs.Kept.{keeper_by, kept_state}
-use Rattle.unl_edge.specs.Upstreams.{SaysLine, row_line}
+use Rattle.unl_edge.specs.Upstreams.{row_line}
+use Rattle.unl_input.specs.Refusal.{SaysLine}
 use Rattle.unl_edge.proofs.Commands.{bad_row, no_row_there}
 use Rattle.unl_edge.proofs.upstreams.run_reopened.Goals as goal
 

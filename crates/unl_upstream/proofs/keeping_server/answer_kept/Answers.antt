@@ -1,5 +1,4 @@
 use Rattle.std.proofs.Common.{rules}
-use Rattle.std.specs.Prelude.{IfOk}
 use Rattle.std.proofs.lemmas.Result.{IfOk-weaker}
 use Rattle.unl_upstream.specs.Kept.{HasKept, keeper_by, kept_state}
 use Rattle.unl_upstream.proofs.KeptServed.{carries_answer}

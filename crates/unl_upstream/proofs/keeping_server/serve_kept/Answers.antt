@@ -1,4 +1,4 @@
-use Rattle.std.proofs.Common.{◌≡◌, rules}
+use Rattle.std.proofs.Common.{rules}
 use Rattle.unl_exchange.specs.Conversation.{Converses}
 use Rattle.unl_exchange.specs.Links.{link_state}
 use Rattle.unl_exchange.proofs.ShowsLemmas.{Converses_seen}

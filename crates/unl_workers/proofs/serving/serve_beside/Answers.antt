@@ -9,8 +9,8 @@ pub returns-in-Ok-outcome-clause-turns : goal.returns-in-Ok-outcome-clause-turns
 returns-in-Ok-outcome-clause-turns g c =
     let refreshed =
     rw (c.in-Ok-done.is, c.new-refresher.ensures.turn, c.new-refresher.ensures.pace) at c.work_beside-acceptor.ensures.other in
-    let fact : MakesTurns g.N.Turn.turned g.N.Turn.keeps c.in-Ok-done.refresher.turns c.args.turn c.in-Ok-done.refresher.turn
-    (g.T.Pace.turns c.args.pace.now) (g.T.Pace.turns c.in-Ok-done.refresher.pace.now) = refreshed.1 in
+    let fact : MakesTurns g.N.Turn.turned g.N.Turn.keeps c.in-Ok-done.refresher.turns c.args.turn.now c.in-Ok-done.refresher.turn.now
+    (g.T.Pace.turns c.args.pace.now) (g.T.Pace.turns c.in-Ok-done.refresher.pace.now) = refreshed.2 in
     search rules
 
 pub returns-in-Ok-outcome-clause-causes : goal.returns-in-Ok-outcome-clause-causes

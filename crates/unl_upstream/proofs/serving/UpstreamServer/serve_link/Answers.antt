@@ -5,5 +5,5 @@ returns-clause-serves g c = record {
   count = c.serve.result.0;
   end = c.serve.result.1;
   conversation = c.serve.ensures.converses;
-  obeyed = c.serve.ensures.obeyed;
+  changes = c.serve.ensures.obeyed;
 }

@@ -1,0 +1,146 @@
+-- What posts attended to, as what workers did.
+use Rattle.std.proofs.Common.{◌≡◌, ◌≤◌, ◌+◌, ◌∙◌, ℕ, zero, suc, List, [], ◌∷◌, ◌++◌, length, map, Option, Result, Ok, Err, ap, arith, subst, sym}
+use Rattle.std.specs.Prelude.{All, IfOk, OnOk}
+use Rattle.std.specs.List.{AllZip}
+use Rattle.std.proofs.lemmas.List.{length-map}
+use Rattle.std.proofs.lemmas.List.Elements.{All-cons, All-head, All-nil, All-push, All-tail}
+use Rattle.unl_base.specs.Faults.{Rose}
+use Rattle.unl_core.specs.declared.board.Install.{Install}
+use Rattle.unl_delta.specs.Installing.{Installed}
+use Rattle.unl_edge.specs.Attending.{HasLearned, ReadsOnAt, ServesAt}
+use Rattle.unl_edge.specs.Edges.{links_of}
+use Rattle.unl_edge.specs.Sites.{ServesALink, ServesLinks, ServesSite, WorkBeside, Worker, Works, worker_of}
+use Rattle.unl_edge.specs.declared.attending.EdgeAttendant.{EdgeAttendant}
+use Rattle.unl_edge_state.specs.Editions.{BoardAt}
+use Rattle.unl_edge_state.specs.Reading.{next_of, told_to}
+use Rattle.unl_edge_state.specs.declared.reader.EdgeReader.{EdgeReader}
+use Rattle.unl_exchange.specs.Answering.{Coming}
+use Rattle.unl_published.specs.Looking.{SameOrigin}
+use Rattle.unl_published.specs.declared.knowledge.Knowledge.{Knowledge}
+use Rattle.unl_serve.specs.Notes.{Rise}
+use Rattle.unl_serve.specs.declared.served.ServedOne.{ServedOne}
+use Rattle.unl_upkeep.proofs.Connecting.{connects_still, none_before}
+use Rattle.unl_upkeep.specs.Connects.{Connects}
+use Rattle.unl_upkeep.specs.Turns.{MakesTurn, upkept}
+use Rattle.unl_workers.specs.Serving.{Attends, ServesMany, Serving, serving}
+use Rattle.unl_workers.specs.declared.serving.Beside.{Beside}
+use Rattle.unl_workers.specs.declared.serving.BesideFault.{BesideFault}
+use Rattle.unl_workers.specs.declared.worker.Post.{Post}
+
+-- fronts that rise from one to another
+pub risen : (first last : ℕ) (ones : List ServedOne) → Rise first ones last → first ≤ last
+risen first last [] rise = rise
+risen first last (one ∷ ones) rise = let later = risen one.front last ones rise.1 in omega (arith, rise.0, later)
+
+-- what serves by these
+works_by : {W : Type 0} → Serving (EdgeAttendant W) → Worker
+works_by serving = record { reader = serving.server.desk.reader; book = serving.server.book; coming = serving.coming }
+
+-- links that were served
+links_served : {W : Type 0} (n : ℕ) (before after : Serving (EdgeAttendant W)) → ServesMany ServesAt n before after
+    → ServesLinks n (works_by before) (works_by after)
+unfolding works_by
+links_served zero before after many = ap works_by many
+links_served (suc n) before after many =
+    let one = many.2 in
+    (works_by many.0, links_served n before many.0 many.1, record { link = one.link; link_after = one.link_after; served = one.served })
+
+-- a post that was attended to
+attended : {W R : Type 0} (coming_of : R → Coming) (before after : Post (EdgeAttendant W) R)
+    → Attends ServesAt ReadsOnAt coming_of before after → Works (worker_of coming_of before) (worker_of coming_of after)
+unfolding works_by
+attended coming_of before after attends =
+    (after.links, links_served after.links (serving before.server (coming_of before.draws)) (serving after.server (coming_of after.draws)) attends.served)
+
+-- each of them
+all_attended : {W R : Type 0} (coming_of : R → Coming) (before after : List (Post (EdgeAttendant W) R))
+    → AllZip (Attends ServesAt ReadsOnAt coming_of) before after → AllZip Works (map (worker_of coming_of) before) (map (worker_of coming_of) after)
+all_attended coming_of [] [] all = tt
+all_attended coming_of [] (last ∷ after) all = absurd all
+all_attended coming_of (first ∷ before) [] all = absurd all
+all_attended coming_of (first ∷ before) (last ∷ after) all = (attended coming_of first last all.0, all_attended coming_of before after all.1)
+
+-- what their readers were told of
+all_told : {W R : Type 0} (coming_of : R → Coming) (known : Knowledge BoardAt Install) (posts : List (Post (EdgeAttendant W) R))
+    → All (λ post. HasLearned known post.server.desk.reader) posts
+    → All (λ worker. length known.installs ≤ told_to worker.reader) (map (worker_of coming_of) posts)
+all_told coming_of known [] learned = All-nil (λ (worker : Worker). length known.installs ≤ told_to worker.reader)
+all_told {W} {R} coming_of known (post ∷ posts) learned =
+    All-cons (λ (worker : Worker). length known.installs ≤ told_to worker.reader) (worker_of coming_of post) (map (worker_of coming_of) posts)
+    (All-head (λ (p : Post (EdgeAttendant W) R). HasLearned known p.server.desk.reader) post posts learned)
+    (all_told coming_of known posts (All-tail (λ (p : Post (EdgeAttendant W) R). HasLearned known p.server.desk.reader) post posts learned))
+
+-- one post more has learned
+pub learned_more : {W R : Type 0} (known now : Knowledge BoardAt Install) (posts longer : List (Post (EdgeAttendant W) R)) (post : Post (EdgeAttendant W) R)
+    → now ≡ known → longer ≡ posts ++ post ∷ [] → All (λ post. HasLearned known post.server.desk.reader) posts → HasLearned now post.server.desk.reader
+    → All (λ post. HasLearned known post.server.desk.reader) longer
+learned_more {W} {R} known now posts longer post same more learned one =
+    subst (λ (all : List (Post (EdgeAttendant W) R)). All (λ p. HasLearned known p.server.desk.reader) all) (sym more)
+    (All-push (λ (p : Post (EdgeAttendant W) R). HasLearned known p.server.desk.reader) posts post learned
+    (subst (λ (k : Knowledge BoardAt Install). HasLearned k post.server.desk.reader) same one))
+
+-- the readers behind one are of its origin
+pub others_of : (known : Knowledge BoardAt Install) (readers rest : List EdgeReader) (reader : EdgeReader) → readers ≡ reader ∷ rest
+    → All (λ reader. SameOrigin known (next_of reader)) readers → All (λ reader. SameOrigin known (next_of reader)) rest
+others_of known readers rest reader steps all =
+    All-tail (λ (r : EdgeReader). SameOrigin known (next_of r)) reader rest
+    (subst (λ (rs : List EdgeReader). All (λ r. SameOrigin known (next_of r)) rs) steps all)
+
+-- so many workers worked beside one another
+work_beside : {W R : Type 0} (coming_of : R → Coming) (known : Knowledge BoardAt Install) (before after : List (Post (EdgeAttendant W) R))
+    (workers : ℕ) → length before ≡ workers → All (λ post. HasLearned known post.server.desk.reader) before
+    → AllZip (Attends ServesAt ReadsOnAt coming_of) before after → WorkBeside workers (length known.installs)
+work_beside coming_of known before after workers many learned all = record {
+  begun = map (worker_of coming_of) before;
+  ended = map (worker_of coming_of) after;
+  many = length-map before (worker_of coming_of) ∙ many;
+  told = all_told coming_of known before learned;
+  worked = all_attended coming_of before after all;
+}
+
+-- the same, where serving ended well
+pub served_beside : {W R : Type 0} (coming_of : R → Coming) (known : Knowledge BoardAt Install) (before : List (Post (EdgeAttendant W) R)) (workers : ℕ)
+    (served : Result (Beside (EdgeAttendant W) R) BesideFault) (result : Result ℕ BesideFault) → result ≡ links_of served → length before ≡ workers
+    → All (λ post. HasLearned known post.server.desk.reader) before
+    → IfOk served (λ beside. AllZip (Attends ServesAt ReadsOnAt coming_of) before beside.posts.items) → OnOk result (WorkBeside workers (length known.installs))
+served_beside coming_of known before workers (Ok beside) result is many learned all =
+    subst (λ (r : Result ℕ BesideFault). OnOk r (WorkBeside workers (length known.installs))) (sym is)
+    (work_beside coming_of known before beside.posts.items workers many learned all)
+served_beside coming_of known before workers (Err fault) result is many learned all =
+    subst (λ (r : Result ℕ BesideFault). OnOk r (WorkBeside workers (length known.installs))) (sym is) tt
+
+-- ---- a site
+
+-- the upstream was asked in the first turn, and then perhaps again
+pub asked_first : (slots places : ℕ) {replies later : Option (List (List ℕ))} (last : Option (List (List ℕ))) {faults middle : ℕ} (after : ℕ) (served : Result ℕ BesideFault)
+    → slots ≡ places → Connects (slots + 1) replies faults later middle → OnOk served (Connects 0 later middle last after)
+    → OnOk served (Connects (places + 1) replies faults last after)
+asked_first slots places {replies} last {faults} after (Ok links) count first then =
+    subst (λ (n : ℕ). Connects (n + 1) replies faults last after) count (connects_still first then)
+asked_first slots places last after (Err fault) count first then = tt
+
+-- the first turn was made, and links were served behind it
+pub site_served : (known : List (List ℕ)) (slots : ℕ) (opening first : Installed) (workers : ℕ) (replies later last : Option (List (List ℕ)))
+    (faults middle after : ℕ) (served : Result ℕ BesideFault) → slots ≡ length opening.places
+    → (¬ (Rose faults middle) → MakesTurn known slots (upkept opening replies) (upkept first later))
+    → OnOk served (Connects 0 later middle last after) → OnOk served (WorkBeside workers first.front)
+    → OnOk served (ServesSite (record { known = known; opening = opening; workers = workers }) replies faults after)
+site_served known slots opening first workers replies later last faults middle after (Ok links) count turn then work = record {
+  first = first;
+  turn = λ none. (
+    later,
+    subst (λ (n : ℕ). MakesTurn known n (upkept opening replies) (upkept first later)) count
+        (turn (none_before faults middle after then.later none)),
+  );
+  work = work;
+}
+site_served known slots opening first workers replies later last faults middle after (Err fault) count turn then work = tt
+
+-- the same site, by its parts
+pub same_site : (known : List (List ℕ)) (opening begun : Installed) (workers readers : ℕ) (replies : Option (List (List ℕ))) (faults after : ℕ)
+    (served : Result ℕ BesideFault) → begun ≡ opening → readers ≡ workers
+    → OnOk served (ServesSite (record { known = known; opening = begun; workers = readers }) replies faults after)
+    → OnOk served (ServesSite (record { known = known; opening = opening; workers = workers }) replies faults after)
+same_site known opening begun workers readers replies faults after served same count serves =
+    subst (λ (o : Installed). OnOk served (ServesSite (record { known = known; opening = o; workers = workers }) replies faults after)) same
+    (subst (λ (n : ℕ). OnOk served (ServesSite (record { known = known; opening = begun; workers = n }) replies faults after)) count serves)

@@ -1,6 +1,0 @@
-use Rattle.std.proofs.Common.{◌≡◌, take}
-use Rattle.unl_edge.proofs.replica.copies.Given as goal
-
--- so many texts stand once more
-abbrev pub invariant-loop-text : goal.invariant-loop-text
-invariant-loop-text l = l.copies ≡ take l.text-index l.texts

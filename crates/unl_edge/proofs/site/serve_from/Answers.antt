@@ -1,0 +1,16 @@
+use Rattle.std.proofs.Common.{arith}
+use Rattle.unl_edge.proofs.Working.{asked_first, site_served}
+use Rattle.unl_edge.proofs.site.serve_from.Goals as goal
+
+pub returns-in-Ok-clause-connects : goal.returns-in-Ok-clause-connects
+returns-in-Ok-clause-connects g c =
+    let asked = rw (c.in-Ok.is) at c.turn_by-writer.ensures.asks c.requires.opens (omega (arith, c.requires.feeders))
+    (omega (arith, c.requires.feeders, c.requires.few)) in
+    asked_first _ _ _ _ c.serve_after-served.result c.requires.feeders asked c.serve_after-served.ensures.connects
+
+pub returns-in-Ok-clause-serves : goal.returns-in-Ok-clause-serves
+returns-in-Ok-clause-serves g c =
+    let takes = rw (c.in-Ok.is) at c.turn_by-writer.ensures.takes c.requires.opens (omega (arith, c.requires.feeders))
+    (omega (arith, c.requires.feeders, c.requires.few)) in
+    site_served _ _ _ _ _ _ _ _ _ _ _ c.serve_after-served.result c.requires.feeders takes c.serve_after-served.ensures.connects
+    c.serve_after-served.ensures.work

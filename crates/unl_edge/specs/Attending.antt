@@ -1,0 +1,56 @@
+-- What a worker of an edge does: it serves a link over what is published, and hands on what was reported.
+use Rattle.std.specs.Prelude.{◌≤◌, ℕ, List, [], length, max, Some}
+use Rattle.unl_core.specs.Desk.{Keeps}
+use Rattle.unl_edge.specs.declared.attending.EdgeAttendant.{EdgeAttendant}
+use Rattle.unl_edge_state.specs.declared.reader.EdgeReader.{EdgeReader}
+use Rattle.unl_core.specs.declared.board.Install.{Install}
+use Rattle.unl_edge_state.specs.Editions.{BoardAt}
+use Rattle.unl_edge_state.specs.Reading.{board_of, seen_by, told_to}
+use Rattle.unl_exchange.specs.Answering.{Coming}
+use Rattle.unl_exchange.specs.Conversation.{Converses}
+use Rattle.unl_exchange.specs.Links.{LinkState}
+use Rattle.unl_http_api.specs.declared.end.End.{End}
+use Rattle.unl_metrics.specs.Book.{Book}
+use Rattle.unl_published.specs.declared.knowledge.Knowledge.{Knowledge}
+use Rattle.unl_published.specs.Meaning.{front_seen}
+use Rattle.unl_serve.specs.Notes.{DrawsAtLeast, LooksFor, Notes, NotesNothing, Rise, noted}
+use Rattle.unl_serve.specs.declared.served.ServedOne.{ServedOne}
+use Rattle.unl_upkeep.specs.Handing.{IsHandedOn}
+
+-- a reader was told of all that is known, so that it answers from no earlier board
+abbrev pub HasLearned : Knowledge BoardAt Install → EdgeReader → Type 0
+HasLearned known reader = length known.installs ≤ told_to reader
+
+-- a reader answers from no earlier front: it was told of so many publications, or saw so many
+abbrev pub least_front : EdgeReader → ℕ
+least_front reader = max (told_to reader) (front_seen (seen_by reader))
+
+-- what a reader knows goes on: that front does not fall, and the boards that were known still are
+pub record ReadsOn (before after : EdgeReader) : Type 0 where
+  pub rises : least_front before ≤ least_front after
+  pub keeps : Keeps (board_of (seen_by before)) (board_of (seen_by after))
+
+-- A connection was served as that of a desk is: each request was answered over the board at the front of its note, and what
+-- was reported was added to the book, which then was handed on.
+pub record ServesOver
+    (before : EdgeReader) (book : Book) (coming : Coming) (link link_after : LinkState) (after : EdgeReader) (book_after : Book)
+    (coming_after : Coming) : Type 0 where
+  pub end : End
+  pub ones : List ServedOne
+  pub summed : Book
+  pub converses : Converses (Notes (board_of (seen_by after))) NotesNothing link (noted [] book) end (noted ones summed) (length ones)
+      link_after
+  pub fronts : Rise (least_front before) ones (least_front after)
+  pub looks : LooksFor (Some (seen_by before).fronts) ones end (Some (seen_by after).fronts)
+  pub drawn : DrawsAtLeast coming ones coming_after
+  pub handed : IsHandedOn summed book_after
+
+-- the same of what a worker serves by
+abbrev pub ServesAt :
+    {W : Type 0} → EdgeAttendant W → Coming → LinkState → LinkState → EdgeAttendant W → Coming → Type 0
+ServesAt before coming link link_after after coming_after =
+    ServesOver before.desk.reader before.book coming link link_after after.desk.reader after.book coming_after
+
+-- what its reader knows goes on
+abbrev pub ReadsOnAt : {W : Type 0} → EdgeAttendant W → EdgeAttendant W → Type 0
+ReadsOnAt before after = ReadsOn before.desk.reader after.desk.reader

@@ -1,0 +1,79 @@
+-- How an edge serves links side by side, behind its first turn.
+use Rattle.std.specs.Prelude.{◌≡◌, ◌≤◌, ℕ, zero, suc, List, [], All, length, map, Option}
+use Rattle.std.specs.List.{AllZip}
+use Rattle.unl_base.specs.Faults.{Rose}
+use Rattle.unl_core.specs.Board.{empty_slot}
+use Rattle.unl_core.specs.Standing.{place_at}
+use Rattle.unl_core.specs.declared.board.Board.{Board}
+use Rattle.unl_delta.specs.Installing.{Installed}
+use Rattle.unl_edge.specs.Attending.{ServesOver}
+use Rattle.unl_edge.specs.declared.attending.EdgeAttendant.{EdgeAttendant}
+use Rattle.unl_edge_state.specs.Reading.{told_to}
+use Rattle.unl_edge_state.specs.declared.reader.EdgeReader.{EdgeReader}
+use Rattle.unl_exchange.specs.Answering.{Coming}
+use Rattle.unl_exchange.specs.Links.{LinkState}
+use Rattle.unl_metrics.specs.Book.{Book}
+use Rattle.unl_upkeep.specs.Turns.{MakesTurn, upkept}
+use Rattle.unl_words.specs.Lists.{environment_of}
+use Rattle.unl_workers.specs.declared.worker.Post.{Post}
+
+-- what the words ask for: the texts of the tokens that may be known, what stands before the first turn, and how many workers
+pub record Site : Type 0 where
+  pub known : List (List ℕ)
+  pub opening : Installed
+  pub workers : ℕ
+
+-- what stands on a board before anything is published
+abbrev pub opened : Board → Installed
+opened board = record { places = map place_at board.slots; front = 0; book = board.book }
+
+-- a slot for each of the upstream's tokens, all of them empty, and no book
+abbrev pub site_of : List (List ℕ) → List (List ℕ) → ℕ → Site
+site_of tokens upstream_tokens workers = record {
+  known = tokens;
+  opening = record { places = map place_at (map empty_slot (map environment_of upstream_tokens)); front = 0; book = [] };
+  workers = workers;
+}
+
+-- what a worker serves by: its reader, what was reported and is not handed on, and the draws to come
+pub record Worker : Type 0 where
+  pub reader : EdgeReader
+  pub book : Book
+  pub coming : Coming
+
+-- that of a post
+abbrev pub worker_of : {W R : Type 0} → (R → Coming) → Post (EdgeAttendant W) R → Worker
+worker_of coming_of post =
+    record { reader = post.server.desk.reader; book = post.server.book; coming = coming_of post.draws }
+
+-- a link was served
+pub record ServesALink (before after : Worker) : Type 0 where
+  pub link : LinkState
+  pub link_after : LinkState
+  pub served : ServesOver before.reader before.book before.coming link link_after after.reader after.book after.coming
+
+-- so many were, one after another
+abbrev pub ServesLinks : ℕ → Worker → Worker → Type 0
+ServesLinks zero before after = after ≡ before
+ServesLinks (suc n) before after = (middle : Worker) × ServesLinks n before middle × ServesALink middle after
+
+-- as many as a worker took
+abbrev pub Works : Worker → Worker → Type 0
+Works before after = (links : ℕ) × ServesLinks links before after
+
+-- So many workers served links side by side. Before its first link each was told of at least so many publications.
+pub record WorkBeside (workers front : ℕ) : Type 0 where
+  pub begun : List Worker
+  pub ended : List Worker
+  pub many : length begun ≡ workers
+  pub told : All (λ worker. front ≤ told_to worker.reader) begun
+  pub worked : AllZip Works begun ended
+
+-- The first turn took what the upstream replied, in order, unless that failed; and the workers then served links over no board
+-- before the one that this turn published last.
+pub record ServesSite (site : Site) (replies : Option (List (List ℕ))) (faults faults_after : ℕ) : Type 0 where
+  pub first : Installed
+  pub turn : ¬ (Rose faults faults_after)
+      → (later : Option (List (List ℕ)))
+      × MakesTurn site.known (length site.opening.places) (upkept site.opening replies) (upkept first later)
+  pub work : WorkBeside site.workers first.front

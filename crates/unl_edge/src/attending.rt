@@ -1,0 +1,106 @@
+//! What a worker of an edge serves links by.
+ghost use Rattle.std.specs.Prelude.{◌≡◌, [], IfOk};
+
+use std::alloc::Global;
+use std::sync::{Mutex, Wait};
+use unl_base::{Draw, Draws, Link};
+use unl_core::{Answer, Desk};
+use unl_documents::Memory;
+use unl_edge_state::EdgeReader;
+use unl_exchange::Server;
+use unl_http_api::Request;
+use unl_metrics::MetricsBook;
+use unl_serve::{Served, serve_connection};
+use unl_upkeep::hand_on;
+use unl_workers::Attendant;
+
+/// A desk that answers from no earlier board than the last one that its reader was told of.
+#[derive(Drop)]
+pub(crate) struct ToldDesk {
+    pub reader: EdgeReader,
+}
+
+impl Desk for ToldDesk {
+    ghost use Rattle.std.specs.Prelude.{Some};
+    ghost use Rattle.unl_edge.specs.Attending.{least_front};
+    ghost use Rattle.unl_edge_state.specs.Reading.{board_of, seen_by};
+
+    ghost front = { λ desk. least_front desk.reader };
+
+    ghost board_at = { λ desk. board_of (seen_by desk.reader) };
+
+    ghost fronts = { λ desk. Some (seen_by desk.reader).fronts };
+
+    fn answer(
+        &mut self,
+        alloc: Global,
+        request: &Request,
+        draw: &Draw,
+    ) -> Result<(u64, Answer), Memory> {
+        self.reader.answer(alloc, request, draw)
+    }
+}
+
+/// Serves links over what is published, and hands on what they report: a desk, what was reported at it, room for the notes of
+/// one connection, and the book that it hands on to.
+#[derive(Drop)]
+pub(crate) struct EdgeAttendant<'a, W> {
+    pub desk: ToldDesk,
+    pub book: MetricsBook,
+    notes: Served,
+    shared: &'a Mutex<MetricsBook>,
+    rt: &'a W,
+}
+
+impl<'a, W> EdgeAttendant<'a, W> {
+    /// One at a desk, at which nothing was reported yet.
+    pub fn new(
+        alloc: Global,
+        rt: &'a W,
+        shared: &'a Mutex<MetricsBook>,
+        reader: EdgeReader,
+    ) -> Result<EdgeAttendant<'a, W>, Memory>
+        ensures { IfOk result (λ attendant. (attendant.desk.reader ≡ reader) × (attendant.book ≡ [])) }
+    {
+        let notes = Served::new(alloc)?;
+        Ok(EdgeAttendant {
+            desk: ToldDesk { reader },
+            book: MetricsBook::new(alloc),
+            notes,
+            shared,
+            rt,
+        })
+    }
+}
+
+impl<'a, W: Wait> Server for EdgeAttendant<'a, W> {
+    ghost use Rattle.unl_edge.specs.Attending.{ReadsOnAt, ServesAt};
+    ghost use Rattle.std.proofs.Common.{rules};
+
+    ghost fits = { λ server. Unit {0} };
+
+    ghost keeps = { ReadsOnAt };
+
+    ghost serves = { ServesAt };
+
+    fn serve_link<L: Link, R: Draws>(&mut self, alloc: Global, link: &mut L, draws: &mut R) {
+        self.notes.clear();
+        serve_connection(
+            alloc,
+            &mut self.desk,
+            &mut self.book,
+            link,
+            draws,
+            &mut self.notes,
+        );
+        hand_on(alloc, self.rt, self.shared, &mut self.book);
+    }
+
+    ghost keeps_itself = { Prim.search rules };
+
+    ghost keeps_on = { Prim.search rules };
+}
+
+impl<'a, W: Wait> Attendant for EdgeAttendant<'a, W> {
+    ghost always = { λ server. tt };
+}

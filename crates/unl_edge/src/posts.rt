@@ -1,0 +1,55 @@
+//! The posts of an edge's workers.
+ghost use Rattle.std.specs.Prelude.{◌≡◌, All, IfOk, length};
+ghost use Rattle.unl_edge.specs.Attending.{HasLearned};
+ghost use Rattle.unl_edge_state.specs.Reading.{next_of};
+ghost use Rattle.unl_published.specs.Looking.{SameOrigin};
+
+use crate::attending::EdgeAttendant;
+use std::alloc::Global;
+use std::sync::{Mutex, Wait};
+use unl_base::Draws;
+use unl_documents::Memory;
+use unl_edge_state::{EdgeReader, EdgeWriter};
+use unl_metrics::MetricsBook;
+use unl_workers::Post;
+
+/// A post for each reader, which learns what the writer tells, with draws of its own.
+pub(crate) fn posts_of<'a, R: Draws + Drop, W: Wait>(
+    alloc: Global,
+    rt: &'a W,
+    shared: &'a Mutex<MetricsBook>,
+    writer: &mut EdgeWriter<'_, W>,
+    readers: Vec<EdgeReader>,
+    draws: &mut R,
+) -> Result<Vec<Post<EdgeAttendant<'a, W>, R>>, Memory>
+    requires { All (λ reader. SameOrigin writer.old.known (next_of reader)) readers.items }
+    ensures same { writer.new ≡ writer.old }
+    ensures draws { R.coming draws.new ≡ R.coming draws.old }
+    ensures count { IfOk result (λ posts. length posts.items ≡ length readers.items) }
+    ensures learned { IfOk result (λ posts. All (λ post. HasLearned writer.old.known post.server.desk.reader) posts.items) }
+{
+    let mut posts = Vec::new(alloc);
+    for reader in readers {
+        posts.push(post_of(alloc, rt, shared, writer, reader, draws)?)?;
+    }
+    Ok(posts)
+}
+
+/// A post for a reader.
+fn post_of<'a, R: Draws + Drop, W: Wait>(
+    alloc: Global,
+    rt: &'a W,
+    shared: &'a Mutex<MetricsBook>,
+    writer: &mut EdgeWriter<'_, W>,
+    mut reader: EdgeReader,
+    draws: &mut R,
+) -> Result<Post<EdgeAttendant<'a, W>, R>, Memory>
+    requires { SameOrigin writer.old.known (next_of reader) }
+    ensures same { writer.new ≡ writer.old }
+    ensures draws { R.coming draws.new ≡ R.coming draws.old }
+    ensures learned { IfOk result (λ post. HasLearned writer.old.known post.server.desk.reader) }
+{
+    reader.learn(writer.tell());
+    let attendant = EdgeAttendant::new(alloc, rt, shared, reader)?;
+    Ok(Post::new(attendant, draws.split()))
+}

@@ -1,0 +1,218 @@
+//! Serving the links of a door side by side, over what a writer publishes beside that.
+ghost use Rattle.std.specs.Prelude.{◌≡◌, ◌<◌, ◌≤◌, ◌+◌, All, IfOk, OnOk, length, true};
+ghost use Rattle.std.specs.List.{AllZip};
+ghost use Rattle.unl_core.specs.Board.{AreSlots};
+ghost use Rattle.unl_edge.specs.Attending.{ReadsOnAt, ServesAt};
+ghost use Rattle.unl_edge.specs.Edges.{HandsOver, links_of};
+ghost use Rattle.unl_edge.specs.Sites.{ServesSite, WorkBeside, opened};
+ghost use Rattle.unl_edge_state.specs.Reading.{HasBegun, next_of};
+ghost use Rattle.unl_edge_state.specs.Writing.{installed_by};
+ghost use Rattle.unl_published.specs.Looking.{SameOrigin};
+ghost use Rattle.unl_upkeep.specs.Connects.{Connects};
+ghost use Rattle.unl_workers.specs.Beside.{HasCauses};
+ghost use Rattle.unl_workers.specs.Serving.{Attends};
+
+use crate::attending::EdgeAttendant;
+use crate::crossing::attendants_cross;
+use crate::posts::posts_of;
+use crate::rooted::turn_by;
+use crate::turning::EdgeTurn;
+use std::alloc::Global;
+use std::sync::{Mutex, Wait};
+use unl_base::{Door, Draws, Pace, Peer, Spawner};
+use unl_core::Board;
+use unl_documents::Memory;
+use unl_edge_state::{EdgeReader, EdgeWriter, begin, readers_cross, writers_cross};
+use unl_metrics::MetricsBook;
+use unl_upkeep::Upkeep;
+use unl_workers::{Beside, BesideFault, Post, serve_beside};
+
+/// Serves the links of a door that listens by so many workers, over a board that is kept up to date: a first turn is made before
+/// the first link is taken, and further ones at a pace beside the workers. Answers how many links the door handed out.
+///
+/// # Errors
+/// `Door` where the door failed, `Spawner` where a thread couldn't be started, or want of memory, before the first link was taken.
+pub(crate) fn serve_site<D: Door, P, R, T, S: Spawner, W: Wait + Sync>(
+    alloc: Global,
+    rt: &W,
+    workers: u32,
+    board: Board,
+    upkeep: Upkeep,
+    door: &mut D,
+    peer: &mut P,
+    draws: &mut R,
+    pace: &mut T,
+    spawner: &mut S,
+) -> Result<u64, BesideFault>
+where
+    D::L: Drop + Send,
+    P: Peer + Send,
+    R: Draws + Drop + Send,
+    T: Pace + Send,
+    requires listens { (D.state door.old).listening ≡ true }
+    requires workers { (0 < workers) × (workers ≤ 16) }
+    requires slots { AreSlots board.slots }
+    requires feeders { upkeep.slots ≡ length (opened board).places }
+    ensures hands { HandsOver (λ links. links) result (D.state door.old) (D.state door.new) }
+    ensures connects { OnOk result (Connects (length (opened board).places + 1)
+        (P.state peer.old).replies (P.Source.faults peer.old) (P.state peer.new).replies (P.Source.faults peer.new)) }
+    ensures serves { OnOk result (ServesSite (record { known = upkeep.known; opening = opened board; workers = workers })
+        (P.state peer.old).replies (P.Source.faults peer.old) (P.Source.faults peer.new)) }
+    ensures causes { HasCauses result (D.faults door.old) (D.faults door.new) (S.faults spawner.old) (S.faults spawner.new) }
+{
+    match begin(rt, alloc, board, workers) {
+        Ok((writer, readers)) => serve_from(
+            alloc, rt, writer, readers, upkeep, door, peer, draws, pace, spawner,
+        ),
+        Err(Memory) => Err(BesideFault::Memory),
+    }
+}
+
+/// The same by a writer that published nothing yet, and for its readers. The writer then ends.
+fn serve_from<D: Door, P, R, T, S: Spawner, W: Wait + Sync>(
+    alloc: Global,
+    rt: &W,
+    writer: EdgeWriter<'_, W>,
+    readers: Vec<EdgeReader>,
+    upkeep: Upkeep,
+    door: &mut D,
+    peer: &mut P,
+    draws: &mut R,
+    pace: &mut T,
+    spawner: &mut S,
+) -> Result<u64, BesideFault>
+where
+    D::L: Drop + Send,
+    P: Peer + Send,
+    R: Draws + Drop + Send,
+    T: Pace + Send,
+    requires listens { (D.state door.old).listening ≡ true }
+    requires opens { length writer.known.installs ≡ 0 }
+    requires feeders { upkeep.slots ≡ length writer.places }
+    requires few { length writer.places ≤ 8 }
+    requires readers { All (HasBegun writer.known) readers.items }
+    ensures hands { HandsOver (λ links. links) result (D.state door.old) (D.state door.new) }
+    ensures connects { OnOk result (Connects (length writer.entry.places + 1)
+        (P.state peer.old).replies (P.Source.faults peer.old) (P.state peer.new).replies (P.Source.faults peer.new)) }
+    ensures serves { OnOk result (ServesSite (record {
+      known = upkeep.known;
+      opening = installed_by writer.entry;
+      workers = length readers.items;
+    }) (P.state peer.old).replies (P.Source.faults peer.old) (P.Source.faults peer.new)) }
+    ensures causes { HasCauses result (D.faults door.old) (D.faults door.new) (S.faults spawner.old) (S.faults spawner.new) }
+{
+    let mut upkeep = upkeep;
+    let (mut writer, turned) = turn_by(alloc, &mut upkeep, writer, peer);
+    match turned {
+        Ok(()) => {
+            let served = serve_after(
+                alloc,
+                rt,
+                &mut writer,
+                readers,
+                &mut upkeep,
+                door,
+                peer,
+                draws,
+                pace,
+                spawner,
+            );
+            writer.end();
+            served
+        }
+        Err(Memory) => {
+            drop(readers);
+            writer.end();
+            Err(BesideFault::Memory)
+        }
+    }
+}
+
+/// The same after the first turn, of which each reader learns.
+fn serve_after<D: Door, P, R, T, S: Spawner, W: Wait + Sync>(
+    alloc: Global,
+    rt: &W,
+    writer: &mut EdgeWriter<'_, W>,
+    readers: Vec<EdgeReader>,
+    upkeep: &mut Upkeep,
+    door: &mut D,
+    peer: &mut P,
+    draws: &mut R,
+    pace: &mut T,
+    spawner: &mut S,
+) -> Result<u64, BesideFault>
+where
+    D::L: Drop + Send,
+    P: Peer + Send,
+    R: Draws + Drop + Send,
+    T: Pace + Send,
+    requires listens { (D.state door.old).listening ≡ true }
+    requires readers { All (λ reader. SameOrigin writer.old.known (next_of reader)) readers.items }
+    ensures hands { HandsOver (λ links. links) result (D.state door.old) (D.state door.new) }
+    ensures connects { OnOk result (Connects 0
+        (P.state peer.old).replies (P.Source.faults peer.old) (P.state peer.new).replies (P.Source.faults peer.new)) }
+    ensures work { OnOk result (WorkBeside (length readers.items) (length writer.old.known.installs)) }
+    ensures causes { HasCauses result (D.faults door.old) (D.faults door.new) (S.faults spawner.old) (S.faults spawner.new) }
+{
+    let shared = Mutex::new(MetricsBook::new(alloc));
+    match posts_of(alloc, rt, &shared, writer, readers, draws) {
+        Ok(posts) => links_of(serve_posts(
+            alloc, rt, writer, peer, &shared, upkeep, posts, door, pace, spawner,
+        )),
+        Err(Memory) => Err(BesideFault::Memory),
+    }
+}
+
+/// How many links were handed out.
+fn links_of<S: Drop, R: Drop>(served: Result<Beside<S, R>, BesideFault>) -> Result<u64, BesideFault>
+    ensures { result ≡ links_of served }
+{
+    match served {
+        Ok(beside) => Ok(beside.links),
+        Err(fault) => Err(fault),
+    }
+}
+
+/// The same by these posts, each of which serves the links that it takes one after the other.
+fn serve_posts<'a, D: Door, P, R, T, S: Spawner, W: Wait + Sync>(
+    alloc: Global,
+    rt: &'a W,
+    writer: &mut EdgeWriter<'_, W>,
+    peer: &mut P,
+    shared: &'a Mutex<MetricsBook>,
+    upkeep: &mut Upkeep,
+    posts: Vec<Post<EdgeAttendant<'a, W>, R>>,
+    door: &mut D,
+    pace: &mut T,
+    spawner: &mut S,
+) -> Result<Beside<EdgeAttendant<'a, W>, R>, BesideFault>
+where
+    D::L: Drop + Send,
+    P: Peer + Send,
+    R: Draws + Drop + Send,
+    T: Pace + Send,
+    requires { (D.state door.old).listening ≡ true }
+    ensures hands { HandsOver (λ beside. beside.links) result (D.state door.old) (D.state door.new) }
+    ensures posts { IfOk result (λ beside. AllZip (Attends ServesAt ReadsOnAt R.coming) posts.entry.items beside.posts.items) }
+    ensures connects { OnOk result (Connects 0
+        (P.state peer.old).replies (P.Source.faults peer.old) (P.state peer.new).replies (P.Source.faults peer.new)) }
+    ensures causes { HasCauses result (D.faults door.old) (D.faults door.new) (S.faults spawner.old) (S.faults spawner.new) }
+{
+    let mut turn = EdgeTurn {
+        upkeep,
+        writer,
+        peer,
+        shared,
+        rt,
+    };
+    readers_cross();
+    writers_cross::<W>();
+    attendants_cross();
+    // Taken apart, since the turn is known to hold what it was lent only where all ended well.
+    match serve_beside(alloc, rt, spawner, door, pace, &mut turn, posts) {
+        Ok(beside) => Ok(beside),
+        Err(BesideFault::Door) => Err(BesideFault::Door),
+        Err(BesideFault::Spawner) => Err(BesideFault::Spawner),
+        Err(BesideFault::Memory) => Err(BesideFault::Memory),
+    }
+}

@@ -1,0 +1,49 @@
+//! The turns of an edge, beside its workers.
+use std::alloc::Global;
+use std::sync::{Mutex, Wait};
+use unl_base::Peer;
+use unl_edge_state::EdgeWriter;
+use unl_metrics::MetricsBook;
+use unl_upkeep::Upkeep;
+use unl_workers::Turn;
+
+/// Asks the upstream again and again, publishes what it answers, and tells it what the workers counted.
+#[derive(Drop)]
+pub(crate) struct EdgeTurn<'u, 'e, 'p, 'a, 'w, W: Wait, P> {
+    pub upkeep: &'u mut Upkeep,
+    pub writer: &'e mut EdgeWriter<'w, W>,
+    pub peer: &'p mut P,
+    pub shared: &'a Mutex<MetricsBook>,
+    pub rt: &'a W,
+}
+
+impl<'u, 'e, 'p, 'a, 'w, W: Wait, P: Peer> Turn for EdgeTurn<'u, 'e, 'p, 'a, 'w, W, P> {
+    ghost use Rattle.std.specs.Prelude.{◌≡◌};
+    ghost use Rattle.std.proofs.Common.{◌∙◌, refl};
+    ghost use Rattle.unl_edge.specs.Edges.{GoesOn};
+    ghost use Rattle.unl_upkeep.specs.Connects.{Connects};
+
+    ghost turned = { λ turn after. Connects 0 (P.state turn.peer.now).replies (P.Source.faults turn.peer.now)
+        (P.state after.peer.now).replies (P.Source.faults after.peer.now) };
+
+    ghost keeps = { λ turn after. (after.upkeep.ghost_name ≡ turn.upkeep.ghost_name)
+        × (after.writer.ghost_name ≡ turn.writer.ghost_name)
+        × (after.peer.ghost_name ≡ turn.peer.ghost_name)
+        × GoesOn (P.state turn.peer.now).replies (P.Source.faults turn.peer.now)
+        (P.state after.peer.now).replies (P.Source.faults after.peer.now) };
+
+    /// Takes over what was counted first, so that no lock is held while the upstream is asked.
+    fn turn(&mut self, alloc: Global) {
+        self.upkeep.take_over(alloc, self.rt, self.shared);
+        let _ = self.upkeep.turn(alloc, self.writer, self.peer);
+    }
+
+    ghost keeps_itself = { λ turn. (refl, refl, refl, λ first faults connects. connects) };
+
+    ghost keeps_on = { λ first next last one two. (
+      two.0 ∙ one.0,
+      two.1 ∙ one.1,
+      two.2 ∙ one.2,
+      λ replies faults connects. two.3 replies faults (one.3 replies faults connects),
+    ) };
+}

@@ -1,0 +1,73 @@
+-- How an upstream ends that is opened from its keeper, and then serves the links of its door.
+use Rattle.std.specs.Prelude.{◌≡◌, ◌⊎◌, ⊤, ℕ, Result, Ok, Err}
+use Rattle.unl_base.specs.Doors.{DoorState, IsClosed}
+use Rattle.unl_base.specs.declared.Failed.{Failed}
+use Rattle.unl_exchange.specs.Answering.{Coming}
+use Rattle.unl_exchange.specs.Linked.{linking}
+use Rattle.unl_keeping.specs.declared.fault.KeepingFault.{KeepingFault}
+use Rattle.unl_keeping.specs.declared.fault.KeepingFault.TheVariants.{BadWords, File, Row, Keeper, Door, Memory}
+use Rattle.unl_upstream.specs.Kept.{KeptState}
+use Rattle.unl_upstream.specs.KeptHosting.{Hosts}
+use Rattle.unl_upstream.specs.Reopening.{Reopens}
+use Rattle.unl_upstream.specs.declared.reopening.ReopenFault.{ReopenFault}
+use Rattle.unl_upstream.specs.declared.reopening.ReopenFault.TheVariants as reopening
+
+-- the number that the program exits with
+abbrev pub code_of : KeepingFault → ℕ
+code_of BadWords = 2
+code_of (Row place) = 3
+code_of Memory = 6
+code_of Door = 7
+code_of (File error) = 8
+code_of Keeper = 8
+
+-- the door, and the draws to come
+pub record Facing : Type 0 where
+  pub door : DoorState
+  pub coming : Coming
+
+-- these together
+abbrev pub facing : DoorState → Coming → Facing
+facing door coming = record { door = door; coming = coming }
+
+-- so many links were served by an upstream and its keeper
+abbrev pub ServesLinks : KeptState → KeptState → Facing → Facing → ℕ → Type 0
+ServesLinks opened last before after served = Hosts (linking opened before.coming before.door) (linking last after.coming after.door) served
+
+-- How links were served: as many as are told, until the door was closed. Or the port could not be listened at, and all is as
+-- before; or some, until the door failed.
+abbrev pub LinksEnd : KeptState → Result ℕ Failed → KeptState → Facing → Facing → Type 0
+LinksEnd opened (Ok served) last before after = ServesLinks opened last before after served × IsClosed after.door
+LinksEnd opened (Err failed) last before after =
+    ((last ≡ opened) × (after ≡ before)) ⊎ ((served : ℕ) × ServesLinks opened last before after served)
+
+-- the upstream was opened from its keeper's rows, and then links were served
+pub record OpensAndServes (start : KeptState) (links : Result ℕ Failed) (last : KeptState) (before after : Facing) : Type 0 where
+  pub reopened : ℕ
+  pub opened : KeptState
+  pub opens : Reopens start (Ok reopened) opened
+  pub serves : LinksEnd opened links last before after
+
+-- the row in this place is refused, or isn't there
+abbrev pub IsOfRow : ℕ → ReopenFault → Type 0
+IsOfRow place (reopening.BadRow at text) = at ≡ place
+IsOfRow place (reopening.NoRow at) = at ≡ place
+IsOfRow place reopening.Fault = ⊥
+IsOfRow place reopening.Memory = ⊥
+
+-- the upstream was not opened, since the row in this place is refused or isn't there, and no link was handed out
+pub record RefusesRow (start : KeptState) (place : ℕ) (last : KeptState) (before after : Facing) : Type 0 where
+  pub fault : ReopenFault
+  pub of_row : IsOfRow place fault
+  pub reopens : Reopens start (Err fault) last
+  pub same : after ≡ before
+
+-- how it ends, unless memory ran out
+abbrev pub Ends : KeptState → Result ℕ KeepingFault → KeptState → Facing → Facing → Type 0
+Ends start (Ok served) last before after = OpensAndServes start (Ok served) last before after
+Ends start (Err BadWords) last before after = ⊥
+Ends start (Err (File error)) last before after = ⊥
+Ends start (Err (Row place)) last before after = RefusesRow start place last before after
+Ends start (Err Keeper) last before after = Reopens start (Err reopening.Fault) last × (after ≡ before)
+Ends start (Err Door) last before after = (failed : Failed) × OpensAndServes start (Err failed) last before after
+Ends start (Err Memory) last before after = ⊤

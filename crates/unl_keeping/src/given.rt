@@ -1,0 +1,67 @@
+//! The words of the program: a path, and then the options of an upstream.
+ghost use Rattle.std.specs.Prelude.{◌≡◌, IfOk};
+ghost use Rattle.unl_words.specs.Ranges.{IsInRange};
+
+use crate::fault::KeepingFault;
+use std::alloc::Global;
+use std::io::ErrorKind;
+use std::{env, mem};
+use unl_words::{Words, WordsRefusal, read_words};
+
+/// Where the database stands, and what is asked of the upstream.
+#[derive(Drop)]
+pub struct Given {
+    pub path: String,
+    pub words: Words,
+}
+
+impl Given {
+    /// The port to listen at.
+    pub fn port(&self) -> u16 {
+        match &self.words {
+            Words::Upstream(upstream) => upstream.port,
+            _ => 0,
+        }
+    }
+
+    /// After how many links the door closes, where the words say so.
+    pub fn bound(&self) -> Option<u64> {
+        match &self.words {
+            Words::Upstream(upstream) if upstream.connections > 0 => Some(upstream.connections),
+            _ => None,
+        }
+    }
+}
+
+/// Reads the words of the command line: the path of the database file, and then the options of `upstream` as `read_words` takes
+/// them.
+///
+/// # Errors
+/// `BadWords` where there is no path, or `read_words` refuses the options; or want of memory.
+pub fn read_given(rt: &HostRuntime) -> Result<Given, KeepingFault>
+    ensures { IfOk result (λ given. IsInRange given.words) }
+{
+    let args = match env::args(rt) {
+        Ok(args) => args,
+        Err(fault) if fault.kind() == ErrorKind::OutOfMemory => return Err(KeepingFault::Memory),
+        Err(_) => return Err(KeepingFault::BadWords),
+    };
+    let words = args.skip(1).collect::<Vec<String>>(rt.alloc())?;
+    read_path_first(rt.alloc(), words)
+}
+
+/// Takes the first word for the path, in whose place then stands the name of the command.
+fn read_path_first(alloc: Global, mut words: Vec<String>) -> Result<Given, KeepingFault>
+    ensures { IfOk result (λ given. IsInRange given.words) }
+{
+    let command = String::from_str(alloc, "upstream")?;
+    let Some(first) = words.first_mut() else {
+        return Err(KeepingFault::BadWords);
+    };
+    let path = mem::replace(first, command);
+    match read_words(alloc, &words) {
+        Ok(words) => Ok(Given { path, words }),
+        Err(WordsRefusal::Bad) => Err(KeepingFault::BadWords),
+        Err(WordsRefusal::Memory) => Err(KeepingFault::Memory),
+    }
+}

@@ -1,0 +1,76 @@
+//! The program: an upstream whose commands stand in a database file, so that one that is killed and started again has them.
+#![tactic(auto)]
+
+ghost use Rattle.std.specs.Prelude.{IfOk};
+ghost use Rattle.unl_words.specs.Ranges.{IsInRange};
+
+mod fault;
+mod given;
+mod serving;
+#[cfg(test)]
+mod tests;
+
+use fault::KeepingFault;
+use given::{Given, read_given};
+use serving::{begin, serve_reopened};
+use sqlite::{Connection, File, FileStore};
+use std::alloc::Global;
+use std::process::ExitCode;
+use std::sync::Wait;
+use unl_base::{Door, Draws, RealDoor, RealDraws};
+use unl_keeper::SqliteKeeper;
+
+fn main(rt: HostRuntime) -> ExitCode {
+    let ended = match open(&rt) {
+        Ok((given, connection)) => serve_over(
+            &rt,
+            rt.alloc(),
+            &given,
+            connection,
+            RealDoor::new(&rt, given.bound()),
+            RealDraws::new(&rt),
+        ),
+        Err(fault) => Err(fault),
+    };
+    let told = match &ended {
+        Ok(served) => println!(rt; "connections {served}"),
+        Err(fault) => println!(rt; "{fault}"),
+    };
+    match (ended, told) {
+        (Err(fault), _) => ExitCode::from(fault.code()),
+        (Ok(_), Err(_)) => ExitCode::from(5),
+        (Ok(_), Ok(())) => ExitCode::from(0),
+    }
+}
+
+/// Reads the words, and opens the database that they name.
+fn open(rt: &HostRuntime) -> Result<(Given, Connection<FileStore<File>>), KeepingFault>
+    ensures { IfOk result (λ opened. IsInRange opened.0.words) }
+{
+    let given = read_given(rt)?;
+    match Connection::open(rt, given.path.as_str()) {
+        Ok(connection) => Ok((given, connection)),
+        Err(error) => Err(KeepingFault::from(error)),
+    }
+}
+
+/// Serves an upstream over a database, until its door is closed, and answers how many links that were. What stands in the log is
+/// then in the file.
+fn serve_over<D: Door + Drop, R: Draws + Drop, W: Wait>(
+    rt: &W,
+    alloc: Global,
+    given: &Given,
+    connection: Connection<FileStore<File>>,
+    mut door: D,
+    mut draws: R,
+) -> Result<u64, KeepingFault>
+    requires { IsInRange given.now.words }
+{
+    let boot = draws.draw().word;
+    let port = given.port();
+    let mut up = begin(alloc, boot, &given.words)?;
+    let mut keeper = SqliteKeeper::new(connection);
+    let served = serve_reopened(rt, alloc, port, &mut up, &mut keeper, &mut door, &mut draws)?;
+    keeper.into_connection().0.close()?;
+    Ok(served)
+}

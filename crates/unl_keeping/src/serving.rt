@@ -1,0 +1,101 @@
+//! An upstream is opened from what its keeper has, and serves the links of its door.
+ghost use Rattle.std.specs.Prelude.{◌≡◌, true, Err, IfOk, OnErr};
+ghost use Rattle.unl_base.specs.Faults.{Rose};
+ghost use Rattle.unl_keeping.specs.Serving.{Ends, LinksEnd, facing};
+ghost use Rattle.unl_keeping.specs.declared.fault.KeepingFault.TheVariants.{Door as door_fault, Keeper as keeper_fault};
+ghost use Rattle.unl_upstream.specs.Kept.{keeper_by, kept_state};
+ghost use Rattle.unl_upstream.specs.Reopening.{IsOpening};
+ghost use Rattle.unl_words.specs.Ranges.{IsInRange, IsUpstream};
+
+use crate::fault::KeepingFault;
+use std::alloc::Global;
+use std::sync::Wait;
+use unl_base::{Door, Draws, Failed};
+use unl_documents::Memory;
+use unl_keeper::Keeper;
+use unl_upstream::{ReopenFault, Upstream, host_kept, reopen};
+use unl_words::{UpstreamWords, Words, own_book};
+
+/// An upstream of these words, which was given no command.
+///
+/// # Errors
+/// `BadWords` where the words don't ask for an upstream; or want of memory.
+pub fn begin(alloc: Global, boot: u64, words: &Words) -> Result<Upstream, KeepingFault>
+    requires { IsInRange words.now }
+    ensures { IfOk result IsOpening }
+{
+    match words {
+        Words::Upstream(upstream) => Ok(new_upstream(alloc, boot, upstream)?),
+        _ => Err(KeepingFault::BadWords),
+    }
+}
+
+/// An upstream that was given no command.
+fn new_upstream(alloc: Global, boot: u64, words: &UpstreamWords) -> Result<Upstream, Memory>
+    requires { IsUpstream words.now }
+    ensures { IfOk result IsOpening }
+{
+    let book = own_book(alloc, &words.client_tokens, &words.frontend_tokens)?;
+    let secret = words.secret.as_str();
+    Upstream::new(alloc, boot, secret, &words.environments, book, words.epoch)
+}
+
+/// Opens an upstream from the rows of its keeper, listens at a port, and serves the links of the door, one after the other,
+/// until it is closed; each command is kept before it is acknowledged. It answers how many links were served.
+///
+/// # Errors
+/// `Row` where a row of the keeper is no command that is accepted, or isn't there; `Keeper` where the keeper failed as it was
+/// opened; `Door` where the port can't be listened at, or no link could be had; or want of memory. A keeper that fails while
+/// links are served ends nothing.
+pub fn serve_reopened<K: Keeper, D: Door, R: Draws, W: Wait>(
+    rt: &W,
+    alloc: Global,
+    port: u16,
+    up: &mut Upstream,
+    keeper: &mut K,
+    door: &mut D,
+    draws: &mut R,
+) -> Result<u64, KeepingFault>
+    requires { IsOpening up.old }
+    ensures ends { Ends (kept_state up.old (keeper_by K.opened K.faults K.count K.rows keeper.old)) result
+        (kept_state up.new (keeper_by K.opened K.faults K.count K.rows keeper.new))
+        (facing (D.state door.old) (R.coming draws.old)) (facing (D.state door.new) (R.coming draws.new)) }
+    ensures keeper { result ≡ Err keeper_fault → Rose (K.faults keeper.old) (K.faults keeper.new) }
+    ensures door { result ≡ Err door_fault → Rose (D.faults door.old) (D.faults door.new) }
+{
+    match reopen(alloc, up, keeper) {
+        Ok(_) => match serve_links(rt, alloc, port, up, keeper, door, draws) {
+            Ok(served) => Ok(served),
+            Err(_) => Err(KeepingFault::Door),
+        },
+        Err(ReopenFault::BadRow(place, _)) => Err(KeepingFault::Row(place)),
+        Err(ReopenFault::NoRow(place)) => Err(KeepingFault::Row(place)),
+        Err(ReopenFault::Fault) => Err(KeepingFault::Keeper),
+        Err(ReopenFault::Memory) => Err(KeepingFault::Memory),
+    }
+}
+
+/// Listens at a port, and serves the links of the door, one after the other, until it is closed.
+///
+/// # Errors
+/// `Failed` where the door failed, which has counted it.
+fn serve_links<K: Keeper, D: Door, R: Draws, W: Wait>(
+    rt: &W,
+    alloc: Global,
+    port: u16,
+    up: &mut Upstream,
+    keeper: &mut K,
+    door: &mut D,
+    draws: &mut R,
+) -> Result<u64, Failed>
+    requires { K.opened keeper.old ≡ true }
+    ensures ends { LinksEnd (kept_state up.old (keeper_by K.opened K.faults K.count K.rows keeper.old)) result
+        (kept_state up.new (keeper_by K.opened K.faults K.count K.rows keeper.new))
+        (facing (D.state door.old) (R.coming draws.old)) (facing (D.state door.new) (R.coming draws.new)) }
+    ensures cause { OnErr result (Rose (D.faults door.old) (D.faults door.new)) }
+{
+    if door.listen(port).is_err() {
+        return Err(Failed);
+    }
+    host_kept(rt, alloc, up, keeper, door, draws)
+}

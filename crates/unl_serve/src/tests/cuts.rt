@@ -1,0 +1,105 @@
+//! Connections that are cut, heads at their limit, and links of which a call fails.
+
+use crate::served::{Served, ServedOne};
+use crate::tests::{DRAW, HEALTH, HEALTHY, repeated, serve};
+use std::test::Fail;
+use unl_http_api::End;
+
+#[test]
+fn a_connection_that_is_cut(rt: HostRuntime) -> Result<(), Fail> {
+    let alloc = rt.alloc();
+    for count in 0..HEALTH.len() {
+        let outcome = serve(alloc, &HEALTH[..count], 7, &[])?;
+        let end = if count == 0 { End::Closed } else { End::CutOff };
+        assert_eq!(rt; outcome.end, end);
+        assert!(rt; outcome.sent.is_empty() && outcome.served.len() == 0);
+    }
+    let outcome = serve(alloc, HEALTH, 7, &[])?;
+    assert_eq!(rt; outcome.end, End::Closed);
+    assert_eq!(rt; outcome.sent.as_slice(), HEALTHY);
+    Ok(())
+}
+
+/// The length of a field, what follows it, how many requests are answered, and how the connection ends. The bytes before the
+/// field are 30.
+const HEADS: [(usize, &[u8], usize, End); 4] = [
+    (8_161, b"", 0, End::CutOff),
+    (8_162, b"", 0, End::Refused(431)),
+    (8_158, b"\r\n\r\n", 1, End::Closed),
+    (8_159, b"\r\n\r\n", 0, End::Refused(431)),
+];
+
+#[test]
+fn heads_at_their_limit(rt: HostRuntime) -> Result<(), Fail> {
+    let alloc = rt.alloc();
+    for (count, rest, answered, end) in HEADS {
+        let start = b"GET /no HTTP/1.1\r\nHost: x\r\na: ";
+        let bytes = repeated(alloc, start, b"b", count, rest)?;
+        let outcome = serve(alloc, &bytes, 4_096, &[])?;
+        assert_eq!(rt; outcome.end, end);
+        assert_eq!(rt; outcome.served.len(), answered);
+    }
+    Ok(())
+}
+
+/// Two requests, of 52 bytes and of 38.
+const TWO: &[u8] = b"GET /internal-backstage/health HTTP/1.1\r\nHost: x\r\n\r\n\
+GET /api/nothing HTTP/1.1\r\nHost: x\r\n\r\n";
+
+const BOTH: &[u8] =
+    b"HTTP/1.1 200 OK\r\nContent-Type: application/json\r\nContent-Length: 15\r\n\r\n{\"status\":\"OK\"}\
+HTTP/1.1 404 Not Found\r\nContent-Type: application/json\r\nContent-Length: 23\r\n\r\n{\"error\":\"NoSuchRoute\"}";
+
+/// The number of the call that fails, how the connection ends, how many answers are noted, and what was sent.
+type Row = (u64, End, usize, &'static [u8]);
+
+/// One read gives both requests.
+const AT_ONCE: [Row; 5] = [
+    (0, End::ReadFault, 0, b""),
+    (1, End::WriteFault, 1, b""),
+    (2, End::WriteFault, 2, HEALTHY),
+    (3, End::ReadFault, 2, BOTH),
+    (4, End::Closed, 2, BOTH),
+];
+
+/// Each read gives one request.
+const ONE_BY_ONE: [Row; 6] = [
+    (0, End::ReadFault, 0, b""),
+    (1, End::WriteFault, 1, b""),
+    (2, End::ReadFault, 1, HEALTHY),
+    (3, End::WriteFault, 2, HEALTHY),
+    (4, End::ReadFault, 2, BOTH),
+    (5, End::Closed, 2, BOTH),
+];
+
+/// Whether so many answers are noted, each at the desk's front and with its draw.
+fn has_notes(served: &Served, count: usize) -> bool {
+    let note = ServedOne {
+        front: 1,
+        draw: DRAW,
+    };
+    for place in 0..count {
+        if served.get(place) != Some(&note) {
+            return false;
+        }
+    }
+    served.len() == count
+}
+
+#[test]
+fn each_failing_call(rt: HostRuntime) -> Result<(), Fail> {
+    let alloc = rt.alloc();
+    for (call, end, notes, sent) in AT_ONCE {
+        let outcome = serve(alloc, TWO, 90, &[call])?;
+        assert_eq!(rt; outcome.end, end);
+        assert_eq!(rt; outcome.sent.as_slice(), sent);
+        assert!(rt; has_notes(&outcome.served, notes));
+    }
+    for (call, end, notes, sent) in ONE_BY_ONE {
+        let outcome = serve(alloc, TWO, 52, &[call])?;
+        assert_eq!(rt; outcome.end, end);
+        assert_eq!(rt; outcome.sent.as_slice(), sent);
+        assert!(rt; has_notes(&outcome.served, notes));
+    }
+    Ok(())
+}

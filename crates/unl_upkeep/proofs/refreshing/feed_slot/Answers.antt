@@ -1,0 +1,14 @@
+use Rattle.unl_upkeep.proofs.Connecting.{connects_both, if_ok, none_before}
+use Rattle.unl_upkeep.proofs.Taking.{fed_slot}
+use Rattle.unl_upkeep.proofs.refreshing.feed_slot.Goals as goal
+
+pub returns-in-Ok-clause-asks : goal.returns-in-Ok-clause-asks
+returns-in-Ok-clause-asks g c room = if_ok c.tell_metrics.result (connects_both (c.in-Ok.ensures.asks room) c.tell_metrics.ensures.connects)
+
+pub returns-in-Ok-clause-connects : goal.returns-in-Ok-clause-connects
+returns-in-Ok-clause-connects g c = connects_both c.in-Ok.ensures.connects c.tell_metrics.ensures.connects
+
+pub returns-in-Ok-clause-takes : goal.returns-in-Ok-clause-takes
+returns-in-Ok-clause-takes g c room none =
+    if_ok c.tell_metrics.result
+    (fed_slot (c.in-Ok.ensures.takes room (none_before _ _ _ c.tell_metrics.ensures.connects.later none)) (c.tell_metrics.ensures.tells _))

@@ -1,0 +1,20 @@
+use Rattle.std.proofs.Common.{◌≡◌, ◌<◌, ◌≤◌, ◌+◌, ◌-◌, ◌^◌, length}
+use Rattle.unl_base.specs.Faults.{Rose}
+use Rattle.unl_upkeep.specs.Connects.{Connects}
+use Rattle.unl_upkeep.specs.Turns.{FeedsSlots, upkept}
+use Rattle.unl_upkeep.proofs.refreshing.feed_slots.Given as goal
+
+-- so many slots were fed
+abbrev pub invariant-loop-slot : goal.invariant-loop-slot
+invariant-loop-slot g l = record {
+  places : length (g.I.Installer.installed l.to).places ≡ length (g.I.Installer.installed l.initial.to).places;
+  front : (g.I.Installer.installed l.to).front ≤ (g.I.Installer.installed l.initial.to).front + l.slot;
+  size : length l.feeders ≡ length l.initial.feeders;
+  asks : (g.I.Installer.installed l.initial.to).front + length l.initial.feeders < 2 ^ 64 - 1
+      → Connects l.slot (g.P.Peer.state l.initial.peer).replies (g.P.Source.faults l.initial.peer) (g.P.Peer.state l.peer).replies (g.P.Source.faults l.peer);
+  connects : Connects 0 (g.P.Peer.state l.initial.peer).replies (g.P.Source.faults l.initial.peer) (g.P.Peer.state l.peer).replies (g.P.Source.faults l.peer);
+  takes : (g.I.Installer.installed l.initial.to).front + length l.initial.feeders < 2 ^ 64 - 1
+      → ¬ (Rose (g.P.Source.faults l.initial.peer) (g.P.Source.faults l.peer))
+      → FeedsSlots l.slot (upkept (g.I.Installer.installed l.initial.to) (g.P.Peer.state l.initial.peer).replies)
+      (upkept (g.I.Installer.installed l.to) (g.P.Peer.state l.peer).replies);
+}

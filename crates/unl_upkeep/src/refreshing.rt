@@ -1,0 +1,151 @@
+//! Asking the upstream for what is new, and telling it what was counted. A fault of the peer ends no call, and want of
+//! memory is the one fault that is told.
+ghost use Rattle.std.specs.Prelude.{◌≡◌, ◌≢◌, ◌<◌, ◌≤◌, ◌+◌, ◌-◌, ◌^◌, Err, IsTrue, OnErr, OnOk, length};
+ghost use Rattle.unl_base.specs.Faults.{Rose};
+ghost use Rattle.unl_delta.specs.Installing.{Installed};
+ghost use Rattle.unl_upkeep.specs.Connects.{Connects};
+ghost use Rattle.unl_upkeep.specs.Turns.{FeedsSlot, FeedsSlots, Goes, TakesBook, TakesSlot, Tells, upkept};
+ghost use Rattle.unl_http_api.specs.RequestText.{fits_line};
+
+use crate::feeder::Feeder;
+use std::alloc::Global;
+use unl_base::Peer;
+use unl_delta::Installer;
+use unl_documents::{List, Memory, Text};
+use unl_metrics::MetricsBook;
+use unl_refresh::{RefreshFault, refresh_once, refresh_tokens, send_metrics};
+
+/// Asks once for the book of these tokens, unless no more can be published.
+pub(crate) fn refresh_book<I: Installer, P: Peer>(
+    alloc: Global,
+    to: &mut I,
+    known: &List<Text>,
+    host: &Text,
+    peer: &mut P,
+) -> Result<(), Memory>
+    requires { IsTrue (fits_line host.now) }
+    ensures goes { Goes (I.installed to.old) (I.installed to.new) }
+    ensures asks { (I.installed to.old).front < 2 ^ 64 - 1 → OnOk result (Connects 1
+        (P.state peer.old).replies (P.Source.faults peer.old) (P.state peer.new).replies (P.Source.faults peer.new)) }
+    ensures connects { Connects 0
+        (P.state peer.old).replies (P.Source.faults peer.old) (P.state peer.new).replies (P.Source.faults peer.new) }
+    ensures takes { (I.installed to.old).front < 2 ^ 64 - 1 → ¬ (Rose (P.Source.faults peer.old) (P.Source.faults peer.new))
+        → OnOk result (TakesBook known.now (upkept (I.installed to.old) (P.state peer.old).replies)
+        (upkept (I.installed to.new) (P.state peer.new).replies)) }
+{
+    if to.front() == u64::MAX {
+        return Ok(());
+    }
+    let told = refresh_tokens(alloc, to, known, host.as_str(), peer);
+    unless_memory(told)
+}
+
+/// Asks once for what is new in a slot, unless no more can be published.
+fn refresh_slot<I: Installer, P: Peer>(
+    alloc: Global,
+    to: &mut I,
+    slot: usize,
+    feeder: &mut Feeder,
+    peer: &mut P,
+) -> Result<(), Memory>
+    requires { slot < length (I.installed to.old).places }
+    ensures goes { Goes (I.installed to.old) (I.installed to.new) }
+    ensures asks { (I.installed to.old).front < 2 ^ 64 - 1 → OnOk result (Connects 1
+        (P.state peer.old).replies (P.Source.faults peer.old) (P.state peer.new).replies (P.Source.faults peer.new)) }
+    ensures connects { Connects 0
+        (P.state peer.old).replies (P.Source.faults peer.old) (P.state peer.new).replies (P.Source.faults peer.new) }
+    ensures takes { (I.installed to.old).front < 2 ^ 64 - 1 → ¬ (Rose (P.Source.faults peer.old) (P.Source.faults peer.new))
+        → OnOk result (TakesSlot slot (upkept (I.installed to.old) (P.state peer.old).replies)
+        (upkept (I.installed to.new) (P.state peer.new).replies)) }
+{
+    if to.front() == u64::MAX {
+        return Ok(());
+    }
+    let told = refresh_once(alloc, to, slot, &mut feeder.ask, peer);
+    unless_memory(told)
+}
+
+/// Tells once what was counted in the environment of a slot.
+fn tell_metrics<P: Peer>(
+    alloc: Global,
+    book: &mut MetricsBook,
+    feeder: &Feeder,
+    peer: &mut P,
+) -> Result<(), Memory>
+    ensures connects { Connects 0
+        (P.state peer.old).replies (P.Source.faults peer.old) (P.state peer.new).replies (P.Source.faults peer.new) }
+    ensures tells { (installed : Installed)
+        → Tells (upkept installed (P.state peer.old).replies) (upkept installed (P.state peer.new).replies) }
+{
+    let environment = feeder.environment.as_str();
+    let (token, host) = (feeder.ask.token.as_str(), feeder.ask.host.as_str());
+    let told = send_metrics(alloc, book, environment, token, host, peer);
+    unless_memory(told)
+}
+
+/// Asks once for what is new in a slot, and tells what was counted there.
+fn feed_slot<I: Installer, P: Peer>(
+    alloc: Global,
+    to: &mut I,
+    book: &mut MetricsBook,
+    slot: usize,
+    feeder: &mut Feeder,
+    peer: &mut P,
+) -> Result<(), Memory>
+    requires { slot < length (I.installed to.old).places }
+    ensures goes { Goes (I.installed to.old) (I.installed to.new) }
+    ensures asks { (I.installed to.old).front < 2 ^ 64 - 1 → OnOk result (Connects 1
+        (P.state peer.old).replies (P.Source.faults peer.old) (P.state peer.new).replies (P.Source.faults peer.new)) }
+    ensures connects { Connects 0
+        (P.state peer.old).replies (P.Source.faults peer.old) (P.state peer.new).replies (P.Source.faults peer.new) }
+    ensures takes { (I.installed to.old).front < 2 ^ 64 - 1 → ¬ (Rose (P.Source.faults peer.old) (P.Source.faults peer.new))
+        → OnOk result (FeedsSlot slot (upkept (I.installed to.old) (P.state peer.old).replies)
+        (upkept (I.installed to.new) (P.state peer.new).replies)) }
+{
+    match refresh_slot(alloc, to, slot, feeder, peer) {
+        Ok(()) => tell_metrics(alloc, book, feeder, peer),
+        Err(Memory) => Err(Memory),
+    }
+}
+
+/// Does so for each slot that has a feeder.
+pub(crate) fn feed_slots<I: Installer, P: Peer>(
+    alloc: Global,
+    to: &mut I,
+    book: &mut MetricsBook,
+    feeders: &mut [Feeder],
+    peer: &mut P,
+) -> Result<(), Memory>
+    ensures asks { (I.installed to.old).front + length feeders.old < 2 ^ 64 - 1
+        → length feeders.old ≤ length (I.installed to.old).places
+        → OnOk result (Connects (length feeders.old)
+        (P.state peer.old).replies (P.Source.faults peer.old) (P.state peer.new).replies (P.Source.faults peer.new)) }
+    ensures connects { Connects 0
+        (P.state peer.old).replies (P.Source.faults peer.old) (P.state peer.new).replies (P.Source.faults peer.new) }
+    ensures takes { (I.installed to.old).front + length feeders.old < 2 ^ 64 - 1
+        → length feeders.old ≤ length (I.installed to.old).places
+        → ¬ (Rose (P.Source.faults peer.old) (P.Source.faults peer.new))
+        → OnOk result (FeedsSlots (length feeders.old) (upkept (I.installed to.old) (P.state peer.old).replies)
+        (upkept (I.installed to.new) (P.state peer.new).replies)) }
+{
+    let count = to.slots().min(feeders.len());
+    for slot in 0..count {
+        match feed_slot(alloc, to, book, slot, &mut feeders[slot], peer) {
+            Ok(()) => {}
+            Err(Memory) => return Err(Memory),
+        }
+    }
+    Ok(())
+}
+
+/// Whether memory ran out. Nothing else of what came is told.
+fn unless_memory<T: Drop>(told: Result<T, RefreshFault>) -> Result<(), Memory>
+    ensures ok { OnOk result (told ≢ Err RefreshFault.Memory) }
+    ensures err { OnErr result (told ≡ Err RefreshFault.Memory) }
+{
+    match told {
+        Ok(_) => Ok(()),
+        Err(RefreshFault::PeerFault) => Ok(()),
+        Err(RefreshFault::Memory) => Err(Memory),
+    }
+}

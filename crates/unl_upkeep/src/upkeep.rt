@@ -1,0 +1,113 @@
+//! What keeps a board up to date.
+ghost use Rattle.std.specs.Prelude.{◌≡◌, ◌≤◌, ◌+◌, All, IfOk, IsTrue, OnOk, length};
+ghost use Rattle.unl_base.specs.Faults.{Rose};
+ghost use Rattle.unl_http_api.specs.RequestText.{fits_line};
+ghost use Rattle.unl_upkeep.specs.Connects.{Connects};
+ghost use Rattle.unl_upkeep.specs.Turns.{MakesTurn, upkept};
+
+use crate::feeder::{Feeder, feeders};
+use crate::handing::take_over;
+use crate::refreshing::{feed_slots, refresh_book};
+use std::alloc::Global;
+use std::marker::Model;
+use std::sync::{Mutex, Wait};
+use unl_base::Peer;
+use unl_delta::Installer;
+use unl_documents::{List, Memory, Text};
+use unl_metrics::MetricsBook;
+
+/// Who is asked for each slot of a board, the texts of the tokens that may be known, the server that is asked, and what was
+/// counted and is not told yet. Contracts see for which tokens and how many slots it is.
+#[derive(Drop)]
+pub struct Upkeep {
+    feeders: Vec<Feeder>,
+    known: List<Text>,
+    upstream: Text,
+    book: MetricsBook,
+}
+
+impl Model for Upkeep {
+    ghost use Rattle.std.specs.Prelude.{IsTrue, length};
+    ghost use Rattle.unl_http_api.specs.RequestText.{fits_line};
+    ghost use Rattle.unl_upkeep.specs.Turns.{Duty};
+
+    ghost Value = { Duty };
+
+    ghost view = { λ upkeep. record { known = upkeep.known; slots = length upkeep.feeders.items } };
+
+    ghost invariant = { λ upkeep. IsTrue (fits_line upkeep.upstream) };
+}
+
+impl Upkeep {
+    /// That of a board with a slot for each of the upstream's tokens, whose environments these are. It asks the upstream at its
+    /// `HOST:PORT`, for changes where `delta` says so and else for whole feeds. Nothing is counted yet.
+    ///
+    /// # Errors
+    /// Want of memory.
+    pub fn new(
+        alloc: Global,
+        upstream: &Text,
+        upstream_tokens: &List<Text>,
+        environments: &List<Text>,
+        tokens: &List<Text>,
+        delta: bool,
+    ) -> Result<Upkeep, Memory>
+        requires upstream { IsTrue (fits_line upstream.now) }
+        requires tokens { All (λ token. IsTrue (fits_line token)) upstream_tokens.now }
+        requires environments { length environments.now ≡ length upstream_tokens.now }
+        ensures { IfOk result (λ upkeep. upkeep ≡ record { known = tokens.now; slots = length upstream_tokens.now }) }
+    {
+        let feeders = feeders(alloc, upstream, upstream_tokens, environments, delta)?;
+        let known = copies(alloc, tokens.as_slice())?;
+        let upstream = Text::new(alloc, upstream.as_str())?;
+        Ok(Upkeep {
+            feeders,
+            known,
+            upstream,
+            book: MetricsBook::new(alloc),
+        })
+    }
+
+    /// Asks the upstream once for the book and once for each slot, publishes what it answers, and tells it what was counted. A
+    /// fault of the upstream ends nothing.
+    ///
+    /// # Errors
+    /// Want of memory, with which the turn ends.
+    pub fn turn<I: Installer, P: Peer>(
+        &mut self,
+        alloc: Global,
+        to: &mut I,
+        peer: &mut P,
+    ) -> Result<(), Memory>
+        ensures asks { (I.installed to.old).front ≡ 0 → self.old.slots ≤ length (I.installed to.old).places → self.old.slots ≤ 8
+            → OnOk result (Connects (self.old.slots + 1)
+            (P.state peer.old).replies (P.Source.faults peer.old) (P.state peer.new).replies (P.Source.faults peer.new)) }
+        ensures connects { Connects 0
+            (P.state peer.old).replies (P.Source.faults peer.old) (P.state peer.new).replies (P.Source.faults peer.new) }
+        ensures takes { (I.installed to.old).front ≡ 0 → self.old.slots ≤ length (I.installed to.old).places → self.old.slots ≤ 8
+            → ¬ (Rose (P.Source.faults peer.old) (P.Source.faults peer.new))
+            → OnOk result (MakesTurn self.old.known self.old.slots
+            (upkept (I.installed to.old) (P.state peer.old).replies) (upkept (I.installed to.new) (P.state peer.new).replies)) }
+    {
+        match refresh_book(alloc, to, &self.known, &self.upstream, peer) {
+            Ok(()) => feed_slots(alloc, to, &mut self.book, &mut self.feeders, peer),
+            Err(Memory) => Err(Memory),
+        }
+    }
+
+    /// Takes over what was counted since, unless there is no room for it. The lock is held no longer than that.
+    pub fn take_over<W: Wait>(&mut self, alloc: Global, rt: &W, shared: &Mutex<MetricsBook>) {
+        take_over(alloc, rt, shared, &mut self.book);
+    }
+}
+
+/// The same texts once more.
+fn copies(alloc: Global, texts: &[Text]) -> Result<List<Text>, Memory>
+    ensures { IfOk result (λ copies. copies ≡ texts.now) }
+{
+    let mut copies = List::new(alloc);
+    for text in texts {
+        copies.push(Text::new(alloc, text.as_str())?)?;
+    }
+    Ok(copies)
+}

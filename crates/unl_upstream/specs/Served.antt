@@ -1,0 +1,46 @@
+-- Links that were served, by whoever answers their requests. `Changes before end count after` is what so many answers changed.
+use Rattle.std.specs.Prelude.{◌≡◌, ℕ, List, [], Option, Some, Result, Ok, Err}
+use Rattle.unl_base.specs.Faults.{Rose}
+use Rattle.unl_base.specs.declared.Failed.{Failed}
+use Rattle.unl_exchange.specs.Answering.{Answerer, Coming, answerer}
+use Rattle.unl_exchange.specs.Conversation.{Concludes, Converses, GivesUp}
+use Rattle.unl_exchange.specs.Linked.{HandsBack, Linking}
+use Rattle.unl_exchange.specs.Links.{LinkState}
+use Rattle.unl_http_api.specs.declared.end.End.{End}
+use Rattle.unl_http_api.specs.declared.end.End.TheVariants.{ReadFault, WriteFault, Memory}
+use Rattle.unl_http_api.specs.declared.reply.Reply.{Reply}
+use Rattle.unl_http_api.specs.declared.request.Request.{Request}
+
+-- a link was served: so many requests were answered, and this changed
+pub record ServesLinkBy
+    {S : Type 0} (Step : Answerer S → Request → Reply → Answerer S → Type 0) (Lacks : Answerer S → Request → Answerer S → Type 0)
+    (Changes : Answerer S → End → ℕ → Answerer S → Type 0) (before : S) (coming : Coming) (link link_after : LinkState) (after : S)
+    (coming_after : Coming) : Type 0 where
+  pub count : ℕ
+  pub end : End
+  pub conversation : Converses Step Lacks link (answerer before 0 coming) end (answerer after count coming_after) count link_after
+  pub changes : Changes (answerer before 0 coming) end count (answerer after count coming_after)
+
+-- A link that gave these bytes was served, and had then sent and failed as it did. So many of its requests were answered,
+-- each with the next draw, and this changed.
+pub record LinkServedBy
+    {S : Type 0} (Step : Answerer S → Request → Reply → Answerer S → Type 0) (Lacks : Answerer S → Request → Answerer S → Type 0)
+    (Changes : Answerer S → End → ℕ → Answerer S → Type 0) (before : S) (coming : Coming) (bytes : List ℕ) (back : List ℕ × ℕ)
+    (after : S) (coming_after : Coming) : Type 0 where
+  pub count : ℕ
+  pub end : End
+  pub left_after : Option (List ℕ)
+  pub conversation : Concludes Step bytes (Some []) (answerer before 0 coming) end (answerer after count coming_after) left_after
+      (Some back.0)
+  pub memory : end ≡ Memory
+      → GivesUp Step Lacks bytes (Some []) 0 (answerer before 0 coming) (answerer after count coming_after) (Some back.0) back.1
+  pub changes : Changes (answerer before 0 coming) end count (answerer after count coming_after)
+  pub read_cause : end ≡ ReadFault → Rose 0 back.1
+  pub write_cause : end ≡ WriteFault → Rose 0 back.1
+
+-- As many links as are answered were handed out, or at a fault of the door some, and as many were handed back. Where a door tells
+-- its links, each was served so.
+abbrev pub HostsAllBy :
+    {S : Type 0} → (S → Coming → List ℕ → List ℕ × ℕ → S → Coming → Type 0) → Result ℕ Failed → Linking S → Linking S → Type 0
+HostsAllBy LinkServed (Ok served) before after = HandsBack LinkServed before after served
+HostsAllBy LinkServed (Err failed) before after = (served : ℕ) × HandsBack LinkServed before after served

@@ -1,0 +1,96 @@
+#!/bin/sh
+# A test over real sockets: commands to an upstream that keeps them in a database file, which is killed ten times at a random moment
+# and started again. Each command that was answered 200 is there with its number, the numbers are unbroken, and no more is there
+# than what was under way as it was killed. Run after `rt ci`, or after `rt run` in crates/unl_keeping. Skipped where curl is not
+# there; what only a reader of such files can tell is skipped where neither sqlite3 nor python3's module of that name is. It ends
+# what it started, and takes a minute at most.
+set -u
+cd "$(dirname "$0")/.."
+
+. scripts/servers.sh
+need curl
+
+keeping=${KEEPING:-crates/unl_keeping/out/unl_keeping}
+test -x "$keeping" || (cd crates/unl_keeping && rt run </dev/null >/dev/null 2>&1)
+test -x "$keeping" || fail "the program of unl_keeping isn't built"
+
+port=${UPSTREAM_PORT:-14272}
+file=$work/kept.db
+kills=0
+sent=0
+: >"$work/acknowledged"
+: >"$work/unanswered"
+
+# starts the upstream by itself, so that a kill ends it and nothing else
+begin() {
+    "$keeping" "$file" --port "$port" --secret s --environments dev --client-tokens '*:dev.client' "$@" </dev/null >"$work/printed" &
+    server=$!
+    started=$server
+}
+
+# kills it within a quarter of a second
+kill_soon() {
+    moment=$(($(od -An -N1 -tu1 /dev/urandom)))
+    (
+        sleep "$(printf '0.%03d' "$moment")"
+        kill -KILL "$server"
+    ) &
+    killer=$!
+    started="$server $killer"
+}
+
+begin
+wait_for "$port" "the upstream"
+kill_soon
+until test "$sent" -ge 200 && test "$kills" -ge 10; do
+    sent=$((sent + 1))
+    reply=$(ask "$port" s /commands --data "{\"command\":\"put-feature\",\"environment\":\"dev\",\"feature\":{\"name\":\"f$sent\",\"enabled\":true}}")
+    number=$(echo "$reply" | sed -n 's/^{"number":\([0-9]*\)}$/\1/p')
+    if test -n "$number"; then
+        echo "$number f$sent" >>"$work/acknowledged"
+        continue
+    fi
+    echo "f$sent" >>"$work/unanswered"
+    wait "$server" 2>/dev/null
+    same "how it ended" 137 "$?"
+    wait "$killer"
+    kills=$((kills + 1))
+    begin
+    wait_for "$port" "the upstream that was killed"
+    test "$kills" -ge 10 || kill_soon
+done
+same "how often it was killed" 10 "$(wc -l <"$work/unanswered" | tr -d ' ')"
+
+# what was acknowledged is shown
+ask "$port" '*:dev.client' /api/client/features | grep -o '"name":"f[0-9]*"' | sed 's/"name":"\(.*\)"/\1/' | sort >"$work/shown"
+sed 's/.* //' "$work/acknowledged" | sort | comm -23 - "$work/shown" >"$work/lost"
+same "what was lost" "" "$(cat "$work/lost")"
+sed 's/.* //' "$work/acknowledged" | cat - "$work/unanswered" | sort | comm -13 - "$work/shown" >"$work/other"
+same "what nobody put" "" "$(cat "$work/other")"
+
+# an orderly end, after one link
+kill -KILL "$server"
+wait "$server" 2>/dev/null
+begin --connections 1
+wait_for "$port" "the upstream of one link"
+wait "$server"
+same "the status" 0 "$?"
+same "what is printed" "connections 1" "$(cat "$work/printed")"
+
+# the rows of the file, by a reader that is none of this repository's
+query="SELECT place, json_extract(text, '\$.feature.name') FROM kept ORDER BY place"
+if command -v sqlite3 >/dev/null 2>&1; then
+    sqlite3 -separator ' ' "$file" "$query" >"$work/rows" || fail "the file can't be read"
+elif python3 -c 'import sqlite3' 2>/dev/null; then
+    python3 -c 'import sqlite3, sys
+for row in sqlite3.connect(sys.argv[1]).execute(sys.argv[2]):
+    print(*row)' "$file" "$query" >"$work/rows" || fail "the file can't be read"
+else
+    echo "${0##*/}: the rows are skipped, since neither sqlite3 nor its module for python3 is there"
+    exit 0
+fi
+same "a place that is missing" "" "$(awk '$1 != NR' "$work/rows")"
+same "what isn't in its place" "" "$(grep -vxF -f "$work/rows" "$work/acknowledged")"
+more=$(($(wc -l <"$work/rows") - $(wc -l <"$work/acknowledged")))
+test "$more" -le 10 || fail "$more rows more than were acknowledged"
+echo "keeping: passed ($(wc -l <"$work/acknowledged" | tr -d ' ') commands acknowledged, $more more kept, $kills kills)"

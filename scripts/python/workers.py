@@ -1,0 +1,109 @@
+"""An edge with many workers under load, over sockets: a link that is slow, that stays or that is reset delays no other one, and
+links leave nothing in memory.
+
+Its words: the port of the edge, the process that started it, and how many workers it has. It prints what goes wrong.
+"""
+import sys
+import threading
+import time
+
+from wire import HEALTH, answered, connect, memory_of, request, reset, started_by, statuses
+
+FRONT = b"*:dev.front"
+TOGGLES = request(b"/api/frontend", FRONT)
+CLOSING = request(b"/api/frontend", FRONT, fields=b"Connection: close\r\n")
+AT_ONCE = 64
+# how long any answer may take beside others, in seconds
+SOON = 1.0
+# what an allocator may keep for itself, in KiB
+SLACK = 4_096
+
+
+def check(name, is_as, found):
+    if found != is_as:
+        print(f"{name}: expected {is_as}, got {found}")
+
+
+def soon(port, name):
+    """An answer comes at once."""
+    begun = time.monotonic()
+    check(name, [200], answered(port, CLOSING))
+    took = time.monotonic() - begun
+    if took > SOON:
+        print(f"{name}: an answer took {took:.2f} seconds")
+
+
+def drip(link, ended):
+    """Sends one byte a second."""
+    for at in range(len(TOGGLES)):
+        if ended.wait(1.0):
+            return
+        link.sendall(TOGGLES[at : at + 1])
+
+
+def beside_slow_links(port, workers):
+    """All workers but one have a link that is slow, silent, or that has asked and stays."""
+    links = [connect(port) for _ in range(workers - 1)]
+    ended = threading.Event()
+    slow = threading.Thread(target=drip, args=(links[0], ended))
+    slow.start()
+    for link in links[1::2]:
+        link.sendall(TOGGLES)
+        check("a link that stays", [200], statuses(link.recv(65_536)))
+    for _ in range(50):
+        soon(port, "beside slow links")
+    ended.set()
+    slow.join()
+    for link in links:
+        link.close()
+
+
+def one_after_the_other(port, count):
+    for _ in range(count):
+        check("one link of many", [200], answered(port, CLOSING))
+
+
+def at_once(port):
+    """As many links as may wait ask at once."""
+    given = [None] * AT_ONCE
+
+    def ask(place):
+        given[place] = answered(port, CLOSING)
+
+    threads = [threading.Thread(target=ask, args=(place,)) for place in range(AT_ONCE)]
+    for thread in threads:
+        thread.start()
+    for thread in threads:
+        thread.join()
+    check("links at once", [[200]] * AT_ONCE, given)
+
+
+def in_mid_reply(port):
+    """A link that is reset while its replies are on their way ends itself alone."""
+    with connect(port) as other:
+        other.sendall(HEALTH)
+        check("a link beside one that is reset", [200], statuses(other.recv(65_536)))
+        reset(port, TOGGLES * 900)
+        other.sendall(HEALTH)
+        check("the same link afterwards", [200], statuses(other.recv(65_536)))
+    soon(port, "after a reset")
+
+
+def main(words):
+    port, process, workers = int(words[0]), started_by(int(words[1])), int(words[2])
+    for _ in range(5):
+        at_once(port)
+        in_mid_reply(port)
+    one_after_the_other(port, 200)
+    before = memory_of(process)
+    beside_slow_links(port, workers)
+    one_after_the_other(port, 2_000)
+    for _ in range(10):
+        at_once(port)
+        in_mid_reply(port)
+    after = memory_of(process)
+    if after > before + SLACK:
+        print(f"{after} KiB are held after all links, and {before} were before them")
+
+
+main(sys.argv[1:])
