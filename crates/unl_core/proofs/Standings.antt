@@ -10,7 +10,7 @@ use Rattle.unl_delta.specs.Batch.{empty_place, next_version}
 use Rattle.unl_delta.specs.Valid.{IsValidPlace, IsValidVersion}
 use Rattle.unl_core.specs.declared.board.Board.{Board}
 use Rattle.unl_core.specs.declared.board.Slot.{Slot}
-use Rattle.unl_core.specs.Board.{AreSlots, empty_slot, slot_of, taking, with_snapshot}
+use Rattle.unl_core.specs.Board.{AreSlots, empty_slot, place_in, taking, with_snapshot}
 use Rattle.unl_core.specs.Standing.{Standing, IsStanding, place_at, snapshot_at, installed_by, with_hold, with_batch}
 use Rattle.unl_delta.specs.declared.batch.Batch.{Batch}
 use Rattle.unl_delta.specs.Installing.{place_of}
@@ -87,7 +87,7 @@ standing_held board places slot place d standing low same =
 
 -- one slot more, of a new name, with an empty place
 pub standing_more : (board grown : Board) (places : List Place) (environment : List ℕ) (slot : Slot) → IsStanding board places → length board.slots < 8
-    → None ≡ slot_of environment board.slots → slot ≡ empty_slot environment → grown.slots ≡ board.slots ++ slot ∷ []
+    → None ≡ place_in environment board.slots → slot ≡ empty_slot environment → grown.slots ≡ board.slots ++ slot ∷ []
     → IsStanding grown (places ++ empty_place ∷ [])
 standing_more board grown places environment slot standing room none made pushed = record {
   slots = slots_more environment board.slots grown.slots slot standing.slots room none (ap (λ (x : Slot). x.environment) made) pushed;

@@ -19,6 +19,3 @@ pub use laws::{
     parent_stands_alone, seen_among_all,
 };
 pub use picking::{evaluate_where, first_active, own_variant, strategy_variant, variant_of};
-
-#[cfg(test)]
-mod tests;

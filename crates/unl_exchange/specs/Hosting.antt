@@ -3,8 +3,8 @@
 use Rattle.std.specs.Prelude.{◌≡◌, ℕ, zero, suc, Bool, Result, Ok, Err}
 use Rattle.unl_base.specs.declared.Failed.{Failed}
 use Rattle.unl_base.specs.Doors.{DoorState, IsFresh, IsOpen, handing_out, taking_back}
-use Rattle.unl_exchange.specs.declared.hosting.Next.{Next}
-use Rattle.unl_exchange.specs.declared.hosting.Next.TheVariants.{Served, Closed}
+use Rattle.unl_exchange.specs.declared.hosting.Hosted.{Hosted}
+use Rattle.unl_exchange.specs.declared.hosting.Hosted.TheVariants.{Served, Closed}
 use Rattle.unl_exchange.specs.Answering.{Coming}
 use Rattle.unl_exchange.specs.Links.{LinkState}
 
@@ -36,7 +36,7 @@ Hosts {S} Serves (suc n) before after = (middle : Hosting S) × Hosts Serves n b
 
 -- one link was, or none where the door is closed or failed
 abbrev pub HostsNext :
-    {S : Type 0} → (S → Coming → LinkState → LinkState → S → Coming → Type 0) → Result Next Failed → Hosting S → Hosting S → Type 0
+    {S : Type 0} → (S → Coming → LinkState → LinkState → S → Coming → Type 0) → Result Hosted Failed → Hosting S → Hosting S → Type 0
 HostsNext Serves (Ok Served) before after = HostsLink Serves before after
 HostsNext Serves (Ok Closed) before after = after ≡ before
 HostsNext Serves (Err failed) before after = after ≡ before

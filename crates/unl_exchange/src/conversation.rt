@@ -4,7 +4,7 @@ ghost use Rattle.unl_exchange.specs.Conversation.{Converses};
 ghost use Rattle.unl_exchange.specs.Links.{link_state};
 
 use crate::answering::{Answering, MOST_REQUESTS};
-use crate::exchange::exchange;
+use crate::serving::serve_request;
 use std::alloc::Global;
 use unl_base::{Draws, Link};
 use unl_http_api::{End, Reader};
@@ -29,7 +29,7 @@ pub fn converse<A: Answering, L: Link, R: Draws>(
     let mut count = 0;
     for turn in 0..MOST_REQUESTS {
         let last = turn + 1 == MOST_REQUESTS;
-        if let Some(end) = exchange::<A, L, R>(
+        if let Some(end) = serve_request::<A, L, R>(
             alloc,
             &mut reader,
             state,

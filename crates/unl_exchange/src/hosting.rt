@@ -37,7 +37,7 @@ pub trait Server {
 
 /// What came of waiting for a link.
 #[derive(Clone, Copy, Debug, PartialEq, Eq)]
-pub(crate) enum Next {
+pub(crate) enum Hosted {
     /// A link came, was served and was handed back.
     Served,
     /// The door is closed.
@@ -68,8 +68,8 @@ pub fn host<S: Server, D: Door, R: Draws, W: Wait>(
 {
     for served in 0..u64::MAX {
         match serve_next(alloc, server, door, draws) {
-            Ok(Next::Served) => {}
-            Ok(Next::Closed) => return Ok(served),
+            Ok(Hosted::Served) => {}
+            Ok(Hosted::Closed) => return Ok(served),
             Err(failed) => return Err(failed),
         }
     }
@@ -82,7 +82,7 @@ fn serve_next<S: Server, D: Door, R: Draws>(
     server: &mut S,
     door: &mut D,
     draws: &mut R,
-) -> Result<Next, Failed>
+) -> Result<Hosted, Failed>
     requires listens { (D.state door.old).listening ≡ true }
     requires fits { S.fits server.old }
     ensures hosts { HostsNext S.serves result (hosting server.old (R.coming draws.old) (D.state door.old))
@@ -90,15 +90,15 @@ fn serve_next<S: Server, D: Door, R: Draws>(
     ensures fits { S.fits server.new }
     ensures keeps { S.keeps server.old server.new }
     ensures listens { (D.state door.new).listening ≡ true }
-    ensures closed { IfOk result (λ next. next ≡ Next.Closed → IsClosed (D.state door.new)) }
+    ensures closed { IfOk result (λ next. next ≡ Hosted.Closed → IsClosed (D.state door.new)) }
     ensures cause { HasCause (D.faults door.old) (D.faults door.new) result }
 {
     match door.accept()? {
         Some(link) => {
             serve_and_return(alloc, server, link, door, draws);
-            Ok(Next::Served)
+            Ok(Hosted::Served)
         }
-        None => Ok(Next::Closed),
+        None => Ok(Hosted::Closed),
     }
 }
 

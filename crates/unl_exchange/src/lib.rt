@@ -4,9 +4,9 @@
 
 mod answering;
 mod conversation;
-mod exchange;
 mod hosting;
 mod receive;
+mod serving;
 #[cfg(test)]
 mod tests;
 

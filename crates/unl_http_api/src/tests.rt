@@ -10,8 +10,8 @@ use unl_documents::Memory;
 /// What is read of a reply: its status, its tag and its body.
 type Seen = (u16, Option<&'static str>, &'static str);
 
-/// Replies with a body, each beside what is read of it.
-const BODIES: [(&str, Result<Seen, BadReply>); 11] = [
+/// Bytes, each beside what is read of them. Those of the last rows have no head that is read.
+const REPLIES: [(&str, Result<Seen, BadReply>); 20] = [
     (
         "HTTP/1.1 200 OK\r\nContent-Length: 3\r\n\r\nabc",
         Ok((200, None, "abc")),
@@ -50,21 +50,33 @@ const BODIES: [(&str, Result<Seen, BadReply>); 11] = [
         "HTTP/1.1 200 OK\r\nContent-Length: 9999999999999999999\r\n\r\nab",
         Err(BadReply::TooLarge),
     ),
-];
-
-/// Bytes that have no head that is read.
-const NO_HEADS: [&str; 11] = [
-    "",
-    "HTTP/1.1 200 OK\r\nContent-Length: 0\r\n",
-    "HTTP/2.0 200 OK\r\n\r\n",
-    "HTTP/1.1 20 OK\r\n\r\n",
-    "HTTP/1.1 200 OK\r\nETag : x\r\n\r\n",
-    "HTTP/1.1 200 OK\r\ntransfer-encoding: identity\r\n\r\n",
-    "HTTP/1.1 304 Not Modified\r\nTransfer-Encoding: chunked\r\n\r\n",
-    "HTTP/1.1 200 OK\r\nContent-Length: 1\r\ncontent-length: 1\r\n\r\na",
-    "HTTP/1.1 200 OK\r\nContent-Length: +1\r\n\r\na",
-    "HTTP/1.1 304 Not Modified\r\nContent-Length:\r\n\r\n",
-    "HTTP/1.1 200 OK\r\nContent-Length: 00000000000000000001\r\n\r\na",
+    ("HTTP/2.0 200 OK\r\n\r\n", Err(BadReply::Head)),
+    ("HTTP/1.1 20 OK\r\n\r\n", Err(BadReply::Head)),
+    ("HTTP/1.1 200 OK\r\nETag : x\r\n\r\n", Err(BadReply::Head)),
+    (
+        "HTTP/1.1 200 OK\r\ntransfer-encoding: identity\r\n\r\n",
+        Err(BadReply::Head),
+    ),
+    (
+        "HTTP/1.1 304 Not Modified\r\nTransfer-Encoding: chunked\r\n\r\n",
+        Err(BadReply::Head),
+    ),
+    (
+        "HTTP/1.1 200 OK\r\nContent-Length: 1\r\ncontent-length: 1\r\n\r\na",
+        Err(BadReply::Head),
+    ),
+    (
+        "HTTP/1.1 200 OK\r\nContent-Length: +1\r\n\r\na",
+        Err(BadReply::Head),
+    ),
+    (
+        "HTTP/1.1 304 Not Modified\r\nContent-Length:\r\n\r\n",
+        Err(BadReply::Head),
+    ),
+    (
+        "HTTP/1.1 200 OK\r\nContent-Length: 00000000000000000001\r\n\r\na",
+        Err(BadReply::Head),
+    ),
 ];
 
 /// Reads a reply that comes in pieces of so many bytes.
@@ -93,118 +105,89 @@ fn agrees(reading: Option<Result<Got, BadReply>>, seen: Result<Seen, BadReply>) 
 
 #[test]
 fn replies_in_any_cutting(rt: HostRuntime) -> Result<(), Fail> {
+    has_one_reply(b"");
     let alloc = rt.alloc();
     for most in [1, 7, 16_384] {
-        for (bytes, seen) in BODIES {
+        for (bytes, seen) in REPLIES {
             assert!(rt;
                 agrees(read(alloc, bytes.as_bytes(), most), seen),
                 "{bytes}"
             );
         }
-        for bytes in NO_HEADS {
-            assert!(rt;
-                agrees(read(alloc, bytes.as_bytes(), most), Err(BadReply::Head)),
-                "{bytes}"
-            );
-        }
     }
-    Ok(())
-}
-
-const CUT: &[u8] = b"HTTP/1.1 200 OK\r\nContent-Length: 5\r\n\r\nabcde";
-
-#[test]
-fn a_reply_that_is_cut(rt: HostRuntime) -> Result<(), Fail> {
-    let alloc = rt.alloc();
-    for count in 0..CUT.len() {
-        let fault = if count < CUT.len() - 5 {
-            BadReply::Head
-        } else {
-            BadReply::Short
-        };
-        assert!(rt;
-            agrees(read(alloc, &CUT[..count], 11), Err(fault)),
-            "{count}"
-        );
-    }
-    assert!(rt; agrees(read(alloc, CUT, 11), Ok((200, None, "abcde"))));
-    has_one_reply(CUT);
     Ok(())
 }
 
 /// Reads a reply of one piece, another piece so many times, and a last one: how long its body is.
 fn read_repeated(
     alloc: Global,
-    start: &[u8],
+    start: &str,
     more: &[u8],
     count: usize,
-    end: &[u8],
+    end: &str,
 ) -> Result<Result<usize, BadReply>, Memory> {
     let mut reader = ReplyReader::new(alloc);
-    reader.feed(start)?;
+    reader.feed(start.as_bytes())?;
     for _ in 0..count {
         reader.feed(more)?;
     }
-    reader.feed(end)?;
+    reader.feed(end.as_bytes())?;
     Ok(reader.finish(alloc).map(|got| got.body.len()))
 }
+
+/// A first piece, one that comes so many times, a last one, and how long the body is.
+const HEADS: [(&str, &str, usize, &str, Result<usize, BadReply>); 4] = [
+    ("HTTP/1.1 200 OK\r\n", "a: b\r\n", 64, "\r\n", Ok(0)),
+    (
+        "HTTP/1.1 200 OK\r\n",
+        "a: b\r\n",
+        65,
+        "\r\n",
+        Err(BadReply::Head),
+    ),
+    ("HTTP/1.1 200 OK\r\na: ", "b", 8_168, "\r\n\r\n", Ok(0)),
+    (
+        "HTTP/1.1 200 OK\r\na: ",
+        "b",
+        8_169,
+        "\r\n\r\n",
+        Err(BadReply::Head),
+    ),
+];
 
 #[test]
 fn limits_of_a_head(rt: HostRuntime) -> Result<(), Fail> {
     let alloc = rt.alloc();
-    for (start, more, count, end, size) in [
-        ("HTTP/1.1 200 OK\r\n", "a: b\r\n", 64, "\r\n", Ok(0)),
-        (
-            "HTTP/1.1 200 OK\r\n",
-            "a: b\r\n",
-            65,
-            "\r\n",
-            Err(BadReply::Head),
-        ),
-        ("HTTP/1.1 200 OK\r\na: ", "b", 8_168, "\r\n\r\n", Ok(0)),
-        (
-            "HTTP/1.1 200 OK\r\na: ",
-            "b",
-            8_169,
-            "\r\n\r\n",
-            Err(BadReply::Head),
-        ),
-    ] {
-        let read = read_repeated(
-            alloc,
-            start.as_bytes(),
-            more.as_bytes(),
-            count,
-            end.as_bytes(),
-        )?;
+    for (start, more, count, end, size) in HEADS {
+        let read = read_repeated(alloc, start, more.as_bytes(), count, end)?;
         assert_eq!(rt; read, size);
     }
     Ok(())
 }
 
+/// A head, how often 16,384 bytes come behind it, a last piece, and how long the body is.
+const BODIES: [(&str, usize, &str, Result<usize, BadReply>); 3] = [
+    ("HTTP/1.1 200 OK\r\n\r\n", 1_024, "", Ok(16_777_216)),
+    (
+        "HTTP/1.1 200 OK\r\nContent-Length: 16777216\r\n\r\n",
+        1_024,
+        "a",
+        Ok(16_777_216),
+    ),
+    (
+        "HTTP/1.1 200 OK\r\nContent-Length: 16777217\r\n\r\n",
+        0,
+        "",
+        Err(BadReply::TooLarge),
+    ),
+];
+
 #[test]
 fn limits_of_a_body(rt: HostRuntime) -> Result<(), Fail> {
     let alloc = rt.alloc();
     let piece = vec![in alloc; b'a'; 16_384]?;
-    for (stated, count, end, size) in [
-        ("", 1_024, "", Ok(16_777_216)),
-        ("", 1_024, "a", Err(BadReply::TooLarge)),
-        ("Content-Length: 16777216\r\n", 1_024, "a", Ok(16_777_216)),
-        (
-            "Content-Length: 16777216\r\n",
-            1_023,
-            "",
-            Err(BadReply::Short),
-        ),
-        (
-            "Content-Length: 16777217\r\n",
-            0,
-            "",
-            Err(BadReply::TooLarge),
-        ),
-    ] {
-        let start = format!(in alloc; "HTTP/1.1 200 OK\r\n{stated}\r\n")?;
-        let read = read_repeated(alloc, start.as_bytes(), &piece, count, end.as_bytes())?;
+    for (start, count, end, size) in BODIES {
+        let read = read_repeated(alloc, start, &piece, count, end)?;
         assert_eq!(rt; read, size);
     }
     Ok(())
@@ -225,16 +208,10 @@ fn texts_of_a_line(rt: HostRuntime) {
 
 const PLAIN: &str = "GET /api/client/delta HTTP/1.0\r\nHost: edge:80\r\nConnection: close\r\n\r\n";
 
-const WITH_TOKEN_AND_TAG: &str = concat!(
-    "GET /api/client/features HTTP/1.0\r\nHost: edge\r\nAuthorization: *:dev.secret\r\n",
-    "If-None-Match: \"1\"\r\nConnection: close\r\n\r\n",
-);
-
 #[test]
-fn requests(rt: HostRuntime) -> Result<(), Fail> {
-    let alloc = rt.alloc();
+fn a_request_without_token_and_tag(rt: HostRuntime) -> Result<(), Fail> {
     let text = write_request(
-        alloc,
+        rt.alloc(),
         Method::Get,
         "/api/client/delta",
         "edge:80",
@@ -243,36 +220,5 @@ fn requests(rt: HostRuntime) -> Result<(), Fail> {
         b"",
     )?;
     assert_eq!(rt; text.as_slice(), PLAIN.as_bytes());
-    let text = write_request(
-        alloc,
-        Method::Get,
-        "/api/client/features",
-        "edge",
-        Some("*:dev.secret"),
-        Some(br#""1""#),
-        b"",
-    )?;
-    assert_eq!(rt; text.as_slice(), WITH_TOKEN_AND_TAG.as_bytes());
-    Ok(())
-}
-
-const POSTED: &str = concat!(
-    "POST /edge/validate HTTP/1.0\r\nHost: edge\r\nContent-Type: application/json\r\nContent-Length: 13\r\n",
-    "Connection: close\r\n\r\n",
-    r#"{"tokens":[]}"#,
-);
-
-#[test]
-fn posted_requests(rt: HostRuntime) -> Result<(), Fail> {
-    let text = write_request(
-        rt.alloc(),
-        Method::Post,
-        "/edge/validate",
-        "edge",
-        None,
-        None,
-        br#"{"tokens":[]}"#,
-    )?;
-    assert_eq!(rt; text.as_slice(), POSTED.as_bytes());
     Ok(())
 }

@@ -11,8 +11,8 @@ use Rattle.unl_lines.specs.Lines.{lines, ended_lines}
 use Rattle.unl_lines.specs.Reading.{Gets, longest_line}
 use Rattle.unl_lines.specs.Taken.{LineResult, Outcome, Taking, done, refused, IsRefused, ending_text, whole_text, printed, refused_text, begun_by, followed, take_line, take_from, outcome_of, outcome_of_ended, most_lines}
 use Rattle.unl_lines.specs.Turns.{Scene, Takes, MayFollow, Prints, GoesOn, ComesToEnd, IsRefusedAt, BreaksOff, BeginsWith, StopsReading, Turns}
-use Rattle.unl_lines.specs.Whole.{IsAnswered, IsRefusing, AnswersRead, AnswersAll, TakesLines}
-use Rattle.unl_lines.proofs.Lines.{gets_trans, gets_nothing, WholeSplit, whole_split, sends_nothing, sends_trans, sends_then_front, front_of_longer, IsWhole, whole_none, whole_more, ended_whole, line_first}
+use Rattle.unl_lines.specs.Whole.{IsAnswered, IsRefusing, AnswersRead, AnswersAll, StandsOfRead, TakesLines}
+use Rattle.unl_lines.proofs.Lines.{gets_trans, gets_nothing, sends_nothing, sends_trans, sends_then_front, front_of_longer, IsWhole, whole_none, whole_more, ended_whole, line_first}
 
 -- ---- one line
 
@@ -167,42 +167,72 @@ ends_leaving taking first last None left sent after all = tt
 ends_leaving taking first last (Some x) left sent after all =
     subst (λ bytes. (outcome_of taking first bytes).desk ≡ last) (read_all x all.read left all.took all.end) all.leaves
 
--- what comes of the whole input, where it is told, from what comes of the bytes taken last
-whole_of : {D : Type 0} (taking : Taking D) (first : D) (x : List ℕ) (sent : Option (List ℕ)) (k : ℕ) (before after : Scene D) (out : List ℕ)
-    → (sofar : Sofar taking first (Some x) sent k before) → Takes before out after
-    → (rest : List ℕ) × MayFollow after rest × (outcome_of taking first x ≡ begun_by sofar.text (take_from taking k before.desk (lines (out ++ rest))))
-unfolding WholeSplit
-whole_of taking first x sent k before after out sofar got =
-    let parts = whole_split x (sofar.taken ++ out) after.held after.left (gets_trans [] before.held after.held (Some x) before.left after.left sofar.taken out sofar.got got) in
-    (parts.0, parts.2, ap (λ bytes. take_from taking 1 first (lines bytes)) (parts.1 ∙ append_assoc sofar.taken out parts.0) ∙ sofar.leads (out ++ parts.0))
+-- what comes of the bytes that were read and of what may follow, from what comes of those taken last
+read_of : {D : Type 0} (taking : Taking D) (first : D) (start sent : Option (List ℕ)) (k : ℕ) (before after : Scene D) (out rest : List ℕ)
+    → (sofar : Sofar taking first start sent k before) → (got : Takes before out after)
+    → outcome_of taking first ((gets_trans [] before.held after.held start before.left after.left sofar.taken out sofar.got got).read ++ rest)
+    ≡ begun_by sofar.text (take_from taking k before.desk (lines (out ++ (after.held ++ rest))))
+read_of taking first start sent k before after out rest sofar got =
+    let all = gets_trans [] before.held after.held start before.left after.left sofar.taken out sofar.got got in
+    ap (λ bytes. take_from taking 1 first (lines (bytes ++ rest))) all.split
+    ∙ ap (λ bytes. take_from taking 1 first (lines bytes))
+    (append_assoc (sofar.taken ++ out) after.held rest ∙ append_assoc sofar.taken out (after.held ++ rest))
+    ∙ sofar.leads (out ++ (after.held ++ rest))
+
+-- what may follow what was read may, behind what is held, follow what was taken
+may_follow : {D : Type 0} (after : Scene D) (rest : List ℕ) → (HasEnded after.left → rest ≡ []) → MayFollow after (after.held ++ rest)
+may_follow after rest may = λ end. ap (λ xs. xs ++ rest) end.0 ∙ may end.1
 
 pub ends_refused : {D : Type 0} (taking : Taking D) (first : D) (start sent : Option (List ℕ)) (k : ℕ) (before after : Scene D)
     → Sofar taking first start sent k before → IsRefusedAt taking k before after
-    → IfSome start (λ bytes. IsRefusing (outcome_of taking first bytes) sent after.sent)
-ends_refused taking first None sent k before after sofar now = tt
-ends_refused {D = D} taking first (Some x) sent k before after sofar now =
-    let told = whole_of taking first x sent k before after now.out sofar now.got in
+    → StandsOfRead start after.left (λ bytes. IsRefusing (outcome_of taking first bytes) sent after.sent)
+ends_refused {D = D} taking first start sent k before after sofar now =
+    let all = gets_trans [] before.held after.held start before.left after.left sofar.taken now.out sofar.got now.got in
     let whole : Outcome D = record { text = sofar.text ++ []; ending = refused k now.cause; desk = before.desk } in
-    let all : outcome_of taking first x ≡ whole = told.2 ∙ ap (begun_by sofar.text) (now.is told.0 told.1) in
-    let text : whole_text (outcome_of taking first x) ≡ sofar.text ++ refused_text k now.cause =
-    ap whole_text all ∙ ap (λ t. t ++ refused_text k now.cause) (append-nil sofar.text) in
+    let sends = sends_trans sent before.sent after.sent sofar.text (refused_text k now.cause) sofar.sends now.sent in
+    let is : (rest : List ℕ) → (HasEnded after.left → rest ≡ []) → outcome_of taking first (all.read ++ rest) ≡ whole =
+    λ rest may. read_of taking first start sent k before after now.out rest sofar now.got
+    ∙ ap (begun_by sofar.text) (now.is (after.held ++ rest) (may_follow after rest may)) in
+    let text : (rest : List ℕ) → (HasEnded after.left → rest ≡ []) → whole_text (outcome_of taking first (all.read ++ rest)) ≡ sofar.text ++ refused_text k now.cause =
+    λ rest may. ap whole_text (is rest may) ∙ ap (λ t. t ++ refused_text k now.cause) (append-nil sofar.text) in
     record {
-      ending = subst IsRefused (sym (ap (λ r. r.ending) all)) tt;
-      sent = subst (λ t. Sends sent t after.sent) (sym text) (sends_trans sent before.sent after.sent sofar.text (refused_text k now.cause) sofar.sends now.sent);
+      read = all.read;
+      took = all.took;
+      stands = λ rest may. record {
+        ending = subst IsRefused (sym (ap (λ r. r.ending) (is rest may))) tt;
+        sent = subst (λ t. Sends sent t after.sent) (sym (text rest may)) sends;
+      };
     }
 
 pub ends_broken : {D : Type 0} (taking : Taking D) (first : D) (start sent : Option (List ℕ)) (k : ℕ) (before after : Scene D)
     → Sofar taking first start sent k before → BreaksOff taking k before after
-    → IfSome start (λ bytes. SendsFront sent (whole_text (outcome_of taking first bytes)) after.sent)
-ends_broken taking first None sent k before after sofar now = tt
-ends_broken taking first (Some x) sent k before after sofar now =
-    let told = whole_of taking first x sent k before after now.out sofar now.got in
-    let tail = now.is told.0 told.1 in
-    let r = take_from taking k before.desk (lines (now.out ++ told.0)) in
-    let text : whole_text (outcome_of taking first x) ≡ (sofar.text ++ now.text) ++ tail.0 =
-    ap whole_text told.2 ∙ append_assoc sofar.text r.text (ending_text r.ending) ∙ ap (λ t. sofar.text ++ t) tail.1 ∙ sym (append_assoc sofar.text now.text tail.0) in
-    front_of_longer sent after.sent (sofar.text ++ now.text) tail.0 (whole_text (outcome_of taking first x))
-    (sends_then_front sent before.sent after.sent sofar.text now.text sofar.sends now.sent) text
+    → StandsOfRead start after.left (λ bytes. SendsFront sent (whole_text (outcome_of taking first bytes)) after.sent)
+ends_broken taking first start sent k before after sofar now =
+    let all = gets_trans [] before.held after.held start before.left after.left sofar.taken now.out sofar.got now.got in
+    let front = sends_then_front sent before.sent after.sent sofar.text now.text sofar.sends now.sent in
+    let tail : (rest : List ℕ) → (HasEnded after.left → rest ≡ [])
+    → BeginsWith now.text (take_from taking k before.desk (lines (now.out ++ (after.held ++ rest)))) =
+    λ rest may. now.is (after.held ++ rest) (may_follow after rest may) in
+    let text : (rest : List ℕ) → (may : HasEnded after.left → rest ≡ [])
+    → whole_text (outcome_of taking first (all.read ++ rest)) ≡ (sofar.text ++ now.text) ++ (tail rest may).0 =
+    λ rest may. let r = take_from taking k before.desk (lines (now.out ++ (after.held ++ rest))) in
+    ap whole_text (read_of taking first start sent k before after now.out rest sofar now.got)
+    ∙ append_assoc sofar.text r.text (ending_text r.ending) ∙ ap (λ t. sofar.text ++ t) (tail rest may).1
+    ∙ sym (append_assoc sofar.text now.text (tail rest may).0) in
+    record {
+      read = all.read;
+      took = all.took;
+      stands = λ rest may. front_of_longer sent after.sent (sofar.text ++ now.text) (tail rest may).0
+          (whole_text (outcome_of taking first (all.read ++ rest))) front (text rest may);
+    }
+
+-- what stands of all that may follow stands of an input that is told
+pub stands_told : (P : List ℕ → Type 0) (start left : Option (List ℕ)) → StandsOfRead start left P → IfSome start P
+stands_told P None left stands = tt
+stands_told P (Some x) None stands = absurd (let took = stands.took in cc)
+stands_told P (Some x) (Some y) stands =
+    let parts : x ≡ stands.read ++ y = let took = stands.took in cc in
+    subst P (sym parts) (stands.stands y (λ end. end))
 
 pub ends_unread : {D : Type 0} (taking : Taking D) (first : D) (start sent : Option (List ℕ)) (k : ℕ) (before after : Scene D)
     → Sofar taking first start sent k before → StopsReading before after → AnswersRead taking first start after.left sent after.sent

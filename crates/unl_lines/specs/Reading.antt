@@ -1,8 +1,8 @@
 -- What reading a line takes from the bytes that are held and from the source.
 use Rattle.std.specs.Prelude.{◌≡◌, ◌≢◌, ⊤, ℕ, ◌<◌, ◌≤◌, List, [], ◌∷◌, ◌++◌, length, Option, false}
 use Rattle.unl_base.specs.Streams.{Takes, HasEnded}
-use Rattle.unl_lines.specs.declared.reader.Next.{Next}
-use Rattle.unl_lines.specs.declared.reader.Next.TheVariants.{Line, Last, End}
+use Rattle.unl_lines.specs.declared.reader.NextLine.{NextLine}
+use Rattle.unl_lines.specs.declared.reader.NextLine.TheVariants.{Line, Last, End}
 use Rattle.unl_lines.specs.declared.reader.ReadFault.{ReadFault}
 use Rattle.unl_lines.specs.declared.reader.ReadFault.TheVariants.{Failed, TooLong, Memory}
 use Rattle.unl_lines.specs.Lines.{has_end}
@@ -28,7 +28,7 @@ pub record IsLine (line : List ℕ) : Type 0 where
   pub short : length line ≤ longest_line
 
 -- what stood next was taken
-abbrev pub TakesNext : Next → List ℕ → Option (List ℕ) → List ℕ → Option (List ℕ) → Type 0
+abbrev pub TakesNext : NextLine → List ℕ → Option (List ℕ) → List ℕ → Option (List ℕ) → Type 0
 TakesNext (Line line) held left held_after left_after = IsLine line.items × Gets held left (line.items ++ 10 ∷ []) held_after left_after
 TakesNext (Last line) held left held_after left_after =
     IsLine line.items × (line.items ≢ []) × Gets held left line.items held_after left_after × IsAtEnd held_after left_after

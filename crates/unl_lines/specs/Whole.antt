@@ -1,5 +1,5 @@
 -- How the lines of a whole input end, over the bytes to come and those sent, before and after.
-use Rattle.std.specs.Prelude.{◌≡◌, ⊤, List, ℕ, Option, IfSome, Result, Ok, Err}
+use Rattle.std.specs.Prelude.{◌≡◌, ⊤, List, [], ◌++◌, ℕ, Option, IfSome, Result, Ok, Err}
 use Rattle.unl_base.specs.Streams.{Takes, HasEnded, Sends, SendsFront}
 use Rattle.unl_lines.specs.declared.taking.LinesFault.{LinesFault}
 use Rattle.unl_lines.specs.declared.taking.LinesFault.TheVariants.{Bad, ReadFault, WriteFault, Memory}
@@ -21,6 +21,12 @@ pub record AnswersRead {D : Type 0} (taking : Taking D) (desk : D) (left left_af
   pub took : Takes left read left_after
   pub answered : IsAnswered (outcome_of_ended taking desk read) old new
 
+-- these bytes were read, and whatever follows them, this stands of the whole input
+pub record StandsOfRead (left left_after : Option (List ℕ)) (P : List ℕ → Type 0) : Type 0 where
+  pub read : List ℕ
+  pub took : Takes left read left_after
+  pub stands : (rest : List ℕ) → (HasEnded left_after → rest ≡ []) → P (read ++ rest)
+
 -- the input was read to its end, its lines were answered, and what then stands is what they leave
 pub record AnswersAll {D : Type 0} (taking : Taking D) (desk desk_after : D) (left left_after old new : Option (List ℕ)) : Type 0 where
   pub read : List ℕ
@@ -33,8 +39,8 @@ pub record AnswersAll {D : Type 0} (taking : Taking D) (desk desk_after : D) (le
 abbrev pub TakesLines : {D : Type 0} → Taking D → D → Result (Unit {0}) LinesFault → Option (List ℕ) → Option (List ℕ) → Option (List ℕ)
     → Option (List ℕ) → Type 0
 TakesLines taking desk (Ok u) left left_after old new = IfSome left (λ bytes. IsAnswered (outcome_of taking desk bytes) old new)
-TakesLines taking desk (Err Bad) left left_after old new = IfSome left (λ bytes. IsRefusing (outcome_of taking desk bytes) old new)
+TakesLines taking desk (Err Bad) left left_after old new = StandsOfRead left left_after (λ bytes. IsRefusing (outcome_of taking desk bytes) old new)
 TakesLines taking desk (Err ReadFault) left left_after old new = AnswersRead taking desk left left_after old new
 TakesLines taking desk (Err WriteFault) left left_after old new =
-    IfSome left (λ bytes. SendsFront old (whole_text (outcome_of taking desk bytes)) new)
+    StandsOfRead left left_after (λ bytes. SendsFront old (whole_text (outcome_of taking desk bytes)) new)
 TakesLines taking desk (Err Memory) left left_after old new = ⊤

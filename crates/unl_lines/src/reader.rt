@@ -16,7 +16,7 @@ const LONGEST_LINE: usize = 16_777_216;
 
 /// What stands next.
 #[derive(Debug, Drop)]
-pub enum Next {
+pub enum NextLine {
     /// A line, without its end.
     Line(Vec<u8>),
     /// The last line, which has bytes and no end.
@@ -143,7 +143,11 @@ impl LineReader {
     }
 
     /// What stands next: a line, the last line, or the end.
-    pub fn next_line<S: Source>(&mut self, alloc: Global, source: &mut S) -> Result<Next, ReadFault>
+    pub fn next_line<S: Source>(
+        &mut self,
+        alloc: Global,
+        source: &mut S,
+    ) -> Result<NextLine, ReadFault>
         ensures next { IfOk result (λ next. TakesNext next self.old (S.left source.old) self.new (S.left source.new)) }
         ensures fault { IfErr result (λ fault. Breaks fault self.old (S.left source.old) self.new (S.left source.new)) }
         ensures failed { IsErrOf result ReadFault.Failed → Rose (S.faults source.old) (S.faults source.new) }
@@ -152,9 +156,9 @@ impl LineReader {
         let mut line = Vec::new(alloc);
         'bytes: while line.len() <= LONGEST_LINE {
             match self.next_byte(source)? {
-                None if line.is_empty() => return Ok(Next::End),
-                None => return Ok(Next::Last(line)),
-                Some(b'\n') => return Ok(Next::Line(line)),
+                None if line.is_empty() => return Ok(NextLine::End),
+                None => return Ok(NextLine::Last(line)),
+                Some(b'\n') => return Ok(NextLine::Line(line)),
                 Some(byte) => line.push(byte)?,
             }
         }

@@ -6,7 +6,7 @@ ghost use Rattle.unl_lines.specs.Turns.{FitsAfter, Prints, Refuses, Turns};
 ghost use Rattle.unl_lines.specs.Whole.{AnswersAll, TakesLines};
 
 use crate::line::{LineRefusal, LineTaking};
-use crate::reader::{LineReader, Next, ReadFault};
+use crate::reader::{LineReader, NextLine, ReadFault};
 use std::alloc::{AllocError, Global};
 use unl_base::{Sink, Source, write_all};
 use unl_documents::Memory;
@@ -128,15 +128,15 @@ fn turn<A: LineTaking, S: Source, K: Sink>(
     ensures sink_later { K.faults sink.old ≤ K.faults sink.new }
 {
     match reader.next_line(alloc, source) {
-        Ok(Next::Line(line)) => match print_answer::<A, K>(alloc, desk, sink, number, &line) {
+        Ok(NextLine::Line(line)) => match print_answer::<A, K>(alloc, desk, sink, number, &line) {
             Ok(()) => Ok(Progress::Answered),
             Err(fault) => Err(fault),
         },
-        Ok(Next::Last(line)) => match print_answer::<A, K>(alloc, desk, sink, number, &line) {
+        Ok(NextLine::Last(line)) => match print_answer::<A, K>(alloc, desk, sink, number, &line) {
             Ok(()) => Ok(Progress::Over),
             Err(fault) => Err(fault),
         },
-        Ok(Next::End) => Ok(Progress::Over),
+        Ok(NextLine::End) => Ok(Progress::Over),
         Err(ReadFault::TooLong) => Err(refuse(alloc, sink, number, "LineTooLong")),
         Err(ReadFault::Failed) => Err(LinesFault::ReadFault),
         Err(ReadFault::Memory) => Err(LinesFault::Memory),

@@ -5,10 +5,10 @@
 mod ask;
 mod batches;
 mod exchange;
-mod following;
 mod metrics;
 mod outcome;
 mod refreshing;
+mod taking;
 #[cfg(test)]
 mod tests;
 mod texts;

@@ -19,8 +19,8 @@ ghost use Rattle.unl_refresh.specs.Refresh.{Brings, Refreshes, after_reading, ba
 
 use crate::ask::{Ask, request_of};
 use crate::exchange::exchange;
-use crate::following::follow;
 use crate::outcome::{Outcome, RefreshFault};
+use crate::taking::take_reading;
 use std::alloc::Global;
 use unl_base::Peer;
 use unl_delta::Installer;
@@ -131,7 +131,7 @@ fn refresh<I: Installer, P: Peer>(
     let tag = ask.tag.take();
     let request = request_of(alloc, ask, &tag)?;
     let reading = exchange(alloc, peer, request.as_slice())?;
-    let taken = follow(alloc, to, slot, ask.delta, tag, reading)?;
+    let taken = take_reading(alloc, to, slot, ask.delta, tag, reading)?;
     ask.tag = taken.tag;
     Ok(taken.outcome)
 }

@@ -6,7 +6,7 @@ use Rattle.serde_json.specs.Data.{Data}
 use Rattle.unl_core.specs.Histories.{AreLines, Histories}
 use Rattle.unl_core.specs.Same.{same_book}
 use Rattle.unl_core.specs.Standing.{Standing, installed_by, with_book, with_name}
-use Rattle.unl_core.specs.Board.{slot_of}
+use Rattle.unl_core.specs.Board.{place_in}
 use Rattle.unl_core.proofs.Showing.{shows_revision}
 use Rattle.unl_delta.specs.declared.batch.Batch.{Batch}
 use Rattle.unl_delta.specs.Batch.{verdict_of}
@@ -53,7 +53,7 @@ LeavesBench told r = IfOk r (λ turned. IsTold told turned.desk.desk)
 -- ---- batches and feeds
 
 arrives : (told : Histories) (environment : List ℕ) (k : ℕ) (batch : Batch) (d : Standing) (slot : Option ℕ) → AreLines told → IsTold told d
-    → IsSent (told.line environment) (told.sees environment) batch → slot_of environment d.board.slots ≡ slot → Leaves told (arrive k batch d slot)
+    → IsSent (told.line environment) (told.sees environment) batch → place_in environment d.board.slots ≡ slot → Leaves told (arrive k batch d slot)
 arrives told environment k batch d None lines all sent named = tt
 arrives told environment k batch d (Some slot) lines all sent named =
     verdict_told told environment slot batch d (verdict_of (place_of (installed_by d) slot) batch) lines all named sent refl
@@ -61,7 +61,7 @@ arrives told environment k batch d (Some slot) lines all sent named =
 puts_batch : (told : Histories) (environment : List ℕ) (k : ℕ) (d : Standing) (batch : Batch) → AreLines told → IsTold told d
     → IsSent (told.line environment) (told.sees environment) batch → Leaves told (put_batch k environment d batch)
 puts_batch told environment k d batch lines all sent =
-    arrives told environment k batch (with_name environment d) (slot_of environment (with_name environment d).board.slots) lines (name_told told environment d all) sent refl
+    arrives told environment k batch (with_name environment d) (place_in environment (with_name environment d).board.slots) lines (name_told told environment d all) sent refl
 
 puts_read : (told : Histories) (environment : List ℕ) (k : ℕ) (d : Standing) (reading : LineReading Batch) → AreLines told → IsTold told d
     → IfOk (for_environment environment reading) (IsToldOf told) → Leaves told (and_then reading (put_batch k environment d))

@@ -3,7 +3,7 @@ use Rattle.std.proofs.Common.{◌≡◌, ℕ, zero, suc, ◌+◌, Bool, true, fa
 use Rattle.std.specs.Prelude.{IfSome, slice_get, slice_set}
 use Rattle.std.specs.List.{position_from}
 use Rattle.unl_core.specs.declared.board.Slot.{Slot}
-use Rattle.unl_core.specs.Board.{empty_slot, is_named, slot_of, taking}
+use Rattle.unl_core.specs.Board.{empty_slot, is_named, place_in, taking}
 use Rattle.unl_core.specs.Histories.{AllStand, AreLines, Histories, StandsAt}
 use Rattle.unl_core.specs.Standing.{Standing, installed_by, is_added, with_batch, with_hold, with_name, with_slot}
 use Rattle.unl_core.proofs.Same.{text_same}
@@ -90,7 +90,7 @@ found_from environment n (slot ∷ slots) r is = decided (is_named environment s
         let at : (j : ℕ) × (r ≡ j + (n + 1)) × IsOf environment slots j = more so in
         (suc at.0, omega (arith, at.1), at.2)
 
-found : (environment : List ℕ) (slots : List Slot) (slot : ℕ) → slot_of environment slots ≡ Some slot → IsOf environment slots slot
+found : (environment : List ℕ) (slots : List Slot) (slot : ℕ) → place_in environment slots ≡ Some slot → IsOf environment slots slot
 found environment slots slot is =
     let at : (j : ℕ) × (slot ≡ j + 0) × IsOf environment slots j = found_from environment 0 slots slot is in
     subst (IsOf environment slots) (omega (arith, at.1)) at.2
@@ -111,7 +111,7 @@ name_told told environment d all = decided (is_added environment d.board.slots)
 
 -- it takes a batch that is sent of its line
 pub verdict_told : (told : Histories) (environment : List ℕ) (slot : ℕ) (batch : Batch) (d : Standing) (verdict : Verdict) → AreLines told → IsTold told d
-    → slot_of environment d.board.slots ≡ Some slot → IsSent (told.line environment) (told.sees environment) batch
+    → place_in environment d.board.slots ≡ Some slot → IsSent (told.line environment) (told.sees environment) batch
     → verdict_of (place_of (installed_by d) slot) batch ≡ verdict → IsTold told (after_verdict verdict slot batch d)
 verdict_told told environment slot batch d Apply lines all named sent does =
     let v : EnvVersion = next_version (place_of (installed_by d) slot) batch in

@@ -5,7 +5,7 @@ use Rattle.serde_json.specs.Data.{Data}
 use Rattle.serde_json.specs.Written.{compact_text}
 use Rattle.unl_core.specs.declared.board.Board.{Board}
 use Rattle.unl_core.specs.Answer.{answer_of}
-use Rattle.unl_core.specs.Board.{slot_of, snapshot_in}
+use Rattle.unl_core.specs.Board.{place_in, snapshot_in}
 use Rattle.unl_core.specs.Same.{same_book}
 use Rattle.unl_core.specs.declared.desk.Answer.{Answer}
 use Rattle.unl_core.specs.Settling.{final_book, final_reply}
@@ -120,7 +120,7 @@ arrive k batch d (Some slot) = Ok (judged k slot batch d (verdict_of (place_of (
 
 -- an environment takes a batch; one that is new gets its slot, whatever the verdict
 abbrev pub put_batch : ℕ → List ℕ → Standing → Batch → LineReading Answered
-put_batch k environment d batch = arrive k batch (with_name environment d) (slot_of environment (with_name environment d).board.slots)
+put_batch k environment d batch = arrive k batch (with_name environment d) (place_in environment (with_name environment d).board.slots)
 
 -- the answer to a line of tokens
 abbrev pub tokens_of_line : ℕ → Standing → Data → LineReading Answered

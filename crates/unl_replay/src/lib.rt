@@ -5,6 +5,8 @@
 mod ask;
 mod batch;
 mod bench;
+#[cfg(test)]
+mod delivery_tests;
 pub mod laws;
 mod refusal;
 mod replaying;
@@ -13,8 +15,3 @@ mod step;
 pub use replaying::replay;
 /// Why a replay ended before its input did.
 pub use unl_lines::LinesFault as ReplayFault;
-
-#[cfg(test)]
-mod delivery_tests;
-#[cfg(test)]
-mod tests;

@@ -1,7 +1,7 @@
 -- A command does the same at an upstream of the same slots.
 use Rattle.std.proofs.Common.{◌≡◌, ℕ, List, [], ◌∷◌, Option, Some, None, Ok, refl, sym, ap, ◌∙◌, option_and_then}
 use Rattle.unl_core.specs.declared.board.Slot.{Slot}
-use Rattle.unl_core.specs.Board.{slot_of, snapshot_in, taking}
+use Rattle.unl_core.specs.Board.{place_in, snapshot_in, taking}
 use Rattle.unl_upstream.specs.declared.command.Command.{Command}
 use Rattle.unl_upstream.specs.Command.{environment_of}
 use Rattle.unl_upstream.specs.Reopening.{rows_after}
@@ -20,7 +20,7 @@ pub obeys : (command : Command) (up other : UpstreamState) (obeyed : Obeyed) →
 unfolding commanded prepared
 obeys command up other obeyed same accepts =
     let o : IsObeyed command up obeyed = obeyed_by command up obeyed accepts in
-    let found : slot_of (environment_of command) other.board.slots ≡ Some o.slot = ap (slot_of (environment_of command)) same ∙ o.at in
+    let found : place_in (environment_of command) other.board.slots ≡ Some o.slot = ap (place_in (environment_of command)) same ∙ o.at in
     let stood : snapshot_in (environment_of command) other.board.slots ≡ Some o.version = ap (snapshot_in (environment_of command)) same ∙ o.stood in record {
       obeyed = obeyed_with (ready_with o.slot o.version o.event other.board.slots) other;
       accepts = rw (found, stood, o.told) refl;

@@ -6,7 +6,7 @@ use Rattle.std.proofs.lemmas.Bool.Decides.{nat_tests}
 use Rattle.std.proofs.lemmas.List.{length-map}
 use Rattle.std.proofs.lemmas.List.Elements.{All-cons, All-head, All-nil, All-tail}
 use Rattle.unl_core.specs.declared.board.Slot.{Slot}
-use Rattle.unl_core.specs.Board.{AreDifferent, AreSlots, is_named, names_of, same_text, slot_of, snapshot_in, taking}
+use Rattle.unl_core.specs.Board.{AreDifferent, AreSlots, is_named, names_of, same_text, place_in, snapshot_in, taking}
 use Rattle.unl_core.proofs.Same.{and_parts, text_same}
 use Rattle.unl_delta.specs.declared.version.EnvVersion.{EnvVersion}
 use Rattle.unl_delta.specs.Batch.{empty_at}
@@ -148,5 +148,5 @@ named_from environment n k (x ∷ xs) named is = decided (is_named environment x
     decided false here more others = others more
 
 -- an environment that stands has a name
-pub named_at : (environment : List ℕ) (slot : ℕ) (slots : List Slot) → AreNamed slots → slot_of environment slots ≡ Some slot → IsName environment
+pub named_at : (environment : List ℕ) (slot : ℕ) (slots : List Slot) → AreNamed slots → place_in environment slots ≡ Some slot → IsName environment
 named_at environment slot slots named is = named_from environment 0 slot slots named is

@@ -4,7 +4,7 @@ use Rattle.std.specs.Prelude.{is_some, ok_or}
 use Rattle.std.proofs.lemmas.List.{append-nil}
 use Rattle.std.proofs.lemmas.List.Elements.{filter-append}
 use Rattle.unl_core.specs.declared.board.Slot.{Slot}
-use Rattle.unl_core.specs.Board.{same_text, slot_of, snapshot_in}
+use Rattle.unl_core.specs.Board.{same_text, place_in, snapshot_in}
 use Rattle.unl_core.proofs.Same.{text_same}
 use Rattle.unl_delta.specs.declared.event.Event.{Event}
 use Rattle.unl_delta.specs.declared.version.EnvVersion.{EnvVersion}
@@ -36,16 +36,16 @@ pub record IsObeyed (command : Command) (up : UpstreamState) (obeyed : Obeyed) :
   pub slot : ℕ
   pub version : EnvVersion
   pub event : Event
-  pub at : slot_of (environment_of command) up.board.slots ≡ Some slot
+  pub at : place_in (environment_of command) up.board.slots ≡ Some slot
   pub stood : snapshot_in (environment_of command) up.board.slots ≡ Some version
   pub told : event_of command version ≡ Ok event
   pub is : obeyed.up ≡ committed (ready_with slot version event up.board.slots) up
 
 pub obeyed_by : (command : Command) (up : UpstreamState) (obeyed : Obeyed) → commanded command up ≡ Ok obeyed → IsObeyed command up obeyed
 unfolding commanded prepared
-obeyed_by command up obeyed is = at_slot (slot_of (environment_of command) up.board.slots) (snapshot_in (environment_of command) up.board.slots) refl refl is
+obeyed_by command up obeyed is = at_slot (place_in (environment_of command) up.board.slots) (snapshot_in (environment_of command) up.board.slots) refl refl is
   where
-    at_event : (slot : ℕ) (version : EnvVersion) (r : Obeying Event) → slot_of (environment_of command) up.board.slots ≡ Some slot
+    at_event : (slot : ℕ) (version : EnvVersion) (r : Obeying Event) → place_in (environment_of command) up.board.slots ≡ Some slot
         → snapshot_in (environment_of command) up.board.slots ≡ Some version → event_of command version ≡ r
         → ((r >>= λ (event : Event). Ok (ready_with slot version event up.board.slots)) >>= λ (ready : Prepared). Ok (obeyed_with ready up)) ≡ Ok obeyed
         → IsObeyed command up obeyed
@@ -54,7 +54,7 @@ obeyed_by command up obeyed is = at_slot (slot_of (environment_of command) up.bo
         let same : obeyed_with (ready_with slot version event up.board.slots) up ≡ obeyed = cc in
         record { slot = slot; version = version; event = event; at = at; stood = stood; told = told; is = sym (ap (λ (o : Obeyed). o.up) same) }
 
-    at_slot : (o : Option ℕ) (w : Option EnvVersion) → slot_of (environment_of command) up.board.slots ≡ o → snapshot_in (environment_of command) up.board.slots ≡ w
+    at_slot : (o : Option ℕ) (w : Option EnvVersion) → place_in (environment_of command) up.board.slots ≡ o → snapshot_in (environment_of command) up.board.slots ≡ w
         → ((ok_or o NoSuchEnvironment >>= λ (slot : ℕ). ok_or w NoSuchEnvironment >>= λ (version : EnvVersion).
         event_of command version >>= λ (event : Event). Ok (ready_with slot version event up.board.slots)) >>= λ (ready : Prepared). Ok (obeyed_with ready up)) ≡ Ok obeyed
         → IsObeyed command up obeyed

@@ -5,7 +5,7 @@ use Rattle.std.specs.List.{list_any}
 use Rattle.std.specs.Str.{bytes_eq}
 use Rattle.unl_core.specs.declared.board.Board.{Board}
 use Rattle.unl_core.specs.declared.board.Slot.{Slot}
-use Rattle.unl_core.specs.Board.{names_of, slot_of, snapshot_in, with_snapshot, with_tokens}
+use Rattle.unl_core.specs.Board.{names_of, place_in, snapshot_in, with_snapshot, with_tokens}
 use Rattle.unl_delta.specs.declared.batch.Batch.{Batch}
 use Rattle.unl_delta.specs.declared.event.Event.{Event}
 use Rattle.unl_delta.specs.declared.event.Event.TheVariants.{FeatureUpdated, FeatureRemoved, SegmentUpdated, SegmentRemoved}
@@ -158,7 +158,7 @@ pub record Prepared : Type 0 where
 -- what a command comes to at an upstream
 unfoldable pub prepared : Command → UpstreamState → Obeying Prepared
 prepared command up = do
-  slot ← ok_or (slot_of (environment_of command) up.board.slots) NoSuchEnvironment
+  slot ← ok_or (place_in (environment_of command) up.board.slots) NoSuchEnvironment
   version ← ok_or (snapshot_in (environment_of command) up.board.slots) NoSuchEnvironment
   event ← event_of command version
   Ok (record { slot = slot; number = number_of event; snapshot = version_after version event; from = up.board.slots })

@@ -100,16 +100,27 @@ fn sum_of(here: u64, others: Option<(u64, u64)>) -> u64 {
 }
 
 #[test]
-fn jobs(rt: HostRuntime) -> Result<(), Fail> {
-    let alloc = rt.alloc();
+fn jobs_one_by_one(rt: HostRuntime) -> Result<(), Fail> {
     let mut one_by_one: OneByOne<&HostRuntime> = OneByOne::new();
-    assert_eq!(rt; meet(alloc, &mut one_by_one, 0)?, (0, true, Some((1, 2))));
+    assert_eq!(rt;
+        meet(rt.alloc(), &mut one_by_one, 0)?,
+        (0, true, Some((1, 2)))
+    );
+    Ok(())
+}
+
+#[test]
+fn jobs_side_by_side(rt: HostRuntime) -> Result<(), Fail> {
     let mut beside = RealSpawner::new(&rt);
-    let (here, stays, others) = meet(alloc, &mut beside, 3)?;
-    assert!(rt; stays);
-    assert_eq!(rt; sum_of(here, others), 3);
+    let (here, stays, others) = meet(rt.alloc(), &mut beside, 3)?;
+    assert!(rt; stays && sum_of(here, others) == 3);
+    Ok(())
+}
+
+#[test]
+fn jobs_that_cannot_be_started(rt: HostRuntime) -> Result<(), Fail> {
     let mut refusing = Refusing { rt: &rt, faults: 0 };
-    assert_eq!(rt; meet(alloc, &mut refusing, 3)?, (9, false, None));
+    assert_eq!(rt; meet(rt.alloc(), &mut refusing, 3)?, (9, false, None));
     assert_eq!(rt; refusing.faults, 1);
     Ok(())
 }

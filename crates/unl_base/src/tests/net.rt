@@ -112,23 +112,32 @@ fn echo<D: Door>(door: &mut D) -> Result<Option<usize>, Failed>
     Ok(Some(read?))
 }
 
+/// How much a link gave, or none of a closed door.
+type Echo = Result<Option<usize>, Failed>;
+
+/// What four links give, one after another, once the door listens.
+fn echoed<D: Door>(door: &mut D) -> Result<(Echo, Echo, Echo, Echo), Failed> {
+    if door.listen(7).is_err() {
+        return Err(Failed);
+    }
+    let first = echo(door);
+    let second = echo(door);
+    let third = echo(door);
+    let fourth = echo(door);
+    Ok((first, second, third, fourth))
+}
+
 #[test]
 fn a_door_hands_out_links(rt: HostRuntime) -> Result<(), Fail> {
     let alloc = rt.alloc();
-    let one = MemoryLink::new(alloc, b"ab".to_vec(alloc)?, 8, 8, Vec::new(alloc))?;
-    let two = MemoryLink::new(alloc, b"cde".to_vec(alloc)?, 8, 2, Vec::new(alloc))?;
-    let links = vec![in alloc; Some(one), Some(two)]?;
+    let link = MemoryLink::new(alloc, b"ab".to_vec(alloc)?, 8, 8, Vec::new(alloc))?;
+    let links = vec![in alloc; Some(link)]?;
     let mut door = MemoryDoor::new(links, vec![in alloc; 0u64, 3]?);
     assert_eq!(rt; door.listen(7), Err(Failed));
-    assert_eq!(rt; door.listen(7), Ok(()));
-    assert_eq!(rt; echo(&mut door), Ok(Some(2)));
-    assert_eq!(rt; echo(&mut door), Err(Failed));
-    assert_eq!(rt; echo(&mut door), Ok(Some(3)));
-    assert_eq!(rt; echo(&mut door), Ok(None));
-    assert_eq!(rt; echo(&mut door), Ok(None));
-    assert_eq!(rt; door.sent(0), Some(b"ab".as_slice()));
-    assert_eq!(rt; door.sent(1), Some(b"".as_slice()));
-    assert_eq!(rt; door.sent(2), None);
+    assert!(rt; echoed(&mut door) == Ok((Ok(Some(2)), Err(Failed), Ok(None), Ok(None))));
+    for (place, sent) in [(0, Some(b"ab".as_slice())), (1, None)] {
+        assert!(rt; door.sent(place) == sent);
+    }
     Ok(())
 }
 
@@ -136,14 +145,27 @@ fn a_door_hands_out_links(rt: HostRuntime) -> Result<(), Fail> {
 fn a_real_door_closes_after_its_bound(rt: HostRuntime) -> Result<(), Fail> {
     let mut door = RealDoor::new(&Town, Some(2));
     assert_eq!(rt; door.listen(1), Err(Failed));
-    assert_eq!(rt; door.listen(7), Ok(()));
-    assert_eq!(rt; echo(&mut door), Ok(Some(3)));
-    assert_eq!(rt; echo(&mut door), Ok(Some(3)));
-    assert_eq!(rt; echo(&mut door), Ok(None));
-    assert_eq!(rt; echo(&mut door), Ok(None));
+    assert!(rt; echoed(&mut door) == Ok((Ok(Some(3)), Ok(Some(3)), Ok(None), Ok(None))));
     let mut open = RealDoor::new(&Town, None);
-    assert_eq!(rt; open.listen(7), Ok(()));
-    assert_eq!(rt; echo(&mut open), Ok(Some(3)));
+    assert!(rt; echoed(&mut open) == Ok((Ok(Some(3)), Ok(Some(3)), Ok(Some(3)), Ok(Some(3)))));
+    Ok(())
+}
+
+/// What a read and a write give before a connect.
+fn unconnected<P: Peer>(peer: &mut P) -> (Result<usize, Failed>, Result<usize, Failed>) {
+    let mut room = [0u8; 8];
+    let read = read_of(peer, &mut room);
+    let written = write_to(peer, b"!");
+    (read, written)
+}
+
+#[test]
+fn peers_before_a_connect(rt: HostRuntime) -> Result<(), Fail> {
+    let alloc = rt.alloc();
+    let mut peer = MemoryPeer::new(alloc, Vec::new(alloc), 1, Vec::new(alloc))?;
+    assert!(rt; unconnected(&mut peer) == (Ok(0), Ok(1)));
+    let mut real = RealPeer::new(&Town, "127.0.0.1:7");
+    assert!(rt; unconnected(&mut real) == (Ok(0), Ok(1)));
     Ok(())
 }
 
@@ -158,13 +180,10 @@ fn ask<P: Peer>(peer: &mut P, room: &mut [u8; 8]) -> Result<usize, Failed> {
 fn a_peer_gives_its_replies(rt: HostRuntime) -> Result<(), Fail> {
     let alloc = rt.alloc();
     let replies = vec![in alloc; b"ab".to_vec(alloc)?, b"cde".to_vec(alloc)?]?;
-    let mut peer = MemoryPeer::new(alloc, replies, 1, vec![in alloc; 5u64, 6, 10]?)?;
+    let mut peer = MemoryPeer::new(alloc, replies, 1, vec![in alloc; 3u64, 4, 8]?)?;
     let mut room = [0u8; 8];
-    assert_eq!(rt; read_of(&mut peer, &mut room), Ok(0));
-    assert_eq!(rt; write_to(&mut peer, b"!"), Ok(1));
     for expected in [Ok(2), Err(Failed), Err(Failed), Ok(3), Err(Failed), Ok(0)] {
         assert!(rt; ask(&mut peer, &mut room) == expected);
-        assert!(rt; peer.sent().len() <= 1);
     }
     assert_eq!(rt; &room[..3], b"cde".as_slice());
     assert_eq!(rt; peer.sent(), b"?".as_slice());
@@ -176,8 +195,6 @@ fn a_peer_gives_its_replies(rt: HostRuntime) -> Result<(), Fail> {
 fn a_real_peer_connects_anew(rt: HostRuntime) -> Result<(), Fail> {
     let mut room = [0u8; 8];
     let mut peer = RealPeer::new(&Town, "127.0.0.1:7");
-    assert_eq!(rt; write_to(&mut peer, b"abc"), Ok(3));
-    assert_eq!(rt; read_of(&mut peer, &mut room), Ok(0));
     for _ in 0..2 {
         assert!(rt; ask(&mut peer, &mut room) == Ok(3));
     }

@@ -1,7 +1,7 @@
 use Rattle.std.proofs.Common.{refl}
 use Rattle.unl_exchange.specs.Answering.{LacksMemory}
 use Rattle.unl_exchange.proofs.ExchangeLemmas.{replied_so}
-use Rattle.unl_exchange.proofs.exchange.reply_to.Goals as goal
+use Rattle.unl_exchange.proofs.serving.reply_to.Goals as goal
 
 pub returns-clause-replied : goal.returns-clause-replied
 returns-clause-replied g c =

@@ -14,7 +14,7 @@ use unl_documents::{List, Memory};
 use unl_http_api::{End, Reader, Reply, Request, WriteRefusal, write_500, write_reply};
 
 /// Serves one request. None: it was answered, and the connection goes on.
-pub(crate) fn exchange<A: Answering, L: Link, R: Draws>(
+pub(crate) fn serve_request<A: Answering, L: Link, R: Draws>(
     alloc: Global,
     reader: &mut Reader,
     state: &mut A::State,

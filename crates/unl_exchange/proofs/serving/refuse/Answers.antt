@@ -1,7 +1,7 @@
 use Rattle.std.proofs.Common.{refl}
 use Rattle.unl_http_api.specs.Reply.{refusal_text}
 use Rattle.unl_exchange.proofs.ExchangeLemmas.{refused_end}
-use Rattle.unl_exchange.proofs.exchange.refuse.Goals as goal
+use Rattle.unl_exchange.proofs.serving.refuse.Goals as goal
 
 pub returns-in-None-clause-refuses : goal.returns-in-None-clause-refuses
 unfolding refusal_text

@@ -22,7 +22,7 @@ pub(crate) struct Taken {
 }
 
 /// Follows what was read of a server, of which the ask had a tag.
-pub(crate) fn follow<I: Installer>(
+pub(crate) fn take_reading<I: Installer>(
     alloc: Global,
     to: &mut I,
     slot: usize,
@@ -42,7 +42,7 @@ pub(crate) fn follow<I: Installer>(
     ensures memory { OnErr result (I.installed to.new ≡ I.installed to.old) }
 {
     match reading {
-        Ok(got) => follow_reply(alloc, to, slot, delta, tag, got),
+        Ok(got) => take_reply(alloc, to, slot, delta, tag, got),
         Err(bad) => Ok(unread(Bad::Reply(bad))),
     }
 }
@@ -58,7 +58,7 @@ fn unread(bad: Bad) -> Taken
 }
 
 /// Follows a reply.
-fn follow_reply<I: Installer>(
+fn take_reply<I: Installer>(
     alloc: Global,
     to: &mut I,
     slot: usize,

@@ -1,7 +1,7 @@
 use Rattle.std.proofs.Common.{◌≡◌, Bool, ◌||◌, refl, sym, ap, ◌∙◌}
 use Rattle.unl_exchange.proofs.ExchangeLemmas.{goes_refused, goes_cut}
-use Rattle.unl_exchange.proofs.exchange.exchange.Goals as goal
-use Rattle.unl_exchange.proofs.exchange.exchange.Goals.{then-request, else-request}
+use Rattle.unl_exchange.proofs.serving.serve_request.Goals as goal
+use Rattle.unl_exchange.proofs.serving.serve_request.Goals.{then-request, else-request}
 
 pub returns-in-Bad-clause-goes : goal.returns-in-Bad-clause-goes
 returns-in-Bad-clause-goes g c =
