@@ -38,7 +38,7 @@ turn 3 unchanged number 2 on false' "$(cat "$work/turns")"
 
 # one turn at a port, of a feature: what it prints, and the status behind it
 one_turn() {
-    "$program" follow --upstream "127.0.0.1:$1" --token '*:dev.client' --feature "$2" --mode "$3" </dev/null
+    "$program" follow --upstream "127.0.0.1:$1" --token '*:dev.client' --feature "$2" --mode "$3" </dev/null 2>"$work/told"
     echo "status $?"
 }
 
@@ -48,6 +48,7 @@ same "a feature that isn't there" 'turn 1 published number 2 on -
 status 0' "$(one_turn "$upstream_port" z delta)"
 same "a server that isn't there" 'turn 1 fault number - on -
 status 0' "$(one_turn 1 a delta)"
+same "what is told of it" 'upstream 127.0.0.1:1: unreachable: Connection refused (os error 111)' "$(cat "$work/told")"
 same "bad words" 'unl_edge: bad words
 status 2' "$(one_turn "$upstream_port" a other)"
 echo "follow: passed"

@@ -85,6 +85,12 @@ alike /api/frontend/client/register '*:dev.front' --data '{}'
 alike /api/frontend '*:dev.client'
 alike /api/nothing '*:dev.front'
 
+# the door is told of, and takes IPv6 too where the machine has it
+grep -q "^listening at .*:$edge_port\$" "$work/log" || fail "it isn't told where the edge listens"
+if grep -q '^0\{31\}1 ' /proc/net/if_inet6 2>/dev/null; then
+    same "health over IPv6" '{"status":"OK"}' "$(curl --silent --max-time 5 "http://[::1]:$edge_port/internal-backstage/health")"
+fi
+
 # ---- an upstream that lost what it had, of which only the command of the input is left, numbered from 1 again
 begin_again() {
     kill "$upstream"

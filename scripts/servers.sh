@@ -29,10 +29,11 @@ test -x "$program" || (cd crates/unl_edge && rt run -- replay </dev/null >/dev/n
 test -x "$program" || fail "the program isn't built"
 
 # starts a command beside the script, for a minute at most or as many seconds as `lifetime` says, over the input that it is given,
-# which a shell takes from what runs beside it unless it has a number of its own; the command's number is then in `last`
+# which a shell takes from what runs beside it unless it has a number of its own; the command's number is then in `last`, and what
+# it tells on the error stream comes to the file `log`
 start() {
     exec 3<&0
-    timeout "${lifetime:-60}" "$@" <&3 3<&- &
+    timeout "${lifetime:-60}" "$@" <&3 3<&- 2>>"$work/log" &
     last=$!
     exec 3<&-
     started="$started $last"

@@ -1,12 +1,11 @@
 -- What is found by its name or its id, and what is seen.
 use Rattle.std.proofs.Common.{◌≡◌, ℕ, ◌&&◌, ◌==◌, Bool, true, false, cond, List, [], ◌∷◌, Option, Some, None, inl, inr, refl, ap}
-use Rattle.std.specs.Prelude.{filter, filter_map, option_and_then}
+use Rattle.std.specs.Prelude.{filter, filter_map}
 use Rattle.std.specs.List.{find, cons_option}
 use Rattle.std.specs.Str.{bytes_eq}
 use Rattle.std.proofs.lemmas.Bool.{cases_Bool}
 use Rattle.serde_json.specs.Data.{Data}
-use Rattle.unl_compiled.specs.Places.{if_id}
-use Rattle.unl_constraints.proofs.Searching.{if_key, has_key}
+use Rattle.unl_constraints.proofs.Searching.{has_key}
 use Rattle.unl_documents.specs.Inline.{segment_of}
 use Rattle.unl_documents.specs.States.{id_key}
 use Rattle.unl_documents.specs.declared.feature.Feature.{Feature}
@@ -19,10 +18,6 @@ and_true false = refl
 -- an id as a key
 same_id : (a b : ℕ) → bytes_eq (a ∷ []) (b ∷ []) ≡ (a == b)
 same_id a b = and_true (a == b)
-
-pub if_id_is : (id : ℕ) (found : Option Segment) → option_and_then (if_key id_key (id ∷ [])) found ≡ option_and_then (if_id id) found
-if_id_is id None = refl
-if_id_is id (Some s) = ap (λ t. cond t (Some s) None) (same_id s.id id)
 
 pub segment_is : (id : ℕ) (ss : List Segment) → find (has_key id_key (id ∷ [])) ss ≡ segment_of id ss
 segment_is id [] = refl

@@ -1,5 +1,5 @@
 pub mod Coding
 pub mod NoFloats
 pub mod Finding
-mod InPlace
+mod Following
 pub mod Projects

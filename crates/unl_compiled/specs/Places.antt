@@ -1,11 +1,10 @@
 -- Where a version has what it lends.
-use Rattle.std.specs.Prelude.{◌≡◌, ℕ, ◌+◌, List, [], ◌∷◌, ◌==◌, Option, Some, None, slice_get, option_and_then, if◌then◌else◌}
+use Rattle.std.specs.Prelude.{◌≡◌, ℕ, ◌+◌, List, [], ◌∷◌, Option, Some, None, slice_get, option_and_then, if◌then◌else◌}
 use Rattle.std.specs.List.{find}
 use Rattle.std.specs.Option.{option_map_or}
 use Rattle.std.specs.Str.{bytes_eq}
 use Rattle.unl_compiled.specs.declared.index.ProjectPlaces.{ProjectPlaces}
 use Rattle.unl_documents.specs.declared.feature.Feature.{Feature}
-use Rattle.unl_documents.specs.declared.segment.Segment.{Segment}
 use Rattle.unl_documents.specs.declared.state.State.{State}
 use Rattle.unl_documents.specs.declared.strategy.Strategy.{Strategy}
 
@@ -34,7 +33,3 @@ IsIndex features index = (project : List ℕ) → listed project index ≡ place
 -- the feature, if it has the name
 abbrev pub if_name : List ℕ → Feature → Option Feature
 if_name name f = if bytes_eq f.name name then Some f else None
-
--- the segment, if it has the id
-abbrev pub if_id : ℕ → Segment → Option Segment
-if_id id s = if s.id == id then Some s else None

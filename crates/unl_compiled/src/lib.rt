@@ -4,13 +4,9 @@
 mod feature;
 mod index;
 mod parts;
-mod placing;
 mod seen;
 mod segment;
 mod snapshot;
 mod toggles;
 
 pub use snapshot::Snapshot;
-
-#[cfg(test)]
-mod tests;

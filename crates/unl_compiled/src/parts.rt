@@ -7,13 +7,12 @@ ghost use Rattle.unl_delta.specs.State as told;
 ghost use Rattle.unl_delta.specs.Valid.{IsValidEvent};
 
 use crate::feature::CompiledFeature;
-use crate::placing::put_in_place;
 use crate::segment::CompiledSegment;
 use std::alloc::Global;
 use std::marker::Model;
 use unl_constraints::Compiled;
 use unl_delta::Event;
-use unl_delta::keyed::without;
+use unl_delta::keyed::{put_in_place, without_in_place};
 use unl_documents::{Copied, Feature, List, Memory, Segment, Shared, State};
 
 /// The features by their names and the segments by their ids. Contracts see the state that they
@@ -163,23 +162,23 @@ fn step(alloc: Global, parts: Parts, event: &Event) -> Result<Parts, Memory>
         Event::FeatureUpdated { feature, .. } => {
             let compiled = Shared::new(alloc, CompiledFeature::new(alloc, feature)?)?;
             Ok(Parts {
-                features: put_in_place(alloc, compiled, parts.features)?,
+                features: put_in_place(compiled, parts.features)?,
                 segments: parts.segments,
             })
         }
         Event::FeatureRemoved { name, .. } => Ok(Parts {
-            features: without(alloc, name, &parts.features)?,
+            features: without_in_place(name, parts.features),
             segments: parts.segments,
         }),
         Event::SegmentUpdated { segment, .. } => {
             let compiled = Shared::new(alloc, CompiledSegment::new(alloc, segment)?)?;
             Ok(Parts {
-                segments: put_in_place(alloc, compiled, parts.segments)?,
+                segments: put_in_place(compiled, parts.segments)?,
                 features: parts.features,
             })
         }
         Event::SegmentRemoved { id, .. } => Ok(Parts {
-            segments: without(alloc, id, &parts.segments)?,
+            segments: without_in_place(id, parts.segments),
             features: parts.features,
         }),
     }

@@ -1,19 +1,17 @@
 //! Segments with their constraints compiled.
-ghost use Rattle.std.specs.Prelude.{◌≡◌, IfOk, map, option_and_then, option_map, slice_get};
+ghost use Rattle.std.specs.Prelude.{◌≡◌, IfOk, map, option_map};
 ghost use Rattle.std.specs.List.{list_all};
 ghost use Rattle.unl_constraints.specs.Constraint.{all_hold};
 ghost use Rattle.unl_documents.specs.Inline.{segment_of as segment_with};
 ghost use Rattle.unl_documents.specs.Parameters.{AreRising};
 ghost use Rattle.unl_documents.specs.States.{id_key};
 ghost use Rattle.unl_strategies.specs.Strategy.{is_met as is_met_by};
-ghost use Rattle.unl_compiled.specs.Places.{if_id};
 
-use crate::placing::place_of;
 use std::alloc::Global;
 use std::marker::Model;
 use unl_constraints::Compiled;
 use unl_context::Context;
-use unl_delta::keyed::Keyed;
+use unl_delta::keyed::{Keyed, found};
 use unl_documents::{Constraint, List, Memory, Segment, Shared};
 
 /// A segment and its constraints, compiled. Contracts see the segment.
@@ -119,20 +117,5 @@ fn segment_of(segments: &[Shared<CompiledSegment>], id: u64) -> Option<&Compiled
     requires { AreRising (map id_key segments.now) }
     ensures { option_map (λ s. s.now) result ≡ segment_with id segments.now }
 {
-    segment_at(segments, place_of(segments, &id), id)
-}
-
-/// The segment at the place, if it has the id.
-fn segment_at(
-    segments: &[Shared<CompiledSegment>],
-    place: usize,
-    id: u64,
-) -> Option<&CompiledSegment>
-    ensures { option_map (λ s. s.now) result ≡ option_and_then (if_id id) (slice_get segments.now place) }
-{
-    let segment = segments.get(place)?.get();
-    if *segment.key() == id {
-        return Some(segment);
-    }
-    None
+    found(segments, &id)
 }

@@ -3,15 +3,17 @@ ghost use Rattle.std.specs.Prelude.{◌≡◌, ℕ, List, Bool, IfOk, OnOk, map,
 ghost use Rattle.std.specs.List.{list_any};
 ghost use Rattle.semver.specs.Identifiers.{parts_of};
 ghost use Rattle.unl_documents.specs.Parameters.{AreRising};
+ghost use Rattle.unl_documents.specs.declared.constraint.Constraint.{Constraint};
 ghost use Rattle.unl_constraints.specs.Decimal.{number_of, IsRead};
 ghost use Rattle.unl_constraints.specs.Instant.{instant_of};
 ghost use Rattle.unl_constraints.specs.Right.{kind_of as kind_by, is_folded as is_folded_by, compared_values, IsSingle, IsRight};
-ghost use Rattle.unl_constraints.specs.Texts.{compared as compared_by};
+ghost use Rattle.unl_constraints.specs.Texts.{compared as compared_by, is_among as among, some_stands as some_there};
 ghost use Rattle.unl_constraints.specs.Version.{version_of};
+ghost use Rattle.unl_constraints.specs.declared.right.Kind.TheVariants as kind;
 
 use crate::decimal::Decimal;
 use crate::instant::read_instant;
-use crate::texts::compared;
+use crate::texts::{Place, compared, is_among, is_given, some_given_stands, some_stands};
 use crate::version::read_version;
 use semver::Version;
 use std::alloc::Global;
@@ -54,6 +56,83 @@ pub(crate) enum Single {
     Version(Option<Version>),
 }
 
+/// The right side of a constraint, as it is compared with.
+pub(crate) trait RightSide {
+    /// It is the right side of the constraint.
+    ghost is_of: { Constraint → Self → Type 0 };
+
+    /// Whether a text is one of the constraint's values.
+    fn has(&self, constraint: &Constraint, text: &str) -> bool
+        requires right { is_of constraint.now self.now }
+        requires kind { kind_by constraint.now.operator ≡ kind.Member }
+        ensures { result ≡ among constraint.now.values text.now };
+
+    /// Whether one of the constraint's values stands there in a text. The error is want of memory.
+    fn has_part(
+        &self,
+        alloc: Global,
+        place: Place,
+        constraint: &Constraint,
+        text: &str,
+    ) -> Result<bool, Memory>
+        requires right { is_of constraint.now self.now }
+        requires kind { kind_by constraint.now.operator ≡ kind.Part }
+        ensures { IfOk result (λ r. r ≡ some_there place constraint.now.caseless text.now constraint.now.values) };
+
+    /// The constraint's value, as its operator reads it.
+    fn single(&self, constraint: &Constraint) -> &Single
+        requires { is_of constraint.now self.now }
+        ensures { IsSingle (kind_by constraint.now.operator) constraint.now.value result.now };
+}
+
+/// The values are kept in order, so a text among them is found by halving.
+impl RightSide for Right {
+    ghost is_of = { IsRight };
+
+    fn has(&self, constraint: &Constraint, text: &str) -> bool {
+        is_among(text, self.values.as_slice())
+    }
+
+    fn has_part(
+        &self,
+        alloc: Global,
+        place: Place,
+        constraint: &Constraint,
+        text: &str,
+    ) -> Result<bool, Memory> {
+        let values = self.values.as_slice();
+        some_stands(alloc, place, constraint.caseless, text, values)
+    }
+
+    fn single(&self, _constraint: &Constraint) -> &Single {
+        &self.single
+    }
+}
+
+/// The constraint's values are looked through as they stand: for one look it doesn't pay to copy and sort them.
+impl RightSide for Single {
+    ghost is_of = { λ c s. IsSingle (kind_by c.operator) c.value s };
+
+    fn has(&self, constraint: &Constraint, text: &str) -> bool {
+        is_given(text, constraint.values.as_slice())
+    }
+
+    fn has_part(
+        &self,
+        alloc: Global,
+        place: Place,
+        constraint: &Constraint,
+        text: &str,
+    ) -> Result<bool, Memory> {
+        let values = constraint.values.as_slice();
+        some_given_stands(alloc, place, constraint.caseless, text, values)
+    }
+
+    fn single(&self, _constraint: &Constraint) -> &Single {
+        self
+    }
+}
+
 impl Right {
     /// The right side of a constraint. The error is want of memory.
     pub(crate) fn of(alloc: Global, constraint: &Constraint) -> Result<Right, Memory>
@@ -61,8 +140,24 @@ impl Right {
     {
         Ok(Right {
             values: values_of(alloc, constraint)?,
-            single: single_of(alloc, constraint)?,
+            single: Single::of(alloc, constraint)?,
         })
+    }
+}
+
+impl Single {
+    /// The value of a constraint, as its operator reads it. The error is want of memory.
+    pub(crate) fn of(alloc: Global, constraint: &Constraint) -> Result<Single, Memory>
+        ensures { IfOk result (IsSingle (kind_by constraint.now.operator) constraint.now.value) }
+    {
+        let text = constraint.value.as_ref().map(Text::as_str);
+        match kind_of(&constraint.operator) {
+            Kind::Member => Ok(Single::Values),
+            Kind::Part => Ok(Single::Values),
+            Kind::Number => Ok(Single::Number(number(text))),
+            Kind::Instant => Ok(Single::Instant(instant(alloc, text)?)),
+            Kind::Version => Ok(Single::Version(version(alloc, text)?)),
+        }
     }
 }
 
@@ -129,19 +224,6 @@ fn in_order(texts: Vec<Text>) -> Result<List<Text>, Memory>
     texts.sort()?;
     texts.dedup();
     Ok(List::from_vec(texts))
-}
-
-fn single_of(alloc: Global, constraint: &Constraint) -> Result<Single, Memory>
-    ensures { IfOk result (IsSingle (kind_by constraint.now.operator) constraint.now.value) }
-{
-    let text = constraint.value.as_ref().map(Text::as_str);
-    match kind_of(&constraint.operator) {
-        Kind::Member => Ok(Single::Values),
-        Kind::Part => Ok(Single::Values),
-        Kind::Number => Ok(Single::Number(number(text))),
-        Kind::Instant => Ok(Single::Instant(instant(alloc, text)?)),
-        Kind::Version => Ok(Single::Version(version(alloc, text)?)),
-    }
 }
 
 /// The number of a text, if it is one.

@@ -7,8 +7,6 @@ mod conversation;
 mod hosting;
 mod receive;
 mod serving;
-#[cfg(test)]
-mod tests;
 
 pub use answering::{Answering, MOST_REQUESTS};
 pub use conversation::converse;

@@ -15,6 +15,3 @@ mod strategies;
 pub use explaining::explain;
 pub use reason::{Origin, ParentCause, ParentReason, Reason, SegmentReason, StrategyReason};
 pub use running::{ExplainFault, explain_run};
-
-#[cfg(test)]
-mod run_tests;

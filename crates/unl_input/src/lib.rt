@@ -11,6 +11,3 @@ pub use answering::{AnswerFault, InputAnswer, answer_input};
 pub use context::context_in;
 pub use reading::{InputFault, read_input};
 pub use refusal::{InputRefusal, SayFault, say_refusal};
-
-#[cfg(test)]
-mod tests;

@@ -17,19 +17,23 @@ use sqlite::{Connection, File, FileStore};
 use std::alloc::Global;
 use std::process::ExitCode;
 use std::sync::Wait;
-use unl_base::{Door, Draws, RealDoor, RealDraws};
+use unl_base::{Door, Draws, RealDraws};
 use unl_keeper::SqliteKeeper;
+use unl_net::NetDoor;
 
 fn main(rt: HostRuntime) -> ExitCode {
     let ended = match open(&rt) {
-        Ok((given, connection)) => serve_over(
-            &rt,
-            rt.alloc(),
-            &given,
-            connection,
-            RealDoor::new(&rt, given.bound()),
-            RealDraws::new(&rt),
-        ),
+        Ok((given, connection)) => match NetDoor::new(rt.alloc(), rt, given.bound(), 0) {
+            Ok(door) => serve_over(
+                &rt,
+                rt.alloc(),
+                &given,
+                connection,
+                door,
+                RealDraws::new(&rt),
+            ),
+            Err(fault) => Err(KeepingFault::from(fault)),
+        },
         Err(fault) => Err(fault),
     };
     let told = match &ended {

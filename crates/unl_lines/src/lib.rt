@@ -9,6 +9,3 @@ mod taking;
 
 pub use line::{LineRefusal, LineTaking};
 pub use taking::{LinesFault, take_lines};
-
-#[cfg(test)]
-mod tests;

@@ -9,6 +9,3 @@ mod words;
 
 pub use fault::LoadFault;
 pub use running::load;
-
-#[cfg(test)]
-mod tests;

@@ -16,6 +16,3 @@ pub use book::MetricsBook;
 pub use fault::BadReport;
 pub use refusal::AddRefusal;
 pub use report::{MetricEntry, Report, VariantCount};
-
-#[cfg(test)]
-mod tests;

@@ -11,6 +11,3 @@ mod running;
 
 pub use checking::check;
 pub use fault::{CheckFault, Summary};
-
-#[cfg(test)]
-mod tests;

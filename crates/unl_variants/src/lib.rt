@@ -9,6 +9,3 @@ mod weights;
 
 pub use choosing::choose;
 pub use laws::{choice_is_chosen, only_choice_is_chosen};
-
-#[cfg(test)]
-mod tests;

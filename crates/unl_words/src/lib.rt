@@ -16,6 +16,3 @@ pub use read::read_words;
 pub use refusal::WordsRefusal;
 pub use token::{token_environment, token_environments};
 pub use words::{EdgeWords, FollowWords, UpstreamWords, Words};
-
-#[cfg(test)]
-mod tests;

@@ -1,4 +1,4 @@
-use Rattle.unl_compiled.proofs.InPlace.{step_more}
+use Rattle.unl_compiled.proofs.Following.{step_more}
 use Rattle.unl_compiled.proofs.parts.follow_all.Goals as goal
 
 pub loop-event-preserved : goal.loop-event-preserved
