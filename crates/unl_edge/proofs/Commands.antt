@@ -27,8 +27,9 @@ use Rattle.unl_keeper.specs.Rows.{kept}
 use Rattle.unl_lines.specs.Lines.{lines}
 use Rattle.unl_lines.specs.Taken.{Ending, IsRefused, Outcome, done, outcome_of, refused}
 use Rattle.unl_lines.specs.declared.taking.LinesFault.TheVariants as line
-use Rattle.unl_lines.specs.Whole.{AnswersAll, IsRefusing}
+use Rattle.unl_lines.specs.Whole.{AnswersAll, IsRefusing, StandsOfRead}
 use Rattle.unl_lines.proofs.Silent.{prints_cause_alone}
+use Rattle.unl_lines.proofs.Whole.{stands_told}
 use Rattle.unl_tokens.specs.declared.token.Token.{Token}
 use Rattle.unl_upstream.specs.Kept.{HasKept, KeeperState, KeptState, acknowledged, commands_in, kept_commands, kept_rows, kept_state}
 use Rattle.unl_upstream.specs.Reopening.{IsSameKeeper, Reopens, rows_after}
@@ -307,11 +308,18 @@ pub refused_is : (ending : Ending) → IsRefused ending → ending_status ending
 refused_is done is = absurd is
 refused_is (refused k cause) is = refl
 
--- where lines are refused they decide that
-pub refusing_decides : {D : Type 0} (outcome : List ℕ → Outcome D) (left old new : Option (List ℕ))
+-- where lines of a told input are refused they decide that
+told_decide : {D : Type 0} (outcome : List ℕ → Outcome D) (left old new : Option (List ℕ))
     → IfSome left (λ bytes. IsRefusing (outcome bytes) old new) → IfSome left (λ bytes. 3 ≡ code_of (ending_status (outcome bytes).ending))
-refusing_decides outcome None old new is = tt
-refusing_decides outcome (Some bytes) old new is = ap code_of (sym (refused_is (outcome bytes).ending is.ending))
+told_decide outcome None old new is = tt
+told_decide outcome (Some bytes) old new is = ap code_of (sym (refused_is (outcome bytes).ending is.ending))
+
+-- where lines are refused they decide that
+pub refusing_decides : {D : Type 0} (outcome : List ℕ → Outcome D) (left left_after old new : Option (List ℕ))
+    → StandsOfRead left left_after (λ bytes. IsRefusing (outcome bytes) old new)
+    → IfSome left (λ bytes. 3 ≡ code_of (ending_status (outcome bytes).ending))
+refusing_decides outcome left left_after old new is =
+    told_decide outcome left old new (stands_told (λ bytes. IsRefusing (outcome bytes) old new) left left_after is)
 
 -- where the lines were all accepted they decide 0
 lines_decide : (opened : KeptState) (last : KeeperState) (left left_after : Option (List ℕ)) (before after : Facing) (served : ℕ)
@@ -373,7 +381,7 @@ kept_decided start made last (Row (Err say.Memory)) held left left_after before 
     absurd (memory refl)
 kept_decided start made last (Lines line.Bad) held left left_after before after is_made ends caused read write door keep memory =
     by_lines start made ends.reopened ends.opened 3 held left is_made ends.opens
-    (refusing_decides (outcome_of keeping (shelf_of ends.opened)) left before.sent after.sent ends.ends.0)
+    (refusing_decides (outcome_of keeping (shelf_of ends.opened)) left left_after before.sent after.sent ends.ends.0)
 kept_decided start made last (Lines line.ReadFault) held left left_after before after is_made ends caused read write door keep memory = absurd (read caused)
 kept_decided start made last (Lines line.WriteFault) held left left_after before after is_made ends caused read write door keep memory = absurd (write caused)
 kept_decided start made last (Lines line.Memory) held left left_after before after is_made ends caused read write door keep memory = absurd (memory refl)

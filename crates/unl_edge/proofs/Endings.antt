@@ -110,7 +110,7 @@ replay_decided : (Read Write Door Keep : Type 0) (end : Result Unit LinesFault) 
     → code_of (lines_status end) ≢ 6 → IfSome left (λ bytes. code_of (lines_status end) ≡ code_of (ending_status (replay_of bytes).ending))
 replay_decided Read Write Door Keep (Ok u) None left_after old new ends caused read write memory = tt
 replay_decided Read Write Door Keep (Ok u) (Some bytes) left_after old new ends caused read write memory = ap (λ e. code_of (ending_status e)) (sym ends.ending)
-replay_decided Read Write Door Keep (Err lines.Bad) left left_after old new ends caused read write memory = refusing_decides replay_of left old new ends
+replay_decided Read Write Door Keep (Err lines.Bad) left left_after old new ends caused read write memory = refusing_decides replay_of left left_after old new ends
 replay_decided Read Write Door Keep (Err lines.ReadFault) left left_after old new ends caused read write memory = absurd (read caused)
 replay_decided Read Write Door Keep (Err lines.WriteFault) left left_after old new ends caused read write memory = absurd (write caused)
 replay_decided Read Write Door Keep (Err lines.Memory) left left_after old new ends caused read write memory = absurd (memory refl)

@@ -7,8 +7,6 @@ mod crossing;
 mod edition;
 pub mod laws;
 mod reader;
-#[cfg(test)]
-mod tests;
 mod writer;
 
 pub use beginning::begin;

@@ -9,8 +9,6 @@ mod metrics;
 mod outcome;
 mod refreshing;
 mod taking;
-#[cfg(test)]
-mod tests;
 mod texts;
 mod tokens;
 

@@ -5,8 +5,6 @@
 mod ask;
 mod batch;
 mod bench;
-#[cfg(test)]
-mod delivery_tests;
 pub mod laws;
 mod refusal;
 mod replaying;

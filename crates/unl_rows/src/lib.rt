@@ -8,11 +8,15 @@ mod constraints;
 #[cfg(test)]
 mod context;
 #[cfg(test)]
+mod delivery;
+#[cfg(test)]
 mod delta;
 #[cfg(test)]
 mod desk;
 #[cfg(test)]
 mod documents;
+#[cfg(test)]
+mod edge_state;
 #[cfg(test)]
 mod exchange;
 #[cfg(test)]
@@ -28,13 +32,21 @@ mod load;
 #[cfg(test)]
 mod metrics;
 #[cfg(test)]
-mod reading;
+mod refresh;
 #[cfg(test)]
 mod spec_runner;
 #[cfg(test)]
 mod strategies;
 #[cfg(test)]
 mod tokens;
+#[cfg(test)]
+mod upstream;
+#[cfg(test)]
+mod upstream_keeping;
+#[cfg(test)]
+mod upstream_limits;
+#[cfg(test)]
+mod upstream_serving;
 #[cfg(test)]
 mod variants;
 #[cfg(test)]

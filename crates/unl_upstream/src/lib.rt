@@ -30,12 +30,3 @@ pub use refusal::{CommandRefusal, KeepCommandRefusal};
 pub use reopening::{ReopenFault, reopen};
 pub use upstream::Upstream;
 pub use writing::write_command;
-
-#[cfg(test)]
-mod keeping_tests;
-#[cfg(test)]
-mod limit_tests;
-#[cfg(test)]
-mod serve_tests;
-#[cfg(test)]
-mod tests;

@@ -1,5 +1,4 @@
 //! What is sent of one history, lost, doubled and out of order, comes to revisions of it alone.
-use crate::replay;
 use rand_pcg::Lcg64Xsh32;
 use rand_pcg::rand_core::Rng;
 use std::alloc::Global;
@@ -10,6 +9,7 @@ use unl_delta::{
     write_batch,
 };
 use unl_documents::{Copied, Feature, List, Shared, Text};
+use unl_replay::replay;
 use unl_tokens::Projects;
 
 /// How many commands the history has.

@@ -2,9 +2,7 @@
 ghost use Rattle.std.specs.Prelude.{◌≡◌, true, IfOk};
 ghost use Rattle.unl_upstream.specs.Reopening.{IsOpening};
 
-use crate::reading::read_command_bytes;
-use crate::tests::upstream_of_dev;
-use crate::{KeepCommandRefusal, ReopenFault, Upstream, keep, reopen, serve_kept};
+use crate::upstream::{command_of, upstream_of_dev};
 use std::alloc::Global;
 use std::test::Fail;
 use unl_base::{ListDraws, MemoryLink};
@@ -12,6 +10,7 @@ use unl_documents::{List, Memory, Text};
 use unl_http_api::End;
 use unl_keeper::{KeepFail, KeepRefusal, Keeper, MemoryKeeper};
 use unl_tokens::Book;
+use unl_upstream::{KeepCommandRefusal, ReopenFault, Upstream, keep, reopen, serve_kept};
 
 const PUT_A: &str =
     r#"{"command":"put-feature","environment":"dev","feature":{"name":"a","enabled":true}}"#;
@@ -110,9 +109,9 @@ fn give<K: Keeper>(
     requires { K.opened keeper.old ≡ true }
     ensures { K.opened keeper.new ≡ true }
 {
-    match read_command_bytes(alloc, text.as_bytes()) {
-        Ok(command) => Some(keep(alloc, up, keeper, &command)),
-        Err(_) => None,
+    match command_of(alloc, text) {
+        Some(command) => Some(keep(alloc, up, keeper, &command)),
+        None => None,
     }
 }
 

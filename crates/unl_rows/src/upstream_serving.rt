@@ -1,12 +1,12 @@
 //! An upstream on a connection, and over the lines of an input.
-use crate::tests::upstream_of_dev;
-use crate::{CommandLines, Upstream};
+use crate::upstream::upstream_of_dev;
 use std::alloc::Global;
 use std::test::Fail;
 use unl_base::{ListDraws, MemoryLink, MemorySink, MemorySource};
 use unl_http_api::End;
 use unl_lines::{LinesFault, take_lines};
 use unl_tokens::Book;
+use unl_upstream::{CommandLines, Upstream};
 
 /// An upstream of one environment.
 fn upstream(alloc: Global) -> Option<Upstream> {

@@ -2,7 +2,6 @@ ghost use Rattle.std.specs.Prelude.{◌≡◌, ◌<◌, All, length, IfOk, IfSom
 ghost use Rattle.unl_edge_state.specs.Reading.{HasBegun, next_of};
 ghost use Rattle.unl_published.specs.Looking.{SameOrigin};
 
-use crate::{EdgeReader, EdgeWriter, begin, readers_cross};
 use std::alloc::Global;
 use std::sync::Wait;
 use std::test::Fail;
@@ -11,6 +10,7 @@ use unl_base::{Draw, Job, RealSpawner, Spawner};
 use unl_core::{Board, Desk, Install};
 use unl_delta::{Installer, Verdict, read_batch_bytes, verdict};
 use unl_documents::{List, Memory, Shared, Text};
+use unl_edge_state::{EdgeReader, EdgeWriter, begin, readers_cross};
 use unl_http_api::{Method, Request};
 use unl_tokens::Book;
 

@@ -1,7 +1,7 @@
-ghost use Rattle.std.specs.Prelude.{◌≡◌, [], ◌∷◌, codes, IfOk};
+ghost use Rattle.std.specs.Prelude.{◌≡◌, [], ◌∷◌, codes, IfOk, IfSome};
 ghost use Rattle.unl_upstream.specs.Upstream.{opening};
+ghost use Rattle.unl_upstream.specs.Command.{IsValidCommand};
 
-use crate::{Command, CommandRefusal, Upstream, read_command, write_command};
 use std::alloc::Global;
 use std::test::Fail;
 use unl_base::Draw;
@@ -9,6 +9,7 @@ use unl_documents::json::read_json;
 use unl_documents::{BadDocument, Field, List, Memory, Segment, Text};
 use unl_http_api::{Bytes, Method, Request};
 use unl_tokens::Book;
+use unl_upstream::{Command, CommandRefusal, Upstream, read_command, write_command};
 
 const TOKENS: &str =
     r#"{"tokens":[{"token":"*:dev.client","type":"client"},{"token":"*:dev.all","type":"frontend"}]}"#;
@@ -22,6 +23,21 @@ pub(crate) fn upstream_of_dev(alloc: Global, secret: &str, book: Book) -> Result
     let mut environments = List::new(alloc);
     environments.push(Text::new(alloc, "dev")?)?;
     Upstream::new(alloc, 0, secret, &environments, book, 0)
+}
+
+/// The command of a text, which is one.
+pub(crate) fn command_of(alloc: Global, text: &str) -> Option<Command>
+    ensures { IfSome result IsValidCommand }
+{
+    let value = match read_json(alloc, text.as_bytes()) {
+        Ok(Some(value)) => value,
+        Ok(None) => return None,
+        Err(_) => return None,
+    };
+    match read_command(alloc, &value) {
+        Ok(command) => Some(command),
+        Err(_) => None,
+    }
 }
 
 /// An upstream with the environment `dev`, which knows two tokens.

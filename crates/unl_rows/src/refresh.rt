@@ -4,8 +4,7 @@ ghost use Rattle.unl_http_api.specs.RequestText.{fits_if_any};
 mod cuts;
 mod desk;
 
-use crate::tests::desk::OnePlace;
-use crate::{Ask, Outcome, RefreshFault, refresh_once, refresh_tokens, send_metrics};
+use crate::refresh::desk::OnePlace;
 use std::alloc::Global;
 use std::test::Fail;
 use unl_base::MemoryPeer;
@@ -13,6 +12,7 @@ use unl_delta::Installer;
 use unl_documents::{List, Text};
 use unl_http_api::{Bytes, fits_line};
 use unl_metrics::{MetricsBook, Report};
+use unl_refresh::{Ask, Outcome, RefreshFault, refresh_once, refresh_tokens, send_metrics};
 
 const AT_5: &[u8] =
     b"HTTP/1.1 200 OK\r\nETag: \"five\"\r\nContent-Length: 48\r\n\r\n{\"events\":[{\"type\":\"hydration\",\"eventId\":5}]}   more";

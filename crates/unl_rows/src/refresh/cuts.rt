@@ -1,8 +1,8 @@
 //! Exchanges of which a call fails, and replies that are cut or too long. Each is the second exchange of its kind, and
 //! leaves what the first one brought.
 
-use crate::tests::desk::OnePlace;
-use crate::tests::{
+use crate::refresh::desk::OnePlace;
+use crate::refresh::{
     AT_5, BOOK, TAKEN, WIDER_BOOK, ask, book_told, counted, is_tag, peer, sending_told, texts, told,
 };
 use std::alloc::Global;
