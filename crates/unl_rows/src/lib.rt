@@ -44,8 +44,6 @@ mod upstream;
 #[cfg(test)]
 mod upstream_keeping;
 #[cfg(test)]
-mod upstream_limits;
-#[cfg(test)]
 mod upstream_serving;
 #[cfg(test)]
 mod variants;
