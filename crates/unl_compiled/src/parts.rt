@@ -81,9 +81,9 @@ impl Parts {
         match events {
             [] => self.copy(alloc),
             [Event::Hydration { state, .. }, rest @ ..] => {
-                follow_all(alloc, Parts::of(alloc, state)?, rest)
+                fold_all(alloc, Parts::of(alloc, state)?, rest)
             }
-            _ => follow(alloc, self.copy(alloc)?, events, number),
+            _ => fold_later(alloc, self.copy(alloc)?, events, number),
         }
     }
 }
@@ -115,7 +115,7 @@ fn compiled_segments(
 }
 
 /// The parts after all of the events.
-fn follow_all(alloc: Global, parts: Parts, events: &[Event]) -> Result<Parts, Memory>
+fn fold_all(alloc: Global, parts: Parts, events: &[Event]) -> Result<Parts, Memory>
     requires order { told.IsInOrder parts }
     requires events { AllByRecursion IsValidEvent events.now }
     ensures { IfOk result (λ p. p ≡ told.fold_events events.now parts) }
@@ -129,7 +129,7 @@ fn follow_all(alloc: Global, parts: Parts, events: &[Event]) -> Result<Parts, Me
 
 /// The parts after the events above a number.
 #[tactic(auto, unfolding(unl_delta::specs::State::later))]
-fn follow(alloc: Global, parts: Parts, events: &[Event], above: u64) -> Result<Parts, Memory>
+fn fold_later(alloc: Global, parts: Parts, events: &[Event], above: u64) -> Result<Parts, Memory>
     requires order { told.IsInOrder parts }
     requires events { AllByRecursion IsValidEvent events.now }
     ensures { IfOk result (λ p. p ≡ told.fold_events (told.later told.number_of above events.now) parts) }

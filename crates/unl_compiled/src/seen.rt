@@ -86,7 +86,11 @@ impl<'a> Features for Seen<'a> {
 }
 
 /// The feature of a name, if its project is seen, among features whose names rise.
-fn seen_named<'a>(parts: &'a Parts, projects: &Projects, name: &str) -> Option<&'a CompiledFeature>
+pub(crate) fn seen_named<'a>(
+    parts: &'a Parts,
+    projects: &Projects,
+    name: &str,
+) -> Option<&'a CompiledFeature>
     requires { AreRising (map name_key parts.now.features) }
     ensures { option_map (λ f. f.now) result
         ≡ feature_with name.now (view_of (sees projects.now) parts.now).features }

@@ -7,12 +7,12 @@ ghost use Rattle.unl_delta.specs.declared.batch.Verdict.TheVariants.{Apply};
 ghost use Rattle.unl_delta.specs.Batch.{verdict_of, next_version};
 ghost use Rattle.unl_delta.specs.Valid.{IsValidBatch, IsValidVersion};
 ghost use Rattle.unl_delta.specs.View.{view_of};
-ghost use Rattle.unl_dependencies.specs.Evaluation.{evaluation_of};
+ghost use Rattle.unl_dependencies.specs.Evaluation.{evaluation_of, feature_named};
 ghost use Rattle.unl_tokens.specs.Names.{sees};
 
 use crate::index::{ProjectPlaces, index_of, places_of};
 use crate::parts::Parts;
-use crate::seen::Seen;
+use crate::seen::{Seen, seen_named};
 use crate::toggles::toggles_of;
 use serde_json::Value;
 use std::alloc::Global;
@@ -21,7 +21,7 @@ use unl_constraints::Compiled;
 use unl_context::Context;
 use unl_delta::{Batch, EnvVersion, Place, apply};
 use unl_dependencies::{Evaluation, evaluate};
-use unl_documents::{List, Memory, Shared};
+use unl_documents::{Feature, List, Memory, Shared};
 use unl_strategies::Moment;
 use unl_tokens::Projects;
 
@@ -85,6 +85,17 @@ impl Snapshot {
         ensures { IfOk result (λ v. v ≡ self.now) }
     {
         self.version.copy()
+    }
+
+    /// The feature of a name, among the features whose project is seen, if there is one. Takes no memory.
+    pub fn feature(&self, name: &str, projects: &Projects) -> Option<&Feature>
+        ensures { option_map (λ f. f.now) result
+            ≡ feature_named name.now (view_of (sees projects.now) self.now.state).features }
+    {
+        match seen_named(&self.parts, projects, name) {
+            None => None,
+            Some(feature) => Some(feature.document()),
+        }
     }
 
     /// The evaluation of the feature of a name, among the features whose project is seen. None

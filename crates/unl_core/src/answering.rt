@@ -24,7 +24,6 @@ use std::alloc::Global;
 use unl_base::Draw;
 use unl_context::{BadContext, Context};
 use unl_delta::{DeltaAnswer, answer as delta_answer, view, write_batch};
-use unl_dependencies::feature_named;
 use unl_documents::json::read_object;
 use unl_documents::{
     Copied, FeedHead, InlineRefusal, List, Memory, State, Text, inline, write_feature, write_feed,
@@ -266,12 +265,7 @@ fn feature(
 fn feature_of(alloc: Global, ready: &Ready, name: &str) -> Result<Reply, Memory>
     ensures { IfOk result (λ r. r ≡ document_reply (feature_named name.now (seen ready.now).features)) }
 {
-    let seen = view(
-        alloc,
-        &ready.snapshot.version().state,
-        &ready.token.projects,
-    )?;
-    match feature_named(&seen.features, name) {
+    match ready.snapshot.feature(name, &ready.token.projects) {
         None => refuse(alloc, StatusCode::NOT_FOUND, "NoSuchFeature"),
         Some(feature) => {
             let body = write_feature(alloc, feature)?;

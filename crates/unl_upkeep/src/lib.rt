@@ -2,9 +2,9 @@
 //! and it is told what was counted ([`Upkeep`]). What threads count is handed on through a book that they share ([`hand_on`]).
 #![tactic(auto)]
 
+mod asking;
 mod feeder;
 mod handing;
-mod refreshing;
 mod upkeep;
 
 pub use crate::feeder::first_ask;

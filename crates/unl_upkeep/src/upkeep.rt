@@ -5,9 +5,9 @@ ghost use Rattle.unl_http_api.specs.RequestText.{fits_line};
 ghost use Rattle.unl_upkeep.specs.Connects.{Connects};
 ghost use Rattle.unl_upkeep.specs.Turns.{MakesTurn, upkept};
 
+use crate::asking::{feed_slots, refresh_book};
 use crate::feeder::{Feeder, feeders};
 use crate::handing::take_over;
-use crate::refreshing::{feed_slots, refresh_book};
 use std::alloc::Global;
 use std::marker::Model;
 use std::sync::{Mutex, Wait};

@@ -1,5 +1,5 @@
 use Rattle.unl_compiled.proofs.Following.{step_above_more}
-use Rattle.unl_compiled.proofs.parts.follow.Goals as goal
+use Rattle.unl_compiled.proofs.parts.fold_later.Goals as goal
 
 pub loop-event-preserved : goal.loop-event-preserved
 loop-event-preserved c =

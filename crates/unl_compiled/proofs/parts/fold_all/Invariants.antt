@@ -1,6 +1,6 @@
 use Rattle.std.proofs.Common.{◌≡◌, drop}
 use Rattle.unl_delta.specs.State.{IsInOrder, fold_events}
-use Rattle.unl_compiled.proofs.parts.follow_all.Given as goal
+use Rattle.unl_compiled.proofs.parts.fold_all.Given as goal
 
 abbrev pub invariant-loop-event : goal.invariant-loop-event
 invariant-loop-event l = record {

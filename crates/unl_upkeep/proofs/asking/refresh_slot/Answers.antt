@@ -1,6 +1,6 @@
 use Rattle.unl_upkeep.proofs.Connecting.{asked_once, none_or_one, slot_told}
 use Rattle.unl_upkeep.proofs.Taking.{slot_taken}
-use Rattle.unl_upkeep.proofs.refreshing.refresh_slot.Goals as goal
+use Rattle.unl_upkeep.proofs.asking.refresh_slot.Goals as goal
 
 pub returns-clause-asks : goal.returns-clause-asks
 returns-clause-asks g c room =

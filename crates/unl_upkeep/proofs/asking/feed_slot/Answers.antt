@@ -1,6 +1,6 @@
 use Rattle.unl_upkeep.proofs.Connecting.{connects_both, if_ok, none_before}
 use Rattle.unl_upkeep.proofs.Taking.{fed_slot}
-use Rattle.unl_upkeep.proofs.refreshing.feed_slot.Goals as goal
+use Rattle.unl_upkeep.proofs.asking.feed_slot.Goals as goal
 
 pub returns-in-Ok-clause-asks : goal.returns-in-Ok-clause-asks
 returns-in-Ok-clause-asks g c room = if_ok c.tell_metrics.result (connects_both (c.in-Ok.ensures.asks room) c.tell_metrics.ensures.connects)

@@ -1,6 +1,6 @@
 use Rattle.unl_upkeep.proofs.Connecting.{asked_once, book_told, none_or_one}
 use Rattle.unl_upkeep.proofs.Taking.{book_taken}
-use Rattle.unl_upkeep.proofs.refreshing.refresh_book.Goals as goal
+use Rattle.unl_upkeep.proofs.asking.refresh_book.Goals as goal
 
 pub returns-clause-asks : goal.returns-clause-asks
 returns-clause-asks g c room =

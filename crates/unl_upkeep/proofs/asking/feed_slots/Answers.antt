@@ -2,7 +2,7 @@ use Rattle.std.proofs.Common.{◌∙◌, arith}
 use Rattle.std.proofs.lemmas.List.{length-set}
 use Rattle.unl_upkeep.proofs.Connecting.{connects_both, none_after, none_before}
 use Rattle.unl_upkeep.proofs.Taking.{feeds_more}
-use Rattle.unl_upkeep.proofs.refreshing.feed_slots.Goals as goal
+use Rattle.unl_upkeep.proofs.asking.feed_slots.Goals as goal
 
 pub returns-in-Err-clause-connects : goal.returns-in-Err-clause-connects
 returns-in-Err-clause-connects g c = connects_both c.loop-slot.invariant.connects c.in-Err.ensures.connects

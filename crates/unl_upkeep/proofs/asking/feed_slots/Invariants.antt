@@ -2,7 +2,7 @@ use Rattle.std.proofs.Common.{◌≡◌, ◌<◌, ◌≤◌, ◌+◌, ◌-◌, �
 use Rattle.unl_base.specs.Faults.{Rose}
 use Rattle.unl_upkeep.specs.Connects.{Connects}
 use Rattle.unl_upkeep.specs.Turns.{FeedsSlots, upkept}
-use Rattle.unl_upkeep.proofs.refreshing.feed_slots.Given as goal
+use Rattle.unl_upkeep.proofs.asking.feed_slots.Given as goal
 
 -- so many slots were fed
 abbrev pub invariant-loop-slot : goal.invariant-loop-slot
