@@ -14,7 +14,7 @@ printed=$(awk 'BEGIN {
     }
 }' | "$program" upstream --environments dev --secret s)
 status=$?
-test "$status" = 3 && test "$printed" = "refused: line 10002: TooMany 10000" || {
+test "$status" = 3 && test "$printed" = "refused: line 10002: TooMany" || {
     echo "limits: it ended with $status and printed"
     echo "$printed"
     exit 1
