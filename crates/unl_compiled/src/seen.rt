@@ -99,6 +99,16 @@ pub(crate) fn seen_named<'a>(
     if_seen(projects, found)
 }
 
+/// The document of a feature that was looked for.
+pub(crate) fn document_of(found: Option<&CompiledFeature>) -> Option<&Feature>
+    ensures { option_map (λ f. f.now) result ≡ option_map (λ f. f.now) found.entry }
+{
+    match found {
+        None => None,
+        Some(feature) => Some(feature.document()),
+    }
+}
+
 /// The feature, if its project is seen.
 fn if_seen<'a>(
     projects: &Projects,

@@ -1,4 +1,4 @@
-ghost use Rattle.std.specs.Prelude.{◌≡◌, false, Some, IfOk, IsSome, option_map};
+ghost use Rattle.std.specs.Prelude.{◌≡◌, false, Some, IfOk, IfSome, IsSome, option_map};
 ghost use Rattle.serde_json.specs.View.{view};
 ghost use Rattle.serde_json.specs.Written.{has_float};
 ghost use Rattle.unl_compiled.specs.Places.{places_of as places_in, strategy_at};
@@ -8,11 +8,12 @@ ghost use Rattle.unl_delta.specs.Batch.{verdict_of, next_version};
 ghost use Rattle.unl_delta.specs.Valid.{IsValidBatch, IsValidVersion};
 ghost use Rattle.unl_delta.specs.View.{view_of};
 ghost use Rattle.unl_dependencies.specs.Evaluation.{evaluation_of, feature_named};
+ghost use Rattle.unl_documents.specs.Valid.{IsValidFeature};
 ghost use Rattle.unl_tokens.specs.Names.{sees};
 
 use crate::index::{ProjectPlaces, index_of, places_of};
 use crate::parts::Parts;
-use crate::seen::{Seen, seen_named};
+use crate::seen::{Seen, document_of, seen_named};
 use crate::toggles::toggles_of;
 use serde_json::Value;
 use std::alloc::Global;
@@ -89,13 +90,11 @@ impl Snapshot {
 
     /// The feature of a name, among the features whose project is seen, if there is one. Takes no memory.
     pub fn feature(&self, name: &str, projects: &Projects) -> Option<&Feature>
-        ensures { option_map (λ f. f.now) result
+        ensures found { option_map (λ f. f.now) result
             ≡ feature_named name.now (view_of (sees projects.now) self.now.state).features }
+        ensures valid { IfSome result (λ f. IsValidFeature f.now) }
     {
-        match seen_named(&self.parts, projects, name) {
-            None => None,
-            Some(feature) => Some(feature.document()),
-        }
+        document_of(seen_named(&self.parts, projects, name))
     }
 
     /// The evaluation of the feature of a name, among the features whose project is seen. None

@@ -1,4 +1,4 @@
-mod Named
+pub mod Named
 mod Lawful
 mod Inlined
 mod Places
