@@ -1,10 +1,10 @@
 #!/bin/sh
 # Runs each example through the program and compares what it prints with the output that stands beside it. Run after `rt ci` or
-# `rt run`, which build the program.
+# `rt run`, which build the program; PROGRAM names another one.
 set -u
 cd "$(dirname "$0")/.."
 
-program=crates/unl_edge/out/unl_edge
+program=${PROGRAM:-crates/unl_edge/out/unl_edge}
 test -x "$program" || (cd crates/unl_edge && rt run -- replay </dev/null >/dev/null 2>&1)
 printed=$(mktemp)
 trap 'rm -f "$printed"' EXIT
