@@ -1,22 +1,53 @@
 #!/bin/sh
-# Puts 10,000 features into an upstream by the lines of its input, one of them a second time, and then one more, which is
-# refused. Run after `rt ci` or `rt run`, which build the program; PROGRAM names another one.
+# Limits that only long inputs reach: features of an environment, and keys of a book of metrics. Run after `rt ci` or `rt run`,
+# which build the program; PROGRAM names another one.
 set -u
 cd "$(dirname "$0")/.."
 
 program=${PROGRAM:-crates/unl_edge/out/unl_edge}
 test -x "$program" || (cd crates/unl_edge && rt run -- replay </dev/null >/dev/null 2>&1)
 
-printed=$(awk 'BEGIN {
-    for (number = 0; number < 10002; number++) {
-        name = number == 10000 ? "f7" : "f" number
-        printf "{\"command\":\"put-feature\",\"environment\":\"dev\",\"feature\":{\"name\":\"%s\",\"enabled\":false}}\n", name
+# same WHAT EXPECTED PRINTED
+same() {
+    test "$2" = "$3" || {
+        echo "limits: $1: it printed"
+        echo "$3"
+        exit 1
     }
-}' | "$program" upstream --environments dev --secret s)
-status=$?
-test "$status" = 3 && test "$printed" = "refused: line 10002: TooMany" || {
-    echo "limits: it ended with $status and printed"
-    echo "$printed"
-    exit 1
 }
-echo "limits: a feature past 10,000 is refused"
+
+# Features numbered from 0 by commands, the 10,001st of which is one of the first again, and one more.
+put() {
+    awk 'BEGIN {
+        for (number = 0; number < 10002; number++) {
+            name = number == 10000 ? "f7" : "f" number
+            printf "{\"command\":\"put-feature\",\"environment\":\"dev\",\"feature\":{\"name\":\"%s\",\"enabled\":false}}\n", name
+        }
+    }' | "$program" upstream --environments dev --secret s
+    echo "status $?"
+}
+same "features" 'refused: line 10002: TooMany
+status 3' "$(put)"
+
+# Reports of 10,000 features, of another one, of one of the first again, and of the other one again.
+report() {
+    awk '
+        function report(letter, count) {
+            printf "{\"op\":\"ask\",\"method\":\"POST\",\"token\":\"*:dev.c\",\"target\":\"/api/client/metrics\",\"body\":\""
+            printf "{\\\"appName\\\":\\\"shop\\\",\\\"bucket\\\":{\\\"start\\\":\\\"2024-01-01T10:05:00Z\\\",\\\"toggles\\\":{"
+            for (number = 0; number < count; number++) printf "%s\\\"%s%d\\\":{}", number ? "," : "", letter, number
+            print "}}}\"}"
+        }
+        BEGIN {
+            print "{\"op\":\"tokens\",\"tokens\":[{\"token\":\"*:dev.c\",\"type\":\"client\"}]}"
+            report("f", 10000); report("g", 1); report("f", 1); report("g", 1)
+        }' | "$program" replay
+    echo "status $?"
+}
+same "keys" '1: tokens generation 1 front 1
+2: front 1 status 202 tag - body 
+3: front 1 status 503 tag - body {"error":"MetricsFull"}
+4: front 1 status 202 tag - body 
+5: front 1 status 503 tag - body {"error":"MetricsFull"}
+status 0' "$(report)"
+echo "limits: passed"

@@ -1,4 +1,4 @@
-//! Rows of the calls below the commands: what each call answers that no command prints.
+//! Rows of documents, of their evaluation, of the wire and of what is read whole: what the calls answer that no command prints.
 #![tactic(auto)]
 
 #[cfg(test)]
@@ -8,15 +8,9 @@ mod constraints;
 #[cfg(test)]
 mod context;
 #[cfg(test)]
-mod delivery;
-#[cfg(test)]
 mod delta;
 #[cfg(test)]
-mod desk;
-#[cfg(test)]
 mod documents;
-#[cfg(test)]
-mod edge_state;
 #[cfg(test)]
 mod exchange;
 #[cfg(test)]
@@ -32,19 +26,11 @@ mod load;
 #[cfg(test)]
 mod metrics;
 #[cfg(test)]
-mod refresh;
-#[cfg(test)]
 mod spec_runner;
 #[cfg(test)]
 mod strategies;
 #[cfg(test)]
 mod tokens;
-#[cfg(test)]
-mod upstream;
-#[cfg(test)]
-mod upstream_keeping;
-#[cfg(test)]
-mod upstream_serving;
 #[cfg(test)]
 mod variants;
 #[cfg(test)]
