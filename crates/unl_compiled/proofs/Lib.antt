@@ -3,3 +3,4 @@ pub mod NoFloats
 pub mod Finding
 mod Following
 pub mod Projects
+pub mod Tokens

@@ -1,3 +1,4 @@
 pub mod Toggles
+pub mod Texts
 pub mod Places
 pub mod Next

@@ -8,5 +8,6 @@ mod seen;
 mod segment;
 mod snapshot;
 mod toggles;
+mod toggles_text;
 
 pub use snapshot::Snapshot;

@@ -1,6 +1,6 @@
 ghost use Rattle.std.specs.Prelude.{◌≡◌, false, Some, IfOk, IfSome, IsSome, option_map};
 ghost use Rattle.serde_json.specs.View.{view};
-ghost use Rattle.serde_json.specs.Written.{has_float};
+ghost use Rattle.serde_json.specs.Written.{compact_text, has_float};
 ghost use Rattle.unl_compiled.specs.Places.{places_of as places_in, strategy_at};
 ghost use Rattle.unl_compiled.specs.Toggles.{toggles_data};
 ghost use Rattle.unl_delta.specs.declared.batch.Verdict.TheVariants.{Apply};
@@ -15,6 +15,7 @@ use crate::index::{ProjectPlaces, index_of, places_of};
 use crate::parts::Parts;
 use crate::seen::{Seen, document_of, seen_named};
 use crate::toggles::toggles_of;
+use crate::toggles_text::toggles_text;
 use serde_json::Value;
 use std::alloc::Global;
 use std::marker::Model;
@@ -129,6 +130,22 @@ impl Snapshot {
         ensures no_float { IfOk result (λ v. has_float (view v) ≡ false) }
     {
         toggles_of(alloc, &self.parts, projects, all, context, moment)
+    }
+
+    /// The body of the frontend endpoints, as `toggles` gives it, in the text that is sent. The error
+    /// is want of memory.
+    pub fn toggles_text(
+        &self,
+        alloc: Global,
+        projects: &Projects,
+        all: bool,
+        context: &Context,
+        moment: &Moment,
+    ) -> Result<List<u8>, Memory>
+        ensures { IfOk result (λ text. text
+            ≡ compact_text (toggles_data (view_of (sees projects.now) self.now.state) all context.now moment.entry.now)) }
+    {
+        toggles_text(alloc, &self.parts, projects, all, context, moment)
     }
 
     /// The places, rising, of the features of the version's state that have this project, and none

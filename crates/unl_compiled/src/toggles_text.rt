@@ -1,0 +1,247 @@
+//! The body of the frontend endpoints, written straight as text.
+//!
+//! Each function that writes does so behind what the writer has. Its error is want of memory, after
+//! which a part may have been written.
+ghost use Rattle.std.specs.Prelude.{◌≡◌, ◌∷◌, [], All, IfOk, OnOk, filter_map};
+ghost use Rattle.json.specs.Token.{key};
+ghost use Rattle.serde_json.specs.Written.{compact_text};
+ghost use Rattle.unl_compiled.specs.Texts.{Wrote, all_tokens, payload_at, text_at, tokens_if, tokens_of, truth_at};
+ghost use Rattle.unl_compiled.specs.Toggles.{variant_data, toggle_data, toggle_if, toggle_if_seen, toggle_of, toggles_data};
+ghost use Rattle.unl_delta.specs.View.{view_of};
+ghost use Rattle.unl_documents.specs.Key.{key_of};
+ghost use Rattle.unl_documents.specs.States.{IsValidState};
+ghost use Rattle.unl_documents.specs.Valid.{IsValidFeature};
+ghost use Rattle.unl_documents.specs.Writing.{payload_data};
+ghost use Rattle.unl_tokens.specs.Names.{sees};
+
+use crate::feature::CompiledFeature;
+use crate::parts::Parts;
+use crate::seen::Seen;
+use json::Writer;
+use std::alloc::Global;
+use unl_context::Context;
+use unl_dependencies::{Evaluation, VariantAnswer, evaluate_feature};
+use unl_documents::{Feature, Field, List, Memory, Payload, Shared, Text};
+use unl_strategies::Moment;
+use unl_tokens::Projects;
+
+/// The bytes for which there is room from the beginning.
+const ROOM: usize = 128;
+
+/// The toggles of the parts of a valid state whose project is seen, all of them or those that are on,
+/// in the order of their names, as text. The error is want of memory.
+pub(crate) fn toggles_text(
+    alloc: Global,
+    parts: &Parts,
+    projects: &Projects,
+    all: bool,
+    context: &Context,
+    moment: &Moment,
+) -> Result<List<u8>, Memory>
+    requires { IsValidState parts.now }
+    ensures { IfOk result (λ text. text
+        ≡ compact_text (toggles_data (view_of (sees projects.now) parts.now) all context.now moment.entry.now)) }
+{
+    let mut out = Writer::new(Vec::with_capacity(alloc, ROOM)?);
+    let seen = Seen::of(parts, projects);
+    write_toggles(
+        &mut out, alloc, &seen, parts, projects, all, context, moment,
+    )?;
+    Ok(List::from_vec(out.into_inner()))
+}
+
+/// Writes the object of the toggles of what is seen of the parts.
+fn write_toggles(
+    out: &mut Writer,
+    alloc: Global,
+    seen: &Seen,
+    parts: &Parts,
+    projects: &Projects,
+    all: bool,
+    context: &Context,
+    moment: &Moment,
+) -> Result<(), Memory>
+    requires state { IsValidState seen.now }
+    requires parts { IsValidState parts.now }
+    requires seen { seen.now ≡ view_of (sees projects.now) parts.now }
+    ensures { OnOk result (Wrote (tokens_of (toggles_data seen.now all context.now moment.entry.now)) out.old out.new) }
+{
+    out.begin_object()?;
+    write_key(out, Field::Toggles)?;
+    out.begin_array()?;
+    write_items(out, alloc, seen, parts, projects, all, context, moment)?;
+    out.end_array()?;
+    out.end_object()?;
+    Ok(())
+}
+
+/// Writes the toggles of what is seen of the parts, one behind the other.
+fn write_items(
+    out: &mut Writer,
+    alloc: Global,
+    seen: &Seen,
+    parts: &Parts,
+    projects: &Projects,
+    all: bool,
+    context: &Context,
+    moment: &Moment,
+) -> Result<(), Memory>
+    requires state { IsValidState seen.now }
+    requires parts { IsValidState parts.now }
+    requires seen { seen.now ≡ view_of (sees projects.now) parts.now }
+    ensures { OnOk result (Wrote (all_tokens
+        (filter_map (toggle_of seen.now all context.now moment.entry.now) seen.now.features)) out.old out.new) }
+{
+    write_each(
+        out,
+        alloc,
+        seen,
+        parts.features(),
+        projects,
+        all,
+        context,
+        moment,
+    )
+}
+
+/// Writes the toggles of the features whose project is seen, one behind the other.
+#[tactic(auto, using(crate::proofs::Tokens::found_more))]
+fn write_each(
+    out: &mut Writer,
+    alloc: Global,
+    seen: &Seen,
+    features: &[Shared<CompiledFeature>],
+    projects: &Projects,
+    all: bool,
+    context: &Context,
+    moment: &Moment,
+) -> Result<(), Memory>
+    requires state { IsValidState seen.now }
+    requires features { All IsValidFeature features.now }
+    ensures { OnOk result (Wrote (all_tokens
+        (filter_map (toggle_if_seen projects.now seen.now all context.now moment.entry.now) features.now)) out.old out.new) }
+{
+    for feature in features {
+        let feature = feature.get();
+        write_if_seen(out, alloc, seen, feature, projects, all, context, moment)?;
+    }
+    Ok(())
+}
+
+/// Writes the toggle of a feature, if its project is seen and the toggle is asked for.
+#[tactic(auto, unfolding(crate::specs::Toggles::toggle_of))]
+fn write_if_seen(
+    out: &mut Writer,
+    alloc: Global,
+    seen: &Seen,
+    feature: &CompiledFeature,
+    projects: &Projects,
+    all: bool,
+    context: &Context,
+    moment: &Moment,
+) -> Result<(), Memory>
+    requires state { IsValidState seen.now }
+    requires feature { IsValidFeature feature.now }
+    ensures { OnOk result (Wrote (tokens_if
+        (toggle_if_seen projects.now seen.now all context.now moment.entry.now feature.now)) out.old out.new) }
+{
+    if !projects.sees(feature.document().project.as_str()) {
+        return Ok(());
+    }
+    let evaluation = evaluate_feature(alloc, seen, feature, context, moment)?;
+    write_if_asked(out, all, feature.document(), &evaluation)
+}
+
+/// Writes the toggle of a feature, if all are asked for, or if it is on.
+fn write_if_asked(
+    out: &mut Writer,
+    all: bool,
+    feature: &Feature,
+    evaluation: &Evaluation,
+) -> Result<(), Memory>
+    ensures { OnOk result (Wrote (tokens_if (toggle_if all feature.now evaluation.now)) out.old out.new) }
+{
+    if all || evaluation.on {
+        return write_toggle(out, feature, evaluation);
+    }
+    Ok(())
+}
+
+/// Writes a feature as a client sees it.
+#[tactic(auto, unfolding(crate::specs::Toggles::toggle_data))]
+fn write_toggle(out: &mut Writer, feature: &Feature, evaluation: &Evaluation) -> Result<(), Memory>
+    ensures { OnOk result (Wrote (tokens_of (toggle_data feature.now evaluation.now)) out.old out.new) }
+{
+    out.begin_object()?;
+    write_truth(out, Field::Enabled, evaluation.on)?;
+    write_truth(out, Field::ImpressionData, feature.impression)?;
+    write_text(out, Field::Name, &feature.name)?;
+    write_key(out, Field::Variant)?;
+    write_variant(out, evaluation.on, &evaluation.variant)?;
+    out.end_object()?;
+    Ok(())
+}
+
+/// Writes the variant of a feature that is on or off.
+fn write_variant(out: &mut Writer, on: bool, variant: &VariantAnswer) -> Result<(), Memory>
+    ensures { OnOk result (Wrote (tokens_of (variant_data on variant.now)) out.old out.new) }
+{
+    out.begin_object()?;
+    write_truth(out, Field::Enabled, variant.enabled)?;
+    write_truth(out, Field::FeatureEnabled, on)?;
+    write_text(out, Field::Name, &variant.name)?;
+    write_some_payload(out, &variant.payload)?;
+    out.end_object()?;
+    Ok(())
+}
+
+/// Writes the payload at its key, where there is one.
+fn write_some_payload(out: &mut Writer, payload: &Option<Payload>) -> Result<(), Memory>
+    ensures { OnOk result (Wrote (payload_at payload.now) out.old out.new) }
+{
+    match payload {
+        None => Ok(()),
+        Some(payload) => {
+            write_key(out, Field::Payload)?;
+            write_payload(out, payload)
+        }
+    }
+}
+
+/// Writes a payload.
+#[tactic(auto, unfolding(unl_documents::specs::Writing::payload_data))]
+fn write_payload(out: &mut Writer, payload: &Payload) -> Result<(), Memory>
+    ensures { OnOk result (Wrote (tokens_of (payload_data payload.now)) out.old out.new) }
+{
+    out.begin_object()?;
+    write_text(out, Field::Kind, &payload.kind)?;
+    write_text(out, Field::Value, &payload.value)?;
+    out.end_object()?;
+    Ok(())
+}
+
+/// Writes a text at its key.
+fn write_text(out: &mut Writer, field: Field, text: &Text) -> Result<(), Memory>
+    ensures { OnOk result (Wrote (text_at field text.now) out.old out.new) }
+{
+    write_key(out, field)?;
+    out.string(text.as_str())?;
+    Ok(())
+}
+
+/// Writes a truth at its key.
+fn write_truth(out: &mut Writer, field: Field, truth: bool) -> Result<(), Memory>
+    ensures { OnOk result (Wrote (truth_at field truth) out.old out.new) }
+{
+    write_key(out, field)?;
+    out.boolean(truth)?;
+    Ok(())
+}
+
+/// Writes a key, behind which its value is to follow.
+fn write_key(out: &mut Writer, field: Field) -> Result<(), Memory>
+    ensures { OnOk result (Wrote (key (key_of field) ∷ []) out.old out.new) }
+{
+    out.key(field.key())?;
+    Ok(())
+}
