@@ -16,7 +16,9 @@ ghost use Rattle.unl_tokens.specs.Requests.{asked_in};
 use crate::board::Board;
 use crate::client::knows_no_segments;
 use crate::desk::Answer;
-use crate::reply::{bare, made, one_text, refuse, refuse_method, refuse_unseen, tagged, unchanged};
+use crate::reply::{
+    bare, made, one_text, refuse, refuse_method, refuse_unseen, tagged, unchanged, with_text,
+};
 use crate::shown::{Ready, ready_by, shown_by};
 use crate::tag::{inlined_tag_of, since_of, tag_of};
 use http::StatusCode;
@@ -215,10 +217,10 @@ fn toggles_for(
                 host: board.host.as_str(),
             };
             let projects = &ready.token.projects;
-            let body = ready
+            let text = ready
                 .snapshot
-                .toggles(alloc, projects, all, &context, &moment)?;
-            made(alloc, StatusCode::OK, &body)
+                .toggles_text(alloc, projects, all, &context, &moment)?;
+            Ok(with_text(StatusCode::OK, text))
         }
     }
 }
