@@ -106,3 +106,34 @@ fn places_are_lent(rt: HostRuntime) {
         );
     }
 }
+
+/// Whether the toggles as they are written are the text of those as they are a value.
+fn is_text_of_value(alloc: Global, snapshot: &Snapshot, all: bool) -> Option<bool> {
+    let context = Context::read_query(alloc, b"").ok()?;
+    let moment = Moment {
+        now: 0,
+        word: 0,
+        host: "",
+    };
+    let projects = Projects::All;
+    let text = snapshot
+        .toggles_text(alloc, &projects, all, &context, &moment)
+        .ok()?;
+    let value = snapshot
+        .toggles(alloc, &projects, all, &context, &moment)
+        .ok()?;
+    let written = value.to_string(alloc).ok()?;
+    Some(text.as_slice() == written.as_str().as_bytes())
+}
+
+#[test]
+fn toggles_are_written(rt: HostRuntime) {
+    let alloc = rt.alloc();
+    let snapshot = first(alloc, ALL).expect(&rt, "it applies");
+    for all in [false, true] {
+        assert!(rt;
+            is_text_of_value(alloc, &snapshot, all) == Some(true),
+            "{all}"
+        );
+    }
+}
