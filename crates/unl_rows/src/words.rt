@@ -37,10 +37,9 @@ fn texts(alloc: Global, items: &[&str]) -> Result<List<Text>, Memory> {
     Ok(list)
 }
 
-#[test]
-fn edge_words(rt: HostRuntime) -> Result<(), Fail> {
-    let alloc = rt.alloc();
-    let defaults = Words::Edge(EdgeWords {
+/// An edge by words that say only what they must.
+fn least_edge(alloc: Global) -> Result<Words, Memory> {
+    Ok(Words::Edge(EdgeWords {
         port: 3063,
         upstream: Text::new(alloc, "up:4242")?,
         upstream_tokens: texts(alloc, &["*:dev.s"])?,
@@ -50,10 +49,12 @@ fn edge_words(rt: HostRuntime) -> Result<(), Fail> {
         interval: 15,
         connections: 0,
         delta: true,
-    });
-    let line = "edge --upstream up:4242 --upstream-tokens *:dev.s --tokens []:dev.t";
-    assert!(rt; reads(alloc, line, &Ok(defaults)) == Some(true));
-    let all = Words::Edge(EdgeWords {
+    }))
+}
+
+/// An edge by words that say all.
+fn whole_edge(alloc: Global) -> Result<Words, Memory> {
+    Ok(Words::Edge(EdgeWords {
         port: 1,
         upstream: Text::new(alloc, "::1:065535")?,
         upstream_tokens: texts(alloc, &["*:dev.s", "a:qa.s.s"])?,
@@ -63,18 +64,26 @@ fn edge_words(rt: HostRuntime) -> Result<(), Fail> {
         interval: 3600,
         connections: u64::MAX,
         delta: false,
-    });
-    let line = "edge --mode feed --connections 18446744073709551615 --interval 3600 --workers=16 \
-        --host h --tokens ,a:b:c.d,,a:b:c.d\t --upstream-tokens \t*:dev.s\t,a:qa.s.s \
-        --upstream=::1:065535 --port 1";
-    assert!(rt; reads(alloc, line, &Ok(all)) == Some(true));
-    Ok(())
+    }))
 }
 
 #[test]
-fn upstream_words(rt: HostRuntime) -> Result<(), Fail> {
+fn edge_words(rt: HostRuntime) -> Result<(), Fail> {
     let alloc = rt.alloc();
-    let defaults = Words::Upstream(UpstreamWords {
+    let least = Ok(least_edge(alloc)?);
+    let line = "edge --upstream up:4242 --upstream-tokens *:dev.s --tokens []:dev.t";
+    assert!(rt; reads(alloc, line, &least) == Some(true));
+    let whole = Ok(whole_edge(alloc)?);
+    let line = "edge --mode feed --connections 18446744073709551615 --interval 3600 --workers=16 \
+        --host h --tokens ,a:b:c.d,,a:b:c.d\t --upstream-tokens \t*:dev.s\t,a:qa.s.s \
+        --upstream=::1:065535 --port 1";
+    assert!(rt; reads(alloc, line, &whole) == Some(true));
+    Ok(())
+}
+
+/// An upstream by words that say only what they must.
+fn least_upstream(alloc: Global) -> Result<Words, Memory> {
+    Ok(Words::Upstream(UpstreamWords {
         port: 4242,
         secret: Text::new(alloc, "s")?,
         environments: texts(alloc, &["dev"])?,
@@ -83,13 +92,12 @@ fn upstream_words(rt: HostRuntime) -> Result<(), Fail> {
         connections: 0,
         epoch: 0,
         sqlite: false,
-    });
-    let defaults: Result<Words, WordsRefusal> = Ok(defaults);
-    let line = "upstream --environments dev --secret s";
-    assert!(rt; reads(alloc, line, &defaults) == Some(true));
-    let line = "upstream --environments dev --secret s --keep memory";
-    assert!(rt; reads(alloc, line, &defaults) == Some(true));
-    let all = Words::Upstream(UpstreamWords {
+    }))
+}
+
+/// An upstream by words that say all.
+fn whole_upstream(alloc: Global) -> Result<Words, Memory> {
+    Ok(Words::Upstream(UpstreamWords {
         port: 65535,
         secret: Text::new(alloc, "-s")?,
         environments: texts(alloc, &["dev", "qa"])?,
@@ -98,10 +106,32 @@ fn upstream_words(rt: HostRuntime) -> Result<(), Fail> {
         connections: 7,
         epoch: u64::MAX,
         sqlite: true,
-    });
+    }))
+}
+
+/// Words that say of an upstream only what they must, or a default beside it.
+const LEAST_UPSTREAMS: [&str; 2] = [
+    "upstream --environments dev --secret s",
+    "upstream --environments dev --secret s --keep memory",
+];
+
+#[test]
+fn upstream_words(rt: HostRuntime) -> Result<(), Fail> {
+    let alloc = rt.alloc();
+    let least = Ok(least_upstream(alloc)?);
+    for line in LEAST_UPSTREAMS {
+        assert!(rt; reads(alloc, line, &least) == Some(true));
+    }
+    Ok(())
+}
+
+#[test]
+fn all_upstream_words(rt: HostRuntime) -> Result<(), Fail> {
+    let alloc = rt.alloc();
+    let whole = Ok(whole_upstream(alloc)?);
     let line = "upstream --secret=-s --environments dev,qa --client-tokens *:dev.s,a:dev.s \
         --frontend-tokens a:qa.s, --port 65535 --connections 7 --epoch 18446744073709551615 --keep=sqlite";
-    assert!(rt; reads(alloc, line, &Ok(all)) == Some(true));
+    assert!(rt; reads(alloc, line, &whole) == Some(true));
     Ok(())
 }
 
