@@ -1,7 +1,8 @@
 #!/bin/sh
 # Refuses each allocation of the program in turn, and fails each read and write: in a replay, in a check, on one connection with two
-# requests, and in one turn of an edge. Prints how many were tried and what came of them; fails at any other outcome than those that
-# docs/FORMATS.md states. Run by hand after `rt ci` or `rt run`; it takes a minute. Skipped where gcc or python3 is not there.
+# requests, and in one turn of an edge; and fails accepts and starts of threads. Prints how many were tried and what came of them;
+# fails at any other outcome than those that docs/FORMATS.md states. Run after `rt ci` or `rt run`; it takes half a minute. Skipped
+# where gcc or python3 is not there.
 set -u
 cd "$(dirname "$0")/.."
 

@@ -1,6 +1,6 @@
 #!/bin/sh
-# A test over real sockets: `follow` behind an edge behind an upstream, of a feature that is turned off between two of its turns;
-# and a turn behind an upstream, and behind none. Run after `rt ci` or `rt run`, which build the program. Skipped where curl is
+# A test over real sockets: `follow` behind an edge behind an upstream, of a feature that is turned off between two of its turns,
+# and of one that moves away from the project that is seen; and a turn behind an upstream, and behind none. Run after `rt ci` or `rt run`, which build the program. Skipped where curl is
 # not there. It ends what it started, and takes a minute at most.
 set -u
 cd "$(dirname "$0")/.."
@@ -11,30 +11,61 @@ need curl
 upstream_port=${UPSTREAM_PORT:-14252}
 edge_port=${EDGE_PORT:-13073}
 
-start "$program" upstream --port "$upstream_port" --secret s --environments dev --client-tokens '*:dev.client' \
+start "$program" upstream --port "$upstream_port" --secret s --environments dev --client-tokens '*:dev.client,a:dev.client' \
     <examples/commands.jsonl >/dev/null
 wait_for "$upstream_port" "the upstream"
 start "$program" edge --port "$edge_port" --upstream "127.0.0.1:$upstream_port" --upstream-tokens '*:dev.client' \
-    --tokens '*:dev.client' --interval 1 >/dev/null
+    --tokens '*:dev.client,a:dev.client' --interval 1 >/dev/null
 wait_for "$edge_port" "the edge"
 
-# the feature is turned off once the first turn is told; the edge asks for that within a second, before the second turn
-start "$program" follow --upstream "127.0.0.1:$edge_port" --token '*:dev.client' --feature a --turns 3 --interval 2 >"$work/turns"
-follower=$last
-tries=0
-until test -s "$work/turns"; do
-    tries=$((tries + 1))
-    test "$tries" -lt 50 || fail "no turn is told"
-    sleep 0.1
-done
-same "a command" '{"number":2}' \
-    "$(ask "$upstream_port" s /commands --data '{"command":"put-feature","environment":"dev","feature":{"name":"a","enabled":false}}')"
+# follows a feature behind the edge by a token, for so many turns
+begin() {
+    : >"$work/turns"
+    start "$program" follow --upstream "127.0.0.1:$edge_port" --token "$1" --feature "$2" --turns "$3" --interval 2 >"$work/turns"
+    follower=$last
+    tries=0
+    until test -s "$work/turns"; do
+        tries=$((tries + 1))
+        test "$tries" -lt 50 || fail "no turn is told"
+        sleep 0.1
+    done
+}
 
+put() {
+    ask "$upstream_port" s /commands --data "{\"command\":\"put-feature\",\"environment\":\"dev\",\"feature\":$1}"
+}
+
+# the feature is turned off once the first turn is told; the edge asks for that within a second, before the second turn
+begin '*:dev.client' a 3
+same "a command" '{"number":2}' "$(put '{"name":"a","enabled":false}')"
 wait "$follower"
 same "the status" 0 "$?"
 same "the turns" 'turn 1 published number 1 on true
 turn 2 published number 2 on false
 turn 3 unchanged number 2 on false' "$(cat "$work/turns")"
+
+# what the edge answers one who sees the project `a` alone
+seen() {
+    ask "$edge_port" a:dev.client /api/client/delta --dump-header "$work/head" "$@"
+}
+
+# a feature of the project `a` moves to `b`, again between two turns
+same "a feature of a project" '{"number":3}' "$(put '{"name":"m","project":"a","enabled":true}')"
+tries=0
+until seen | grep -q '"name":"m"'; do
+    tries=$((tries + 1))
+    test "$tries" -lt 50 || fail "the edge isn't refreshed"
+    sleep 0.1
+done
+tag=$(tr -d '\r' <"$work/head" | sed -n 's/^ETag: //p')
+begin a:dev.client m 2
+same "the same feature in another project" '{"number":4}' "$(put '{"name":"m","project":"b","enabled":true}')"
+wait "$follower"
+same "the turns of a feature that moves away" 'turn 1 published number 3 on true
+turn 2 published number 4 on -' "$(cat "$work/turns")"
+same "what the edge tells of it" '{"after":3,"events":[{"eventId":4,"featureName":"m","project":"a","type":"feature-removed"}]}' \
+    "$(seen --header "If-None-Match: $tag")"
+same "what isn't seen" '{"events":[{"eventId":4,"features":[],"segments":[],"type":"hydration"}]}' "$(seen)"
 
 # one turn at a port, of a feature: what it prints, and the status behind it
 one_turn() {
@@ -42,9 +73,9 @@ one_turn() {
     echo "status $?"
 }
 
-same "a feed" 'turn 1 published number 2 on false
+same "a feed" 'turn 1 published number 4 on false
 status 0' "$(one_turn "$upstream_port" a feed)"
-same "a feature that isn't there" 'turn 1 published number 2 on -
+same "a feature that isn't there" 'turn 1 published number 4 on -
 status 0' "$(one_turn "$upstream_port" z delta)"
 same "a server that isn't there" 'turn 1 fault number - on -
 status 0' "$(one_turn 1 a delta)"

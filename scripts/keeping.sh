@@ -1,9 +1,9 @@
 #!/bin/sh
 # A test over real sockets: commands to an upstream that keeps them in a database file, which is killed ten times at a random moment
 # and started again. Each command that was answered 200 is there with its number, the numbers are unbroken, and no more is there
-# than what was under way as it was killed. Run after `rt ci`, or after `rt run` in crates/unl_keeping. Skipped where curl is not
-# there; what only a reader of such files can tell is skipped where neither sqlite3 nor python3's module of that name is. It ends
-# what it started, and takes a minute at most.
+# than what was under way as it was killed. Files that others made are opened, or their rows are refused. Run after `rt ci`, or
+# after `rt run` in crates/unl_keeping. Skipped where curl is not there; what needs another reader or writer of such files is skipped
+# where neither sqlite3 nor python3's module of that name is. It ends what it started, and takes a minute at most.
 set -u
 cd "$(dirname "$0")/.."
 
@@ -80,17 +80,60 @@ same "what is printed" "connections 1" "$(cat "$work/printed")"
 # the rows of the file, by a reader that is none of this repository's
 query="SELECT place, json_extract(text, '\$.feature.name') FROM kept ORDER BY place"
 if command -v sqlite3 >/dev/null 2>&1; then
-    sqlite3 -separator ' ' "$file" "$query" >"$work/rows" || fail "the file can't be read"
+    sql() {
+        sqlite3 -separator ' ' "$@"
+    }
 elif python3 -c 'import sqlite3' 2>/dev/null; then
-    python3 -c 'import sqlite3, sys
-for row in sqlite3.connect(sys.argv[1]).execute(sys.argv[2]):
-    print(*row)' "$file" "$query" >"$work/rows" || fail "the file can't be read"
+    sql() {
+        python3 -c 'import sqlite3, sys
+with sqlite3.connect(sys.argv[1]) as file:
+    for text in sys.argv[2].split(";"):
+        for row in file.execute(text):
+            print(*row)' "$@"
+    }
 else
     echo "${0##*/}: the rows are skipped, since neither sqlite3 nor its module for python3 is there"
     exit 0
 fi
+sql "$file" "$query" >"$work/rows" || fail "the file can't be read"
 same "a place that is missing" "" "$(awk '$1 != NR' "$work/rows")"
 same "what isn't in its place" "" "$(grep -vxF -f "$work/rows" "$work/acknowledged")"
 more=$(($(wc -l <"$work/rows") - $(wc -l <"$work/acknowledged")))
 test "$more" -le 10 || fail "$more rows more than were acknowledged"
+
+# what comes of the upstream on a file that others made by statements: what it prints, and its status
+opened() {
+    rm -f "$work"/made.db*
+    sql "$work/made.db" "$1" || fail "the file can't be made"
+    over "$work/made.db"
+}
+over() {
+    timeout 20 "$keeping" "$1" --port "$port" --secret s --environments dev --client-tokens '*:dev.client' --connections 1 </dev/null
+    echo "status $?"
+}
+
+table='CREATE TABLE kept (place INTEGER PRIMARY KEY, text TEXT NOT NULL)'
+put='{"command":"put-feature","environment":"dev","feature":{"name":"a","enabled":true}}'
+remove='{"command":"remove-segment","environment":"dev","id":4}'
+failed='unl_keeping: the keeper failed
+status 8'
+# the refusal of the row in a place
+refused() { printf 'refused: row %s\nstatus 3' "$1"; }
+same "no first row" "$(refused 1)" "$(opened "$table; INSERT INTO kept VALUES (2, '$put')")"
+same "a row that is no command" "$(refused 1)" "$(opened "$table; INSERT INTO kept VALUES (1, '{}')")"
+same "a command that is refused" "$(refused 1)" "$(opened "$table; INSERT INTO kept VALUES (1, '$remove')")"
+same "a second row that is none" "$(refused 2)" "$(opened "$table; INSERT INTO kept VALUES (1, '$put'), (2, '{}')")"
+same "a place below all" "$failed" "$(opened "$table; INSERT INTO kept VALUES (0, '$put')")"
+same "a row of bytes" "$failed" "$(opened "$table; INSERT INTO kept VALUES (1, x'61')")"
+same "another table" "$failed" "$(opened "CREATE TABLE kept (text TEXT)")"
+echo "no database" >"$work/text.db"
+over "$work/text.db" >"$work/printed"
+same "a file that is no database" "status 8" "$(tail -n 1 "$work/printed")"
+
+# a file that others made of a good row
+file=$work/good.db
+sql "$file" "$table; INSERT INTO kept VALUES (1, '$put')" || fail "the file can't be made"
+begin
+wait_for "$port" "the upstream of a good row"
+ask "$port" '*:dev.client' /api/client/features | grep -q '"name":"a"' || fail "a good row isn't shown"
 echo "keeping: passed ($(wc -l <"$work/acknowledged" | tr -d ' ') commands acknowledged, $more more kept, $kills kills)"

@@ -1,5 +1,5 @@
 #!/bin/sh
-# Limits that only long inputs reach: features of an environment, and keys of a book of metrics. Run after `rt ci` or `rt run`,
+# Limits that only long inputs reach: features and segments of an environment, keys of a book of metrics, the bytes and the lines of an input. Run after `rt ci` or `rt run`,
 # which build the program; PROGRAM names another one.
 set -u
 cd "$(dirname "$0")/.."
@@ -29,7 +29,19 @@ put() {
 same "features" 'refused: line 10002: TooMany
 status 3' "$(put)"
 
-# Reports of 10,000 features, of another one, of one of the first again, and of the other one again.
+# A thousand segments, one of them again, and one more.
+segments() {
+    awk 'BEGIN {
+        for (id = 0; id < 1002; id++) {
+            printf "{\"command\":\"put-segment\",\"environment\":\"dev\",\"segment\":{\"id\":%d}}\n", id == 1000 ? 999 : id
+        }
+    }' | "$program" upstream --environments dev --secret s
+    echo "status $?"
+}
+same "segments" 'refused: line 1002: TooMany
+status 3' "$(segments)"
+
+# Reports of 10,000 features, of another one, of one of the first again, of the other one again, and of a feature too many.
 report() {
     awk '
         function report(letter, count) {
@@ -40,7 +52,7 @@ report() {
         }
         BEGIN {
             print "{\"op\":\"tokens\",\"tokens\":[{\"token\":\"*:dev.c\",\"type\":\"client\"}]}"
-            report("f", 10000); report("g", 1); report("f", 1); report("g", 1)
+            report("f", 10000); report("g", 1); report("f", 1); report("g", 1); report("f", 10001)
         }' | "$program" replay
     echo "status $?"
 }
@@ -49,5 +61,24 @@ same "keys" '1: tokens generation 1 front 1
 3: front 1 status 503 tag - body {"error":"MetricsFull"}
 4: front 1 status 202 tag - body 
 5: front 1 status 503 tag - body {"error":"MetricsFull"}
+6: front 1 status 400 tag - body {"error":"BadReport"}
 status 0' "$(report)"
+# A document of so many bytes, none of which stands in JSON.
+long() {
+    head -c "$2" /dev/zero | tr '\0' '\377' | "$program" "$1"
+    echo "status $?"
+}
+for command in check explain; do
+    same "the longest input of $command" 'refused: NotJson
+status 3' "$(long "$command" 16777216)"
+    same "an input of $command that is too long" 'refused: TooLarge
+status 3' "$(long "$command" 16777217)"
+done
+
+# A line more than there may be.
+lines() {
+    yes '{"op":"ask","target":"/"}' | head -n 1000001 | "$program" replay | tail -n 2
+}
+same "lines" '1000000: front 0 status 404 tag - body {"error":"NoSuchRoute"}
+refused: line 1000001: TooManyLines' "$(lines)"
 echo "limits: passed"

@@ -19,9 +19,9 @@ toggle() {
     printf '{"enabled":true,"impressionData":false,"name":"%s","variant":{"enabled":false,"feature_enabled":true,"name":"disabled"}}' "$1"
 }
 
-# ---- an upstream alone, whose door closes after seven links; one command is taken from the input
+# ---- an upstream alone, whose door closes after nine links; one command is taken from the input
 start "$program" upstream --port "$upstream_port" --secret s --environments dev \
-    --client-tokens '*:dev.client' --frontend-tokens '*:dev.front' --connections 7 <examples/commands.jsonl >"$work/printed"
+    --client-tokens '*:dev.client' --frontend-tokens '*:dev.front' --connections 9 <examples/commands.jsonl >"$work/printed"
 upstream=$last
 wait_for "$upstream_port" "the upstream"
 
@@ -35,9 +35,20 @@ tag=$(ask "$upstream_port" '*:dev.client' /api/client/features --dump-header - -
 test -n "$tag" || fail "the feed has no tag"
 same "a feed that is known" 304 "$(ask "$upstream_port" '*:dev.client' /api/client/features --header "If-None-Match: $tag" --output /dev/null --write-out '%{http_code}')"
 
+# its feed and its hydration give a replay the same toggles
+replayed() {
+    printf '{"op":"tokens","tokens":[{"token":"*:dev.front","type":"frontend"}]}\n{"op":"%s","environment":"dev","%s":%s}\n%s\n' "$1" "$1" \
+        "$(ask "$upstream_port" '*:dev.client' "$2")" '{"op":"ask","token":"*:dev.front","target":"/api/frontend"}' | "$program" replay
+}
+replay="1: tokens generation 1 front 1
+2: apply number 2 front 2
+3: front 2 status 200 tag - body {\"toggles\":[$(toggle a),$(toggle b)]}"
+same "a feed that is replayed" "$replay" "$(replayed feed /api/client/features)"
+same "a hydration that is replayed" "$replay" "$(replayed batch /api/client/delta)"
+
 wait "$upstream"
 same "the status" 0 "$?"
-same "what is printed" "connections 7" "$(cat "$work/printed")"
+same "what is printed" "connections 9" "$(cat "$work/printed")"
 
 # ---- an upstream that keeps its commands in a database, and an edge
 start "$program" upstream --port "$upstream_port" --secret s --environments dev --keep sqlite \

@@ -1,10 +1,12 @@
 /* Preloaded into a program: fails the call of one number, or has it move one byte only. FAIL_MEMORY=N refuses the Nth allocation,
-   FAIL_IO=N fails the Nth read or write, SHORT_IO=N has each read or write from the Nth on move one byte. COUNT_CALLS=FILE says
-   at the end how many there were of each kind: allocations, then reads and writes. */
+   FAIL_IO=N fails the Nth read or write, SHORT_IO=N has each read or write from the Nth on move one byte, FAIL_ACCEPT=N fails the
+   Nth accept for good, FAIL_THREAD=N starts no Nth thread. COUNT_CALLS=FILE says at the end how many there were of each kind:
+   allocations, then reads and writes. */
 #define _GNU_SOURCE
 #include <dlfcn.h>
 #include <errno.h>
 #include <fcntl.h>
+#include <pthread.h>
 #include <stdarg.h>
 #include <stdatomic.h>
 #include <stdio.h>
@@ -15,8 +17,8 @@
 #include <sys/uio.h>
 #include <unistd.h>
 
-static atomic_long allocations, moves;
-static long fail_memory, fail_io, short_io;
+static atomic_long allocations, moves, accepts, threads;
+static long fail_memory, fail_io, short_io, fail_accept, fail_thread;
 static int ready;
 
 static long number_in(const char *name) {
@@ -28,6 +30,8 @@ __attribute__((constructor)) static void begin(void) {
     fail_memory = number_in("FAIL_MEMORY");
     fail_io = number_in("FAIL_IO");
     short_io = number_in("SHORT_IO");
+    fail_accept = number_in("FAIL_ACCEPT");
+    fail_thread = number_in("FAIL_THREAD");
     ready = 1;
 }
 
@@ -91,3 +95,17 @@ MOVES(read, void *, NOTHING, NOTHING)
 MOVES(write, const void *, NOTHING, NOTHING)
 MOVES(recv, void *, WITH_FLAGS, THE_FLAGS)
 MOVES(send, const void *, WITH_FLAGS, THE_FLAGS)
+
+int accept4(int file, struct sockaddr *at, socklen_t *size, int flags) {
+    static int (*next)(int, struct sockaddr *, socklen_t *, int);
+    if (ready && ++accepts == fail_accept) return errno = EBADF, -1;
+    if (!next) *(void **)&next = dlsym(RTLD_NEXT, "accept4");
+    return next(file, at, size, flags);
+}
+
+int pthread_create(pthread_t *at, const pthread_attr_t *how, void *(*what)(void *), void *with) {
+    static int (*next)(pthread_t *, const pthread_attr_t *, void *(*)(void *), void *);
+    if (ready && ++threads == fail_thread) return EAGAIN;
+    if (!next) *(void **)&next = dlsym(RTLD_NEXT, "pthread_create");
+    return next(at, how, what, with);
+}

@@ -1,8 +1,9 @@
 """faults.py PROGRAM SHIM UPSTREAM_PORT EDGE_PORT: runs the program with one call refused, for each call in turn.
 
 SHIM is scripts/c/failing_calls.c, built to be preloaded. Each allocation is refused once, and each read and write fails once, in a
-replay, in a check, on one connection of an upstream with two requests, and in one turn of an edge before one connection. Prints how
-many were tried and what came of them, and ends with 1 at any other outcome than those that are stated.
+replay, in a check, on one connection of an upstream with two requests, and in one turn of an edge before one connection. The second
+accept of an upstream and of an edge fails once, and each thread of an edge can't be started once. Prints how many were tried and
+what came of them, and ends with 1 at any other outcome than those that are stated.
 """
 import collections
 import concurrent.futures
@@ -143,22 +144,51 @@ def of_edge(kind, given, whole):
     return of_server(kind, given, whole, (OUT_OF_MEMORY, DOOR_FAULT))
 
 
+def without_link(words, path='/dev/null'):
+    """A server whose second accept fails: what its first link got, what was printed, and the status."""
+    with open(path, 'rb') as source:
+        process = started([*words, '--connections', '2'], source, FAIL_ACCEPT=2)
+        answer = exchanged(process, UPSTREAM_PORT)
+        return answer, process.communicate(timeout=20)[0], process.returncode
+
+
+def without_thread(words, number):
+    """A server that can't start its thread of this number: what was printed, and the status."""
+    with open('/dev/null', 'rb') as source:
+        process = started(words, source, FAIL_THREAD=number)
+        return process.communicate(timeout=20)[0], process.returncode
+
+
+def tried(name, expected, given):
+    print(f'{name}: {given[-1]}')
+    if given != expected:
+        failures.append(f'{name}: gave {given}')
+
+
 BOOK = b'{"tokens":[{"projects":["*"],"token":"*:dev.client","type":"client"},{"projects":["*"],"token":"*:dev.front","type":"frontend"}]}'
 STATE = (b'{"events":[{"eventId":3,"features":[{"enabled":true,"name":"a","strategies":[{"name":"default"}]}],"segments":[],'
          b'"type":"hydration"}]}')
+
+
+def is_whole(request):
+    """Whether these bytes are a head and the body that its Content-Length tells of, if it has one."""
+    head, end, body = request.partition(b'\r\n\r\n')
+    lengths = [int(line.split(b':')[1]) for line in head.lower().split(b'\r\n') if line.startswith(b'content-length:')]
+    return bool(end) and len(body) >= sum(lengths)
 
 
 def upstream_of(port):
     """A server that answers what an edge asks, in a thread of its own."""
     def answer(link):
         with link:
-            head = b''
-            while b'\r\n\r\n' not in head:
+            request = b''
+            # It reads a body too: one who is still sending would lose the answer as the link is closed.
+            while not is_whole(request):
                 piece = link.recv(65536)
                 if not piece:
                     return
-                head += piece
-            body = BOOK if b'/edge/validate' in head else STATE
+                request += piece
+            body = BOOK if b'/edge/validate' in request else STATE
             link.sendall(b'HTTP/1.1 200 OK\r\nContent-Type: application/json\r\nContent-Length: %d\r\n\r\n' % len(body) + body)
 
     def serve():
@@ -182,6 +212,14 @@ def main():
     edge = ['edge', '--upstream', f'127.0.0.1:{UPSTREAM_PORT + 1}', '--upstream-tokens', '*:dev.client', '--tokens', '*:dev.client,*:dev.front',
             '--workers', '2', '--interval', '1']
     swept('a turn of an edge', served(edge, range(EDGE_PORT, EDGE_PORT + AT_ONCE)), of_edge, AT_ONCE)
+    link = [*upstream, '--port', str(UPSTREAM_PORT)]
+    at_once = [*edge, '--port', str(UPSTREAM_PORT)]
+    whole = served(upstream, [UPSTREAM_PORT], 'examples/commands.jsonl')()[0][0]
+    tried('an upstream without a second link', (whole, b'', DOOR_FAULT), without_link(link, 'examples/commands.jsonl'))
+    whole = served(edge, [EDGE_PORT])()[0][0]
+    tried('an edge without a second link', (whole, b'', DOOR_FAULT), without_link(at_once))
+    for number in (1, 2, 3):
+        tried(f'an edge without its thread {number}', (b'', DOOR_FAULT), without_thread(at_once, number))
     for failure in failures[:20]:
         print(failure)
     sys.exit(1 if failures else 0)

@@ -5,7 +5,7 @@ otherwise, and whether a server's memory grew. The tokens are `*:dev.client` and
 """
 import sys
 
-from wire import HEALTH, answered, connect, memory_of, request, reset, rest_of, started_by, statuses
+from wire import HEALTH, answered, connect, memory_of, replies, request, reset, rest_of, started_by, statuses
 
 DEEP = b"[" * 100_000 + b"]" * 100_000
 LONG = b"1" * 1_000
@@ -46,6 +46,77 @@ ROWS = [
     ("a command of 100,000 brackets", {"upstream": [400], "edge": [404]}, [request(b"/commands", SECRET, DEEP)]),
 ]
 
+# 30 bytes before the value of a field
+LONG_FIELD = b"GET /no HTTP/1.1\r\nHost: x\r\na: "
+
+# heads that are refused, and the status: one that breaks two rules has that of the first
+HEADS = [
+    (b"GET / HTTP/2.0\r\n", 400),
+    (b"GET  / HTTP/1.1\r\n", 400),
+    (b"GET / HTTP/1.1\r\nHost : x\r\n", 400),
+    (b"POST / HTTP/1.1\r\nHost: x\r\nTransfer-Encoding: chunked\r\n\r\n", 411),
+    (b"POST / HTTP/1.1\r\nHost: x\r\nContent-Length: 5\r\nTransfer-Encoding: chunked\r\n\r\nabcde", 411),
+    (b"POST / HTTP/1.1\r\nTransfer-Encoding: chunked\r\n\r\n", 411),
+    (b"POST / HTTP/1.1\r\nHost: x\r\nContent-Length: 1\r\nContent-Length: 1\r\n\r\nab", 400),
+    (b"POST / HTTP/1.1\r\nHost: x\r\nContent-Length: +5\r\n\r\nabcde", 400),
+    (b"POST / HTTP/1.1\r\nHost: x\r\nContent-Length: 5,5\r\n\r\nabcde", 400),
+    (b"POST / HTTP/1.1\r\nHost: x\r\nContent-Length:\r\n\r\n", 400),
+    (b"POST / HTTP/1.1\r\nHost: x\r\nContent-Length: 00000000000000000001\r\n\r\na", 400),
+    (b"GET / HTTP/1.1\r\n\r\n", 400),
+    (b"GET / HTTP/1.1\r\nHost: x\r\nHOST: x\r\n\r\n", 400),
+    (b"GET / HTTP/1.1\r\nContent-Length: 1048577\r\n\r\n", 400),
+    (b"GET / HTTP/1.1\r\nHost: x\r\nContent-Length: 1048577\r\n\r\n", 413),
+    (b"GET / HTTP/1.1\r\nHost: x\r\nContent-Length: 9999999999999999999\r\n\r\n", 413),
+    (b"GET / HTTP/1.0\r\nContent-Length: 1048577\r\nContent-Encoding: gzip\r\n\r\n", 413),
+    (b"GET / HTTP/1.0\r\nContent-Encoding: gzip\r\n\r\n", 415),
+    (b"GET / HTTP/1.0\r\nContent-Encoding: identity\r\nContent-Encoding: gzip\r\n\r\n", 415),
+    (b"GET / HTTP/1.0\r\nContent-Encoding: gzip\r\nExpect: 100-continue\r\n\r\n", 415),
+    (b"GET / HTTP/1.0\r\nContent-Encoding: Identity\r\nExpect: anything\r\n\r\n", 417),
+    (b"GET / HTTP/1.0\r\nexpect: 100-continue\r\n\r\n", 417),
+    (b"GET / HTTP/1.0\r\nContent-Length: 2\r\nExpect: 100-continue\r\n\r\na", 417),
+    (b"GET / HTTP/1.0\r\n" + b"a: b\r\n" * 65 + b"\r\n", 431),
+    (b"GET / HTTP/1.0\r\nExpect: x\r\n" + b"a: b\r\n" * 64 + b"\r\n", 431),
+    (b"GET / HTTP/1.0\r\nExpect: x\r\n" + b"a: b\r\n" * 63 + b"\r\n", 417),
+    (b"GET / HTTP/1.0\r\na: " + b"b" * 8_173 + b"\r\n\r\n", 431),
+    (b"GET /" + b"a" * 8_187, 431),
+    (LONG_FIELD + b"b" * 8_162, 431),
+    (LONG_FIELD + b"b" * 8_159 + b"\r\n\r\n", 431),
+]
+
+# bytes that end a link without a refusal, and how many requests are answered
+ENDS = [
+    (b"GET", 0),
+    (b"GET /no HTTP/1.1\r\nHost: x\r\n", 0),
+    (b"POST / HTTP/1.1\r\nHost: x\r\nContent-Length: 3\r\n\r\nab", 0),
+    (b"POST / HTTP/1.1\r\nHost: x\r\nContent-Length: 3\r\n\r\nabc", 1),
+    (b"POST / HTTP/1.1\r\nHost: x\r\nContent-Length: 3\r\n\r\nabcGET", 1),
+    (b"GET /no HTTP/1.1\r\nHost: x\r\nConnection: keep-alive, Close\r\n\r\n" * 2, 1),
+    (b"GET /no HTTP/1.0\r\n\r\n" * 2, 1),
+    (b"GET /no HTTP/1.0\r\nConnection: Keep-Alive\r\n\r\n" * 2, 2),
+    (b"GET /no HTTP/1.0\r\nConnection: x\r\nConnection: keep-alive\r\n\r\n" * 2, 1),
+    (LONG_FIELD + b"b" * 8_161, 0),
+    (LONG_FIELD + b"b" * 8_158 + b"\r\n\r\n", 1),
+]
+
+JSON = b"Content-Type: application/json\r\nContent-Length: "
+HEALTHY = b'HTTP/1.1 200 OK\r\n' + JSON + b'15\r\n\r\n{"status":"OK"}'
+NO_ROUTE = b'HTTP/1.1 404 Not Found\r\n' + JSON + b'23\r\n\r\n{"error":"NoSuchRoute"}'
+
+# requests, and the whole text of the replies: in the last row the first one's body spells a request
+REPLIES = [
+    (b"GET /api/nothing HTTP/1.0\r\n\r\n",
+     b'HTTP/1.1 404 Not Found\r\n' + JSON + b'23\r\nConnection: close\r\n\r\n{"error":"NoSuchRoute"}'),
+    (request(b"/api/frontend"), b'HTTP/1.1 401 Unauthorized\r\n' + JSON + b'19\r\n\r\n{"error":"NoToken"}'),
+    (request(b"/api/frontend", b"t"), b'HTTP/1.1 403 Forbidden\r\n' + JSON + b'24\r\n\r\n{"error":"UnknownToken"}'),
+    (request(b"/api/frontend", CLIENT), b'HTTP/1.1 403 Forbidden\r\n' + JSON + b'21\r\n\r\n{"error":"WrongKind"}'),
+    (b"PUT /api/frontend HTTP/1.1\r\nHost: x\r\n\r\n",
+     b'HTTP/1.1 405 Method Not Allowed\r\n' + JSON + b'21\r\nAllow: GET, POST\r\n\r\n{"error":"BadMethod"}'),
+    (b"HEAD /internal-backstage/health?x HTTP/1.1\r\nHost: x\r\n\r\n",
+     b'HTTP/1.1 405 Method Not Allowed\r\n' + JSON + b'21\r\nAllow: GET\r\nConnection: close\r\n\r\n{"error":"BadMethod"}'),
+    (HEADS[3][0], b"HTTP/1.1 411 Length Required\r\nContent-Length: 0\r\nConnection: close\r\n\r\n"),
+    (request(b"/no", body=HEALTH) + HEALTH, NO_ROUTE + HEALTHY),
+]
+
 
 def check(name, is_as, found):
     if found != is_as:
@@ -56,6 +127,12 @@ def play(server, port):
     for name, expected, pieces in ROWS:
         is_as = expected[server] if isinstance(expected, dict) else expected
         check(f"{server}, {name}", is_as, answered(port, *pieces))
+    for head, status in HEADS:
+        check(f"{server}, {head[:99]}", [status], answered(port, head))
+    for pieces, count in ENDS:
+        check(f"{server}, {pieces[:99]}", [404] * count, answered(port, pieces))
+    for asked, text in REPLIES:
+        check(f"{server}, {asked}", [text], [replies(port, asked)])
     # a field a packet, and a byte a packet
     head = b"GET /internal-backstage/health HTTP/1.1\r\nHost: h\r\n"
     check(f"{server}, a field a packet", [200], answered(port, head, *FIELDS, b"\r\n", pause=0.001))

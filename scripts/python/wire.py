@@ -2,6 +2,7 @@
 import os
 import socket
 import struct
+import threading
 import time
 
 # how many seconds an answer may take
@@ -30,14 +31,19 @@ def statuses(replies):
     return [int(part[1:4]) for part in replies.split(b"HTTP/1.1")[1:]]
 
 
-def answered(port, *pieces, pause=0.0, timeout=SOON):
-    """The statuses that come for these pieces, of which the last ends with the link's direction."""
+def replies(port, *pieces, pause=0.0, timeout=SOON):
+    """What comes for these pieces, of which the last ends with the link's direction."""
     with connect(port, timeout) as link:
         for piece in pieces:
             link.sendall(piece)
             time.sleep(pause)
         link.shutdown(socket.SHUT_WR)
-        return statuses(rest_of(link))
+        return rest_of(link)
+
+
+def answered(port, *pieces, pause=0.0, timeout=SOON):
+    """The statuses of what comes for these pieces."""
+    return statuses(replies(port, *pieces, pause=pause, timeout=timeout))
 
 
 def request(path, token=b"", body=None, fields=b""):
@@ -49,13 +55,101 @@ def request(path, token=b"", body=None, fields=b""):
     return head + fields + b"\r\n" + (body or b"")
 
 
+def cut_off(link):
+    """Resets a link."""
+    link.setsockopt(socket.SOL_SOCKET, socket.SO_LINGER, struct.pack("ii", 1, 0))
+    link.close()
+
+
 def reset(port, *pieces):
     """Sends these and resets the link, without a look at what comes."""
     link = connect(port)
-    link.setsockopt(socket.SOL_SOCKET, socket.SO_LINGER, struct.pack("ii", 1, 0))
     for piece in pieces:
         link.sendall(piece)
-    link.close()
+    cut_off(link)
+
+
+def within(try_it, lives=lambda: True, seconds=SOON):
+    """What a try gives, made again until it gives something; none once too much time went by, or what it tries has ended."""
+    until = time.monotonic() + seconds
+    while time.monotonic() < until and lives():
+        try:
+            if found := try_it():
+                return found
+        except ConnectionRefusedError:
+            pass
+        time.sleep(0.01)
+    return None
+
+
+def message_of(link):
+    """The head of a request or a reply that comes on a link, and its body, by its length; fewer bytes where the link ends."""
+    text = b""
+    length = None
+    while length is None or len(text) < length:
+        part = link.recv(65_536)
+        if not part:
+            break
+        text += part
+        if length is None and b"\r\n\r\n" in text:
+            head = text[: text.index(b"\r\n\r\n") + 4]
+            fields = [field.split(b":", 1) for field in head.split(b"\r\n")[1:-2]]
+            length = len(head) + sum(int(value) for name, value in fields if name.lower() == b"content-length")
+    head, _, body = text.partition(b"\r\n\r\n")
+    return head + b"\r\n\r\n", body
+
+
+def reply_of(link):
+    """The status and the body of a reply with a length."""
+    head, body = message_of(link)
+    return int(head[9:12] or 0), body
+
+
+class Upstream:
+    """A server at a port that gives each link what `reply_to` says of its request, in pieces where that is a list, and cuts it off
+    where that is nothing. It keeps the requests."""
+
+    def __init__(self, port, reply_to):
+        self.listener = socket.create_server(("127.0.0.1", port))
+        self.reply_to = reply_to
+        self.asked = []
+        self.serving = threading.Thread(target=self.serve, daemon=True)
+        self.serving.start()
+
+    def serve(self):
+        while True:
+            try:
+                link, _ = self.listener.accept()
+            except OSError:
+                return
+            with link:
+                text = b"".join(message_of(link))
+                self.asked.append(text)
+                self.give(link, self.reply_to(text))
+
+    @staticmethod
+    def give(link, reply):
+        link.setsockopt(socket.IPPROTO_TCP, socket.TCP_NODELAY, 1)
+        try:
+            if isinstance(reply, list):
+                for piece in reply:
+                    link.sendall(piece)
+                    time.sleep(0.001)
+            elif reply:
+                link.sendall(reply)
+            else:
+                cut_off(link)
+        except ConnectionError:
+            # it has read enough
+            pass
+
+    def __enter__(self):
+        return self
+
+    def __exit__(self, *_):
+        self.listener.shutdown(socket.SHUT_RDWR)
+        self.listener.close()
+        self.serving.join()
 
 
 HEALTH = request(b"/internal-backstage/health")

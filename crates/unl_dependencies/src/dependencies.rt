@@ -5,10 +5,11 @@ ghost use Rattle.unl_documents.specs.States.{IsValidState};
 ghost use Rattle.unl_documents.specs.Valid.{IsValidFeature};
 ghost use Rattle.unl_variants.specs.Variant.{is_among as among};
 ghost use Rattle.unl_dependencies.specs.Evaluation.{is_met as met, is_met_by as met_by, agrees as agreeing, dependencies_met};
+ghost use Rattle.unl_dependencies.specs.Decision.{evaluation_by, asks_for as asks_for_parent};
 
-use crate::evaluation::Evaluation;
+use crate::evaluation::{Decision, Evaluation, no_variant};
 use crate::features::{Features, valid_named};
-use crate::picking::evaluate_where;
+use crate::picking::decision_where;
 use std::alloc::Global;
 use unl_context::Context;
 use unl_documents::{Dependency, Memory, Text};
@@ -73,8 +74,8 @@ pub fn is_met_by<F: Features>(
     if !F::document(parent).dependencies.is_empty() {
         return Ok(false);
     }
-    let evaluation = evaluate_where(alloc, true, features, parent, context, moment)?;
-    Ok(agrees(dependency, &evaluation))
+    let decision = decision_where(alloc, true, features, parent, context, moment)?;
+    Ok(decision_agrees(dependency, decision))
 }
 
 /// Whether a parent's evaluation is what a dependency asks for: off; or on, and with one of its variants where it names
@@ -82,12 +83,28 @@ pub fn is_met_by<F: Features>(
 pub fn agrees(dependency: &Dependency, parent: &Evaluation) -> bool
     ensures { result ≡ agreeing dependency.now parent.now }
 {
-    if !dependency.enabled {
-        return !parent.on;
+    asks_for(dependency, parent.on, parent.variant.name.as_str())
+}
+
+/// Whether what a parent is is what a dependency asks for, as [`agrees`] says it.
+fn decision_agrees(dependency: &Dependency, parent: Decision) -> bool
+    ensures { result ≡ agreeing dependency.now (evaluation_by parent.entry) }
+{
+    match parent {
+        Decision::Off => asks_for(dependency, false, no_variant()),
+        Decision::On(None) => asks_for(dependency, true, no_variant()),
+        Decision::On(Some(variant)) => asks_for(dependency, true, variant.name.as_str()),
     }
-    parent.on
-        && (dependency.variants.is_empty()
-            || is_among(dependency.variants.as_slice(), parent.variant.name.as_str()))
+}
+
+/// Whether a dependency asks for a parent that is on or off, with a variant of this name.
+fn asks_for(dependency: &Dependency, on: bool, variant: &str) -> bool
+    ensures { result ≡ asks_for_parent dependency.now on variant.now }
+{
+    if !dependency.enabled {
+        return !on;
+    }
+    on && (dependency.variants.is_empty() || is_among(dependency.variants.as_slice(), variant))
 }
 
 fn is_among(names: &[Text], name: &str) -> bool

@@ -3,11 +3,12 @@ ghost use Rattle.std.specs.Prelude.{◌≡◌, IfOk};
 ghost use Rattle.unl_documents.specs.States.{IsValidState};
 ghost use Rattle.unl_documents.specs.Valid.{IsValidFeature};
 ghost use Rattle.unl_dependencies.specs.Evaluation.{feature_evaluation, evaluation_of};
+ghost use Rattle.unl_dependencies.specs.Decision.{evaluation_by};
 
 use crate::dependencies::all_met;
-use crate::evaluation::Evaluation;
+use crate::evaluation::{Decision, Evaluation};
 use crate::features::{Features, valid_named};
-use crate::picking::evaluate_where;
+use crate::picking::decision_where;
 use std::alloc::Global;
 use unl_context::Context;
 use unl_documents::Memory;
@@ -35,7 +36,6 @@ pub fn evaluate<F: Features>(
 
 /// The evaluation of a feature over a state that it depends on: the features that it names as its parents, and the
 /// segments that its strategies and theirs name.
-#[tactic(auto, unfolding(crate::specs::Evaluation::feature_evaluation))]
 pub fn evaluate_feature<F: Features>(
     alloc: Global,
     features: &F,
@@ -48,7 +48,25 @@ pub fn evaluate_feature<F: Features>(
     ensures value { IfOk result (λ e. e
         ≡ feature_evaluation (F.state features.now) (F.document feature.now) context.now moment.entry.now) }
 {
+    decide(alloc, features, feature, context, moment)?.evaluation(alloc)
+}
+
+/// What a feature is over a state that it depends on, as [`evaluate_feature`] says it, where the variant is lent and not
+/// copied. The error is want of memory.
+#[tactic(auto, unfolding(crate::specs::Evaluation::feature_evaluation))]
+pub fn decide<'a, F: Features>(
+    alloc: Global,
+    features: &F,
+    feature: &'a F::Feature,
+    context: &Context,
+    moment: &Moment,
+) -> Result<Decision<'a>, Memory>
+    requires valid { IsValidState (F.state features.now) }
+    requires feature { IsValidFeature (F.document feature.now) }
+    ensures { IfOk result (λ v. evaluation_by v
+        ≡ feature_evaluation (F.state features.now) (F.document feature.now) context.now moment.entry.now) }
+{
     let dependencies = F::document(feature).dependencies.as_slice();
     let met = all_met(alloc, dependencies, features, context, moment)?;
-    evaluate_where(alloc, met, features, feature, context, moment)
+    decision_where(alloc, met, features, feature, context, moment)
 }

@@ -1,8 +1,16 @@
-ghost use Rattle.std.specs.Prelude.{◌≡◌, IfOk, option_map};
+ghost use Rattle.std.specs.Prelude.{◌≡◌, IfOk, codes, option_map};
 ghost use Rattle.unl_dependencies.specs.Evaluation.{off as off_evaluation, on_with as evaluation_on_with, answer_of};
+ghost use Rattle.unl_dependencies.specs.Decision.{evaluation_by};
 
 use std::alloc::Global;
 use unl_documents::{Copied, Memory, Payload, Text, Variant};
+
+/// The name that stands where there is no variant.
+pub(crate) fn no_variant() -> &'static str
+    ensures { result.now ≡ codes "disabled" }
+{
+    "disabled"
+}
 
 /// What a feature is for a context at a moment.
 #[derive(Debug, Drop)]
@@ -22,6 +30,27 @@ pub struct VariantAnswer {
     pub enabled: bool,
     /// What the variant hands to the application.
     pub payload: Option<Payload>,
+}
+
+/// What a feature is for a context at a moment, where its variant is lent.
+#[derive(Clone, Copy)]
+pub enum Decision<'a> {
+    /// It is off.
+    Off,
+    /// It is on, with this variant, if there is one.
+    On(Option<&'a Variant>),
+}
+
+impl<'a> Decision<'a> {
+    /// The evaluation that it stands for. The error is want of memory.
+    pub fn evaluation(self, alloc: Global) -> Result<Evaluation, Memory>
+        ensures { IfOk result (λ e. e ≡ evaluation_by self.entry) }
+    {
+        match self {
+            Decision::Off => Evaluation::off(alloc),
+            Decision::On(variant) => Evaluation::on_with(alloc, variant),
+        }
+    }
 }
 
 impl Evaluation {
@@ -53,7 +82,7 @@ impl VariantAnswer {
     {
         match variant {
             None => Ok(VariantAnswer {
-                name: Text::new(alloc, "disabled")?,
+                name: Text::new(alloc, no_variant())?,
                 enabled: false,
                 payload: None,
             }),

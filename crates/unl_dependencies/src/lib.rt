@@ -10,8 +10,8 @@ mod laws;
 mod picking;
 
 pub use dependencies::{agrees, all_met, is_met, is_met_by};
-pub use evaluating::{evaluate, evaluate_feature};
-pub use evaluation::{Evaluation, VariantAnswer};
+pub use evaluating::{decide, evaluate, evaluate_feature};
+pub use evaluation::{Decision, Evaluation, VariantAnswer};
 pub use features::Features;
 pub use finding::feature_named;
 pub use laws::{

@@ -5,9 +5,10 @@ ghost use Rattle.unl_variants.specs.Variant.{AreWithinLimits};
 ghost use Rattle.unl_dependencies.specs.Evaluation.{first_active as first_active_of};
 ghost use Rattle.unl_dependencies.specs.Evaluation.{strategy_variant as variant_of_strategy, own_variant as own_variant_of};
 ghost use Rattle.unl_dependencies.specs.Evaluation.{variant_of as variant_of_feature, variant_in as variant_chosen_in, evaluation_where};
-ghost use Rattle.unl_dependencies.specs.Evaluation.{on_with};
+ghost use Rattle.unl_dependencies.specs.Decision.{evaluation_by};
+ghost use Rattle.unl_strategies.specs.Random.{random_number, random_id as id_number};
 
-use crate::evaluation::Evaluation;
+use crate::evaluation::{Decision, Evaluation};
 use crate::features::Features;
 use std::alloc::Global;
 use unl_context::Context;
@@ -17,7 +18,6 @@ use unl_variants::choose;
 
 /// The evaluation of a feature within its limits, where it is known whether its dependencies are met. The error is want
 /// of memory.
-#[tactic(auto, unfolding(crate::specs::Evaluation::evaluation_where, crate::specs::Evaluation::is_on))]
 pub fn evaluate_where<F: Features>(
     alloc: Global,
     met: bool,
@@ -30,15 +30,32 @@ pub fn evaluate_where<F: Features>(
     ensures { IfOk result (λ e. e ≡ evaluation_where met (F.document feature.now) (F.state features.now).segments
         context.now moment.entry.now) }
 {
+    decision_where(alloc, met, features, feature, context, moment)?.evaluation(alloc)
+}
+
+/// What a feature within its limits is, where it is known whether its dependencies are met. The error is want of memory.
+#[tactic(auto, unfolding(crate::specs::Evaluation::evaluation_where, crate::specs::Evaluation::is_on))]
+pub(crate) fn decision_where<'a, F: Features>(
+    alloc: Global,
+    met: bool,
+    features: &F,
+    feature: &'a F::Feature,
+    context: &Context,
+    moment: &Moment,
+) -> Result<Decision<'a>, Memory>
+    requires valid { IsValidFeature (F.document feature.now) }
+    ensures { IfOk result (λ v. evaluation_by v ≡ evaluation_where met (F.document feature.now) (F.state features.now).segments
+        context.now moment.entry.now) }
+{
     let document = F::document(feature);
     if !document.enabled || !met {
-        return Evaluation::off(alloc);
+        return Ok(Decision::Off);
     }
     let first = first_active(alloc, features, feature, context, moment)?;
     if !document.strategies.is_empty() && first.is_none() {
-        return Evaluation::off(alloc);
+        return Ok(Decision::Off);
     }
-    Evaluation::on_with(alloc, variant_of(document, context, moment, first))
+    Ok(Decision::On(variant_of(document, context, moment, first)))
 }
 
 /// The place, from 0, of the first strategy that is active: the least such place, and none where no strategy is. The
@@ -115,8 +132,15 @@ pub fn strategy_variant<'a>(
 {
     let strategy = feature.strategies.get(place as usize)?;
     let group = parameter_or(&strategy.parameters, "groupId", feature.name.as_str());
-    let random = random_for(feature.name.as_str(), Mark::Strategy(place), moment.word);
-    variant_in(group, &strategy.variants, context, random_id(random))
+    let name = feature.name.as_str();
+    variant_drawn(
+        group,
+        &strategy.variants,
+        context,
+        name,
+        Mark::Strategy(place),
+        moment.word,
+    )
 }
 
 /// The variant that is chosen among the feature's own, in the group of its name, if one is. The feature is within its
@@ -131,8 +155,36 @@ pub fn own_variant<'a>(
     ensures { option_map (λ v. v.now) result ≡ own_variant_of feature.now context.now moment.entry.now }
 {
     let name = feature.name.as_str();
-    let random = random_for(name, Mark::Own, moment.word);
-    variant_in(name, &feature.variants, context, random_id(random))
+    variant_drawn(
+        name,
+        &feature.variants,
+        context,
+        name,
+        Mark::Own,
+        moment.word,
+    )
+}
+
+/// The variant that is chosen in a group, where the random number is that of a feature's mark: it is made only where
+/// there are variants.
+#[tactic(auto, unfolding(crate::specs::Evaluation::variant_in, unl_variants::specs::Variant::choice_of))]
+fn variant_drawn<'a>(
+    group: &str,
+    variants: &'a List<Variant>,
+    context: &Context,
+    feature: &str,
+    mark: Mark,
+    word: u64,
+) -> Option<&'a Variant>
+    requires limits { AreWithinLimits variants.now }
+    ensures { option_map (λ v. v.now) result
+        ≡ variant_chosen_in group.now variants.now context.now (id_number (random_number feature.now mark word)) }
+{
+    if variants.is_empty() {
+        return None;
+    }
+    let random = random_for(feature, mark, word);
+    variant_in(group, variants, context, random_id(random))
 }
 
 /// The variant that is chosen in a group.

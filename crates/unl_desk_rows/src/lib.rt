@@ -13,5 +13,3 @@ mod refresh;
 mod upstream;
 #[cfg(test)]
 mod upstream_keeping;
-#[cfg(test)]
-mod upstream_serving;

@@ -4,6 +4,7 @@ ghost use Rattle.unl_exchange.specs.Conversation.{Converses};
 ghost use Rattle.unl_exchange.specs.Links.{link_state};
 
 use crate::answering::{Answering, MOST_REQUESTS};
+use crate::receive::PIECE;
 use crate::serving::serve_request;
 use std::alloc::Global;
 use unl_base::{Draws, Link};
@@ -26,12 +27,15 @@ pub fn converse<A: Answering, L: Link, R: Draws>(
     ensures keeps { A.keeps state.old state.new }
 {
     let mut reader = Reader::new(alloc);
+    // One room for the whole connection: to make it anew costs more than most requests do.
+    let mut room = [0; PIECE];
     let mut count = 0;
     for turn in 0..MOST_REQUESTS {
         let last = turn + 1 == MOST_REQUESTS;
         if let Some(end) = serve_request::<A, L, R>(
             alloc,
             &mut reader,
+            &mut room,
             state,
             &mut count,
             link,

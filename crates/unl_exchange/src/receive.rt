@@ -10,7 +10,7 @@ use unl_documents::Memory;
 use unl_http_api::{Next, Reader, Request};
 
 /// So many bytes are read at a time.
-const PIECE: usize = 16_384;
+pub(crate) const PIECE: usize = 16_384;
 
 /// What was received.
 #[derive(Drop)]
@@ -26,16 +26,20 @@ pub(crate) enum Received {
     Memory,
 }
 
-/// Receives the next request, or tells why none comes.
-pub(crate) fn receive<L: Link>(alloc: Global, reader: &mut Reader, link: &mut L) -> Received
+/// Receives the next request, or tells why none comes. What is read goes through this room, whose bytes say nothing.
+pub(crate) fn receive<L: Link>(
+    alloc: Global,
+    reader: &mut Reader,
+    link: &mut L,
+    room: &mut [u8; PIECE],
+) -> Received
     ensures found { Receives reader.old (L.left link.old) result reader.new (L.left link.new) }
     ensures sent { L.sent link.new ≡ L.sent link.old }
     ensures later { L.Source.faults link.old ≤ L.Source.faults link.new }
     ensures cause { result ≡ Received.ReadFault → Rose (L.Source.faults link.old) (L.Source.faults link.new) }
 {
-    let mut room = [0; PIECE];
     loop {
-        if let Some(received) = turn(alloc, reader, link, &mut room) {
+        if let Some(received) = turn(alloc, reader, link, room) {
             return received;
         }
     }

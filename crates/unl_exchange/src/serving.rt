@@ -7,7 +7,7 @@ ghost use Rattle.unl_exchange.specs.Answering.{Answers, LacksMemory, answerer};
 ghost use Rattle.unl_exchange.specs.Exchange.{Goes, Refuses, Replied, Tells500, Writes};
 
 use crate::answering::{Answering, MOST_REQUESTS};
-use crate::receive::{Received, receive};
+use crate::receive::{PIECE, Received, receive};
 use std::alloc::Global;
 use unl_base::{Draws, Link};
 use unl_documents::{List, Memory};
@@ -17,6 +17,7 @@ use unl_http_api::{End, Reader, Reply, Request, WriteRefusal, write_500, write_r
 pub(crate) fn serve_request<A: Answering, L: Link, R: Draws>(
     alloc: Global,
     reader: &mut Reader,
+    room: &mut [u8; PIECE],
     state: &mut A::State,
     count: &mut usize,
     link: &mut L,
@@ -47,7 +48,7 @@ pub(crate) fn serve_request<A: Answering, L: Link, R: Draws>(
     ensures gave_up { result ≡ Some End.Memory
         → Tells500 (L.sent link.old) (L.Source.faults link.old) (L.sent link.new) (L.Source.faults link.new) }
 {
-    match receive(alloc, reader, link) {
+    match receive(alloc, reader, link, room) {
         Received::Request(request) => {
             let close = request.close || last;
             match reply_to::<A, L, R>(alloc, state, count, link, draws, &request, close) {

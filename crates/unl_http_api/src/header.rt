@@ -3,7 +3,7 @@ ghost use Rattle.std.specs.Prelude.{◌≡◌, ◌++◌, OnOk, codes};
 ghost use Rattle.std.specs.Fmt.{decimal};
 ghost use Rattle.unl_http_api.specs.Reply.{header};
 
-use std::alloc::Global;
+use itoa::Buffer;
 use unl_documents::Memory;
 
 /// Adds a header.
@@ -17,11 +17,21 @@ pub(crate) fn push_header(text: &mut Vec<u8>, name: &str, value: &[u8]) -> Resul
     Ok(())
 }
 
+/// Adds the digits of a number.
+pub(crate) fn push_number(text: &mut Vec<u8>, number: usize) -> Result<(), Memory>
+    ensures { OnOk result (text.new.items ≡ text.old.items ++ decimal number) }
+{
+    let mut room = Buffer::new();
+    text.extend_from_slice(room.format(number).as_bytes())?;
+    Ok(())
+}
+
 /// Adds how long a body is.
-pub(crate) fn push_length(alloc: Global, text: &mut Vec<u8>, length: usize) -> Result<(), Memory>
+pub(crate) fn push_length(text: &mut Vec<u8>, length: usize) -> Result<(), Memory>
     ensures { OnOk result (text.new.items ≡ text.old.items ++ header (codes "Content-Length") (decimal length)) }
 {
-    let digits = format!(in alloc; "{}", length)?;
-    push_header(text, "Content-Length", digits.as_bytes())?;
+    text.extend_from_slice(b"Content-Length: ")?;
+    push_number(text, length)?;
+    text.extend_from_slice(b"\r\n")?;
     Ok(())
 }

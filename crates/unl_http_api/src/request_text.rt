@@ -43,7 +43,7 @@ pub fn write_request(
     push_header(&mut text, "Host", host.as_bytes())?;
     push_token(&mut text, token)?;
     push_tag(&mut text, tag)?;
-    push_body_headers(alloc, &mut text, method, body)?;
+    push_body_headers(&mut text, method, body)?;
     push_header(&mut text, "Connection", b"close")?;
     text.extend_from_slice(b"\r\n")?;
     text.extend_from_slice(body)?;
@@ -95,25 +95,20 @@ fn push_tag(text: &mut Vec<u8>, tag: Option<&[u8]>) -> Result<(), Memory>
 }
 
 /// Adds what the body is and how long, at POST.
-fn push_body_headers(
-    alloc: Global,
-    text: &mut Vec<u8>,
-    method: Method,
-    body: &[u8],
-) -> Result<(), Memory>
+fn push_body_headers(text: &mut Vec<u8>, method: Method, body: &[u8]) -> Result<(), Memory>
     ensures { OnOk result (text.new.items ≡ text.old.items ++ body_headers method body.now) }
 {
     match method {
-        Method::Post => push_json_headers(alloc, text, body),
+        Method::Post => push_json_headers(text, body),
         Method::Get => Ok(()),
         Method::Other => Ok(()),
     }
 }
 
 /// Adds that the body is a document of JSON, and how long it is.
-fn push_json_headers(alloc: Global, text: &mut Vec<u8>, body: &[u8]) -> Result<(), Memory>
+fn push_json_headers(text: &mut Vec<u8>, body: &[u8]) -> Result<(), Memory>
     ensures { OnOk result (text.new.items ≡ text.old.items ++ json_headers body.now) }
 {
     push_header(text, "Content-Type", b"application/json")?;
-    push_length(alloc, text, body.len())
+    push_length(text, body.len())
 }

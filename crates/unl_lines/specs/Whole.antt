@@ -39,7 +39,8 @@ pub record AnswersAll {D : Type 0} (taking : Taking D) (desk desk_after : D) (le
 abbrev pub TakesLines : {D : Type 0} → Taking D → D → Result (Unit {0}) LinesFault → Option (List ℕ) → Option (List ℕ) → Option (List ℕ)
     → Option (List ℕ) → Type 0
 TakesLines taking desk (Ok u) left left_after old new = IfSome left (λ bytes. IsAnswered (outcome_of taking desk bytes) old new)
-TakesLines taking desk (Err Bad) left left_after old new = StandsOfRead left left_after (λ bytes. IsRefusing (outcome_of taking desk bytes) old new)
+TakesLines taking desk (Err Bad) left left_after old new =
+    StandsOfRead left left_after (λ bytes. IsRefusing (outcome_of taking desk bytes) old new)
 TakesLines taking desk (Err ReadFault) left left_after old new = AnswersRead taking desk left left_after old new
 TakesLines taking desk (Err WriteFault) left left_after old new =
     StandsOfRead left left_after (λ bytes. SendsFront old (whole_text (outcome_of taking desk bytes)) new)

@@ -116,6 +116,11 @@ impl Pulse {
         }
     }
 
+    /// Whether it is known since when the link is served.
+    pub fn has_turn(&self) -> bool {
+        self.served.begun.is_some()
+    }
+
     /// Notes that the link is being served.
     pub fn note_turn(&mut self, now: Option<Instant>) {
         self.served.begin(now);

@@ -103,9 +103,14 @@ impl<S: Read + Write + OpenStream + Drop, C: Clock + Drop> Wire<S, C> {
 
 /// The next wait of a read, of which so many have passed: whether it is brief. None where the link gives way.
 fn next_wait<C: Clock>(clock: &C, crowd: &Crowd, pulse: &mut Pulse, waits: u64) -> Option<bool> {
-    let now = moment(clock);
-    pulse.note_turn(now);
     let crowded = crowd.is_crowded();
+    // Where none wait nothing hangs on the moment but when the link was first served, so it isn't asked for again.
+    let now = if crowded || !pulse.has_turn() {
+        moment(clock)
+    } else {
+        None
+    };
+    pulse.note_turn(now);
     let standing = pulse.standing(now, waits);
     if !gives_way(crowded, &standing) {
         return Some(is_brief(crowded, &standing));

@@ -1,6 +1,8 @@
-//! Rows of documents, of their evaluation, of the wire and of what is read whole: what the calls answer that no command prints.
+//! Rows of the ends, of documents and of their evaluation: what the calls answer that no command prints.
 #![tactic(auto)]
 
+#[cfg(test)]
+mod base;
 #[cfg(test)]
 mod compiled;
 #[cfg(test)]
@@ -12,21 +14,9 @@ mod delta;
 #[cfg(test)]
 mod documents;
 #[cfg(test)]
-mod exchange;
-#[cfg(test)]
-mod explain;
-#[cfg(test)]
-mod http_api;
-#[cfg(test)]
-mod input;
-#[cfg(test)]
-mod lines;
-#[cfg(test)]
-mod load;
-#[cfg(test)]
 mod metrics;
 #[cfg(test)]
-mod spec_runner;
+mod murmur;
 #[cfg(test)]
 mod strategies;
 #[cfg(test)]

@@ -1,5 +1,4 @@
 use std::alloc::Global;
-use std::test::Fail;
 use unl_documents::Field;
 use unl_metrics::{AddRefusal, BadReport, MetricsBook, Report};
 
@@ -178,57 +177,28 @@ fn books_are_merged_and_acknowledged(rt: HostRuntime) {
     assert!(rt; book.len() == 3);
 }
 
-/// A text of so many members between a front and an end, whose names are a letter and a number.
-fn members(
-    alloc: Global,
-    front: &str,
-    letter: &str,
-    value: &str,
-    count: u32,
-    end: &str,
-) -> Result<String, Fail> {
-    let mut text = String::from_str(alloc, front)?;
-    for n in 0..count {
-        if n > 0 {
-            text.push(',')?;
-        }
-        let member = format!(in alloc; r#""{letter}{n}":{value}"#)?;
-        text.push_str(member.as_str())?;
-    }
-    text.push_str(end)?;
-    Ok(text)
-}
-
 /// The text of a report with so many toggles, whose names begin with a letter.
-fn with_toggles(alloc: Global, letter: &str, count: u32) -> Result<String, Fail> {
-    let front = r#"{"appName":"a","bucket":{"start":"2024-01-01T10:05:00Z","toggles":{"#;
-    members(alloc, front, letter, "{}", count, "}}}")
+fn with_toggles(alloc: Global, letter: &str, count: u32) -> Option<String> {
+    let mut text = String::from_str(
+        alloc,
+        r#"{"appName":"a","bucket":{"start":"2024-01-01T10:05:00Z","toggles":{"#,
+    )
+    .ok()?;
+    for n in 0..count {
+        let comma = if n > 0 { "," } else { "" };
+        let toggle = format!(in alloc; "{comma}\"{letter}{n}\":{{}}").ok()?;
+        text.push_str(toggle.as_str()).ok()?;
+    }
+    text.push_str("}}}").ok()?;
+    Some(text)
 }
 
 #[test]
-fn what_is_too_large_is_counted(rt: HostRuntime) -> Result<(), Fail> {
+fn a_book_has_10_000_keys(rt: HostRuntime) {
     let alloc = rt.alloc();
-    let toggles = with_toggles(alloc, "f", 10_001)?;
-    assert!(rt;
-        Report::read_single(alloc, toggles.as_bytes()).err()
-            == Some(BadReport::TooLarge(Field::Toggles, 10_001))
-    );
-    let front =
-        r#"{"metrics":[{"featureName":"f","appName":"a","timestamp":"2024-01-01T10:05:00Z","variants":{"#;
-    let variants = members(alloc, front, "v", "1", 101, "}}]}")?;
-    assert!(rt;
-        Report::read_bulk(alloc, variants.as_bytes()).err()
-            == Some(BadReport::TooLarge(Field::Variants, 101))
-    );
-    Ok(())
-}
-
-#[test]
-fn a_book_has_10_000_keys(rt: HostRuntime) -> Result<(), Fail> {
-    let alloc = rt.alloc();
-    let text = with_toggles(alloc, "f", 10_000)?;
-    let most = Report::read_single(alloc, text.as_bytes()).expect(&rt, "it is read");
-    let one = with_toggles(alloc, "g", 1)?;
+    let most = with_toggles(alloc, "f", 10_000).expect(&rt, "there is memory");
+    let most = Report::read_single(alloc, most.as_bytes()).expect(&rt, "it is read");
+    let one = with_toggles(alloc, "g", 1).expect(&rt, "there is memory");
     let one = Report::read_single(alloc, one.as_bytes()).expect(&rt, "it is read");
     let mut book = MetricsBook::new(alloc);
     assert!(rt; book.add(alloc, &most, "dev").is_ok() && book.len() == 10_000);
@@ -243,5 +213,4 @@ fn a_book_has_10_000_keys(rt: HostRuntime) -> Result<(), Fail> {
     book.acknowledged("dev", sent);
     assert!(rt; other.merge(alloc, &mut book).is_ok());
     assert!(rt; other.len() == 10_001 - sent && book.is_empty());
-    Ok(())
 }

@@ -1,240 +1,147 @@
 use std::alloc::Global;
-use std::test::Fail;
-use unl_context::Context;
-use unl_documents::{List, Memory, Text};
-use unl_words::{
-    EdgeWords, FollowWords, UpstreamWords, Words, WordsRefusal, read_words, token_environments,
-};
+use unl_documents::{List, Text};
+use unl_words::{EdgeWords, FollowWords, UpstreamWords, Words, read_words, token_environments};
 
-/// What comes of these words, which stand with single spaces between them.
-fn read(alloc: Global, line: &str) -> Option<Result<Words, WordsRefusal>> {
+/// The words of a line, in which they stand with single spaces between them.
+fn words_of(alloc: Global, line: &str) -> Option<Vec<String>> {
     let mut words = Vec::new(alloc);
-    for word in line.split(' ').filter(|word| !word.is_empty()) {
+    for word in line.split(' ') {
         words.push(String::from_str(alloc, word).ok()?).ok()?;
     }
-    Some(read_words(alloc, &words))
+    Some(words)
 }
 
-/// Whether these words are read so, by how both are printed.
-fn reads(alloc: Global, line: &str, expected: &Result<Words, WordsRefusal>) -> Option<bool> {
-    let found = read(alloc, line)?;
-    let found = format!(in alloc; "{found:?}").ok()?;
-    let expected = format!(in alloc; "{expected:?}").ok()?;
-    Some(found == expected)
-}
-
-/// Whether these words are refused.
-fn refuses(alloc: Global, line: &str) -> bool {
-    matches!(read(alloc, line), Some(Err(WordsRefusal::Bad)))
-}
-
-/// A list of texts.
-fn texts(alloc: Global, items: &[&str]) -> Result<List<Text>, Memory> {
-    let mut list = List::new(alloc);
-    for item in items {
-        list.push(Text::new(alloc, item)?)?;
+/// Texts with commas between them, in brackets.
+fn listed(alloc: Global, texts: &List<Text>) -> Option<String> {
+    let mut all = String::from_str(alloc, "[").ok()?;
+    for (place, text) in texts.as_slice().iter().enumerate() {
+        if place > 0 {
+            all.push_str(",").ok()?;
+        }
+        all.push_str(text.as_str()).ok()?;
     }
-    Ok(list)
+    all.push_str("]").ok()?;
+    Some(all)
 }
 
-/// An edge by words that say only what they must.
-fn least_edge(alloc: Global) -> Result<Words, Memory> {
-    Ok(Words::Edge(EdgeWords {
-        port: 3063,
-        upstream: Text::new(alloc, "up:4242")?,
-        upstream_tokens: texts(alloc, &["*:dev.s"])?,
-        tokens: texts(alloc, &["[]:dev.t"])?,
-        host: Text::new(alloc, "")?,
-        workers: 4,
-        interval: 15,
-        connections: 0,
-        delta: true,
-    }))
+/// The values of `edge`, in the order of its fields.
+fn shown_edge(alloc: Global, edge: &EdgeWords) -> Option<String> {
+    let upstream_tokens = listed(alloc, &edge.upstream_tokens)?;
+    let tokens = listed(alloc, &edge.tokens)?;
+    format!(in alloc;
+        "{} {} {upstream_tokens} {tokens} [{}] {} {} {} {}",
+        edge.port,
+        edge.upstream.as_str(),
+        edge.host.as_str(),
+        edge.workers,
+        edge.interval,
+        edge.connections,
+        edge.delta
+    )
+    .ok()
 }
 
-/// An edge by words that say all.
-fn whole_edge(alloc: Global) -> Result<Words, Memory> {
-    Ok(Words::Edge(EdgeWords {
-        port: 1,
-        upstream: Text::new(alloc, "::1:065535")?,
-        upstream_tokens: texts(alloc, &["*:dev.s", "a:qa.s.s"])?,
-        tokens: texts(alloc, &["a:b:c.d", "a:b:c.d"])?,
-        host: Text::new(alloc, "h")?,
-        workers: 16,
-        interval: 3600,
-        connections: u64::MAX,
-        delta: false,
-    }))
+/// The values of `upstream`, in the order of its fields.
+fn shown_upstream(alloc: Global, upstream: &UpstreamWords) -> Option<String> {
+    let environments = listed(alloc, &upstream.environments)?;
+    let client_tokens = listed(alloc, &upstream.client_tokens)?;
+    let frontend_tokens = listed(alloc, &upstream.frontend_tokens)?;
+    format!(in alloc;
+        "{} {} {environments} {client_tokens} {frontend_tokens} {} {} {}",
+        upstream.port,
+        upstream.secret.as_str(),
+        upstream.connections,
+        upstream.epoch,
+        upstream.sqlite
+    )
+    .ok()
 }
 
-#[test]
-fn edge_words(rt: HostRuntime) -> Result<(), Fail> {
-    let alloc = rt.alloc();
-    let least = Ok(least_edge(alloc)?);
-    let line = "edge --upstream up:4242 --upstream-tokens *:dev.s --tokens []:dev.t";
-    assert!(rt; reads(alloc, line, &least) == Some(true));
-    let whole = Ok(whole_edge(alloc)?);
-    let line = "edge --mode feed --connections 18446744073709551615 --interval 3600 --workers=16 \
-        --host h --tokens ,a:b:c.d,,a:b:c.d\t --upstream-tokens \t*:dev.s\t,a:qa.s.s \
-        --upstream=::1:065535 --port 1";
-    assert!(rt; reads(alloc, line, &whole) == Some(true));
-    Ok(())
+/// The values of `follow`, in the order of its fields: of its context the environment and the property `a`.
+fn shown_follow(alloc: Global, follow: &FollowWords) -> Option<String> {
+    let environment = follow.context.get("environment").unwrap_or("-");
+    let property = follow.context.get("a").unwrap_or("-");
+    format!(in alloc;
+        "{} {} {} {environment} {property} {} {} {}",
+        follow.upstream.as_str(),
+        follow.token.as_str(),
+        follow.feature.as_str(),
+        follow.delta,
+        follow.turns,
+        follow.interval
+    )
+    .ok()
 }
 
-/// An upstream by words that say only what they must.
-fn least_upstream(alloc: Global) -> Result<Words, Memory> {
-    Ok(Words::Upstream(UpstreamWords {
-        port: 4242,
-        secret: Text::new(alloc, "s")?,
-        environments: texts(alloc, &["dev"])?,
-        client_tokens: texts(alloc, &[])?,
-        frontend_tokens: texts(alloc, &[])?,
-        connections: 0,
-        epoch: 0,
-        sqlite: false,
-    }))
-}
-
-/// An upstream by words that say all.
-fn whole_upstream(alloc: Global) -> Result<Words, Memory> {
-    Ok(Words::Upstream(UpstreamWords {
-        port: 65535,
-        secret: Text::new(alloc, "-s")?,
-        environments: texts(alloc, &["dev", "qa"])?,
-        client_tokens: texts(alloc, &["*:dev.s", "a:dev.s"])?,
-        frontend_tokens: texts(alloc, &["a:qa.s"])?,
-        connections: 7,
-        epoch: u64::MAX,
-        sqlite: true,
-    }))
-}
-
-/// Words that say of an upstream only what they must, or a default beside it.
-const LEAST_UPSTREAMS: [&str; 2] = [
-    "upstream --environments dev --secret s",
-    "upstream --environments dev --secret s --keep memory",
-];
-
-#[test]
-fn upstream_words(rt: HostRuntime) -> Result<(), Fail> {
-    let alloc = rt.alloc();
-    let least = Ok(least_upstream(alloc)?);
-    for line in LEAST_UPSTREAMS {
-        assert!(rt; reads(alloc, line, &least) == Some(true));
-    }
-    Ok(())
-}
-
-#[test]
-fn all_upstream_words(rt: HostRuntime) -> Result<(), Fail> {
-    let alloc = rt.alloc();
-    let whole = Ok(whole_upstream(alloc)?);
-    let line = "upstream --secret=-s --environments dev,qa --client-tokens *:dev.s,a:dev.s \
-        --frontend-tokens a:qa.s, --port 65535 --connections 7 --epoch 18446744073709551615 --keep=sqlite";
-    assert!(rt; reads(alloc, line, &whole) == Some(true));
-    Ok(())
-}
-
-/// `follow` by these values, which are in their ranges, with a token of the environment `dev`.
-fn follow(
-    alloc: Global,
-    token: &str,
-    query: &str,
-    delta: bool,
-    turns: u32,
-    interval: u32,
-) -> Result<Words, Fail> {
-    let mut context = Context::read_query(alloc, query.as_bytes())?;
-    context.set_environment(alloc, "dev")?;
-    Ok(Words::Follow(FollowWords {
-        upstream: Text::new(alloc, "up:1")?,
-        token: Text::new(alloc, token)?,
-        feature: Text::new(alloc, "f")?,
-        context,
-        delta,
-        turns,
-        interval,
-    }))
-}
-
-#[test]
-fn follow_words(rt: HostRuntime) -> Result<(), Fail> {
-    let alloc = rt.alloc();
-    let defaults = follow(alloc, "*:dev.s", "", true, 1, 15)?;
-    let line = "follow --upstream up:1 --token *:dev.s --feature f";
-    assert!(rt; reads(alloc, line, &Ok(defaults)) == Some(true));
-    let all = follow(alloc, "[]:dev.s", "a=b+c", false, 1_000_000, 3600)?;
-    let line =
-        "follow --interval 3600 --turns=1000000 --mode feed --context a=b+c --feature f --token=[]:dev.s --upstream up:1";
-    assert!(rt; reads(alloc, line, &Ok(all)) == Some(true));
-    let own = follow(alloc, "*:dev.s", "environment=qa", true, 1, 15)?;
-    let line = "follow --context environment=qa --upstream up:1 --token *:dev.s --feature f";
-    assert!(rt; reads(alloc, line, &Ok(own)) == Some(true));
-    Ok(())
-}
-
-/// Words with bytes that may not stand in a head.
-const CONTROLS: [&str; 5] = [
-    "edge --upstream=u\rp:1 --upstream-tokens=*:dev.s --tokens=a:dev.s",
-    "edge --upstream=up:1 --upstream-tokens=*:dev.s --tokens=a:dev.s\ns",
-    "edge --upstream=up:1 --upstream-tokens=*:dev.s --tokens=a:dev.s --host=a\nb",
-    "upstream --secret=a\nb --environments=dev",
-    "follow --upstream=up:1 --token=*:dev.s\n --feature=f",
-];
-
-#[test]
-fn words_without_control_bytes(rt: HostRuntime) {
-    for line in CONTROLS {
-        assert!(rt; refuses(rt.alloc(), line), "{line}");
+/// The values that a line asks for, where it asks for a server or a follower.
+fn shown(alloc: Global, line: &str) -> Option<String> {
+    let words = words_of(alloc, line)?;
+    match read_words(alloc, &words) {
+        Ok(Words::Edge(edge)) => shown_edge(alloc, &edge),
+        Ok(Words::Upstream(upstream)) => shown_upstream(alloc, &upstream),
+        Ok(Words::Follow(follow)) => shown_follow(alloc, &follow),
+        _ => None,
     }
 }
 
-/// Words, how many more letters stand at their end, and whether they are taken then.
-const LIMITS: [(&str, usize, bool); 6] = [
-    ("upstream --secret s --environments ", 255, true),
-    ("upstream --secret s --environments ", 256, false),
+/// Lines that say only what they must, and lines that say all; and the values.
+const LINES: [(&str, &str); 8] = [
     (
-        "edge --upstream u:1 --upstream-tokens a:d.s --tokens a:d.",
-        508,
-        true,
+        "edge --upstream up:4242 --upstream-tokens *:dev.s --tokens []:dev.t",
+        "3063 up:4242 [*:dev.s] [[]:dev.t] [] 4 15 0 true",
     ),
     (
-        "edge --upstream u:1 --upstream-tokens a:d.s --tokens a:d.",
-        509,
-        false,
+        "edge --mode feed --connections 18446744073709551615 --interval 3600 --workers=16 \
+--host h --tokens ,a:b:c.d,,a:b:c.d\t --upstream-tokens \t*:dev.s\t,a:qa.s.s \
+--upstream=::1:065535 --port 1",
+        "1 ::1:065535 [*:dev.s,a:qa.s.s] [a:b:c.d,a:b:c.d] [h] 16 3600 18446744073709551615 false",
     ),
     (
-        "follow --upstream u:1 --token a:d.s --feature f --context userId=",
-        4096,
-        true,
+        "upstream --environments dev --secret s",
+        "4242 s [dev] [] [] 0 0 false",
     ),
     (
-        "follow --upstream u:1 --token a:d.s --feature f --context userId=",
-        4097,
-        false,
+        "upstream --environments dev --secret s --keep memory",
+        "4242 s [dev] [] [] 0 0 false",
+    ),
+    (
+        "upstream --secret=-s --environments dev,qa --client-tokens *:dev.s,a:dev.s \
+--frontend-tokens a:qa.s, --port 65535 --connections 7 --epoch 18446744073709551615 --keep=sqlite",
+        "65535 -s [dev,qa] [*:dev.s,a:dev.s] [a:qa.s] 7 18446744073709551615 true",
+    ),
+    (
+        "follow --upstream up:1 --token *:dev.s --feature f",
+        "up:1 *:dev.s f dev - true 1 15",
+    ),
+    (
+        "follow --interval 3600 --turns=1000000 --mode feed --context a=b+c --feature f --token=[]:dev.s --upstream up:1",
+        "up:1 []:dev.s f dev b c false 1000000 3600",
+    ),
+    (
+        "follow --context environment=qa --upstream up:1 --token *:dev.s --feature f",
+        "up:1 *:dev.s f dev - true 1 15",
     ),
 ];
 
-/// Whether these words with so many letters at their end are taken.
-fn takes(alloc: Global, front: &str, count: usize) -> Option<bool> {
-    let mut line = String::from_str(alloc, front).ok()?;
-    for _ in 0..count {
-        line.push('x').ok()?;
-    }
-    Some(read(alloc, line.as_str())?.is_ok())
-}
-
 #[test]
-fn limits(rt: HostRuntime) {
-    for (front, count, taken) in LIMITS {
-        assert!(rt; takes(rt.alloc(), front, count) == Some(taken), "{front}");
+fn values_of_words(rt: HostRuntime) {
+    for (line, values) in LINES {
+        let found = shown(rt.alloc(), line).expect(&rt, "they are taken");
+        assert!(rt; found.as_str() == values, "{found}");
     }
 }
 
+/// The environments of two tokens and of a text that is none.
+fn environments(alloc: Global) -> Option<String> {
+    let mut tokens = List::new(alloc);
+    for token in ["*:dev.s", "a:qa.s", "x"] {
+        tokens.push(Text::new(alloc, token).ok()?).ok()?;
+    }
+    listed(alloc, &token_environments(alloc, &tokens).ok()?)
+}
+
 #[test]
-fn environments_of_tokens(rt: HostRuntime) -> Result<(), Fail> {
-    let alloc = rt.alloc();
-    let tokens = texts(alloc, &["*:dev.s", "a:qa.s", "x"])?;
-    assert!(rt; token_environments(alloc, &tokens)? == texts(alloc, &["dev", "qa", ""])?);
-    Ok(())
+fn environments_of_tokens(rt: HostRuntime) {
+    let found = environments(rt.alloc()).expect(&rt, "there is memory");
+    assert!(rt; found.as_str() == "[dev,qa,]");
 }

@@ -1,13 +1,13 @@
 //! Jobs side by side.
 ghost use Rattle.std.specs.Prelude.{◌≡◌, true, false};
 
-use crate::*;
 use std::alloc::{AllocError, Global};
 use std::sync::Wait;
 use std::sync::atomic::{AtomicU64, Ordering};
 use std::test::Fail;
 use std::thread;
 use std::thread::Threads;
+use unl_base::{Failed, Job, OneByOne, Place, RealSpawner, Spawner};
 
 /// Comes to a meeting, and waits until so many have come.
 #[derive(Drop)]

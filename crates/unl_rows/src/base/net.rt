@@ -1,12 +1,15 @@
 ghost use Rattle.std.specs.Prelude.{◌≡◌, true};
 
-use super::{read_of, write_to};
-use crate::*;
+use crate::base::{read_of, write_to};
 use std::io::{self, ErrorKind, Read, Write};
 use std::net::{Net, OpenListener, OpenStream, SocketAddr};
 use std::os::fd::{AsRawFd, RawFd};
 use std::test::Fail;
 use std::time::Duration;
+use unl_base::{
+    Door, Failed, Link, MemoryDoor, MemoryLink, MemoryPeer, Peer, RealDoor, RealPeer, Sink, Source,
+    write_all,
+};
 
 /// A stream that gives one read of `abc` and takes whatever is written.
 #[derive(Drop)]

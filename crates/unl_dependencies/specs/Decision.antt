@@ -1,0 +1,17 @@
+-- What a feature is, where its variant is lent.
+use Rattle.std.specs.Prelude.{ℕ, List, length, Bool, not, ◌&&◌, ◌||◌, ◌==◌, option_map, if◌then◌else◌}
+use Rattle.unl_documents.specs.declared.dependency.Dependency.{Dependency}
+use Rattle.unl_variants.specs.Variant.{is_among}
+use Rattle.unl_dependencies.specs.Evaluation.{off, on_with}
+use Rattle.unl_dependencies.specs.declared.evaluation.Evaluation.{Evaluation}
+use Rattle.unl_dependencies.specs.declared.evaluation.Decision.{Decision}
+use Rattle.unl_dependencies.specs.declared.evaluation.Decision.TheVariants.{Off, On}
+
+-- the evaluation that it stands for
+abbrev pub evaluation_by : Decision → Evaluation
+evaluation_by Off = off
+evaluation_by (On variant) = on_with (option_map (λ v. v.now) variant)
+
+-- the dependency asks for a parent that is on or off, with a variant of this name
+abbrev pub asks_for : Dependency → Bool → List ℕ → Bool
+asks_for d on name = if d.enabled then on && (length d.variants == 0 || is_among d.variants name) else not on

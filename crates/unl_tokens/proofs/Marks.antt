@@ -1,0 +1,133 @@
+-- Which tokens were answered, by a mark at the place of each.
+use Rattle.std.proofs.Common.{◌≡◌, ℕ, ◌+◌, ◌<◌, Bool, true, false, cond, List, [], ◌∷◌, ◌++◌, length, get_or, map, take, drop}
+use Rattle.std.proofs.Common.{Option, Some, None, refl, sym, ap, ◌∙◌, append_assoc, arith, inl, inr}
+use Rattle.std.specs.Prelude.{◌≢◌, ◌||◌, position, slice_get, slice_set, option_and_then, option_to_list, if◌then◌else◌}
+use Rattle.std.specs.Option.{option_map_or}
+use Rattle.std.specs.List.{position_or_len}
+use Rattle.std.specs.Cmp.Lexicographic.{same_text}
+use Rattle.std.specs.Str.{bytes_eq}
+use Rattle.std.proofs.lemmas.Bool.{cases_eq, cases_lt, cases_Bool, ltb-false}
+use Rattle.std.proofs.lemmas.List.{get_or-map, get_or-set_same, get_or-set_other, length-set, length-map, map-append, take_more, drop_more}
+use Rattle.std.proofs.lemmas.List.Folds.{list_any-append, find_at}
+use Rattle.std.proofs.lemmas.List.Quantifiers.{position-Some}
+use Rattle.std.proofs.lemmas.Option.{slice_get_past}
+use Rattle.serde_json.specs.Data.{Data}
+use Rattle.unl_tokens.specs.declared.token.Token.{Token}
+use Rattle.unl_tokens.specs.Books.{has_text}
+use Rattle.unl_tokens.specs.Names.{stands_in}
+use Rattle.unl_tokens.specs.Requests.{answered, unmarked, marked, token_of, token_data, known_after}
+use Rattle.unl_tokens.specs.Valid.{HaveOtherTexts}
+use Rattle.unl_tokens.proofs.Different.{different_text, none_passes, no_place}
+use Rattle.unl_tokens.proofs.Same.{text_refl}
+
+-- those are marked whose texts were asked before
+pub record Marked (tokens : List Token) (before : List (List ℕ)) (marks : List Bool) : Type 0 where
+  pub count : length marks ≡ length tokens
+  pub each : (k : ℕ) (d : Token) (e : Bool) → k < length tokens → get_or marks k e ≡ stands_in (get_or tokens k d).text before
+
+pub nothing_marked : (tokens : List Token) → Marked tokens [] (map (λ (t : Token). false) tokens)
+nothing_marked tokens = record { count = length-map tokens (λ (t : Token). false); each = λ k d e lt. get_or-map (λ (t : Token). false) tokens k d e lt }
+
+-- ---- one text more is asked
+
+or_false : (a b : Bool) → b ≡ false → (a || (b || false)) ≡ a
+or_false true b h = refl
+or_false false b h = rw h refl
+
+or_true : (a b : Bool) → b ≡ true → (a || (b || false)) ≡ true
+or_true true b h = refl
+or_true false b h = rw h refl
+
+other_text : (a b : List ℕ) → a ≢ b → bytes_eq b a ≡ false
+other_text a b differ =
+    elim (cases_Bool (bytes_eq b a)) [
+      | inl equal ↦ absurd (differ (sym (same_text b a (sym equal))))
+      | inr unequal ↦ unequal
+    ]
+
+as_before : (text asked : List ℕ) (before : List (List ℕ)) → text ≢ asked → stands_in text (before ++ asked ∷ []) ≡ stands_in text before
+as_before text asked before other = list_any-append (λ (t : List ℕ). bytes_eq t text) before (asked ∷ []) ∙ or_false (stands_in text before) (bytes_eq asked text) (other_text text asked other)
+
+stands_now : (text asked : List ℕ) (before : List (List ℕ)) → text ≡ asked → stands_in text (before ++ asked ∷ []) ≡ true
+stands_now text asked before same = list_any-append (λ (t : List ℕ). bytes_eq t text) before (asked ∷ []) ∙ or_true (stands_in text before) (bytes_eq asked text) (rw same (text_refl asked))
+
+other_place : (tokens : List Token) (place k : ℕ) (d : Token) (text : List ℕ) → HaveOtherTexts tokens → place < length tokens → k < length tokens → k ≢ place → (get_or tokens place d).text ≡ text → (get_or tokens k d).text ≢ text
+other_place tokens place k d text different within below apart same = λ equal.
+    elim (cases_lt k place) [
+      | inl before ↦ different k place d before within (equal ∙ sym same)
+      | inr after ↦ different place k d (omega arith) below (same ∙ sym equal)
+    ]
+
+mark_found : (place : ℕ) (tokens : List Token) (before : List (List ℕ)) (marks : List Bool) (text : List ℕ) → position (has_text text) tokens ≡ Some place → HaveOtherTexts tokens → Marked tokens before marks → (k : ℕ) (d : Token) (e : Bool) → k < length tokens → get_or (slice_set marks place true) k e ≡ stands_in (get_or tokens k d).text (before ++ text ∷ [])
+mark_found place tokens before marks text at different old k d e lt =
+    let found = position-Some (has_text text) tokens place d at in
+    let same : (get_or tokens place d).text ≡ text = same_text _ _ (sym found.1) in
+    elim (cases_eq k place) [
+      | inl here ↦ rw here (get_or-set_same marks place true e (rw old.count found.0) ∙ sym (stands_now (get_or tokens place d).text text before same))
+      | inr apart ↦ get_or-set_other marks place k true e apart ∙ old.each k d e lt ∙ sym (as_before (get_or tokens k d).text text before (other_place tokens place k d text different found.0 lt apart same))
+    ]
+
+next_marks : (found : Option ℕ) (tokens : List Token) (before : List (List ℕ)) (marks : List Bool) (text : List ℕ) → position (has_text text) tokens ≡ found → HaveOtherTexts tokens → Marked tokens before marks → Marked tokens (before ++ text ∷ []) (option_map_or (λ place. slice_set marks place true) found marks)
+next_marks None tokens before marks text at different old = record {
+  count = old.count;
+  each = λ k d e lt. old.each k d e lt ∙ sym (as_before (get_or tokens k d).text text before (different_text (get_or tokens k d).text text (none_passes (has_text text) tokens k d at lt)));
+}
+next_marks (Some place) tokens before marks text at different old = record {
+  count = length-set marks place true ∙ old.count;
+  each = mark_found place tokens before marks text at different old;
+}
+
+-- ---- the token that is answered
+
+chosen : Bool → Option Token → Option Token
+chosen before found = if before then None else found
+
+none_chosen : (b : Bool) (found : Option Token) → found ≡ None → None ≡ chosen b found
+unfolding chosen
+none_chosen true found none = refl
+none_chosen false found none = sym none
+
+that_place : (b : Bool) (n m : ℕ) → cond b (Some n) None ≡ Some m → n ≡ m
+that_place true n m same = cc
+that_place false n m same = absurd (cc)
+
+answered_at : (place : ℕ) (tokens : List Token) (before : List (List ℕ)) (marks : List Bool) (text : List ℕ) (d : Token) → position (has_text text) tokens ≡ Some place → Marked tokens before marks → chosen (get_or marks place true) (slice_get tokens place) ≡ chosen (stands_in text before) (token_of text tokens)
+answered_at place tokens before marks text d at old =
+    let found = position-Some (has_text text) tokens place d at in
+    let same : (get_or tokens place d).text ≡ text = same_text _ _ (sym found.1) in
+    let mark : get_or marks place true ≡ stands_in text before = old.each place d true found.0 ∙ ap (λ (t : List ℕ). stands_in t before) same in
+    let there : slice_get tokens place ≡ token_of text tokens = sym (find_at (has_text text) tokens ∙ ap (slice_get tokens) (that_place _ _ _ at)) in
+    ap (λ (b : Bool). chosen b (slice_get tokens place)) mark ∙ ap (chosen (stands_in text before)) there
+
+next_answer : (found : Option ℕ) (tokens : List Token) (before : List (List ℕ)) (marks : List Bool) (text : List ℕ) → position (has_text text) tokens ≡ found → Marked tokens before marks → option_and_then (λ place. if get_or marks place true then None else slice_get tokens place) found ≡ answered tokens before text
+unfolding chosen
+next_answer None tokens before marks text at old =
+    none_chosen (stands_in text before) (token_of text tokens) (find_at (has_text text) tokens ∙ slice_get_past tokens (position_or_len (has_text text) tokens) (ltb-false _ _ (no_place _ _ at)))
+next_answer (Some place) [] before marks text at old = absurd (cc)
+next_answer (Some place) (t ∷ ts) before marks text at old = answered_at place (t ∷ ts) before marks text t at old
+
+-- what one text more comes to
+pub marks_go_on : (tokens : List Token) (before : List (List ℕ)) (marks : List Bool) (text : List ℕ) → HaveOtherTexts tokens → Marked tokens before marks → (unmarked tokens marks text ≡ answered tokens before text) × Marked tokens (before ++ text ∷ []) (marked tokens marks text)
+marks_go_on tokens before marks text different old = (
+  next_answer (position (has_text text) tokens) tokens before marks text refl old,
+  next_marks (position (has_text text) tokens) tokens before marks text refl different old,
+)
+
+-- ---- what is written, text after text
+
+regrouped : (values : List Data) (one rest : List Token) → values ++ map token_data (one ++ rest) ≡ (values ++ map token_data one) ++ map token_data rest
+regrouped values one rest = ap (λ ds. values ++ ds) (map-append token_data one rest) ∙ sym (append_assoc values (map token_data one) (map token_data rest))
+
+pub writes_on : (tokens : List Token) (asked : List (List ℕ)) (i : ℕ) (text : List ℕ) (values : List Data) (marks : List Bool) → i < length asked → text ≡ get_or asked i text → HaveOtherTexts tokens → Marked tokens (take i asked) marks → (values ++ map token_data (option_to_list (unmarked tokens marks text))) ++ map token_data (known_after tokens (take (i + 1) asked) (drop (i + 1) asked)) ≡ values ++ map token_data (known_after tokens (take i asked) (drop i asked))
+writes_on tokens asked i text values marks lt at different old =
+    let before = take i asked in
+    let later = drop (i + 1) asked in
+    let front : take (i + 1) asked ≡ before ++ text ∷ [] = take_more asked i text lt ∙ ap (λ (t : List ℕ). before ++ t ∷ []) (sym at) in
+    let whole : drop i asked ≡ text ∷ later = drop_more asked i text lt ∙ ap (λ (t : List ℕ). t ∷ later) (sym at) in
+    let same = (marks_go_on tokens before marks text different old).0 in
+    rw same (rw front (rw whole (sym (regrouped values (option_to_list (answered tokens before text)) (known_after tokens (before ++ text ∷ []) later)))))
+
+pub marks_on : (tokens : List Token) (asked : List (List ℕ)) (i : ℕ) (text : List ℕ) (marks : List Bool) → i < length asked → text ≡ get_or asked i text → HaveOtherTexts tokens → Marked tokens (take i asked) marks → Marked tokens (take (i + 1) asked) (marked tokens marks text)
+marks_on tokens asked i text marks lt at different old =
+    let front : take (i + 1) asked ≡ take i asked ++ text ∷ [] = take_more asked i text lt ∙ ap (λ (t : List ℕ). take i asked ++ t ∷ []) (sym at) in
+    rw front ((marks_go_on tokens (take i asked) marks text different old).1)
