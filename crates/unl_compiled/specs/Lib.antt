@@ -1,4 +1,3 @@
 pub mod Toggles
-pub mod Texts
 pub mod Places
 pub mod Next

@@ -1,8 +1,11 @@
 -- The state after a batch.
-use Rattle.std.specs.Prelude.{ℕ, List, [], ◌∷◌}
+use Rattle.std.specs.Prelude.{ℕ, List, [], ◌∷◌, Bool, true, false}
+use Rattle.std.specs.Option.{option_map_or}
+use Rattle.std.specs.Str.{bytes_eq}
 use Rattle.unl_delta.specs.declared.event.Event.{Event}
 use Rattle.unl_delta.specs.declared.event.Event.TheVariants.{Hydration, FeatureUpdated, FeatureRemoved, SegmentUpdated, SegmentRemoved}
-use Rattle.unl_delta.specs.State.{number_of, fold_events, later}
+use Rattle.unl_delta.specs.State.{number_of, fold_events, later, project_of}
+use Rattle.unl_documents.specs.declared.feature.Feature.{Feature}
 use Rattle.unl_documents.specs.declared.state.State.{State}
 
 -- a state with the number, after events of which this is the first
@@ -17,3 +20,12 @@ state_from number s (SegmentRemoved n id) es = fold_events (later number_of numb
 abbrev pub state_after : ℕ → List Event → State → State
 state_after number [] s = s
 state_after number (e ∷ es) s = state_from number s e es
+
+-- the event leaves each of the features at its place and in its project: it updates one within its project, removes none that
+-- is there, or is on a segment
+abbrev pub keeps_place : List Feature → Event → Bool
+keeps_place features (Hydration n state) = false
+keeps_place features (FeatureUpdated n feature) = option_map_or (λ p. bytes_eq p feature.project) (project_of feature.name features) false
+keeps_place features (FeatureRemoved n name project) = option_map_or (λ p. false) (project_of name features) true
+keeps_place features (SegmentUpdated n segment) = true
+keeps_place features (SegmentRemoved n id) = true

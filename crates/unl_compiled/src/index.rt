@@ -1,8 +1,9 @@
 //! Where the features of each project stand.
-ghost use Rattle.std.specs.Prelude.{◌≡◌, ◌∷◌, [], ◌++◌, ◌≤◌, ℕ, List, length, not, IfOk, OnOk, if◌then◌else◌};
+ghost use Rattle.std.specs.Prelude.{◌≡◌, ◌∷◌, [], ◌++◌, ◌+◌, ◌≤◌, ℕ, List, length, not, IfOk, OnOk, if◌then◌else◌};
 ghost use Rattle.std.specs.List.{prefix_len};
 ghost use Rattle.std.specs.Str.{bytes_eq};
-ghost use Rattle.unl_compiled.specs.Places.{IsIndex, listed};
+ghost use Rattle.unl_compiled.specs.Places.{IsIndex, listed, places_from};
+ghost use Rattle.unl_documents.specs.Series.{joined};
 
 use crate::feature::CompiledFeature;
 use std::alloc::Global;
@@ -15,19 +16,45 @@ pub(crate) struct ProjectPlaces {
     pub places: List<usize>,
 }
 
-/// The places of the features of each project that has some.
+/// The places of the features of each project that has some, where the features stand in runs.
 pub(crate) fn index_of(
     alloc: Global,
-    features: &[Shared<CompiledFeature>],
+    runs: &[Shared<List<Shared<CompiledFeature>>>],
 ) -> Result<List<ProjectPlaces>, Memory>
-    ensures { IfOk result (IsIndex features.now) }
+    ensures { IfOk result (IsIndex (joined runs.now)) }
 {
     let mut index = List::new(alloc);
-    for place in 0..features.len() {
-        let project = &features[place].get().document().project;
-        add(&mut index, alloc, project, place)?;
+    let mut place = 0;
+    for run in runs {
+        place = add_run(&mut index, alloc, run.get(), place)?;
     }
     Ok(index)
+}
+
+/// Adds the places of the features of a run, the first of which stands at this place. Gives the place
+/// behind them.
+fn add_run(
+    index: &mut List<ProjectPlaces>,
+    alloc: Global,
+    run: &List<Shared<CompiledFeature>>,
+    first: usize,
+) -> Result<usize, Memory>
+    ensures places { OnOk result ((p : List ℕ) → listed p index.new ≡ listed p index.old ++ places_from first p run.now) }
+    ensures next { IfOk result (λ next. next ≡ first + length run.now) }
+{
+    let mut place = first;
+    for feature in run.as_slice() {
+        add(index, alloc, &feature.get().document().project, place)?;
+        place = behind(place)?;
+    }
+    Ok(place)
+}
+
+/// The next place. More than memory holds count as want of it.
+fn behind(place: usize) -> Result<usize, Memory>
+    ensures { IfOk result (λ next. next ≡ place + 1) }
+{
+    place.checked_add(1).ok_or(Memory)
 }
 
 /// Adds a place to those of a project.

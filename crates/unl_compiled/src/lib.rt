@@ -7,6 +7,7 @@ mod parts;
 mod seen;
 mod segment;
 mod snapshot;
+mod staying;
 mod toggles;
 mod toggles_text;
 

@@ -1,10 +1,11 @@
 //! All features and segments of a version, compiled.
-ghost use Rattle.std.specs.Prelude.{◌≡◌, Some, IfOk, IsSome, nat_lt, option_map, if◌then◌else◌};
+ghost use Rattle.std.specs.Prelude.{◌≡◌, ◌<◌, Some, IfOk, IsSome, length, nat_lt, option_map, slice_get, if◌then◌else◌};
 ghost use Rattle.std.specs.List.{AllByRecursion};
 ghost use Rattle.unl_compiled.specs.Next.{state_after};
 ghost use Rattle.unl_compiled.specs.Places.{strategy_at};
 ghost use Rattle.unl_delta.specs.State as told;
 ghost use Rattle.unl_delta.specs.Valid.{IsValidEvent};
+ghost use Rattle.unl_documents.specs.Series.{joined, NoneIsEmpty};
 
 use crate::feature::CompiledFeature;
 use crate::segment::CompiledSegment;
@@ -12,15 +13,15 @@ use std::alloc::Global;
 use std::marker::Model;
 use unl_constraints::Compiled;
 use unl_delta::Event;
-use unl_delta::keyed::{put_in_place, without_in_place};
-use unl_documents::{Copied, Feature, List, Memory, Segment, Shared, State};
+use unl_delta::keyed::{put_in_place, put_in_series, without_in_place, without_in_series};
+use unl_documents::{Copied, Feature, List, Memory, Segment, Series, Shared, State};
 
 /// The features by their names and the segments by their ids. Contracts see the state that they
 /// were compiled from.
 #[derive(Drop)]
 pub(crate) struct Parts {
     /// Names rising.
-    pub features: List<Shared<CompiledFeature>>,
+    pub features: Series<CompiledFeature>,
     /// Ids rising.
     pub segments: List<Shared<CompiledSegment>>,
 }
@@ -48,16 +49,17 @@ impl Parts {
         ensures { IfOk result (λ p. p ≡ state.now) }
     {
         Ok(Parts {
-            features: compiled_features(alloc, state.features.as_slice())?,
+            features: compiled_features(alloc, &state.features)?,
             segments: compiled_segments(alloc, state.segments.as_slice())?,
         })
     }
 
-    /// The features.
-    pub(crate) fn features(&self) -> &[Shared<CompiledFeature>]
-        ensures { result.now ≡ self.now.features }
+    /// The features, in runs.
+    pub(crate) fn runs(&self) -> &[Shared<List<Shared<CompiledFeature>>>]
+        ensures features { joined result.now ≡ self.now.features }
+        ensures full { NoneIsEmpty result.now }
     {
-        self.features.as_slice()
+        self.features.runs()
     }
 
     /// The constraints of the strategy at a place of the feature at a place.
@@ -65,9 +67,7 @@ impl Parts {
         requires { IsSome (strategy_at self.now feature strategy) }
         ensures { option_map (λ s. s.constraints) (strategy_at self.now feature strategy) ≡ Some result.now }
     {
-        self.features.as_slice()[feature]
-            .get()
-            .constraints(strategy)
+        feature_at(&self.features, feature).constraints(strategy)
     }
 
     /// The parts after a batch's events, where they are those of a version with this number. What
@@ -88,14 +88,47 @@ impl Parts {
     }
 }
 
+/// The feature at a place.
+fn feature_at(features: &Series<CompiledFeature>, place: usize) -> &CompiledFeature
+    requires { place < length features.now }
+    ensures { Some result.now ≡ slice_get features.now place }
+{
+    features.get(place).unwrap()
+}
+
+/// The features, compiled, in runs of as many.
 fn compiled_features(
     alloc: Global,
-    features: &[Shared<Feature>],
-) -> Result<List<Shared<CompiledFeature>>, Memory>
+    features: &Series<Feature>,
+) -> Result<Series<CompiledFeature>, Memory>
     ensures { IfOk result (λ all. all ≡ features.now) }
 {
+    Ok(Series::of_runs(compiled_runs(alloc, features.runs())?))
+}
+
+fn compiled_runs(
+    alloc: Global,
+    runs: &[Shared<List<Shared<Feature>>>],
+) -> Result<List<Shared<List<Shared<CompiledFeature>>>>, Memory>
+    requires { NoneIsEmpty runs.now }
+    ensures same { IfOk result (λ all. all ≡ runs.now) }
+    ensures full { IfOk result NoneIsEmpty }
+{
     let mut all = List::new(alloc);
-    for feature in features {
+    for run in runs {
+        all.push(Shared::new(alloc, compiled_run(alloc, run.get())?)?)?;
+    }
+    Ok(all)
+}
+
+fn compiled_run(
+    alloc: Global,
+    run: &List<Shared<Feature>>,
+) -> Result<List<Shared<CompiledFeature>>, Memory>
+    ensures { IfOk result (λ all. all ≡ run.now) }
+{
+    let mut all = List::new(alloc);
+    for feature in run.as_slice() {
         all.push(Shared::new(alloc, CompiledFeature::new(alloc, feature)?)?)?;
     }
     Ok(all)
@@ -162,12 +195,12 @@ fn step(alloc: Global, parts: Parts, event: &Event) -> Result<Parts, Memory>
         Event::FeatureUpdated { feature, .. } => {
             let compiled = Shared::new(alloc, CompiledFeature::new(alloc, feature)?)?;
             Ok(Parts {
-                features: put_in_place(compiled, parts.features)?,
+                features: put_in_series(alloc, compiled, &parts.features)?,
                 segments: parts.segments,
             })
         }
         Event::FeatureRemoved { name, .. } => Ok(Parts {
-            features: without_in_place(name, parts.features),
+            features: without_in_series(alloc, name, &parts.features)?,
             segments: parts.segments,
         }),
         Event::SegmentUpdated { segment, .. } => {

@@ -4,10 +4,12 @@ ghost use Rattle.std.specs.Cmp.Lexicographic.{slice_cmp};
 ghost use Rattle.std.specs.List.{prefix_len};
 ghost use Rattle.std.specs.Ordering.{nat_cmp, is_lt};
 ghost use Rattle.unl_compiled.specs.Places.{if_name};
+ghost use Rattle.unl_delta.specs.Keyed.{ends_before};
 ghost use Rattle.unl_delta.specs.View.{view_of};
 ghost use Rattle.unl_dependencies.specs.Evaluation.{feature_named as feature_with};
 ghost use Rattle.unl_dependencies.specs.Laws.{if_seen as if_project_seen};
 ghost use Rattle.unl_documents.specs.Parameters.{AreRising};
+ghost use Rattle.unl_documents.specs.Series.{joined, NoneIsEmpty};
 ghost use Rattle.unl_documents.specs.States.{IsValidState, name_key};
 ghost use Rattle.unl_tokens.specs.Names.{sees};
 
@@ -17,7 +19,7 @@ use std::alloc::Global;
 use std::marker::Model;
 use unl_context::Context;
 use unl_dependencies::Features;
-use unl_documents::{Feature, Memory, Shared};
+use unl_documents::{Feature, List, Memory, Shared};
 use unl_strategies::Moment;
 use unl_tokens::Projects;
 
@@ -95,7 +97,7 @@ pub(crate) fn seen_named<'a>(
     ensures { option_map (λ f. f.now) result
         ≡ feature_with name.now (view_of (sees projects.now) parts.now).features }
 {
-    let found = feature_named(parts.features(), name);
+    let found = feature_named(parts, name);
     if_seen(projects, found)
 }
 
@@ -130,13 +132,64 @@ fn if_seen<'a>(
 }
 
 /// The feature of a name, among features whose names rise.
-fn feature_named<'a>(
-    features: &'a [Shared<CompiledFeature>],
+pub(crate) fn feature_named<'a>(parts: &'a Parts, name: &str) -> Option<&'a CompiledFeature>
+    requires { AreRising (map name_key parts.now.features) }
+    ensures { option_map (λ f. f.now) result ≡ feature_with name.now parts.now.features }
+{
+    feature_among(parts.runs(), name)
+}
+
+/// The feature of a name, among features in runs whose names rise: it is in the first run that
+/// doesn't end before the name, or in none.
+fn feature_among<'a>(
+    runs: &'a [Shared<List<Shared<CompiledFeature>>>],
     name: &str,
 ) -> Option<&'a CompiledFeature>
-    requires { AreRising (map name_key features.now) }
-    ensures { option_map (λ f. f.now) result ≡ feature_with name.now features.now }
+    requires rising { AreRising (map name_key (joined runs.now)) }
+    requires full { NoneIsEmpty runs.now }
+    ensures { option_map (λ f. f.now) result ≡ feature_with name.now (joined runs.now) }
 {
+    match run_at(runs, run_of(runs, name)) {
+        None => None,
+        Some(run) => feature_in(run, name),
+    }
+}
+
+/// The run at a place.
+fn run_at(
+    runs: &[Shared<List<Shared<CompiledFeature>>>],
+    place: usize,
+) -> Option<&List<Shared<CompiledFeature>>>
+    ensures { option_map (λ run. run.now) result ≡ slice_get runs.now place }
+{
+    Some(runs.get(place)?.get())
+}
+
+/// Which run the name stands in, or else belongs in, among runs of features.
+fn run_of(runs: &[Shared<List<Shared<CompiledFeature>>>], name: &str) -> usize
+    requires rising { AreRising (map name_key (joined runs.now)) }
+    requires full { NoneIsEmpty runs.now }
+    ensures { result ≡ prefix_len (ends_before name_key name.now) runs.now }
+{
+    runs.partition_point(|run| ends_before(run.get().as_slice(), name))
+}
+
+/// Whether the last of the features has a name that comes before this one.
+fn ends_before(features: &[Shared<CompiledFeature>], name: &str) -> bool
+    ensures { result ≡ ends_before name_key name.now features.now }
+{
+    match features.last() {
+        None => false,
+        Some(last) => last.get().document().name.as_str().cmp(name).is_lt(),
+    }
+}
+
+/// The feature of a name, among the features of a run, whose names rise.
+fn feature_in<'a>(run: &'a List<Shared<CompiledFeature>>, name: &str) -> Option<&'a CompiledFeature>
+    requires { AreRising (map name_key run.now) }
+    ensures { option_map (λ f. f.now) result ≡ feature_with name.now run.now }
+{
+    let features = run.as_slice();
     feature_at(features, place_of(features, name), name)
 }
 

@@ -1,7 +1,7 @@
 ghost use Rattle.std.specs.Prelude.{◌≡◌, false, Some, IfOk, IfSome, IsSome, option_map};
 ghost use Rattle.serde_json.specs.View.{view};
 ghost use Rattle.serde_json.specs.Written.{compact_text, has_float};
-ghost use Rattle.unl_compiled.specs.Places.{places_of as places_in, strategy_at};
+ghost use Rattle.unl_compiled.specs.Places.{IsIndex, places_of as places_in, strategy_at};
 ghost use Rattle.unl_compiled.specs.Toggles.{toggles_data};
 ghost use Rattle.unl_delta.specs.declared.batch.Verdict.TheVariants.{Apply};
 ghost use Rattle.unl_delta.specs.Batch.{verdict_of, next_version};
@@ -14,6 +14,7 @@ ghost use Rattle.unl_tokens.specs.Names.{sees};
 use crate::index::{ProjectPlaces, index_of, places_of};
 use crate::parts::Parts;
 use crate::seen::{Seen, document_of, seen_named};
+use crate::staying::places_after;
 use crate::toggles::toggles_of;
 use crate::toggles_text::toggles_text;
 use serde_json::Value;
@@ -21,7 +22,7 @@ use std::alloc::Global;
 use std::marker::Model;
 use unl_constraints::Compiled;
 use unl_context::Context;
-use unl_delta::{Batch, EnvVersion, Place, apply};
+use unl_delta::{Batch, EnvVersion, Place, apply_in_order};
 use unl_dependencies::{Evaluation, evaluate};
 use unl_documents::{Feature, List, Memory, Shared};
 use unl_strategies::Moment;
@@ -34,7 +35,7 @@ use unl_tokens::Projects;
 pub struct Snapshot {
     version: Shared<EnvVersion>,
     parts: Parts,
-    projects: List<ProjectPlaces>,
+    projects: Shared<List<ProjectPlaces>>,
 }
 
 impl Model for Snapshot {
@@ -57,7 +58,8 @@ impl Snapshot {
         ensures { IfOk result (λ s. s ≡ version) }
     {
         let parts = Parts::of(alloc, &version.state)?;
-        Snapshot::of_parts(alloc, version, parts)
+        let projects = Shared::new(alloc, index_of(alloc, parts.runs())?)?;
+        Snapshot::of_parts(alloc, version, parts, projects)
     }
 
     /// The snapshot of the version after a batch that applies at the place where this one's version
@@ -70,8 +72,10 @@ impl Snapshot {
     {
         let version = next_of(alloc, self.version(), place, batch)?;
         let events = batch.events.as_slice();
-        let next = self.parts.next(alloc, self.version().number, events)?;
-        Snapshot::of_parts(alloc, version, next)
+        let number = self.version().number;
+        let next = self.parts.next(alloc, number, events)?;
+        let projects = places_after(alloc, number, events, &self.parts, &self.projects, &next)?;
+        Snapshot::of_parts(alloc, version, next, projects)
     }
 
     /// The version. Takes no memory.
@@ -153,7 +157,7 @@ impl Snapshot {
     pub fn of_project(&self, project: &str) -> &[usize]
         ensures { result.now ≡ places_in project.now self.now.state.features }
     {
-        places_of(self.projects.as_slice(), project)
+        places_of(self.projects.get().as_slice(), project)
     }
 
     /// The compiled constraints of the strategy at a place of the feature at a place of the
@@ -165,13 +169,18 @@ impl Snapshot {
         self.parts.constraints(feature, strategy)
     }
 
-    /// The snapshot of a version whose parts are compiled.
-    fn of_parts(alloc: Global, version: EnvVersion, parts: Parts) -> Result<Snapshot, Memory>
+    /// The snapshot of a version whose parts are compiled, and the places in them are known.
+    fn of_parts(
+        alloc: Global,
+        version: EnvVersion,
+        parts: Parts,
+        projects: Shared<List<ProjectPlaces>>,
+    ) -> Result<Snapshot, Memory>
         requires valid { IsValidVersion version }
         requires parts { parts ≡ version.state }
+        requires projects { IsIndex version.state.features projects }
         ensures { IfOk result (λ s. s ≡ version) }
     {
-        let projects = index_of(alloc, parts.features())?;
         Ok(Snapshot {
             version: Shared::new(alloc, version)?,
             parts,
@@ -194,5 +203,5 @@ fn next_of(
     ensures next { IfOk result (λ v. v ≡ next_version place.now batch.now) }
     ensures valid { IfOk result IsValidVersion }
 {
-    apply(alloc, place, batch)
+    apply_in_order(alloc, place, batch)
 }

@@ -4,6 +4,7 @@ ghost use Rattle.serde_json.specs.View.{view};
 ghost use Rattle.unl_compiled.specs.Toggles.{variant_data, toggle_data, toggle_if, toggle_if_seen, toggle_of};
 ghost use Rattle.unl_compiled.specs.Toggles.{toggles_data, written_toggles};
 ghost use Rattle.unl_delta.specs.View.{view_of};
+ghost use Rattle.unl_documents.specs.Series.{joined};
 ghost use Rattle.unl_documents.specs.States.{IsValidState};
 ghost use Rattle.unl_documents.specs.Valid.{IsValidFeature};
 ghost use Rattle.unl_tokens.specs.Names.{sees};
@@ -16,7 +17,7 @@ use std::alloc::Global;
 use unl_context::Context;
 use unl_dependencies::{Evaluation, VariantAnswer, evaluate_feature};
 use unl_documents::written::{put, put_some, put_value};
-use unl_documents::{Feature, Field, Memory, Shared};
+use unl_documents::{Feature, Field, List, Memory, Shared};
 use unl_strategies::Moment;
 use unl_tokens::Projects;
 
@@ -56,15 +57,7 @@ fn toggles_seen(
     ensures { IfOk result (λ v. map view v.items
         ≡ filter_map (toggle_of seen.now all context.now moment.entry.now) seen.now.features) }
 {
-    each_toggle(
-        alloc,
-        seen,
-        parts.features(),
-        projects,
-        all,
-        context,
-        moment,
-    )
+    each_toggle(alloc, seen, parts.runs(), projects, all, context, moment)
 }
 
 #[tactic(auto, unfolding(crate::specs::Toggles::written_toggles))]
@@ -77,29 +70,27 @@ fn write_toggles(alloc: Global, toggles: Vec<Value>) -> Result<Value, Memory>
 }
 
 /// The toggles of the features whose project is seen.
-#[tactic(auto, using(crate::proofs::Coding::cons_front))]
 fn each_toggle(
     alloc: Global,
     seen: &Seen,
-    features: &[Shared<CompiledFeature>],
+    runs: &[Shared<List<Shared<CompiledFeature>>>],
     projects: &Projects,
     all: bool,
     context: &Context,
     moment: &Moment,
 ) -> Result<Vec<Value>, Memory>
     requires state { IsValidState seen.now }
-    requires features { All IsValidFeature features.now }
+    requires features { All IsValidFeature (joined runs.now) }
     ensures { IfOk result (λ v. map view v.items
-        ≡ filter_map (toggle_if_seen projects.now seen.now all context.now moment.entry.now) features.now) }
+        ≡ filter_map (toggle_if_seen projects.now seen.now all context.now moment.entry.now) (joined runs.now)) }
 {
     let mut toggles = Vec::new(alloc);
-    for feature in features {
-        let feature = feature.get();
-        push_seen(
+    for run in runs {
+        push_run(
             &mut toggles,
             alloc,
             seen,
-            feature,
+            run.get(),
             projects,
             all,
             context,
@@ -107,6 +98,60 @@ fn each_toggle(
         )?;
     }
     Ok(toggles)
+}
+
+/// Adds the toggles of those features of a run whose project is seen.
+fn push_run(
+    toggles: &mut Vec<Value>,
+    alloc: Global,
+    seen: &Seen,
+    run: &List<Shared<CompiledFeature>>,
+    projects: &Projects,
+    all: bool,
+    context: &Context,
+    moment: &Moment,
+) -> Result<(), Memory>
+    requires state { IsValidState seen.now }
+    requires features { All IsValidFeature run.now }
+    ensures { OnOk result (map view toggles.new.items ≡ map view toggles.old.items
+        ++ filter_map (toggle_if_seen projects.now seen.now all context.now moment.entry.now) run.now) }
+{
+    push_each(
+        toggles,
+        alloc,
+        seen,
+        run.as_slice(),
+        projects,
+        all,
+        context,
+        moment,
+    )
+}
+
+/// Adds the toggles of those features whose project is seen.
+#[tactic(auto, using(crate::proofs::Coding::cons_front))]
+fn push_each(
+    toggles: &mut Vec<Value>,
+    alloc: Global,
+    seen: &Seen,
+    features: &[Shared<CompiledFeature>],
+    projects: &Projects,
+    all: bool,
+    context: &Context,
+    moment: &Moment,
+) -> Result<(), Memory>
+    requires state { IsValidState seen.now }
+    requires features { All IsValidFeature features.now }
+    ensures { OnOk result (map view toggles.new.items ≡ map view toggles.old.items
+        ++ filter_map (toggle_if_seen projects.now seen.now all context.now moment.entry.now) features.now) }
+{
+    for feature in features {
+        let feature = feature.get();
+        push_seen(
+            toggles, alloc, seen, feature, projects, all, context, moment,
+        )?;
+    }
+    Ok(())
 }
 
 /// Adds the toggle of a feature, if its project is seen and the toggle is asked for.

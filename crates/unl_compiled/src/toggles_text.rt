@@ -2,16 +2,14 @@
 //!
 //! Each function that writes does so behind what the writer has. Its error is want of memory, after
 //! which a part may have been written.
-ghost use Rattle.std.specs.Prelude.{◌≡◌, ◌∷◌, [], All, IfOk, OnOk, filter_map};
-ghost use Rattle.json.specs.Token.{key};
+ghost use Rattle.std.specs.Prelude.{◌≡◌, All, IfOk, OnOk, filter_map};
 ghost use Rattle.serde_json.specs.Written.{compact_text};
-ghost use Rattle.unl_compiled.specs.Texts.{Wrote, all_tokens, payload_at, text_at, tokens_if, tokens_of, truth_at};
 ghost use Rattle.unl_compiled.specs.Toggles.{variant_data, toggle_data, toggle_if, toggle_if_seen, toggle_of, toggles_data};
 ghost use Rattle.unl_delta.specs.View.{view_of};
-ghost use Rattle.unl_documents.specs.Key.{key_of};
+ghost use Rattle.unl_documents.specs.Series.{joined};
 ghost use Rattle.unl_documents.specs.States.{IsValidState};
+ghost use Rattle.unl_documents.specs.Tokens.{Wrote, all_tokens, tokens_if, tokens_of};
 ghost use Rattle.unl_documents.specs.Valid.{IsValidFeature};
-ghost use Rattle.unl_documents.specs.Writing.{payload_data};
 ghost use Rattle.unl_tokens.specs.Names.{sees};
 
 use crate::feature::CompiledFeature;
@@ -21,7 +19,8 @@ use json::Writer;
 use std::alloc::Global;
 use unl_context::Context;
 use unl_dependencies::{Evaluation, VariantAnswer, evaluate_feature};
-use unl_documents::{Feature, Field, List, Memory, Payload, Shared, Text};
+use unl_documents::printed::{print_at, print_key, print_some};
+use unl_documents::{Feature, Field, List, Memory, Shared};
 use unl_strategies::Moment;
 use unl_tokens::Projects;
 
@@ -67,7 +66,7 @@ fn write_toggles(
     ensures { OnOk result (Wrote (tokens_of (toggles_data seen.now all context.now moment.entry.now)) out.old out.new) }
 {
     out.begin_object()?;
-    write_key(out, Field::Toggles)?;
+    print_key(out, Field::Toggles)?;
     out.begin_array()?;
     write_items(out, alloc, seen, parts, projects, all, context, moment)?;
     out.end_array()?;
@@ -96,7 +95,7 @@ fn write_items(
         out,
         alloc,
         seen,
-        parts.features(),
+        parts.runs(),
         projects,
         all,
         context,
@@ -105,23 +104,46 @@ fn write_items(
 }
 
 /// Writes the toggles of the features whose project is seen, one behind the other.
-#[tactic(auto, using(crate::proofs::Tokens::found_more))]
 fn write_each(
     out: &mut Writer,
     alloc: Global,
     seen: &Seen,
-    features: &[Shared<CompiledFeature>],
+    runs: &[Shared<List<Shared<CompiledFeature>>>],
     projects: &Projects,
     all: bool,
     context: &Context,
     moment: &Moment,
 ) -> Result<(), Memory>
     requires state { IsValidState seen.now }
-    requires features { All IsValidFeature features.now }
+    requires features { All IsValidFeature (joined runs.now) }
     ensures { OnOk result (Wrote (all_tokens
-        (filter_map (toggle_if_seen projects.now seen.now all context.now moment.entry.now) features.now)) out.old out.new) }
+        (filter_map (toggle_if_seen projects.now seen.now all context.now moment.entry.now) (joined runs.now))) out.old out.new) }
 {
-    for feature in features {
+    for run in runs {
+        let run = run.get();
+        write_run(out, alloc, seen, run, projects, all, context, moment)?;
+    }
+    Ok(())
+}
+
+/// Writes the toggles of those features of a run whose project is seen, one behind the other.
+#[tactic(auto, using(unl_documents::proofs::Tokens::found_more))]
+fn write_run(
+    out: &mut Writer,
+    alloc: Global,
+    seen: &Seen,
+    run: &List<Shared<CompiledFeature>>,
+    projects: &Projects,
+    all: bool,
+    context: &Context,
+    moment: &Moment,
+) -> Result<(), Memory>
+    requires state { IsValidState seen.now }
+    requires features { All IsValidFeature run.now }
+    ensures { OnOk result (Wrote (all_tokens
+        (filter_map (toggle_if_seen projects.now seen.now all context.now moment.entry.now) run.now)) out.old out.new) }
+{
+    for feature in run.as_slice() {
         let feature = feature.get();
         write_if_seen(out, alloc, seen, feature, projects, all, context, moment)?;
     }
@@ -173,10 +195,10 @@ fn write_toggle(out: &mut Writer, feature: &Feature, evaluation: &Evaluation) ->
     ensures { OnOk result (Wrote (tokens_of (toggle_data feature.now evaluation.now)) out.old out.new) }
 {
     out.begin_object()?;
-    write_truth(out, Field::Enabled, evaluation.on)?;
-    write_truth(out, Field::ImpressionData, feature.impression)?;
-    write_text(out, Field::Name, &feature.name)?;
-    write_key(out, Field::Variant)?;
+    print_at(out, Field::Enabled, &evaluation.on)?;
+    print_at(out, Field::ImpressionData, &feature.impression)?;
+    print_at(out, Field::Name, &feature.name)?;
+    print_key(out, Field::Variant)?;
     write_variant(out, evaluation.on, &evaluation.variant)?;
     out.end_object()?;
     Ok(())
@@ -187,61 +209,10 @@ fn write_variant(out: &mut Writer, on: bool, variant: &VariantAnswer) -> Result<
     ensures { OnOk result (Wrote (tokens_of (variant_data on variant.now)) out.old out.new) }
 {
     out.begin_object()?;
-    write_truth(out, Field::Enabled, variant.enabled)?;
-    write_truth(out, Field::FeatureEnabled, on)?;
-    write_text(out, Field::Name, &variant.name)?;
-    write_some_payload(out, &variant.payload)?;
+    print_at(out, Field::Enabled, &variant.enabled)?;
+    print_at(out, Field::FeatureEnabled, &on)?;
+    print_at(out, Field::Name, &variant.name)?;
+    print_some(out, Field::Payload, &variant.payload)?;
     out.end_object()?;
-    Ok(())
-}
-
-/// Writes the payload at its key, where there is one.
-fn write_some_payload(out: &mut Writer, payload: &Option<Payload>) -> Result<(), Memory>
-    ensures { OnOk result (Wrote (payload_at payload.now) out.old out.new) }
-{
-    match payload {
-        None => Ok(()),
-        Some(payload) => {
-            write_key(out, Field::Payload)?;
-            write_payload(out, payload)
-        }
-    }
-}
-
-/// Writes a payload.
-#[tactic(auto, unfolding(unl_documents::specs::Writing::payload_data))]
-fn write_payload(out: &mut Writer, payload: &Payload) -> Result<(), Memory>
-    ensures { OnOk result (Wrote (tokens_of (payload_data payload.now)) out.old out.new) }
-{
-    out.begin_object()?;
-    write_text(out, Field::Kind, &payload.kind)?;
-    write_text(out, Field::Value, &payload.value)?;
-    out.end_object()?;
-    Ok(())
-}
-
-/// Writes a text at its key.
-fn write_text(out: &mut Writer, field: Field, text: &Text) -> Result<(), Memory>
-    ensures { OnOk result (Wrote (text_at field text.now) out.old out.new) }
-{
-    write_key(out, field)?;
-    out.string(text.as_str())?;
-    Ok(())
-}
-
-/// Writes a truth at its key.
-fn write_truth(out: &mut Writer, field: Field, truth: bool) -> Result<(), Memory>
-    ensures { OnOk result (Wrote (truth_at field truth) out.old out.new) }
-{
-    write_key(out, field)?;
-    out.boolean(truth)?;
-    Ok(())
-}
-
-/// Writes a key, behind which its value is to follow.
-fn write_key(out: &mut Writer, field: Field) -> Result<(), Memory>
-    ensures { OnOk result (Wrote (key (key_of field) ∷ []) out.old out.new) }
-{
-    out.key(field.key())?;
     Ok(())
 }

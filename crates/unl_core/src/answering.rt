@@ -17,7 +17,7 @@ use crate::board::Board;
 use crate::client::knows_no_segments;
 use crate::desk::Answer;
 use crate::reply::{
-    bare, made, one_text, refuse, refuse_method, refuse_unseen, tagged, unchanged, with_text,
+    bare, made, one_text, refuse, refuse_method, refuse_unseen, tagged_text, unchanged, with_text,
 };
 use crate::shown::{Ready, ready_by, shown_by};
 use crate::tag::{inlined_tag_of, since_of, tag_of};
@@ -25,10 +25,11 @@ use http::StatusCode;
 use std::alloc::Global;
 use unl_base::Draw;
 use unl_context::{BadContext, Context};
-use unl_delta::{DeltaAnswer, answer as delta_answer, view, write_batch};
-use unl_documents::json::read_object;
+use unl_delta::{DeltaAnswer, answer as delta_answer, view};
+use unl_documents::parsing::read_object;
+use unl_documents::printed::text_of;
 use unl_documents::{
-    Copied, FeedHead, InlineRefusal, List, Memory, State, Text, inline, write_feature, write_feed,
+    Copied, FeedHead, InlineRefusal, List, Memory, State, Text, feed_text, inline,
 };
 use unl_http_api::{Reply, Request, Route, is_post, query_of};
 use unl_metrics::{BadReport, Report};
@@ -263,15 +264,14 @@ fn feature(
     }
 }
 
-#[tactic(auto, using(crate::proofs::Bodies::feature_written))]
 fn feature_of(alloc: Global, ready: &Ready, name: &str) -> Result<Reply, Memory>
     ensures { IfOk result (λ r. r ≡ document_reply (feature_named name.now (seen ready.now).features)) }
 {
     match ready.snapshot.feature(name, &ready.token.projects) {
         None => refuse(alloc, StatusCode::NOT_FOUND, "NoSuchFeature"),
         Some(feature) => {
-            let body = write_feature(alloc, feature)?;
-            made(alloc, StatusCode::OK, &body)
+            let text = text_of(alloc, feature)?;
+            Ok(with_text(StatusCode::OK, text))
         }
     }
 }
@@ -344,7 +344,6 @@ fn feed_state(alloc: Global, inlined: bool, ready: &Ready) -> Result<State, Inli
 }
 
 /// The feed of a state with its tag.
-#[tactic(auto, using(crate::proofs::Bodies::feed_written))]
 fn feed_with(alloc: Global, ready: &Ready, tag: Text, state: &State) -> Result<Reply, Memory>
     requires { IsValidState state.now }
     ensures { IfOk result (λ r. r ≡ feed_with ready.now tag (Ok state.now)) }
@@ -357,8 +356,8 @@ fn feed_with(alloc: Global, ready: &Ready, tag: Text, state: &State) -> Result<R
         number: version.number,
         epoch: version.epoch,
     };
-    let body = write_feed(alloc, &head, state)?;
-    tagged(alloc, tag, &body)
+    let text = feed_text(alloc, &head, state)?;
+    Ok(tagged_text(tag, text))
 }
 
 /// What changed since the number of the request's tag, as its token sees it.
@@ -403,8 +402,8 @@ fn news_since(
         DeltaAnswer::Batch(batch) => {
             let number = batch.number().unwrap_or(0);
             let tag = tag_at(alloc, board, ready, number)?;
-            let body = write_batch(alloc, &batch)?;
-            tagged(alloc, tag, &body)
+            let text = text_of(alloc, &batch)?;
+            Ok(tagged_text(tag, text))
         }
     }
 }

@@ -5,7 +5,7 @@ ghost use Rattle.unl_core.specs.Tag.{hex_16, if_spelled, inlined_tag, number_of_
 use crate::board::Board;
 use serde_json::Value;
 use std::alloc::{AllocError, Global};
-use unl_documents::json::read_json;
+use unl_documents::parsing::read_json;
 use unl_documents::{Memory, Text};
 use unl_http_api::Bytes;
 

@@ -58,18 +58,18 @@ above_out : {T : Type 0} (key : T → List ℕ) (k : List ℕ) (y : T) (ys : Lis
 unfolding above
 above_out key k y ys is = filter_out (λ z. is_before k (key z)) y ys is
 
-none_below : {T : Type 0} (key : T → List ℕ) (k : List ℕ) (xs : List T) → Every (λ y. cmp k (key y) ≡ Less) xs → below key k xs ≡ []
+pub none_below : {T : Type 0} (key : T → List ℕ) (k : List ℕ) (xs : List T) → Every (λ y. cmp k (key y) ≡ Less) xs → below key k xs ≡ []
 unfolding below
 none_below {T} key k xs h =
     filter_none (λ y. is_before (key y) k) xs (every_weaker (λ (y : T). cmp k (key y) ≡ Less) (λ (y : T). is_before (key y) k ≡ false) xs (λ y less. ap is_lt (less_back k (key y) less)) h)
 
-all_above : {T : Type 0} (key : T → List ℕ) (k : List ℕ) (xs : List T) → Every (λ y. cmp k (key y) ≡ Less) xs → above key k xs ≡ xs
+pub all_above : {T : Type 0} (key : T → List ℕ) (k : List ℕ) (xs : List T) → Every (λ y. cmp k (key y) ≡ Less) xs → above key k xs ≡ xs
 unfolding above
 all_above {T} key k xs h =
     filter_all (λ y. is_before k (key y)) xs (every_weaker (λ (y : T). cmp k (key y) ≡ Less) (λ (y : T). is_before k (key y) ≡ true) xs (λ y less. ap is_lt less) h)
 
 -- behind an item that doesn't come before the key come greater keys alone
-greater : {T : Type 0} (key : T → List ℕ) (k : List ℕ) (y : T) (ys : List T) → is_before (key y) k ≡ false → Every (λ z. cmp (key y) (key z) ≡ Less) ys → Every (λ z. cmp k (key z) ≡ Less) ys
+pub greater : {T : Type 0} (key : T → List ℕ) (k : List ℕ) (y : T) (ys : List T) → is_before (key y) k ≡ false → Every (λ z. cmp (key y) (key z) ≡ Less) ys → Every (λ z. cmp k (key z) ≡ Less) ys
 greater {T} key k y ys before h = decided (cmp (key y) k) refl before
   where
     decided : (o : Ordering) → cmp (key y) k ≡ o → is_lt o ≡ false → Every (λ (z : T). cmp k (key z) ≡ Less) ys
@@ -177,7 +177,7 @@ none_is {T} key k xs place parts =
 -- ---- the item of a key
 
 -- items of greater keys alone have none of the key
-none_found : {T : Type 0} (key : T → List ℕ) (k : List ℕ) (xs : List T) → Every (λ y. cmp k (key y) ≡ Less) xs → find (λ y. bytes_eq (key y) k) xs ≡ None
+pub none_found : {T : Type 0} (key : T → List ℕ) (k : List ℕ) (xs : List T) → Every (λ y. cmp k (key y) ≡ Less) xs → find (λ y. bytes_eq (key y) k) xs ≡ None
 none_found key k [] h = refl
 none_found key k (y ∷ ys) h = rw (less_apart k (key y) h.0) (none_found key k ys h.1)
 

@@ -104,7 +104,7 @@ fn without_among<T: Keyed>(
 }
 
 /// The first item of a key, looked up from the front.
-fn first_of<'a, T: Keyed>(items: &'a [Shared<T>], key: &T::Key) -> Option<&'a T>
+pub(crate) fn first_of<'a, T: Keyed>(items: &'a [Shared<T>], key: &T::Key) -> Option<&'a T>
     ensures { option_map (λ x. x.now) result ≡ find (λ x. bytes_eq (T.key x) (T.Key.ranks key.now)) items.now }
 {
     for item in items {

@@ -20,9 +20,9 @@ use crate::fault::BadBatch;
 use serde_json::Value;
 use std::alloc::Global;
 use unl_documents::document::{Document, Object};
-use unl_documents::json::read_json;
 use unl_documents::keys::{defaulted, name_or, optional, required, value_at};
 use unl_documents::kind::{AnyText, AnyWhole, Name};
+use unl_documents::parsing::read_json;
 use unl_documents::{BadDocument, Feature, Feed, Field, List, Memory, Segment, Shared, State};
 
 #[tactic(auto, unfolding(crate::specs::Reading::hydration_of))]

@@ -129,15 +129,19 @@ impl Written for Event {
     }
 }
 
-#[tactic(auto, unfolding(crate::specs::Writing::batch_data, crate::specs::Writing::batch_with))]
-fn batch_value(alloc: Global, batch: &Batch) -> Result<Value, Memory>
-    ensures { IfOk result (λ v. view v ≡ batch_data batch.now) }
-{
-    let mut members = Map::new(alloc);
-    put(&mut members, alloc, Field::Events, &batch.events)?;
-    put_some(&mut members, alloc, Field::After, &batch.after)?;
-    put_unless_zero(&mut members, alloc, Field::Epoch, batch.epoch)?;
-    Ok(Value::Object(members))
+impl Written for Batch {
+    ghost use Rattle.unl_delta.specs.Writing.{batch_data};
+
+    ghost written = { batch_data };
+
+    #[tactic(auto, unfolding(crate::specs::Writing::batch_data, crate::specs::Writing::batch_with))]
+    fn write(&self, alloc: Global) -> Result<Value, Memory> {
+        let mut members = Map::new(alloc);
+        put(&mut members, alloc, Field::Events, &self.events)?;
+        put_some(&mut members, alloc, Field::After, &self.after)?;
+        put_unless_zero(&mut members, alloc, Field::Epoch, self.epoch)?;
+        Ok(Value::Object(members))
+    }
 }
 
 /// The value that is read as the batch: its events, `epoch` where that isn't 0, and `after` where
@@ -152,5 +156,5 @@ pub fn write_batch(alloc: Global, batch: &Batch) -> Result<Value, Memory>
         ≡ Ok (record { epoch = batch.now.epoch; after = option_or batch.now.after held; events = batch.now.events })) }
     ensures no_float { IfOk result (λ v. has_float (view v) ≡ false) }
 {
-    batch_value(alloc, batch)
+    batch.write(alloc)
 }

@@ -1,16 +1,28 @@
 //! Finding a feature by its name.
 ghost use Rattle.std.specs.Prelude.{◌≡◌, All, IfSome, option_map};
+ghost use Rattle.unl_documents.specs.Series.{joined};
 ghost use Rattle.unl_documents.specs.Valid.{IsValidFeature};
 ghost use Rattle.unl_dependencies.specs.Evaluation.{feature_named as feature_with};
 
-use unl_documents::{Feature, List, Shared};
+use unl_documents::{Feature, List, Series, Shared};
 
-/// The feature of a name, if the list has one. It takes no memory.
-pub fn feature_named<'a>(features: &'a List<Shared<Feature>>, name: &str) -> Option<&'a Feature>
+/// The feature of a name, if the series has one. It takes no memory.
+pub fn feature_named<'a>(features: &'a Series<Feature>, name: &str) -> Option<&'a Feature>
     ensures value { option_map (λ f. f.now) result ≡ feature_with name.now features.now }
     ensures valid { All IsValidFeature features.now → IfSome result (λ f. IsValidFeature f.now) }
 {
-    first_named(features.as_slice(), name)
+    first_in_runs(features.runs(), name)
+}
+
+fn first_in_runs<'a>(runs: &'a [Shared<List<Shared<Feature>>>], name: &str) -> Option<&'a Feature>
+    ensures { option_map (λ f. f.now) result ≡ feature_with name.now (joined runs.now) }
+{
+    for run in runs {
+        if let Some(feature) = first_named(run.get().as_slice(), name) {
+            return Some(feature);
+        }
+    }
+    None
 }
 
 fn first_named<'a>(features: &'a [Shared<Feature>], name: &str) -> Option<&'a Feature>

@@ -8,7 +8,7 @@ use unl_delta::{
     Batch, DeltaAnswer, EnvVersion, Place, Verdict, answer, apply, read_batch_bytes, verdict, view,
     write_batch,
 };
-use unl_documents::{Copied, Feature, List, Shared, Text};
+use unl_documents::{Copied, Feature, List, Series, Shared, Text};
 use unl_replay::replay;
 use unl_tokens::Projects;
 
@@ -48,9 +48,11 @@ fn taken(alloc: Global, place: &Place, batch: &Batch) -> Option<(Place, Verdict)
 
 /// The project of the feature of a name, where there is one.
 fn project_of<'v>(version: &'v EnvVersion, name: &str) -> Option<&'v str> {
-    for feature in version.state.features.as_slice() {
-        if feature.get().name.as_str() == name {
-            return Some(feature.get().project.as_str());
+    for run in version.state.features.runs() {
+        for feature in run.get().as_slice() {
+            if feature.get().name.as_str() == name {
+                return Some(feature.get().project.as_str());
+            }
         }
     }
     None
@@ -188,16 +190,22 @@ fn deliver(alloc: Global, replica: &mut Replica, text: &str) -> Option<()> {
 }
 
 /// Whether these are the same features, which differ in their names and projects alone.
-fn are_same(these: &[Shared<Feature>], those: &[Shared<Feature>]) -> bool {
-    if these.len() != those.len() {
-        return false;
+fn are_same(these: &Series<Feature>, those: &Series<Feature>) -> Option<bool> {
+    let count = these.len().ok()?;
+    if those.len().ok()? != count {
+        return Some(false);
     }
-    for (one, other) in these.iter().zip(those) {
-        if one.get().name != other.get().name || one.get().project != other.get().project {
-            return false;
+    for place in 0..count {
+        if !is_same(these.get(place)?, those.get(place)?) {
+            return Some(false);
         }
     }
-    true
+    Some(true)
+}
+
+/// Whether a feature has another's name and project.
+fn is_same(one: &Feature, other: &Feature) -> bool {
+    one.name == other.name && one.project == other.project
 }
 
 /// Whether the place has the revision of its number, as it is seen.
@@ -213,7 +221,7 @@ fn is_revision(
     let revision = versions.get(version.get().number as usize)?;
     let wanted = view(alloc, &revision.get().state, projects).ok()?;
     let stands = &version.get().state;
-    Some(are_same(stands.features.as_slice(), wanted.features.as_slice()))
+    are_same(&stands.features, &wanted.features)
 }
 
 /// How often what is on the way arrives: not at all, once or twice.

@@ -5,7 +5,7 @@ ghost use Rattle.unl_upstream.specs.Command.{IsValidCommand};
 use std::alloc::Global;
 use std::test::Fail;
 use unl_base::Draw;
-use unl_documents::json::read_json;
+use unl_documents::parsing::read_json;
 use unl_documents::{BadDocument, Field, List, Memory, Segment, Text};
 use unl_http_api::{Bytes, Method, Request};
 use unl_tokens::Book;

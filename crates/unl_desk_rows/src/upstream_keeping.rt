@@ -132,8 +132,10 @@ fn give_all<K: Keeper>(alloc: Global, up: &mut Upstream, keeper: &mut K, given: 
 fn stands(alloc: Global, up: &Upstream) -> Option<(u64, String)> {
     let version = up.board().snapshot("dev")?.version();
     let mut names = String::new(alloc);
-    for feature in version.state.features.as_slice() {
-        names.push_str(feature.get().name.as_str()).ok()?;
+    for run in version.state.features.runs() {
+        for feature in run.get().as_slice() {
+            names.push_str(feature.get().name.as_str()).ok()?;
+        }
     }
     Some((version.number, names))
 }

@@ -2,6 +2,7 @@
 ghost use Rattle.std.specs.Prelude.{◌≡◌, ◌+◌, IfOk, flat_map, length, nat_lt};
 ghost use Rattle.std.specs.List.{find};
 ghost use Rattle.unl_documents.specs.Inline.{all_constraints, constraints_for, counts, first_excess as first_excess_of};
+ghost use Rattle.unl_documents.specs.Series.{joined};
 
 use crate::feature::Feature;
 use crate::list::List;
@@ -17,7 +18,23 @@ use crate::strategy::Strategy;
 pub(crate) fn first_excess(state: &State) -> Result<Option<u64>, Memory>
     ensures { IfOk result (λ found. found ≡ first_excess_of state.now) }
 {
-    first_excess_among(state.features.as_slice(), &state.segments)
+    first_excess_in(state.features.runs(), &state.segments)
+}
+
+fn first_excess_in(
+    runs: &[Shared<List<Shared<Feature>>>],
+    segments: &List<Shared<Segment>>,
+) -> Result<Option<u64>, Memory>
+    ensures { IfOk result (λ found. found
+        ≡ find (nat_lt 100) (flat_map (λ f. counts segments.now f.strategies) (joined runs.now))) }
+{
+    for run in runs {
+        let found = first_excess_among(run.get().as_slice(), segments)?;
+        if found.is_some() {
+            return Ok(found);
+        }
+    }
+    Ok(None)
 }
 
 fn first_excess_among(

@@ -5,6 +5,7 @@ ghost use Rattle.unl_documents.specs.Inline.{all_constraints as constraints_of, 
 ghost use Rattle.unl_documents.specs.Inline.{inlined as inlined_state, inlined_feature as feature_inlined};
 ghost use Rattle.unl_documents.specs.Inline.{inlined_strategy as strategy_inlined, inlining_of};
 ghost use Rattle.unl_documents.specs.Results.{Gives};
+ghost use Rattle.unl_documents.specs.Series.{joined, NoneIsEmpty};
 ghost use Rattle.unl_documents.specs.States.{IsValidState};
 ghost use Rattle.unl_documents.specs.declared.inlining.InlineRefusal.TheVariants.{Memory as memory};
 
@@ -17,6 +18,7 @@ use crate::memory::Memory;
 use crate::operator::Operator;
 use crate::segment::Segment;
 use crate::segments::segment_of;
+use crate::series::Series;
 use crate::shared::Shared;
 use crate::state::State;
 use crate::strategy::Strategy;
@@ -64,9 +66,27 @@ fn inlined(alloc: Global, state: &State) -> Result<State, Memory>
     ensures { IfOk result (λ s. s ≡ inlined_state state.now) }
 {
     Ok(State {
-        features: inlined_features(alloc, state.features.as_slice(), &state.segments)?,
+        features: Series::of_runs(inlined_runs(alloc, state.features.runs(), &state.segments)?),
         segments: List::new(alloc),
     })
+}
+
+/// The runs, of as many features each.
+fn inlined_runs(
+    alloc: Global,
+    runs: &[Shared<List<Shared<Feature>>>],
+    segments: &List<Shared<Segment>>,
+) -> Result<List<Shared<List<Shared<Feature>>>>, Memory>
+    requires { NoneIsEmpty runs.now }
+    ensures features { IfOk result (λ rs. joined rs ≡ map (feature_inlined segments.now) (joined runs.now)) }
+    ensures full { IfOk result NoneIsEmpty }
+{
+    let mut inlined = List::new(alloc);
+    for run in runs {
+        let features = inlined_features(alloc, run.get().as_slice(), segments)?;
+        inlined.push(Shared::new(alloc, features)?)?;
+    }
+    Ok(inlined)
 }
 
 fn inlined_features(

@@ -7,7 +7,7 @@ ghost use Rattle.unl_upstream.specs.Command.{IsValidCommand, command_in};
 
 use std::alloc::Global;
 use std::marker::Model;
-use unl_documents::json::read_json;
+use unl_documents::parsing::read_json;
 use unl_documents::{BadDocument, Text, fault_text};
 use unl_keeper::Keeper;
 use unl_lines::{LineRefusal, LineTaking};

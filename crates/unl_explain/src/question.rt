@@ -8,9 +8,9 @@ use serde_json::Value;
 use std::alloc::Global;
 use unl_context::Context;
 use unl_documents::document::{Document, Object, read_document};
-use unl_documents::json::read_json;
 use unl_documents::keys::{defaulted, required};
 use unl_documents::kind::{AnyWhole, Name, Whole};
+use unl_documents::parsing::read_json;
 use unl_documents::{BadDocument, Field, State, Text};
 use unl_input::context_in;
 

@@ -8,7 +8,7 @@ ghost use Rattle.unl_metrics.specs.declared.fault.BadReport.TheVariants.{Memory 
 use crate::fault::BadReport;
 use crate::reading::{read_bulk, read_single};
 use std::alloc::Global;
-use unl_documents::json::read_object;
+use unl_documents::parsing::read_object;
 use unl_documents::{Copied, List, Memory, Text};
 
 /// How often a variant was given.

@@ -67,7 +67,7 @@ fn window(alloc: Global, second: u64) -> Option<(usize, u64)> {
     let Some(version) = &end.version else {
         return None;
     };
-    Some((version.get().entries.len(), version.get().base))
+    Some((version.get().entries.len().ok()?, version.get().base))
 }
 
 #[test]

@@ -18,9 +18,9 @@ use std::marker::PhantomData;
 use unl_context::Context;
 use unl_documents::document::{Document, Object, read_document};
 use unl_documents::items::{Item, each_item, list};
-use unl_documents::json::read_json;
 use unl_documents::keys::{defaulted, optional, required};
 use unl_documents::kind::{AnyText, Kind, Name, Truth, UpTo};
+use unl_documents::parsing::read_json;
 use unl_documents::{BadDocument, Field, List, Payload, State, Text};
 use unl_input::context_in;
 

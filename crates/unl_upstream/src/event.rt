@@ -1,5 +1,5 @@
 //! The event that a command comes to at a version.
-ghost use Rattle.std.specs.Prelude.{◌≡◌, IfOk, OnOk, find, option_copied, option_map};
+ghost use Rattle.std.specs.Prelude.{◌≡◌, IfOk, OnOk, find, option_map};
 ghost use Rattle.unl_delta.specs.State.{project_of};
 ghost use Rattle.unl_delta.specs.Valid.{IsValidVersion};
 ghost use Rattle.unl_documents.specs.Limits.{IsName};
@@ -14,6 +14,7 @@ ghost use Rattle.unl_upstream.specs.Writing.{RemovesName};
 use crate::command::Command;
 use crate::refusal::CommandRefusal;
 use std::alloc::Global;
+use unl_delta::keyed::found_in_series;
 use unl_delta::{EnvVersion, Event};
 use unl_documents::{Copied, Feature, Segment, Shared, Text};
 
@@ -37,7 +38,7 @@ pub(crate) fn event_of(
 {
     match command {
         Command::PutFeature { feature, .. } => put_feature(alloc, feature, version),
-        Command::RemoveFeature { name, .. } => remove_feature(alloc, name.as_str(), version),
+        Command::RemoveFeature { name, .. } => remove_feature(alloc, name, version),
         Command::PutSegment { segment, .. } => put_segment(alloc, segment, version),
         Command::RemoveSegment { id, .. } => remove_segment(*id, version),
     }
@@ -49,13 +50,14 @@ fn put_feature(
     feature: &Feature,
     version: &EnvVersion,
 ) -> Result<Event, CommandRefusal>
-    requires { IsValidFeature feature.now }
+    requires feature { IsValidFeature feature.now }
+    requires version { IsValidVersion version.now }
     ensures gives { Gives memory result (feature_put feature.now version.now) }
     ensures next { IfOk result (IsNext version.now) }
 {
-    let features = version.state.features.as_slice();
-    if !has_feature(feature.name.as_str(), features) && features.len() >= MOST_FEATURES {
-        return Err(CommandRefusal::TooMany(features.len() as u64));
+    let count = version.state.features.len()?;
+    if !has_feature(&feature.name, version) && count >= MOST_FEATURES {
+        return Err(CommandRefusal::TooMany(count as u64));
     }
     let number = number_after(version.number)?;
     let feature = Shared::new(alloc, feature.copy(alloc)?)?;
@@ -63,19 +65,19 @@ fn put_feature(
 }
 
 #[tactic(auto, using(crate::proofs::Next::named_within), unfolding(crate::specs::Upstream::feature_removed))]
-fn remove_feature(alloc: Global, name: &str, version: &EnvVersion) -> Result<Event, CommandRefusal>
+fn remove_feature(alloc: Global, name: &Text, version: &EnvVersion) -> Result<Event, CommandRefusal>
     requires { IsValidVersion version.now }
     ensures gives { Gives memory result (feature_removed name.now version.now) }
     ensures next { IfOk result (IsNext version.now) }
     ensures named { OnOk result (IsName name.now) }
 {
-    let Some(project) = project_of(name, version.state.features.as_slice()) else {
+    let Some(project) = project_of(name, version) else {
         return Err(CommandRefusal::NoSuchFeature);
     };
     let number = number_after(version.number)?;
     Ok(Event::FeatureRemoved {
         number,
-        name: Text::new(alloc, name)?,
+        name: name.copy(alloc)?,
         project: project.copy(alloc)?,
     })
 }
@@ -119,28 +121,29 @@ fn number_after(number: u64) -> Result<u64, CommandRefusal>
 }
 
 /// The project of the feature of a name.
-fn project_of<'a>(name: &str, features: &'a [Shared<Feature>]) -> Option<&'a Text>
-    ensures { option_map (λ t. t.now) result ≡ project_of name.now features.now }
+fn project_of<'a>(name: &Text, version: &'a EnvVersion) -> Option<&'a Text>
+    requires { IsValidVersion version.now }
+    ensures { option_map (λ t. t.now) result ≡ project_of name.now version.now.state.features }
 {
-    match feature_named(name, features) {
+    match feature_named(name, version) {
         None => None,
-        Some(feature) => Some(&feature.get().project),
+        Some(feature) => Some(&feature.project),
     }
 }
 
-fn feature_named<'a>(name: &str, features: &'a [Shared<Feature>]) -> Option<&'a Shared<Feature>>
-    ensures { option_copied result ≡ find (is_named name.now) features.now }
+fn feature_named<'a>(name: &Text, version: &'a EnvVersion) -> Option<&'a Feature>
+    requires { IsValidVersion version.now }
+    ensures { option_map (λ f. f.now) result ≡ find (is_named name.now) version.now.state.features }
 {
-    features
-        .iter()
-        .find(|feature| feature.get().name.as_str() == name)
+    found_in_series(&version.state.features, name)
 }
 
 /// Whether a feature has this name.
-fn has_feature(name: &str, features: &[Shared<Feature>]) -> bool
-    ensures { result ≡ has_feature name.now features.now }
+fn has_feature(name: &Text, version: &EnvVersion) -> bool
+    requires { IsValidVersion version.now }
+    ensures { result ≡ has_feature name.now version.now.state.features }
 {
-    project_of(name, features).is_some()
+    project_of(name, version).is_some()
 }
 
 /// Whether a segment has this id.

@@ -10,9 +10,9 @@ use crate::command::Command;
 use serde_json::Value;
 use std::alloc::Global;
 use unl_documents::document::{Document, Object, read_document};
-use unl_documents::json::read_json;
 use unl_documents::keys::required;
 use unl_documents::kind::{AnyText, AnyWhole, Name};
+use unl_documents::parsing::read_json;
 use unl_documents::{BadDocument, Feature, Field, Segment};
 
 impl Document for Command {

@@ -1,7 +1,6 @@
-use Rattle.std.proofs.Common.{◌∙◌}
-use Rattle.unl_constraints.proofs.Searching.{told}
-use Rattle.unl_documents.specs.States.{name_key}
+use Rattle.std.proofs.Common.{ap, ◌∙◌}
+use Rattle.unl_dependencies.specs.Evaluation.{feature_named}
 use Rattle.unl_compiled.proofs.seen.feature_named.Goals as goal
 
 pub returns : goal.returns
-returns c = c.feature_at.ensures ∙ rw c.place_of.ensures (told name_key c.args.name.now c.args.features.now c.requires).0
+returns c = c.feature_among.ensures ∙ ap (feature_named c.args.name.now) c.runs.ensures.features

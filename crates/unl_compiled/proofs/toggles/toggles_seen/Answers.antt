@@ -13,4 +13,4 @@ returns c =
     let toggle = toggle_of c.args.seen.now c.args.all c.args.context.now c.args.moment.now in
     let either = toggle_if_seen c.args.projects.now c.args.seen.now c.args.all c.args.context.now c.args.moment.now in
     let seen = λ (f : Feature). sees c.args.projects.now f.project in
-    IfOk-weaker c.each_toggle.result _ _ (λ v is. is ∙ ap (filter_map either) c.features.ensures ∙ seen_toggles toggle seen c.args.parts.now.features ∙ ap (λ (s : State). filter_map toggle s.features) (sym c.requires.seen)) c.each_toggle.ensures
+    IfOk-weaker c.each_toggle.result _ _ (λ v is. is ∙ ap (filter_map either) c.runs.ensures.features ∙ seen_toggles toggle seen c.args.parts.now.features ∙ ap (λ (s : State). filter_map toggle s.features) (sym c.requires.seen)) c.each_toggle.ensures

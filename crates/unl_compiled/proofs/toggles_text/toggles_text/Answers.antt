@@ -1,8 +1,8 @@
 use Rattle.std.proofs.Common.{ap, ◌∙◌}
 use Rattle.serde_json.specs.Written.{compact_text}
 use Rattle.unl_compiled.specs.Toggles.{toggles_data}
-use Rattle.unl_compiled.proofs.Tokens.{text_of}
 use Rattle.unl_documents.specs.declared.state.State.{State}
+use Rattle.unl_documents.proofs.Tokens.{text_of}
 use Rattle.unl_compiled.proofs.toggles_text.toggles_text.Goals as goal
 
 pub returns : goal.returns

@@ -1,11 +1,14 @@
 use Rattle.std.proofs.Common.{◌≡◌, ◌++◌, drop}
-use Rattle.std.specs.Prelude.{filter_map}
-use Rattle.unl_compiled.specs.Texts.{all_tokens}
+use Rattle.std.specs.Prelude.{All, filter_map}
+use Rattle.unl_documents.specs.Tokens.{all_tokens}
 use Rattle.unl_compiled.specs.Toggles.{toggle_if_seen}
+use Rattle.unl_documents.specs.Series.{joined}
+use Rattle.unl_documents.specs.Valid.{IsValidFeature}
 use Rattle.unl_compiled.proofs.toggles_text.write_each.Given as goal
 
-abbrev pub invariant-loop-feature : goal.invariant-loop-feature
-invariant-loop-feature l = record {
+abbrev pub invariant-loop-run : goal.invariant-loop-run
+invariant-loop-run l = record {
+  valid : All IsValidFeature (joined (drop l.run-index l.runs));
   before : l.out.before ≡ l.initial.out.before;
-  rest : l.out.tokens ++ all_tokens (filter_map (toggle_if_seen l.projects l.seen l.all l.context l.moment) (drop l.feature-index l.features)) ≡ l.initial.out.tokens ++ all_tokens (filter_map (toggle_if_seen l.projects l.seen l.all l.context l.moment) l.features);
+  rest : l.out.tokens ++ all_tokens (filter_map (toggle_if_seen l.projects l.seen l.all l.context l.moment) (joined (drop l.run-index l.runs))) ≡ l.initial.out.tokens ++ all_tokens (filter_map (toggle_if_seen l.projects l.seen l.all l.context l.moment) (joined l.runs));
 }

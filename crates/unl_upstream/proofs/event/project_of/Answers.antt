@@ -1,11 +1,20 @@
-use Rattle.std.proofs.Common.{Some, ap, ◌∙◌}
+use Rattle.std.proofs.Common.{◌≡◌, Option, None, Some, ap, ◌∙◌}
+use Rattle.std.specs.Prelude.{find}
 use Rattle.unl_documents.specs.declared.feature.Feature.{Feature}
+use Rattle.unl_upstream.specs.Upstream.{is_named}
 use Rattle.unl_upstream.proofs.Next.{found_project, project_found}
 use Rattle.unl_upstream.proofs.event.project_of.Goals as goal
 
 pub returns-in-None : goal.returns-in-None
-returns-in-None c = ap project_found c.in-None.ensures ∙ found_project c.args.name.now c.args.features.now
+returns-in-None c =
+    let name = c.args.name.now in
+    let features = c.args.version.now.state.features in
+    let found : None ≡ find (is_named name) features = rw c.in-None.is at c.feature_named.ensures in
+    ap project_found found ∙ found_project name features
 
 pub returns-in-Some : goal.returns-in-Some
 returns-in-Some c =
-    ap (λ (f : Feature). Some f.project) c.get.ensures ∙ ap project_found c.in-Some.ensures ∙ found_project c.args.name.now c.args.features.now
+    let name = c.args.name.now in
+    let features = c.args.version.now.state.features in
+    let found : Some c.in-Some.feature.now ≡ find (is_named name) features = rw c.in-Some.is at c.feature_named.ensures in
+    ap project_found found ∙ found_project name features

@@ -1,0 +1,106 @@
+//! Where the features of each project stand after events, and whether these leave them where they stand.
+ghost use Rattle.std.specs.Prelude.{◌≡◌, false, true, IfOk, map, option_map};
+ghost use Rattle.std.specs.List.{list_all};
+ghost use Rattle.std.specs.Option.{option_map_or};
+ghost use Rattle.std.specs.Str.{bytes_eq};
+ghost use Rattle.unl_compiled.specs.Next.{keeps_place, state_after};
+ghost use Rattle.unl_compiled.specs.Places.{IsIndex};
+ghost use Rattle.unl_delta.specs.State as told;
+ghost use Rattle.unl_documents.specs.Parameters.{AreRising};
+ghost use Rattle.unl_documents.specs.States.{name_key};
+
+use crate::index::{ProjectPlaces, index_of};
+use crate::parts::Parts;
+use crate::seen::{document_of, feature_named};
+use std::alloc::Global;
+use unl_delta::Event;
+use unl_documents::{Feature, List, Memory, Shared, Text};
+
+/// Where the features of each project stand after a batch's events, which come to these parts, where
+/// those before are of a version with this number. Where no place moves, the places are shared.
+pub(crate) fn places_after(
+    alloc: Global,
+    number: u64,
+    events: &[Event],
+    before: &Parts,
+    projects: &Shared<List<ProjectPlaces>>,
+    after: &Parts,
+) -> Result<Shared<List<ProjectPlaces>>, Memory>
+    requires order { told.IsInOrder before.now }
+    requires projects { IsIndex before.now.features projects.now }
+    requires after { after.now ≡ state_after number events.now before.now }
+    ensures { IfOk result (IsIndex after.now.features) }
+{
+    if keeps_places(before, events) {
+        return projects.copy();
+    }
+    Shared::new(alloc, index_of(alloc, after.runs())?)
+}
+
+/// Whether each of the events leaves each feature at its place and in its project.
+fn keeps_places(parts: &Parts, events: &[Event]) -> bool
+    requires { AreRising (map name_key parts.now.features) }
+    ensures { result ≡ list_all (keeps_place parts.now.features) events.now }
+{
+    for event in events {
+        if !keeps_place(parts, event) {
+            return false;
+        }
+    }
+    true
+}
+
+/// Whether the event does: it changes a feature within its project, or no feature at all.
+fn keeps_place(parts: &Parts, event: &Event) -> bool
+    requires { AreRising (map name_key parts.now.features) }
+    ensures { result ≡ keeps_place parts.now.features event.now }
+{
+    match event {
+        Event::Hydration { .. } => false,
+        Event::FeatureUpdated { feature, .. } => {
+            let feature = feature.get();
+            is_project(project_of(parts, &feature.name), &feature.project)
+        }
+        Event::FeatureRemoved { name, .. } => is_missing(project_of(parts, name)),
+        Event::SegmentUpdated { .. } => true,
+        Event::SegmentRemoved { .. } => true,
+    }
+}
+
+/// The project of the feature of a name, among features whose names rise.
+fn project_of<'a>(parts: &'a Parts, name: &Text) -> Option<&'a Text>
+    requires { AreRising (map name_key parts.now.features) }
+    ensures { option_map (λ t. t.now) result ≡ told.project_of name.now parts.now.features }
+{
+    project_in(document_of(feature_named(parts, name.as_str())))
+}
+
+/// The project of a feature that was looked for.
+fn project_in(found: Option<&Feature>) -> Option<&Text>
+    ensures { option_map (λ t. t.now) result ≡ option_map (λ f. f.project) (option_map (λ f. f.now) found.entry) }
+{
+    match found {
+        None => None,
+        Some(feature) => Some(&feature.project),
+    }
+}
+
+/// Whether a project was found, and is this one.
+fn is_project(found: Option<&Text>, project: &Text) -> bool
+    ensures { result ≡ option_map_or (λ p. bytes_eq p project.now) (option_map (λ t. t.now) found.entry) false }
+{
+    match found {
+        None => false,
+        Some(other) => other.as_str() == project.as_str(),
+    }
+}
+
+/// Whether no project was found.
+fn is_missing(found: Option<&Text>) -> bool
+    ensures { result ≡ option_map_or (λ p. false) (option_map (λ t. t.now) found.entry) true }
+{
+    match found {
+        None => true,
+        Some(_) => false,
+    }
+}

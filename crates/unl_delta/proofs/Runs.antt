@@ -1,0 +1,314 @@
+-- Items in runs, one behind the other, whose keys rise: where a key stands among them, or else belongs.
+use Rattle.std.proofs.Common.{◌≡◌, ◌<◌, ◌≤◌, ◌+◌, ◌-◌, ℕ, zero, suc, Bool, true, false, Option, Some, None, List, [], ◌∷◌, ◌++◌, length, map, take, drop, get_or, Less, inl, inr, refl, sym, ap, subst, ◌∙◌, append_assoc, arith}
+use Rattle.std.specs.Prelude.{filter, find, nat_lt, slice_get}
+use Rattle.std.specs.List.{AllByRecursion as Every, flat_map, prefix_len}
+use Rattle.std.specs.List.Sorted.{IsPartitionedBy}
+use Rattle.std.specs.Option.{option_map_or, option_or}
+use Rattle.std.specs.Ordering.{is_eq, is_lt}
+use Rattle.std.specs.Str.{bytes_eq}
+use Rattle.std.proofs.lemmas.Bool.{cases_Bool, lt-ltb}
+use Rattle.std.proofs.lemmas.Cmp.{nat_list_cmp_total}
+use Rattle.std.proofs.lemmas.Grind.{flat_map-append}
+use Rattle.std.proofs.lemmas.List.{append-nil, drop_more, take_more}
+use Rattle.std.proofs.lemmas.List.Elements.{filter-append, recursion_from_All}
+use Rattle.std.proofs.lemmas.List.Folds.{find-append}
+use Rattle.std.proofs.lemmas.Map.Text.{is_eq-slice_cmp}
+use Rattle.std.proofs.lemmas.Option.{slice_get_within}
+use Rattle.unl_delta.specs.Keyed.{above, below, ends_before, is_before, put, without}
+use Rattle.unl_delta.specs.State.{later}
+use Rattle.unl_delta.proofs.Every.{every_append, every_weaker, filter_all, filter_in, filter_none}
+use Rattle.unl_delta.proofs.Numbers.{later_append}
+use Rattle.unl_delta.proofs.InPlace.{all_above, greater, none_below, none_found}
+use Rattle.unl_delta.proofs.Order.{cmp, Rises, less_apart, less_back, less_from_test, rises_from_rising, rising_again}
+use Rattle.unl_documents.specs.Parameters.{AreRising}
+use Rattle.unl_documents.specs.Series.{joined, NoneIsEmpty}
+
+-- ---- a list that rises in two parts
+
+every_front : {T : Type 0} (P : T → Type 0) (xs ys : List T) → Every P (xs ++ ys) → Every P xs
+every_front P [] ys h = tt
+every_front P (x ∷ xs) ys h = (h.0, every_front P xs ys h.1)
+
+every_back : {T : Type 0} (P : T → Type 0) (xs ys : List T) → Every P (xs ++ ys) → Every P ys
+every_back P [] ys h = h
+every_back P (x ∷ xs) ys h = every_back P xs ys h.1
+
+rises_front : {T : Type 0} (key : T → List ℕ) (xs ys : List T) → Rises key (xs ++ ys) → Rises key xs
+unfolding Rises
+rises_front key [] ys h = tt
+rises_front {T} key (x ∷ xs) ys h = (every_front (λ (y : T). cmp (key x) (key y) ≡ Less) xs ys h.0, rises_front key xs ys h.1)
+
+rises_back : {T : Type 0} (key : T → List ℕ) (xs ys : List T) → Rises key (xs ++ ys) → Rises key ys
+unfolding Rises
+rises_back key [] ys h = h
+rises_back key (x ∷ xs) ys h = rises_back key xs ys h.1
+
+-- ---- a run that ends before a key, and one that doesn't
+
+-- one more item in front changes nothing at the end
+ends_alike : {T : Type 0} (key : T → List ℕ) (k : List ℕ) (x y : T) (ys : List T) → ends_before key k (x ∷ y ∷ ys) ≡ ends_before key k (y ∷ ys)
+ends_alike {T} key k x y ys =
+    let more : suc (suc (length ys)) - 1 ≡ suc (length ys) = omega arith in
+    let one : suc (length ys) - 1 ≡ length ys = omega arith in
+    ap (λ (i : ℕ). option_map_or (λ (z : T). is_before (key z) k) (slice_get (x ∷ y ∷ ys) i) false) more
+    ∙ sym (ap (λ (i : ℕ). option_map_or (λ (z : T). is_before (key z) k) (slice_get (y ∷ ys) i) false) one)
+
+all_before : {T : Type 0} (key : T → List ℕ) (k : List ℕ) (run : List T) → Rises key run → ends_before key k run ≡ true → Every (λ y. cmp (key y) k ≡ Less) run
+unfolding Rises
+all_before key k [] h ends = tt
+all_before key k (x ∷ []) h ends = (less_from_test _ ends, tt)
+all_before {T} key k (x ∷ y ∷ ys) h ends =
+    let others : Every (λ (z : T). cmp (key z) k ≡ Less) (y ∷ ys) = all_before key k (y ∷ ys) h.1 (sym (ends_alike key k x y ys) ∙ ends) in
+    (nat_list_cmp_total.trans (key x) (key y) k h.0.0 others.0, others)
+
+-- what stands behind a run that doesn't end before the key comes after the key
+all_behind : {T : Type 0} (key : T → List ℕ) (k : List ℕ) (run more : List T) → Rises key (run ++ more) → 1 ≤ length run → ends_before key k run ≡ false → Every (λ z. cmp k (key z) ≡ Less) more
+unfolding Rises
+all_behind key k [] more h full ends = absurd (omega (arith, full))
+all_behind key k (x ∷ []) more h full ends = greater key k x more ends h.0
+all_behind key k (x ∷ y ∷ ys) more h full ends = all_behind key k (y ∷ ys) more h.1 (omega arith) (sym (ends_alike key k x y ys) ∙ ends)
+
+-- of items that all come after the key no last one comes before it
+not_ended : {T : Type 0} (key : T → List ℕ) (k : List ℕ) (run : List T) → Every (λ y. cmp k (key y) ≡ Less) run → ends_before key k run ≡ true → ⊥
+not_ended key k [] h ends = absurd cc
+not_ended key k (x ∷ []) h ends = let less : is_before (key x) k ≡ false = ap is_lt (less_back k (key x) h.0) in cc
+not_ended key k (x ∷ y ∷ ys) h ends = not_ended key k (y ∷ ys) h.1 (sym (ends_alike key k x y ys) ∙ ends)
+
+none_ends : {T : Type 0} (key : T → List ℕ) (k : List ℕ) (runs : List (List T)) (i : ℕ) (d : List T) → Every (λ run. 1 ≤ length run) runs → Every (λ y. cmp k (key y) ≡ Less) (joined runs) → i < length runs → ends_before key k (get_or runs i d) ≡ true → ⊥
+none_ends key k [] i d full h inside ends = absurd (omega (arith, inside))
+none_ends {T} key k (run ∷ runs) zero d full h inside ends = not_ended key k run (every_front (λ (y : T). cmp k (key y) ≡ Less) run (joined runs) h) ends
+none_ends {T} key k (run ∷ runs) (suc i) d full h inside ends = none_ends key k runs i d full.1 (every_back (λ (y : T). cmp k (key y) ≡ Less) run (joined runs) h) (omega (arith, inside)) ends
+
+-- no run that ends before the key stands behind one that doesn't
+stops : {T : Type 0} (key : T → List ℕ) (k : List ℕ) (runs : List (List T)) → Every (λ run. 1 ≤ length run) runs → Rises key (joined runs) → IsPartitionedBy (ends_before key k) runs
+stops key k [] full h i j d le lt before = absurd (omega arith)
+stops key k (run ∷ runs) full h zero zero d le lt before = before
+stops {T} key k (run ∷ runs) full h zero (suc j) d le lt before =
+    elim (cases_Bool (ends_before key k run)) [
+      | inl ends ↦ ends
+      | inr not ↦ absurd (none_ends key k runs j d full.1 (all_behind key k run (joined runs) h full.0 not) (omega arith) before)
+    ]
+stops key k (run ∷ runs) full h (suc i) zero d le lt before = absurd (omega arith)
+stops key k (run ∷ runs) full h (suc i) (suc j) d le lt before = stops key k runs full.1 (rises_back key run (joined runs) h) i j d (omega arith) (omega arith) before
+
+-- ---- the run of a key
+
+-- in front of the run all come before the key, and behind it all come after it
+pub record Around {T : Type 0} (key : T → List ℕ) (k : List ℕ) (runs : List (List T)) (place : ℕ) : Type 0 where
+  pub low : Every (λ y. cmp (key y) k ≡ Less) (joined (take place runs))
+  pub high : Every (λ y. cmp k (key y) ≡ Less) (joined (drop (suc place) runs))
+
+pub around : {T : Type 0} (key : T → List ℕ) (k : List ℕ) (runs : List (List T)) (place : ℕ) → Every (λ run. 1 ≤ length run) runs → Rises key (joined runs) → place ≡ prefix_len (ends_before key k) runs → Around key k runs place
+around key k [] zero full h is = record { low = tt; high = tt }
+around key k [] (suc place) full h is = absurd (omega (arith, is))
+around {T} key k (run ∷ runs) zero full h is =
+    elim (cases_Bool (ends_before key k run)) [
+      | inl ends ↦
+          let count : prefix_len (ends_before key k) (run ∷ runs) ≡ 1 + prefix_len (ends_before key k) runs = rw ends refl in
+          absurd (omega (arith, is, count))
+      | inr not ↦ record { low = tt; high = all_behind key k run (joined runs) h full.0 not }
+    ]
+around {T} key k (run ∷ runs) (suc place) full h is =
+    elim (cases_Bool (ends_before key k run)) [
+      | inl ends ↦
+          let count : prefix_len (ends_before key k) (run ∷ runs) ≡ 1 + prefix_len (ends_before key k) runs = rw ends refl in
+          let rest : Around key k runs place = around key k runs place full.1 (rises_back key run (joined runs) h) (omega (arith, is, count)) in
+          record {
+            low = every_append (λ (y : T). cmp (key y) k ≡ Less) run (joined (take place runs)) (all_before key k run (rises_front key run (joined runs) h) ends) rest.low;
+            high = rest.high;
+          }
+      | inr not ↦
+          let count : prefix_len (ends_before key k) (run ∷ runs) ≡ 0 = rw not refl in
+          absurd (omega (arith, is, count))
+    ]
+
+-- the runs in front of a place, the one there, and those behind it
+parted : {T : Type 0} (runs : List (List T)) (place : ℕ) (run : List T) → slice_get runs place ≡ Some run → joined runs ≡ joined (take place runs) ++ (run ++ joined (drop (suc place) runs))
+parted [] place run is = absurd cc
+parted {T} (first ∷ runs) zero run is =
+    let same : first ≡ run = cc in
+    ap (λ (r : List T). r ++ joined runs) same
+parted {T} (first ∷ runs) (suc place) run is =
+    ap (λ (xs : List T). first ++ xs) (parted runs place run is) ∙ sym (append_assoc first (joined (take place runs)) (run ++ joined (drop (suc place) runs)))
+
+take_past : {A : Type 0} (xs : List A) (i : ℕ) → slice_get xs i ≡ None → take i xs ≡ xs
+take_past [] zero none = refl
+take_past [] (suc i) none = refl
+take_past (x ∷ xs) zero none = absurd cc
+take_past {A} (x ∷ xs) (suc i) none = ap (λ (ys : List A). x ∷ ys) (take_past xs i none)
+
+-- ---- what is put, taken out and found between items that come before the key and items that come after it
+
+all_low : {T : Type 0} (key : T → List ℕ) (k : List ℕ) (xs : List T) → Every (λ y. cmp (key y) k ≡ Less) xs → below key k xs ≡ xs
+unfolding below
+all_low {T} key k xs h =
+    filter_all (λ y. is_before (key y) k) xs (every_weaker (λ (y : T). cmp (key y) k ≡ Less) (λ (y : T). is_before (key y) k ≡ true) xs (λ y less. ap is_lt less) h)
+
+none_high : {T : Type 0} (key : T → List ℕ) (k : List ℕ) (xs : List T) → Every (λ y. cmp (key y) k ≡ Less) xs → above key k xs ≡ []
+unfolding above
+none_high {T} key k xs h =
+    filter_none (λ y. is_before k (key y)) xs (every_weaker (λ (y : T). cmp (key y) k ≡ Less) (λ (y : T). is_before k (key y) ≡ false) xs (λ y less. ap is_lt (less_back (key y) k less)) h)
+
+none_same : {T : Type 0} (key : T → List ℕ) (k : List ℕ) (xs : List T) → Every (λ y. cmp (key y) k ≡ Less) xs → find (λ y. bytes_eq (key y) k) xs ≡ None
+none_same key k [] h = refl
+none_same key k (y ∷ ys) h =
+    let apart : bytes_eq (key y) k ≡ false = sym (is_eq-slice_cmp (key y) k) ∙ ap is_eq h.0 in
+    rw apart (none_same key k ys h.1)
+
+below_parts : {T : Type 0} (key : T → List ℕ) (k : List ℕ) (xs ys zs : List T) → Every (λ y. cmp (key y) k ≡ Less) xs → Every (λ y. cmp k (key y) ≡ Less) zs → below key k (xs ++ (ys ++ zs)) ≡ xs ++ below key k ys
+unfolding below
+below_parts {T} key k xs ys zs low high =
+    let test : T → Bool = λ y. is_before (key y) k in
+    filter-append test xs (ys ++ zs) ∙ ap (λ (us : List T). us ++ filter test (ys ++ zs)) (all_low key k xs low)
+    ∙ ap (λ (us : List T). xs ++ us) (filter-append test ys zs ∙ ap (λ (us : List T). filter test ys ++ us) (none_below key k zs high) ∙ append-nil (filter test ys))
+
+above_parts : {T : Type 0} (key : T → List ℕ) (k : List ℕ) (xs ys zs : List T) → Every (λ y. cmp (key y) k ≡ Less) xs → Every (λ y. cmp k (key y) ≡ Less) zs → above key k (xs ++ (ys ++ zs)) ≡ above key k ys ++ zs
+unfolding above
+above_parts {T} key k xs ys zs low high =
+    let test : T → Bool = λ y. is_before k (key y) in
+    filter-append test xs (ys ++ zs) ∙ ap (λ (us : List T). us ++ filter test (ys ++ zs)) (none_high key k xs low)
+    ∙ filter-append test ys zs ∙ ap (λ (us : List T). filter test ys ++ us) (all_above key k zs high)
+
+put_parts : {T : Type 0} (key : T → List ℕ) (x : T) (xs ys zs : List T) → Every (λ y. cmp (key y) (key x) ≡ Less) xs → Every (λ y. cmp (key x) (key y) ≡ Less) zs → xs ++ (put key x ys ++ zs) ≡ put key x (xs ++ (ys ++ zs))
+put_parts {T} key x xs ys zs low high =
+    let k : List ℕ = key x in
+    rw (below_parts key k xs ys zs low high, above_parts key k xs ys zs low high) (
+    ap (λ (us : List T). xs ++ us) (append_assoc (below key k ys) (x ∷ above key k ys) zs) ∙ sym (append_assoc xs (below key k ys) (x ∷ (above key k ys ++ zs)))
+    )
+
+without_parts : {T : Type 0} (key : T → List ℕ) (k : List ℕ) (xs ys zs : List T) → Every (λ y. cmp (key y) k ≡ Less) xs → Every (λ y. cmp k (key y) ≡ Less) zs → xs ++ (without key k ys ++ zs) ≡ without key k (xs ++ (ys ++ zs))
+without_parts {T} key k xs ys zs low high =
+    rw (below_parts key k xs ys zs low high, above_parts key k xs ys zs low high) (
+    ap (λ (us : List T). xs ++ us) (append_assoc (below key k ys) (above key k ys) zs) ∙ sym (append_assoc xs (below key k ys) (above key k ys ++ zs))
+    )
+
+find_parts : {T : Type 0} (key : T → List ℕ) (k : List ℕ) (xs ys zs : List T) → Every (λ y. cmp (key y) k ≡ Less) xs → Every (λ y. cmp k (key y) ≡ Less) zs → find (λ y. bytes_eq (key y) k) ys ≡ find (λ y. bytes_eq (key y) k) (xs ++ (ys ++ zs))
+find_parts {T} key k xs ys zs low high =
+    let test : T → Bool = λ y. bytes_eq (key y) k in
+    sym (find-append test xs (ys ++ zs) ∙ ap (λ (o : Option T). option_or o (find test (ys ++ zs))) (none_same key k xs low)
+    ∙ find-append test ys zs ∙ ap (λ (o : Option T). option_or (find test ys) o) (none_found key k zs high) ∙ or_none (find test ys))
+  where
+    or_none : (o : Option T) → option_or o None ≡ o
+    or_none None = refl
+    or_none (Some y) = refl
+
+-- ---- the run of a key is changed
+
+-- each run has an item, by recursion
+each_full : {T : Type 0} (runs : List (List T)) → NoneIsEmpty runs → Every (λ run. 1 ≤ length run) runs
+each_full {T} runs full = recursion_from_All (λ (run : List T). 1 ≤ length run) runs full
+
+-- no run that ends before the key stands behind one that doesn't
+pub runs_partitioned : {T : Type 0} (key : T → List ℕ) (k : List ℕ) (runs : List (List T)) → NoneIsEmpty runs → AreRising (map key (joined runs)) → IsPartitionedBy (ends_before key k) runs
+runs_partitioned key k runs full rising = stops key k runs (each_full runs full) (rises_from_rising key (joined runs) rising)
+
+-- the run of a place, what stands in front of it and behind it, and that its keys rise
+pub record Held {T : Type 0} (key : T → List ℕ) (k : List ℕ) (runs : List (List T)) (place : ℕ) (run : List T) : Type 0 where
+  pub inside : place < length runs
+  pub rising : AreRising (map key run)
+  pub low : Every (λ y. cmp (key y) k ≡ Less) (joined (take place runs))
+  pub high : Every (λ y. cmp k (key y) ≡ Less) (joined (drop (place + 1) runs))
+  pub parts : joined runs ≡ joined (take place runs) ++ (run ++ joined (drop (place + 1) runs))
+
+pub held : {T : Type 0} (key : T → List ℕ) (k : List ℕ) (runs : List (List T)) (items : List T) (place : ℕ) (run : List T) → NoneIsEmpty runs → joined runs ≡ items → AreRising (map key items) → place ≡ prefix_len (ends_before key k) runs → slice_get runs place ≡ Some run
+    → Held key k runs place run
+held {T} key k runs items place run full same rising is here =
+    let all : Rises key (joined runs) = subst (Rises key) (sym same) (rises_from_rising key items rising) in
+    let a : Around key k runs place = around key k runs place (each_full runs full) all is in
+    let next : suc place ≡ place + 1 = omega arith in
+    let parts : joined runs ≡ joined (take place runs) ++ (run ++ joined (drop (suc place) runs)) = parted runs place run here in
+    let back : Rises key (run ++ joined (drop (suc place) runs)) = rises_back key (joined (take place runs)) (run ++ joined (drop (suc place) runs)) (subst (Rises key) parts all) in
+    record {
+      inside = slice_get_within runs place run here;
+      rising = rising_again key run (rises_front key run (joined (drop (suc place) runs)) back);
+      low = a.low;
+      high = subst (λ (n : ℕ). Every (λ (y : T). cmp k (key y) ≡ Less) (joined (drop n runs))) next a.high;
+      parts = subst (λ (n : ℕ). joined runs ≡ joined (take place runs) ++ (run ++ joined (drop n runs))) next parts;
+    }
+
+pub put_in_run : {T : Type 0} (key : T → List ℕ) (x : T) (runs : List (List T)) (items : List T) (place : ℕ) (run changed : List T) → Held key (key x) runs place run → joined runs ≡ items → changed ≡ put key x run
+    → (joined (take place runs) ++ changed) ++ joined (drop (place + 1) runs) ≡ put key x items
+put_in_run {T} key x runs items place run changed h same is =
+    append_assoc (joined (take place runs)) changed (joined (drop (place + 1) runs))
+    ∙ ap (λ (ys : List T). joined (take place runs) ++ (ys ++ joined (drop (place + 1) runs))) is
+    ∙ put_parts key x (joined (take place runs)) run (joined (drop (place + 1) runs)) h.low h.high
+    ∙ ap (λ (xs : List T). put key x xs) (sym h.parts ∙ same)
+
+pub without_in_run : {T : Type 0} (key : T → List ℕ) (k : List ℕ) (runs : List (List T)) (items : List T) (place : ℕ) (run changed : List T) → Held key k runs place run → joined runs ≡ items → changed ≡ without key k run
+    → (joined (take place runs) ++ changed) ++ joined (drop (place + 1) runs) ≡ without key k items
+without_in_run {T} key k runs items place run changed h same is =
+    append_assoc (joined (take place runs)) changed (joined (drop (place + 1) runs))
+    ∙ ap (λ (ys : List T). joined (take place runs) ++ (ys ++ joined (drop (place + 1) runs))) is
+    ∙ without_parts key k (joined (take place runs)) run (joined (drop (place + 1) runs)) h.low h.high
+    ∙ ap (λ (xs : List T). without key k xs) (sym h.parts ∙ same)
+
+pub find_in_run : {T : Type 0} (key : T → List ℕ) (k : List ℕ) (runs : List (List T)) (items : List T) (place : ℕ) (run : List T) → Held key k runs place run → joined runs ≡ items
+    → find (λ y. bytes_eq (key y) k) run ≡ find (λ y. bytes_eq (key y) k) items
+find_in_run {T} key k runs items place run h same =
+    find_parts key k (joined (take place runs)) run (joined (drop (place + 1) runs)) h.low h.high ∙ ap (λ (xs : List T). find (λ (y : T). bytes_eq (key y) k) xs) (sym h.parts ∙ same)
+
+-- ---- all runs end before the key
+
+-- all items come before a key where its place is behind all runs
+all_end_before : {T : Type 0} (key : T → List ℕ) (k : List ℕ) (runs : List (List T)) (items : List T) (place : ℕ) → NoneIsEmpty runs → joined runs ≡ items → AreRising (map key items) → place ≡ prefix_len (ends_before key k) runs → slice_get runs place ≡ None
+    → Every (λ y. cmp (key y) k ≡ Less) items
+all_end_before {T} key k runs items place full same rising is none =
+    let a : Around key k runs place = around key k runs place (each_full runs full) (subst (Rises key) (sym same) (rises_from_rising key items rising)) is in
+    let low : Every (λ (y : T). cmp (key y) k ≡ Less) (joined runs) = subst (λ (rs : List (List T)). Every (λ (y : T). cmp (key y) k ≡ Less) (joined rs)) (take_past runs place none) a.low in
+    subst (λ (xs : List T). Every (λ (y : T). cmp (key y) k ≡ Less) xs) same low
+
+pub put_at_end : {T : Type 0} (key : T → List ℕ) (x : T) (runs : List (List T)) (items : List T) (place : ℕ) → NoneIsEmpty runs → joined runs ≡ items → AreRising (map key items) → place ≡ prefix_len (ends_before key (key x)) runs → slice_get runs place ≡ None
+    → items ++ x ∷ [] ≡ put key x items
+put_at_end {T} key x runs items place full same rising is none =
+    let low : Every (λ (y : T). cmp (key y) (key x) ≡ Less) items = all_end_before key (key x) runs items place full same rising is none in
+    rw (all_low key (key x) items low, none_high key (key x) items low) refl
+
+pub without_at_end : {T : Type 0} (key : T → List ℕ) (k : List ℕ) (runs : List (List T)) (items : List T) (place : ℕ) → NoneIsEmpty runs → joined runs ≡ items → AreRising (map key items) → place ≡ prefix_len (ends_before key k) runs → slice_get runs place ≡ None
+    → items ≡ without key k items
+without_at_end {T} key k runs items place full same rising is none =
+    let low : Every (λ (y : T). cmp (key y) k ≡ Less) items = all_end_before key k runs items place full same rising is none in
+    rw (all_low key k items low, none_high key k items low) (sym (append-nil items))
+
+pub find_at_end : {T : Type 0} (key : T → List ℕ) (k : List ℕ) (runs : List (List T)) (items : List T) (place : ℕ) → NoneIsEmpty runs → joined runs ≡ items → AreRising (map key items) → place ≡ prefix_len (ends_before key k) runs → slice_get runs place ≡ None
+    → None ≡ find (λ y. bytes_eq (key y) k) items
+find_at_end key k runs items place full same rising is none = sym (none_same key k items (all_end_before key k runs items place full same rising is none))
+
+-- ---- a filter over runs
+
+-- what a list gives, where what two give stands one behind the other: that of the runs so far, and of one more
+pub gathers_next : {T U : Type 0} (f : List T → List U) (front : List U) (runs : List (List T)) (i : ℕ) (here : List T) (so_far next : List U) → ((xs ys : List T) → f (xs ++ ys) ≡ f xs ++ f ys) → i < length runs → here ≡ get_or runs i here
+    → so_far ≡ front ++ f (joined (take i runs)) → next ≡ so_far ++ f here → next ≡ front ++ f (joined (take (i + 1) runs))
+gathers_next {T} {U} f front runs i here so_far next parts inside is before now =
+    let taken : take (i + 1) runs ≡ take i runs ++ here ∷ [] = take_more runs i here inside ∙ ap (λ (run : List T). take i runs ++ run ∷ []) (sym is) in
+    let all : joined (take i runs ++ here ∷ []) ≡ joined (take i runs) ++ here = flat_map-append (λ (run : List T). run) (take i runs) (here ∷ []) ∙ ap (λ (ys : List T). joined (take i runs) ++ ys) (append-nil here) in
+    now ∙ ap (λ (ys : List U). ys ++ f here) before ∙ append_assoc front (f (joined (take i runs))) (f here)
+    ∙ ap (λ (ys : List U). front ++ ys) (sym (parts (joined (take i runs)) here) ∙ ap f (sym (ap (λ (rs : List (List T)). joined rs) taken ∙ all)))
+
+-- one more that is above the number, of items that all are
+pub later_keeps : {T : Type 0} (number : T → ℕ) (n : ℕ) (xs : List T) (i : ℕ) (x : T) → i < length xs → x ≡ get_or xs i x → n < number x → later number n (take i xs) ≡ take i xs → later number n (take (i + 1) xs) ≡ take (i + 1) xs
+unfolding later
+later_keeps {T} number n xs i x inside is above before =
+    let taken : take (i + 1) xs ≡ take i xs ++ x ∷ [] = take_more xs i x inside ∙ ap (λ (y : T). take i xs ++ y ∷ []) (sym is) in
+    let one : filter (λ y. nat_lt n (number y)) (x ∷ []) ≡ x ∷ [] = filter_in (λ y. nat_lt n (number y)) x [] (lt-ltb _ _ above) in
+    ap (later number n) taken ∙ later_append number n (take i xs) (x ∷ []) ∙ ap (λ (ys : List T). ys ++ filter (λ y. nat_lt n (number y)) (x ∷ [])) before ∙ ap (λ (ys : List T). take i xs ++ ys) one ∙ sym taken
+
+-- what passes a test in the runs so far, and in one more
+pub filter_next : {T : Type 0} (p : T → Bool) (runs : List (List T)) (i : ℕ) (here so_far next : List T) → i < length runs → here ≡ get_or runs i here → so_far ≡ filter p (joined (take i runs)) → next ≡ so_far ++ filter p here
+    → next ≡ filter p (joined (take (i + 1) runs))
+filter_next p runs i here so_far next inside is before now = gathers_next (filter p) [] runs i here so_far next (filter-append p) inside is before now
+
+-- ---- the first item that passes a test, run by run
+
+find_on : {T : Type 0} (p : T → Bool) (runs : List (List T)) (i : ℕ) (here : List T) → i < length runs → here ≡ get_or runs i here
+    → find p (joined (drop i runs)) ≡ option_or (find p here) (find p (joined (drop (i + 1) runs)))
+find_on {T} p runs i here inside is =
+    let parts : drop i runs ≡ here ∷ drop (i + 1) runs = drop_more runs i here inside ∙ ap (λ (run : List T). run ∷ drop (i + 1) runs) (sym is) in
+    ap (λ (rs : List (List T)). find p (joined rs)) parts ∙ find-append p here (joined (drop (i + 1) runs))
+
+pub find_here : {T : Type 0} (p : T → Bool) (runs : List (List T)) (i : ℕ) (here : List T) (x : T) (total : Option T) → i < length runs → here ≡ get_or runs i here → Some x ≡ find p here → find p (joined (drop i runs)) ≡ total → Some x ≡ total
+find_here {T} p runs i here x total inside is found so_far =
+    ap (λ (o : Option T). option_or o (find p (joined (drop (i + 1) runs)))) found ∙ sym (find_on p runs i here inside is) ∙ so_far
+
+pub find_later : {T : Type 0} (p : T → Bool) (runs : List (List T)) (i : ℕ) (here : List T) (total : Option T) → i < length runs → here ≡ get_or runs i here → None ≡ find p here → find p (joined (drop i runs)) ≡ total → find p (joined (drop (i + 1) runs)) ≡ total
+find_later {T} p runs i here total inside is none so_far =
+    ap (λ (o : Option T). option_or o (find p (joined (drop (i + 1) runs)))) none ∙ sym (find_on p runs i here inside is) ∙ so_far

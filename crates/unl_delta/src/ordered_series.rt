@@ -1,0 +1,167 @@
+//! A series of items that may stand in the order of their keys.
+ghost use Rattle.std.specs.Prelude.{◌≡◌, ◌++◌, true, IfOk, OnOk, find, map, option_map};
+ghost use Rattle.std.specs.Str.{bytes_eq};
+ghost use Rattle.unl_delta.specs.Keyed.{put as placed, without as others};
+ghost use Rattle.unl_documents.specs.Parameters.{AreRising};
+ghost use Rattle.unl_documents.specs.Series.{joined};
+
+use crate::keyed::{
+    Key, Keyed, are_rising, found_in_series, put, put_in_series, without, without_in_series,
+};
+use crate::ordered::first_of;
+use std::alloc::Global;
+use std::marker::Model;
+use unl_documents::{List, Memory, Series, Shared};
+
+/// A series of items, and whether their keys rise. Where they do, the item of a key is found by halving, and one run is made
+/// anew when one is put or taken out. Contracts see the items.
+#[derive(Drop)]
+pub(crate) struct OrderedSeries<T: Keyed> {
+    items: Series<T>,
+    rises: bool,
+}
+
+impl<T: Keyed> Model for OrderedSeries<T> {
+    ghost use Rattle.std.specs.Prelude.{◌≡◌, List, map, true};
+    ghost use Rattle.unl_documents.specs.Parameters.{AreRising};
+
+    ghost Value = { List T };
+
+    ghost view = { λ o. o.items };
+
+    ghost invariant = { λ o. o.rises ≡ true → AreRising (map T.key o.items) };
+}
+
+impl<T: Keyed> OrderedSeries<T> {
+    /// The items, looked through once.
+    pub(crate) fn of(alloc: Global, items: Series<T>) -> Result<OrderedSeries<T>, Memory>
+        ensures { IfOk result (λ o. o ≡ items) }
+    {
+        let rises = is_rising(alloc, &items)?;
+        Ok(OrderedSeries { items, rises })
+    }
+
+    /// Items whose keys are known to rise, which aren't looked through.
+    pub(crate) fn in_order(items: Series<T>) -> OrderedSeries<T>
+        requires { AreRising (map T.key items) }
+        ensures { result ≡ items }
+    {
+        OrderedSeries { items, rises: true }
+    }
+
+    /// The items.
+    pub(crate) fn into_items(self) -> Series<T>
+        ensures { result ≡ self }
+    {
+        self.items
+    }
+
+    /// The items with this one among them, in place of the one of its key if there is one.
+    pub(crate) fn put(self, alloc: Global, item: Shared<T>) -> Result<OrderedSeries<T>, Memory>
+        ensures { IfOk result (λ new. new ≡ placed T.key item self) }
+    {
+        let rises = self.rises;
+        let items = put_among(alloc, item, self.items, rises)?;
+        Ok(OrderedSeries { items, rises })
+    }
+
+    /// The items but the one of a key.
+    pub(crate) fn without(self, alloc: Global, key: &T::Key) -> Result<OrderedSeries<T>, Memory>
+        ensures { IfOk result (λ new. new ≡ others T.key (T.Key.ranks key.now) self) }
+    {
+        let rises = self.rises;
+        let items = without_among(alloc, key, self.items, rises)?;
+        Ok(OrderedSeries { items, rises })
+    }
+
+    /// The first item of a key.
+    pub(crate) fn find(&self, key: &T::Key) -> Option<&T>
+        ensures { option_map (λ x. x.now) result ≡ find (λ x. bytes_eq (T.key x) (T.Key.ranks key.now)) self.now }
+    {
+        if self.rises {
+            return found_in_series(&self.items, key);
+        }
+        first_of_runs(self.items.runs(), key)
+    }
+}
+
+fn is_rising<T: Keyed>(alloc: Global, items: &Series<T>) -> Result<bool, Memory>
+    ensures { IfOk result (λ rises. rises ≡ true → AreRising (map T.key items.now)) }
+{
+    let items = listed(alloc, items)?;
+    Ok(are_rising(items.as_slice()))
+}
+
+fn put_among<T: Keyed>(
+    alloc: Global,
+    item: Shared<T>,
+    items: Series<T>,
+    rises: bool,
+) -> Result<Series<T>, Memory>
+    requires { rises ≡ true → AreRising (map T.key items) }
+    ensures { IfOk result (λ new. new ≡ placed T.key item items) }
+{
+    if rises {
+        return put_in_series(alloc, item, &items);
+    }
+    let items = listed(alloc, &items)?;
+    Series::of_list(alloc, &put(alloc, &item, &items)?)
+}
+
+fn without_among<T: Keyed>(
+    alloc: Global,
+    key: &T::Key,
+    items: Series<T>,
+    rises: bool,
+) -> Result<Series<T>, Memory>
+    requires { rises ≡ true → AreRising (map T.key items) }
+    ensures { IfOk result (λ new. new ≡ others T.key (T.Key.ranks key.now) items) }
+{
+    if rises {
+        return without_in_series(alloc, key, &items);
+    }
+    let items = listed(alloc, &items)?;
+    Series::of_list(alloc, &without(alloc, key, &items)?)
+}
+
+/// The first item of a key, looked up from the front.
+fn first_of_runs<'a, T: Keyed>(runs: &'a [Shared<List<Shared<T>>>], key: &T::Key) -> Option<&'a T>
+    ensures { option_map (λ x. x.now) result ≡ find (λ x. bytes_eq (T.key x) (T.Key.ranks key.now)) (joined runs.now) }
+{
+    for run in runs {
+        if let Some(item) = first_of(run.get().as_slice(), key) {
+            return Some(item);
+        }
+    }
+    None
+}
+
+/// The items in one list.
+fn listed<T: Drop>(alloc: Global, items: &Series<T>) -> Result<List<Shared<T>>, Memory>
+    ensures { IfOk result (λ list. list ≡ items.now) }
+{
+    let mut list = List::new(alloc);
+    push_runs(&mut list, items.runs())?;
+    Ok(list)
+}
+
+fn push_runs<T: Drop>(
+    list: &mut List<Shared<T>>,
+    runs: &[Shared<List<Shared<T>>>],
+) -> Result<(), Memory>
+    ensures { OnOk result (list.new ≡ list.old ++ joined runs.now) }
+{
+    for run in runs {
+        push_items(list, run.get().as_slice())?;
+    }
+    Ok(())
+}
+
+fn push_items<T: Drop>(list: &mut List<Shared<T>>, items: &[Shared<T>]) -> Result<(), Memory>
+    ensures { OnOk result (list.new ≡ list.old ++ items.now) }
+{
+    for item in items {
+        list.push(item.copy()?)?;
+    }
+    Ok(())
+}

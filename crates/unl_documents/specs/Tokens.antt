@@ -1,0 +1,41 @@
+-- What is printed as text, a token at a time.
+use Rattle.std.specs.Prelude.{◌≡◌, List, [], ◌∷◌, ◌++◌, Option, Some, None, flat_map}
+use Rattle.json.specs.Token.{Token, key, string}
+use Rattle.json.specs.Tree.{json_tokens}
+use Rattle.json.specs.Written.{Written}
+use Rattle.serde_json.specs.Data.{Data}
+use Rattle.serde_json.specs.Written.{outline}
+use Rattle.unl_documents.specs.declared.field.Field.{Field}
+use Rattle.unl_documents.specs.declared.parameters.Pair.{Pair}
+use Rattle.unl_documents.specs.Key.{key_of}
+
+-- the tokens of a value
+abbrev pub tokens_of : Data → List Token
+tokens_of d = json_tokens (outline d)
+
+-- the tokens of values, one behind the other
+abbrev pub all_tokens : List Data → List Token
+all_tokens ds = flat_map tokens_of ds
+
+-- the tokens of a value, where there is one
+abbrev pub tokens_if : Option Data → List Token
+tokens_if None = []
+tokens_if (Some d) = tokens_of d
+
+-- the tokens of a value at its key
+abbrev pub tokens_at : Field → Data → List Token
+tokens_at field d = key (key_of field) ∷ tokens_of d
+
+-- the tokens of a value at its key, where there is one
+abbrev pub tokens_at_some : Field → Option Data → List Token
+tokens_at_some field None = []
+tokens_at_some field (Some d) = tokens_at field d
+
+-- the tokens of pairs, one behind the other
+abbrev pub pair_tokens : List Pair → List Token
+pair_tokens pairs = flat_map (λ p. key p.key ∷ string p.value ∷ []) pairs
+
+-- the tokens were written behind those that stood before
+pub record Wrote (ts : List Token) (old new : Written) : Type 0 where
+  pub before : new.before ≡ old.before
+  pub tokens : new.tokens ≡ old.tokens ++ ts

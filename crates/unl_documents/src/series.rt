@@ -1,0 +1,291 @@
+//! Long lists that are cheap to copy: a copy shares all runs of items with its original.
+ghost use Rattle.std.specs.Prelude.{◌≡◌, ◌==◌, ◌+◌, ◌-◌, ◌<◌, ◌≤◌, [], ◌++◌, IfOk, IfSome, OnOk, All};
+ghost use Rattle.std.specs.Prelude.{length, option_map, slice_get, take, drop};
+ghost use Rattle.unl_documents.specs.Series.{joined, NoneIsEmpty};
+
+use crate::copied::Copied;
+use crate::list::List;
+use crate::memory::Memory;
+use crate::shared::Shared;
+use std::alloc::Global;
+use std::marker::Model;
+
+/// How many items a run has at most.
+const MOST: usize = 128;
+
+/// Items with many owners, in runs that have many owners too, which contracts see as the list of the items.
+///
+/// A run has 1 to 128 items where it was made here.
+#[derive(Drop)]
+pub struct Series<T> {
+    runs: List<Shared<List<Shared<T>>>>,
+}
+
+impl<T> Model for Series<T> {
+    ghost use Rattle.std.specs.Prelude.{List};
+    ghost use Rattle.unl_documents.specs.Series.{joined, NoneIsEmpty};
+
+    ghost Value = { List T };
+
+    ghost view = { λ s. joined s.runs };
+
+    ghost invariant = { λ s. NoneIsEmpty s.runs };
+}
+
+impl<T: Drop> Series<T> {
+    /// A series of no items, which takes no memory.
+    pub fn new(alloc: Global) -> Series<T>
+        ensures { result ≡ [] }
+    {
+        Series {
+            runs: List::new(alloc),
+        }
+    }
+
+    /// These items, cut into runs.
+    pub fn of_list(alloc: Global, items: &List<Shared<T>>) -> Result<Series<T>, Memory>
+        ensures { IfOk result (λ s. s ≡ items.now) }
+    {
+        Ok(Series {
+            runs: cut(alloc, items.as_slice())?,
+        })
+    }
+
+    /// The items of these runs.
+    pub fn of_runs(runs: List<Shared<List<Shared<T>>>>) -> Series<T>
+        requires { NoneIsEmpty runs }
+        ensures { result ≡ joined runs }
+    {
+        Series { runs }
+    }
+
+    /// The runs in which the items stand.
+    pub fn runs(&self) -> &[Shared<List<Shared<T>>>]
+        ensures items { joined result.now ≡ self.now }
+        ensures full { NoneIsEmpty result.now }
+    {
+        self.runs.as_slice()
+    }
+
+    /// How many items there are. More than memory holds, of runs that stand here often, count as want of it.
+    pub fn len(&self) -> Result<usize, Memory>
+        ensures { IfOk result (λ count. count ≡ length self.now) }
+    {
+        count_of(self.runs.as_slice())
+    }
+
+    /// Whether there are none.
+    pub fn is_empty(&self) -> bool
+        ensures { result ≡ (length self.now == 0) }
+    {
+        self.runs.is_empty()
+    }
+
+    /// The item at a place, from 0.
+    pub fn get(&self, place: usize) -> Option<&T>
+        ensures { option_map (λ x. x.now) result ≡ slice_get self.now place }
+    {
+        item_at(self.runs.as_slice(), place)
+    }
+
+    /// These items, followed by others. All runs are shared, but the last where it stays a run with them.
+    pub fn append(&self, alloc: Global, items: &[Shared<T>]) -> Result<Series<T>, Memory>
+        ensures { IfOk result (λ s. s ≡ self.now ++ items.now) }
+    {
+        appended(alloc, self.runs.as_slice(), items)
+    }
+}
+
+impl<T: Drop> Copied for Series<T> {
+    fn copy(&self, alloc: Global) -> Result<Series<T>, Memory> {
+        Ok(Series {
+            runs: self.runs.copy(alloc)?,
+        })
+    }
+}
+
+/// The series of these runs with another run at a place: cut into more where it is long, and none where it is empty.
+pub fn with_run<T: Drop>(
+    alloc: Global,
+    runs: &[Shared<List<Shared<T>>>],
+    place: usize,
+    run: List<Shared<T>>,
+) -> Result<Series<T>, Memory>
+    requires inside { place < length runs.now }
+    requires full { NoneIsEmpty runs.now }
+    ensures { IfOk result (λ s. s ≡ joined (take place runs.now) ++ run ++ joined (drop (place + 1) runs.now)) }
+{
+    let mut changed = List::new(alloc);
+    push_owners(&mut changed, before(runs, place))?;
+    push_run(alloc, &mut changed, run)?;
+    push_owners(&mut changed, behind(runs, place))?;
+    Ok(Series { runs: changed })
+}
+
+fn before<T>(runs: &[T], place: usize) -> &[T]
+    requires { place < length runs.now }
+    ensures { result.now ≡ take place runs.now }
+{
+    &runs[..place]
+}
+
+fn behind<T>(runs: &[T], place: usize) -> &[T]
+    requires { place < length runs.now }
+    ensures { result.now ≡ drop (place + 1) runs.now }
+{
+    &runs[place + 1..]
+}
+
+/// Adds another owner of each value.
+fn push_owners<T: Drop>(list: &mut List<Shared<T>>, more: &[Shared<T>]) -> Result<(), Memory>
+    ensures { OnOk result (list.new ≡ list.old ++ more.now) }
+{
+    for shared in more {
+        list.push(shared.copy()?)?;
+    }
+    Ok(())
+}
+
+/// Adds a run that may be empty or long.
+fn push_run<T: Drop>(
+    alloc: Global,
+    runs: &mut List<Shared<List<Shared<T>>>>,
+    run: List<Shared<T>>,
+) -> Result<(), Memory>
+    requires { NoneIsEmpty runs.old }
+    ensures items { OnOk result (joined runs.new ≡ joined runs.old ++ run) }
+    ensures full { NoneIsEmpty runs.new }
+{
+    if run.is_empty() || run.len() > MOST {
+        return push_cut(alloc, runs, run.as_slice());
+    }
+    runs.push(Shared::new(alloc, run)?)
+}
+
+/// Adds items as runs of their own.
+fn push_cut<T: Drop>(
+    alloc: Global,
+    runs: &mut List<Shared<List<Shared<T>>>>,
+    items: &[Shared<T>],
+) -> Result<(), Memory>
+    requires { NoneIsEmpty runs.old }
+    ensures items { OnOk result (joined runs.new ≡ joined runs.old ++ items.now) }
+    ensures full { NoneIsEmpty runs.new }
+{
+    for part in items.chunks(size_of_runs(items.len())) {
+        runs.push(Shared::new(alloc, owners(alloc, part)?)?)?;
+    }
+    Ok(())
+}
+
+/// How long the runs of so many items are, so that all are of about one length.
+fn size_of_runs(count: usize) -> usize
+    ensures { 0 < result }
+{
+    let runs = count / MOST + 1;
+    count / runs + 1
+}
+
+/// Other owners of these values.
+fn owners<T: Drop>(alloc: Global, values: &[Shared<T>]) -> Result<List<Shared<T>>, Memory>
+    ensures { IfOk result (λ list. list ≡ values.now) }
+{
+    let mut list = List::new(alloc);
+    push_owners(&mut list, values)?;
+    Ok(list)
+}
+
+/// Items as runs.
+fn cut<T: Drop>(alloc: Global, items: &[Shared<T>]) -> Result<List<Shared<List<Shared<T>>>>, Memory>
+    ensures items { IfOk result (λ runs. joined runs ≡ items.now) }
+    ensures full { IfOk result NoneIsEmpty }
+{
+    let mut runs = List::new(alloc);
+    push_cut(alloc, &mut runs, items)?;
+    Ok(runs)
+}
+
+fn appended<T: Drop>(
+    alloc: Global,
+    runs: &[Shared<List<Shared<T>>>],
+    items: &[Shared<T>],
+) -> Result<Series<T>, Memory>
+    requires { NoneIsEmpty runs.now }
+    ensures { IfOk result (λ s. s ≡ joined runs.now ++ items.now) }
+{
+    match last_with_room(runs, items.len()) {
+        None => with_runs(alloc, runs, items),
+        Some(last) => {
+            let mut run = owners(alloc, last.as_slice())?;
+            push_owners(&mut run, items)?;
+            with_run(alloc, runs, runs.len() - 1, run)
+        }
+    }
+}
+
+/// The last run, where it stays one with so many items more.
+fn last_with_room<T: Drop>(
+    runs: &[Shared<List<Shared<T>>>],
+    count: usize,
+) -> Option<&List<Shared<T>>>
+    ensures inside { IfSome result (λ last. 0 < length runs.now) }
+    ensures items { IfSome result (λ last. joined (take (length runs.now - 1) runs.now) ++ last.now ≡ joined runs.now) }
+{
+    let last = runs.last()?.get();
+    if MOST.saturating_sub(last.len()) < count {
+        return None;
+    }
+    Some(last)
+}
+
+/// The series of these runs, followed by items as runs of their own.
+fn with_runs<T: Drop>(
+    alloc: Global,
+    runs: &[Shared<List<Shared<T>>>],
+    items: &[Shared<T>],
+) -> Result<Series<T>, Memory>
+    requires { NoneIsEmpty runs.now }
+    ensures { IfOk result (λ s. s ≡ joined runs.now ++ items.now) }
+{
+    let mut more = owners(alloc, runs)?;
+    push_cut(alloc, &mut more, items)?;
+    Ok(Series { runs: more })
+}
+
+/// How many items the runs have together.
+fn count_of<T: Drop>(runs: &[Shared<List<Shared<T>>>]) -> Result<usize, Memory>
+    ensures { IfOk result (λ count. count ≡ length (joined runs.now)) }
+{
+    let mut count = 0;
+    for run in runs {
+        count = sum_of(count, run.get().len())?;
+    }
+    Ok(count)
+}
+
+fn sum_of(count: usize, more: usize) -> Result<usize, Memory>
+    ensures { IfOk result (λ sum. sum ≡ count + more) }
+{
+    count.checked_add(more).ok_or(Memory)
+}
+
+/// The item at a place of all runs.
+fn item_at<T: Drop>(runs: &[Shared<List<Shared<T>>>], place: usize) -> Option<&T>
+    ensures { option_map (λ x. x.now) result ≡ slice_get (joined runs.now) place }
+{
+    let mut left = place;
+    for run in runs {
+        let count = run.get().len();
+        if left < count {
+            return item_of(run.get(), left);
+        }
+        left -= count;
+    }
+    None
+}
+
+fn item_of<T: Drop>(run: &List<Shared<T>>, place: usize) -> Option<&T>
+    ensures { option_map (λ x. x.now) result ≡ slice_get run.now place }
+{
+    run.get(place).map(|item| item.get())
+}
