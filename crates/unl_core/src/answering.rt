@@ -34,7 +34,7 @@ use unl_documents::{
 use unl_http_api::{Reply, Request, Route, is_post, query_of};
 use unl_metrics::{BadReport, Report};
 use unl_strategies::Moment;
-use unl_tokens::{BadRequest, Kind, Projects, Token, read_request, write_answer};
+use unl_tokens::{BadRequest, Kind, Projects, Token, answer_text, read_request};
 
 /// Answers a request by the first case that fits: no route, a method that the route doesn't have, and then what the route
 /// answers. What a token is answered is over what it sees of its environment's state: the features of its projects, and
@@ -162,8 +162,8 @@ fn validate(alloc: Global, board: &Board, request: &Request) -> Result<Reply, Me
         Err(BadRequest::Memory) => Err(Memory),
         Err(_) => refuse(alloc, StatusCode::BAD_REQUEST, "BadBody"),
         Ok(texts) => {
-            let body = write_answer(alloc, board.book.get(), &texts)?;
-            made(alloc, StatusCode::OK, &body)
+            let text = answer_text(alloc, board.book.get(), &texts)?;
+            Ok(with_text(StatusCode::OK, text))
         }
     }
 }

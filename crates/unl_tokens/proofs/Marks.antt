@@ -8,14 +8,16 @@ use Rattle.std.specs.Cmp.Lexicographic.{same_text}
 use Rattle.std.specs.Str.{bytes_eq}
 use Rattle.std.proofs.lemmas.Bool.{cases_eq, cases_lt, cases_Bool, ltb-false}
 use Rattle.std.proofs.lemmas.List.{get_or-map, get_or-set_same, get_or-set_other, length-set, length-map, map-append, take_more, drop_more}
+use Rattle.std.proofs.lemmas.Grind.{flat_map-append}
 use Rattle.std.proofs.lemmas.List.Folds.{list_any-append, find_at}
 use Rattle.std.proofs.lemmas.List.Quantifiers.{position-Some}
 use Rattle.std.proofs.lemmas.Option.{slice_get_past}
-use Rattle.serde_json.specs.Data.{Data}
+use Rattle.json.specs.Token.{Token as JsonToken}
+use Rattle.unl_documents.specs.Tokens.{tokens_of, all_tokens}
 use Rattle.unl_tokens.specs.declared.token.Token.{Token}
 use Rattle.unl_tokens.specs.Books.{has_text}
 use Rattle.unl_tokens.specs.Names.{stands_in}
-use Rattle.unl_tokens.specs.Requests.{answered, unmarked, marked, token_of, token_data, known_after}
+use Rattle.unl_tokens.specs.Requests.{answered, unmarked, marked, token_of, token_data, token_tokens, known_after}
 use Rattle.unl_tokens.specs.Valid.{HaveOtherTexts}
 use Rattle.unl_tokens.proofs.Different.{different_text, none_passes, no_place}
 use Rattle.unl_tokens.proofs.Same.{text_refl}
@@ -113,19 +115,22 @@ marks_go_on tokens before marks text different old = (
   next_marks (position (has_text text) tokens) tokens before marks text refl different old,
 )
 
--- ---- what is written, text after text
+-- ---- what is printed, text after text
 
-regrouped : (values : List Data) (one rest : List Token) → values ++ map token_data (one ++ rest) ≡ (values ++ map token_data one) ++ map token_data rest
-regrouped values one rest = ap (λ ds. values ++ ds) (map-append token_data one rest) ∙ sym (append_assoc values (map token_data one) (map token_data rest))
+tokens_apart : (one rest : List Token) → token_tokens (one ++ rest) ≡ token_tokens one ++ token_tokens rest
+tokens_apart one rest = ap all_tokens (map-append token_data one rest) ∙ flat_map-append tokens_of (map token_data one) (map token_data rest)
 
-pub writes_on : (tokens : List Token) (asked : List (List ℕ)) (i : ℕ) (text : List ℕ) (values : List Data) (marks : List Bool) → i < length asked → text ≡ get_or asked i text → HaveOtherTexts tokens → Marked tokens (take i asked) marks → (values ++ map token_data (option_to_list (unmarked tokens marks text))) ++ map token_data (known_after tokens (take (i + 1) asked) (drop (i + 1) asked)) ≡ values ++ map token_data (known_after tokens (take i asked) (drop i asked))
-writes_on tokens asked i text values marks lt at different old =
+regrouped : (front : List JsonToken) (one rest : List Token) → front ++ token_tokens (one ++ rest) ≡ (front ++ token_tokens one) ++ token_tokens rest
+regrouped front one rest = ap (λ ts. front ++ ts) (tokens_apart one rest) ∙ sym (append_assoc front (token_tokens one) (token_tokens rest))
+
+pub prints_on : (tokens : List Token) (asked : List (List ℕ)) (i : ℕ) (text : List ℕ) (front : List JsonToken) (marks : List Bool) → i < length asked → text ≡ get_or asked i text → HaveOtherTexts tokens → Marked tokens (take i asked) marks → (front ++ token_tokens (option_to_list (unmarked tokens marks text))) ++ token_tokens (known_after tokens (take (i + 1) asked) (drop (i + 1) asked)) ≡ front ++ token_tokens (known_after tokens (take i asked) (drop i asked))
+prints_on tokens asked i text front marks lt at different old =
     let before = take i asked in
     let later = drop (i + 1) asked in
-    let front : take (i + 1) asked ≡ before ++ text ∷ [] = take_more asked i text lt ∙ ap (λ (t : List ℕ). before ++ t ∷ []) (sym at) in
+    let more : take (i + 1) asked ≡ before ++ text ∷ [] = take_more asked i text lt ∙ ap (λ (t : List ℕ). before ++ t ∷ []) (sym at) in
     let whole : drop i asked ≡ text ∷ later = drop_more asked i text lt ∙ ap (λ (t : List ℕ). t ∷ later) (sym at) in
     let same = (marks_go_on tokens before marks text different old).0 in
-    rw same (rw front (rw whole (sym (regrouped values (option_to_list (answered tokens before text)) (known_after tokens (before ++ text ∷ []) later)))))
+    rw same (rw more (rw whole (sym (regrouped front (option_to_list (answered tokens before text)) (known_after tokens (before ++ text ∷ []) later)))))
 
 pub marks_on : (tokens : List Token) (asked : List (List ℕ)) (i : ℕ) (text : List ℕ) (marks : List Bool) → i < length asked → text ≡ get_or asked i text → HaveOtherTexts tokens → Marked tokens (take i asked) marks → Marked tokens (take (i + 1) asked) (marked tokens marks text)
 marks_on tokens asked i text marks lt at different old =
