@@ -1,14 +1,15 @@
 -- Lines of bytes, and bytes that are taken one after another.
-use Rattle.std.proofs.Common.{◌≡◌, ◌≢◌, ℕ, ◌+◌, ◌<◌, ◌≤◌, List, [], ◌∷◌, ◌++◌, length, take, Bool, true, false, ◌||◌, cond, Option, Some, None, option_map, refl, sym, ap, ◌∙◌, arith, append_assoc, append-nil, length-append, subst}
-use Rattle.std.specs.List.{count_by}
-use Rattle.std.proofs.lemmas.List.{take-append-le, take_all}
+use Rattle.std.proofs.Common.{◌≡◌, ◌≢◌, ℕ, ◌+◌, ◌<◌, ◌≤◌, List, [], ◌∷◌, ◌++◌, length, take, drop, get_or, min, not, suc, Bool, true, false, ◌||◌, cond, Option, Some, None, option_map, refl, sym, ap, ◌∙◌, arith, append_assoc, append-nil, length-append, subst}
+use Rattle.std.specs.List.{count_by, position_or_len}
+use Rattle.std.proofs.lemmas.List.{take-append-le, take_all, take-append-drop, length-take, length-take-le, get_or-take}
+use Rattle.std.proofs.Math.Seq.{drop-cons}
+use Rattle.std.proofs.lemmas.Bool.{eqb-true}
 use Rattle.std.proofs.lemmas.List.Recursion.{is_count_by}
-use Rattle.std.proofs.lemmas.List.Sums.{sum_by-append}
+use Rattle.std.proofs.lemmas.List.Sums.{sum_by-append, passes_at_first, prefix_len-le-length}
 use Rattle.std.proofs.lemmas.List.Folds.{list_any-append}
 use Rattle.unl_base.specs.Streams.{Takes, HasEnded, Sends, SendsFront}
 use Rattle.unl_lines.specs.Lines.{is_end, has_end, lines, begun_with, ended_lines}
-use Rattle.unl_lines.specs.Reading.{Gets, IsAtEnd, IsLine, BeginsLong, longest_line}
-use Rattle.std.proofs.lemmas.Bool.Decides.{nat_tests}
+use Rattle.unl_lines.specs.Reading.{Gets, IsAtEnd, IsLine, EndsLine, GrowsLine, BeginsLong, longest_line}
 
 -- ---- bytes taken one after another
 
@@ -39,10 +40,6 @@ gets_nothing h l = record { read = []; took = takes_nothing l; split = append-ni
 -- a byte that was held
 pub gets_held : (h i : List ℕ) (l : Option (List ℕ)) (b : ℕ) → h ≡ b ∷ i → Gets h l (b ∷ []) i l
 gets_held h i l b first = record { read = []; took = takes_nothing l; split = append-nil h ∙ first }
-
--- a byte of those read ahead where none was held
-pub gets_read : (h piece i : List ℕ) (l m : Option (List ℕ)) (b : ℕ) → h ≡ [] → Takes l piece m → piece ≡ b ∷ i → Gets h l (b ∷ []) i m
-gets_read h piece i l m b none took first = record { read = piece; took = took; split = ap (λ xs. xs ++ piece) none ∙ first }
 
 no_bytes : (xs : List ℕ) → 0 ≡ length xs → xs ≡ []
 no_bytes [] none = refl
@@ -180,9 +177,97 @@ some_first b rest = begins b (lines rest) (is_end b)
     begins b [] false = (b ∷ [], [], refl)
     begins b (l ∷ ls) false = (b ∷ l, ls, refl)
 
-pub has_end-push : (front : List ℕ) (b : ℕ) → has_end front ≡ false → is_end b ≡ false → has_end (front ++ b ∷ []) ≡ false
-has_end-push front b none other =
-    list_any-append is_end front (b ∷ []) ∙ ap (λ t. t || (is_end b || false)) none ∙ ap (λ t. t || false) other
+-- ---- the first end among bytes
+
+one_more : (n : ℕ) → 1 + n ≡ suc n
+one_more n = omega arith
+
+more_one : (n : ℕ) → suc n ≡ n + 1
+more_one n = omega arith
+
+-- no end of a line stands before the first one
+before_first_end : (xs : List ℕ) → has_end (take (position_or_len is_end xs) xs) ≡ false
+before_first_end [] = refl
+before_first_end (x ∷ xs) = by_first (is_end x) refl (before_first_end xs)
+  where
+    by_first : (t : Bool) → is_end x ≡ t → has_end (take (position_or_len is_end xs) xs) ≡ false
+        → has_end (take (cond (not t) (1 + position_or_len is_end xs) 0) (x ∷ xs)) ≡ false
+    by_first true is rest = refl
+    by_first false is rest =
+        ap (λ n. has_end (take n (x ∷ xs))) (one_more (position_or_len is_end xs))
+        ∙ ap (λ t. t || has_end (take (position_or_len is_end xs) xs)) is ∙ rest
+
+taken_twice : (xs : List ℕ) (most k : ℕ) → k ≤ length (take most xs) → take k (take most xs) ≡ take k xs
+taken_twice xs most k within =
+    sym (take-append-le k (take most xs) (drop most xs) within) ∙ ap (take k) (take-append-drop most xs)
+
+-- the held bytes were looked through as far as a line has room, and those before the first end went behind the line so far
+abbrev pub Looks : List ℕ → List ℕ → ℕ → List ℕ → ℕ → List ℕ → Type 0
+Looks line held most front k after = (front ≡ take most held) × (k ≡ position_or_len is_end front) × (after ≡ line ++ take k front)
+
+looks_within : (line held : List ℕ) (most : ℕ) (front : List ℕ) (k : ℕ) (after : List ℕ)
+    → Looks line held most front k after → k ≤ length front
+looks_within line held most front k after looks = omega (arith, looks.1, prefix_len-le-length (λ b. not (is_end b)) front)
+
+looks_unbroken : (line held : List ℕ) (most : ℕ) (front : List ℕ) (k : ℕ) (after : List ℕ)
+    → Looks line held most front k after → has_end (take k front) ≡ false
+looks_unbroken line held most front k after looks = ap (λ n. has_end (take n front)) looks.1 ∙ before_first_end front
+
+looks_front : (line held : List ℕ) (most : ℕ) (front : List ℕ) (k : ℕ) (after : List ℕ)
+    → Looks line held most front k after → take k front ≡ take k held
+looks_front line held most front k after looks =
+    ap (take k) looks.0
+    ∙ taken_twice held most k (subst (λ xs. k ≤ length xs) looks.0 (looks_within line held most front k after looks))
+
+looks_len : (line held : List ℕ) (most : ℕ) (front : List ℕ) (k : ℕ) (after : List ℕ)
+    → Looks line held most front k after → length after ≡ length line + k
+looks_len line held most front k after looks =
+    ap length looks.2 ∙ length-append line (take k front)
+    ∙ ap (λ n. length line + n) (length-take-le k front (looks_within line held most front k after looks))
+
+-- the first end in a list
+end_at : (xs : List ℕ) (k : ℕ) → k ≡ position_or_len is_end xs → k < length xs → get_or xs k 0 ≡ 10
+end_at xs k is within =
+    ap (λ n. get_or xs n 0) is
+    ∙ eqb-true (get_or xs (position_or_len is_end xs) 0) 10 (passes_at_first is_end xs 0 (subst (λ n. n < length xs) is within))
+
+-- the end of the line was found
+pub piece_ends : (line held : List ℕ) (most : ℕ) (front : List ℕ) (k : ℕ) (after rest : List ℕ)
+    → Looks line held most front k after → length line + most ≡ longest_line + 1 → k < length front
+    → rest ≡ drop (k + 1) held → EndsLine line held after rest
+piece_ends line held most front k after rest looks whole found is =
+    let most_front : length front ≡ min most (length held) = ap length looks.0 ∙ length-take most held in
+    let at : get_or held k 0 ≡ 10 =
+    sym (get_or-take most held k 0 (omega (arith, found, most_front))) ∙ ap (λ xs. get_or xs k 0) (sym looks.0)
+    ∙ end_at front k looks.1 found in
+    let split : drop k held ≡ 10 ∷ rest =
+    drop-cons held k 0 (omega (arith, found, most_front)) ∙ ap (λ b. b ∷ drop (suc k) held) at
+    ∙ ap (λ n. 10 ∷ drop n held) (more_one k) ∙ ap (λ xs. 10 ∷ xs) (sym is) in
+    record {
+      piece = take k front;
+      unbroken = looks_unbroken line held most front k after looks;
+      grown = looks.2;
+      short = omega (arith, whole, found, most_front, looks_len line held most front k after looks);
+      split =
+          sym (take-append-drop k held) ∙ ap (λ xs. xs ++ drop k held) (sym (looks_front line held most front k after looks))
+          ∙ ap (λ xs. take k front ++ xs) split;
+    }
+
+-- no end was found
+pub piece_grows : (line held : List ℕ) (most : ℕ) (front : List ℕ) (k : ℕ) (after rest : List ℕ)
+    → Looks line held most front k after → 0 < most → 0 < length held → length front ≤ k
+    → rest ≡ drop k held → GrowsLine line held after rest
+piece_grows line held most front k after rest looks room some all is =
+    let most_front : length front ≡ min most (length held) = ap length looks.0 ∙ length-take most held in
+    record {
+      piece = take k front;
+      unbroken = looks_unbroken line held most front k after looks;
+      grown = looks.2;
+      some = omega (arith, room, some, all, most_front, looks_len line held most front k after looks);
+      split =
+          sym (take-append-drop k held) ∙ ap (λ xs. xs ++ drop k held) (sym (looks_front line held most front k after looks))
+          ∙ ap (λ xs. take k front ++ xs) (sym is);
+    }
 
 -- ---- lines that ended
 
@@ -238,19 +323,34 @@ ended_whole bytes front whole none =
 
 -- ---- what a reader took
 
--- the end of a line came
-pub line_ends : (h i j : List ℕ) (l m n : Option (List ℕ)) (line : List ℕ) → has_end line ≡ false → length line ≤ longest_line
-    → Gets h l line i m → Gets i m (10 ∷ []) j n → IsLine line × Gets h l (line ++ 10 ∷ []) j n
-line_ends h i j l m n line none short got end = (record { unbroken = none; short = short }, gets_trans h i j l m n line (10 ∷ []) got end)
+unbroken_both : (xs ys : List ℕ) → has_end xs ≡ false → has_end ys ≡ false → has_end (xs ++ ys) ≡ false
+unbroken_both xs ys one two = list_any-append is_end xs ys ∙ ap (λ t. t || has_end ys) one ∙ two
 
--- one byte more came, which doesn't end the line
-pub line_grows : (h i j : List ℕ) (l m n : Option (List ℕ)) (line pushed : List ℕ) (b : ℕ) → pushed ≡ line ++ b ∷ [] → (b ≡ 10 → ⊥) → has_end line ≡ false
-    → Gets h l line i m → Gets i m (b ∷ []) j n → Gets h l pushed j n × (has_end pushed ≡ false)
-line_grows h i j l m n line pushed b grown other none got more =
-    let differs : is_end b ≡ false = grind (arith, nat_tests) in (
-      subst (λ xs. Gets h l xs j n) (sym grown) (gets_trans h i j l m n line (b ∷ []) got more),
-      ap has_end grown ∙ has_end-push line b none differs,
+-- bytes that were held
+gets_front : (h i : List ℕ) (l : Option (List ℕ)) (out : List ℕ) → h ≡ out ++ i → Gets h l out i l
+gets_front h i l out front = record { read = []; took = takes_nothing l; split = append-nil h ∙ front }
+
+-- the end of a line came
+pub line_ends : (h i j k : List ℕ) (l m n : Option (List ℕ)) (line ended : List ℕ) → has_end line ≡ false
+    → Gets h l line i m → Gets i m [] j n → EndsLine line j ended k → IsLine ended × Gets h l (ended ++ 10 ∷ []) k n
+line_ends h i j k l m n line ended none got filled ends =
+    let rest : List ℕ = ends.piece ++ 10 ∷ [] in
+    let split : j ≡ rest ++ k = ends.split ∙ sym (append_assoc ends.piece (10 ∷ []) k) in
+    let whole : ended ++ 10 ∷ [] ≡ line ++ rest = ap (λ xs. xs ++ 10 ∷ []) ends.grown ∙ append_assoc line ends.piece (10 ∷ []) in (
+      record { unbroken = ap has_end ends.grown ∙ unbroken_both line ends.piece none ends.unbroken; short = ends.short },
+      subst (λ xs. Gets h l xs k n) (sym whole)
+          (gets_trans h i k l m n line rest got (gets_trans i j k m n n [] rest filled (gets_front j k n rest split))),
     )
+
+-- bytes more came, which don't end the line
+pub line_grows : (h i j k : List ℕ) (l m n : Option (List ℕ)) (line grown : List ℕ) → has_end line ≡ false
+    → Gets h l line i m → Gets i m [] j n → GrowsLine line j grown k → Gets h l grown k n × (has_end grown ≡ false)
+line_grows h i j k l m n line grown none got filled grows = (
+  subst (λ xs. Gets h l xs k n) (sym grows.grown)
+      (gets_trans h i k l m n line grows.piece got
+      (gets_trans i j k m n n [] grows.piece filled (gets_front j k n grows.piece grows.split))),
+  ap has_end grows.grown ∙ unbroken_both line grows.piece none grows.unbroken,
+)
 
 -- more bytes came than a line may have
 pub line_is_long : (h i : List ℕ) (l m : Option (List ℕ)) (line : List ℕ) → has_end line ≡ false → longest_line < length line → Gets h l line i m → BeginsLong h l i m

@@ -1,5 +1,5 @@
 -- What reading a line takes from the bytes that are held and from the source.
-use Rattle.std.specs.Prelude.{◌≡◌, ◌≢◌, ⊤, ℕ, ◌<◌, ◌≤◌, List, [], ◌∷◌, ◌++◌, length, Option, false}
+use Rattle.std.specs.Prelude.{◌≡◌, ◌≢◌, ⊤, ℕ, ◌<◌, ◌≤◌, List, [], ◌∷◌, ◌++◌, length, Option, Bool, true, false}
 use Rattle.unl_base.specs.Streams.{Takes, HasEnded}
 use Rattle.unl_lines.specs.declared.reader.NextLine.{NextLine}
 use Rattle.unl_lines.specs.declared.reader.NextLine.TheVariants.{Line, Last, End}
@@ -26,6 +26,32 @@ longest_line = 16777216
 pub record IsLine (line : List ℕ) : Type 0 where
   pub unbroken : has_end line ≡ false
   pub short : length line ≤ longest_line
+
+-- something is held then, or nothing is to come
+abbrev pub Fills : Bool → List ℕ → Option (List ℕ) → List ℕ → Option (List ℕ) → Type 0
+Fills true held left held_after left_after = Gets held left [] held_after left_after × (0 < length held_after)
+Fills false held left held_after left_after = Gets held left [] held_after left_after × IsAtEnd held_after left_after
+
+-- the rest of a line and its end were taken from the front of what was held
+pub record EndsLine (line held line_after held_after : List ℕ) : Type 0 where
+  pub piece : List ℕ
+  pub unbroken : has_end piece ≡ false
+  pub grown : line_after ≡ line ++ piece
+  pub short : length line_after ≤ longest_line
+  pub split : held ≡ piece ++ 10 ∷ held_after
+
+-- some bytes, none of them an end of a line, were taken from the front of what was held
+pub record GrowsLine (line held line_after held_after : List ℕ) : Type 0 where
+  pub piece : List ℕ
+  pub unbroken : has_end piece ≡ false
+  pub grown : line_after ≡ line ++ piece
+  pub some : length line < length line_after
+  pub split : held ≡ piece ++ held_after
+
+-- bytes of a line were taken from what was held, and its end too where it came
+abbrev pub TakesPiece : Bool → List ℕ → List ℕ → List ℕ → List ℕ → Type 0
+TakesPiece true line held line_after held_after = EndsLine line held line_after held_after
+TakesPiece false line held line_after held_after = GrowsLine line held line_after held_after
 
 -- what stood next was taken
 abbrev pub TakesNext : NextLine → List ℕ → Option (List ℕ) → List ℕ → Option (List ℕ) → Type 0

@@ -1,8 +1,10 @@
 //! Lines, read from a source one after another.
-ghost use Rattle.std.specs.Prelude.{◌≡◌, ◌<◌, ◌≤◌, [], ◌∷◌, ℕ, length, take, IfOk, IfErr, IfSome, OnErr, IsErrOf, MatchOption};
+ghost use Rattle.std.specs.Prelude.{◌≡◌, ◌<◌, ◌≤◌, [], ◌∷◌, ℕ, length, take, drop, IfOk, IfErr, OnErr, IsErrOf, MatchOption};
+ghost use Rattle.std.specs.List.{position_or_len};
 ghost use Rattle.unl_base.specs.Faults.{HasCause, Rose};
 ghost use Rattle.unl_base.specs.Streams.{Takes, HasEnded};
-ghost use Rattle.unl_lines.specs.Reading.{Gets, IsAtEnd, TakesNext, Breaks};
+ghost use Rattle.unl_lines.specs.Lines.{is_end};
+ghost use Rattle.unl_lines.specs.Reading.{Gets, IsAtEnd, Fills, TakesPiece, TakesNext, Breaks, longest_line};
 
 use std::alloc::{AllocError, AllocFailed, Global};
 use std::marker::Model;
@@ -69,6 +71,16 @@ impl From<Failed> for ReadFault {
     }
 }
 
+/// How many bytes stand before the first end of a line: all where none is there.
+fn unbroken_len(bytes: &[u8]) -> usize
+    ensures { result ≡ position_or_len is_end bytes.now }
+{
+    match bytes.iter().position(|&byte| byte == b'\n') {
+        Some(len) => len,
+        None => bytes.len(),
+    }
+}
+
 /// Bytes that were read ahead, which contracts see as their list.
 #[derive(Drop)]
 pub struct LineReader {
@@ -125,6 +137,55 @@ impl LineReader {
         Ok(self.to)
     }
 
+    /// Reads ahead where nothing is held, and answers whether something is held then.
+    fn fill<S: Source>(&mut self, source: &mut S) -> Result<bool, Failed>
+        ensures fills { IfOk result (λ some. Fills some self.old (S.left source.old) self.new (S.left source.new)) }
+        ensures broken { OnErr result (Gets self.old (S.left source.old) [] self.new (S.left source.new) × (self.new ≡ [])) }
+        ensures cause { HasCause (S.faults source.old) (S.faults source.new) result }
+    {
+        if self.from < self.to {
+            return Ok(true);
+        }
+        if self.read_ahead(source)? == 0 {
+            return Ok(false);
+        }
+        Ok(true)
+    }
+
+    /// The first of the held bytes, at most so many.
+    fn front(&self, most: usize) -> &[u8]
+        ensures { result.now ≡ take most self.now }
+    {
+        let held = &self.room[self.from..self.to];
+        &held[..held.len().min(most)]
+    }
+
+    /// Lets so many of the held bytes go.
+    fn skip(&mut self, count: usize)
+        requires { count ≤ length self.old }
+        ensures { self.new ≡ drop count self.old }
+    {
+        self.from += count;
+    }
+
+    /// Takes the held bytes of a line at once, and answers whether its end came, which is taken too. It takes no more than
+    /// one byte past the most that a line may have, since so many show that the line is too long.
+    fn take_piece(&mut self, line: &mut Vec<u8>) -> Result<bool, AllocError>
+        requires held { 0 < length self.old }
+        requires short { length line.old.items ≤ longest_line }
+        ensures { IfOk result (λ ended. TakesPiece ended line.old.items self.old line.new.items self.new) }
+    {
+        let front = self.front(LONGEST_LINE + 1 - line.len());
+        let len = unbroken_len(front);
+        line.extend_from_slice(&front[..len])?;
+        if len < front.len() {
+            self.skip(len + 1);
+            return Ok(true);
+        }
+        self.skip(len);
+        Ok(false)
+    }
+
     /// The next byte, or none exactly at the end of the source.
     pub fn next_byte<S: Source>(&mut self, source: &mut S) -> Result<Option<u8>, Failed>
         ensures byte { IfOk result (λ o. MatchOption o
@@ -133,13 +194,10 @@ impl LineReader {
         ensures broken { OnErr result (Gets self.old (S.left source.old) [] self.new (S.left source.new) × (self.new ≡ [])) }
         ensures cause { HasCause (S.faults source.old) (S.faults source.new) result }
     {
-        if self.from < self.to {
+        if self.fill(source)? {
             return Ok(Some(self.take_held()));
         }
-        if self.read_ahead(source)? == 0 {
-            return Ok(None);
-        }
-        Ok(Some(self.take_held()))
+        Ok(None)
     }
 
     /// What stands next: a line, the last line, or the end.
@@ -154,12 +212,16 @@ impl LineReader {
         ensures later { S.faults source.old ≤ S.faults source.new }
     {
         let mut line = Vec::new(alloc);
-        'bytes: while line.len() <= LONGEST_LINE {
-            match self.next_byte(source)? {
-                None if line.is_empty() => return Ok(NextLine::End),
-                None => return Ok(NextLine::Last(line)),
-                Some(b'\n') => return Ok(NextLine::Line(line)),
-                Some(byte) => line.push(byte)?,
+        // While it is no longer than a line may be, its end may still come.
+        'pieces: while line.len() <= LONGEST_LINE {
+            if !self.fill(source)? {
+                if line.is_empty() {
+                    return Ok(NextLine::End);
+                }
+                return Ok(NextLine::Last(line));
+            }
+            if self.take_piece(&mut line)? {
+                return Ok(NextLine::Line(line));
             }
         }
         Err(ReadFault::TooLong)

@@ -4,12 +4,12 @@ use Rattle.unl_lines.specs.Reading.{Gets}
 use Rattle.unl_lines.proofs.reader.LineReader.next_line.Given as goal
 
 -- the line so far was taken, and has no end in it
-abbrev pub invariant-bytes : goal.invariant-bytes
-invariant-bytes g l = record {
+abbrev pub invariant-pieces : goal.invariant-pieces
+invariant-pieces g l = record {
   got : Gets l.initial.self (g.S.Source.left l.initial.source) l.line.items l.self (g.S.Source.left l.source);
   unbroken : has_end l.line.items ≡ false;
   later : g.S.Source.faults l.initial.source ≤ g.S.Source.faults l.source;
 }
 
-abbrev pub decreases-bytes : goal.decreases-bytes
-decreases-bytes g l = 16777217 - length l.line.items
+abbrev pub decreases-pieces : goal.decreases-pieces
+decreases-pieces g l = 16777217 - length l.line.items
