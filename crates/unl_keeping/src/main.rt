@@ -7,8 +7,6 @@ ghost use Rattle.unl_words.specs.Ranges.{IsInRange};
 mod fault;
 mod given;
 mod serving;
-#[cfg(test)]
-mod tests;
 
 use fault::KeepingFault;
 use given::{Given, read_given};

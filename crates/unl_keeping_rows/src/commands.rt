@@ -8,7 +8,7 @@ mod stops;
 use sqlite::{Alter, Connection, MemStore};
 use std::alloc::Global;
 use std::test::Fail;
-use unl_documents::json::read_json;
+use unl_documents::parsing::read_json;
 use unl_documents::{List, Memory, Text};
 use unl_keeper::{KeepMaker, Keeper, SqliteKeeper, SqliteMaker};
 use unl_tokens::Book;
@@ -67,8 +67,10 @@ fn give<K: Keeper>(
 fn stands(alloc: Global, up: &Upstream) -> Option<(u64, String)> {
     let version = up.board().snapshot("dev")?.version();
     let mut names = String::new(alloc);
-    for feature in version.state.features.as_slice() {
-        names.push_str(feature.get().name.as_str()).ok()?;
+    for run in version.state.features.runs() {
+        for feature in run.get().as_slice() {
+            names.push_str(feature.get().name.as_str()).ok()?;
+        }
     }
     Some((version.number, names))
 }
