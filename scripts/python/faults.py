@@ -173,8 +173,10 @@ STATE = (b'{"events":[{"eventId":3,"features":[{"enabled":true,"name":"a","strat
 def is_whole(request):
     """Whether these bytes are a head and the body that its Content-Length tells of, if it has one."""
     head, end, body = request.partition(b'\r\n\r\n')
+    if not end:
+        return False
     lengths = [int(line.split(b':')[1]) for line in head.lower().split(b'\r\n') if line.startswith(b'content-length:')]
-    return bool(end) and len(body) >= sum(lengths)
+    return len(body) >= sum(lengths)
 
 
 def upstream_of(port):
