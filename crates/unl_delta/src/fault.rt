@@ -6,7 +6,7 @@ use unl_documents::Memory;
 /// Why a document is no batch: its first fault, or want of memory.
 #[derive(Clone, Copy, Debug, PartialEq, Eq)]
 pub enum BadBatch {
-    /// No JSON, too many bytes, no list of events, or an `after` that is no unsigned whole number.
+    /// No JSON, too many bytes, no list of events, or an `epoch` or an `after` that is no unsigned whole number.
     NotJson,
     /// With the place, from 0, of the first event that can't be read.
     BadEvent(u64),

@@ -11,7 +11,7 @@ use crate::keyed::{
 use crate::ordered::first_of;
 use std::alloc::Global;
 use std::marker::Model;
-use unl_documents::{List, Memory, Series, Shared};
+use unl_documents::{List, Memory, Run, Series, Shared};
 
 /// A series of items, and whether their keys rise. Where they do, the item of a key is found by halving, and one run is made
 /// anew when one is put or taken out. Contracts see the items.
@@ -125,7 +125,7 @@ fn without_among<T: Keyed>(
 }
 
 /// The first item of a key, looked up from the front.
-fn first_of_runs<'a, T: Keyed>(runs: &'a [Shared<List<Shared<T>>>], key: &T::Key) -> Option<&'a T>
+fn first_of_runs<'a, T: Keyed>(runs: &'a [Run<T>], key: &T::Key) -> Option<&'a T>
     ensures { option_map (λ x. x.now) result ≡ find (λ x. bytes_eq (T.key x) (T.Key.ranks key.now)) (joined runs.now) }
 {
     for run in runs {
@@ -145,10 +145,7 @@ fn listed<T: Drop>(alloc: Global, items: &Series<T>) -> Result<List<Shared<T>>, 
     Ok(list)
 }
 
-fn push_runs<T: Drop>(
-    list: &mut List<Shared<T>>,
-    runs: &[Shared<List<Shared<T>>>],
-) -> Result<(), Memory>
+fn push_runs<T: Drop>(list: &mut List<Shared<T>>, runs: &[Run<T>]) -> Result<(), Memory>
     ensures { OnOk result (list.new ≡ list.old ++ joined runs.now) }
 {
     for run in runs {

@@ -17,7 +17,7 @@ use unl_documents::Memory;
 ///
 /// # Errors
 ///
-/// Want of memory, which changes nothing.
+/// Want of memory, which leaves the places, the front and the book as they are.
 pub fn take_batch<I: Installer>(
     alloc: Global,
     to: &mut I,

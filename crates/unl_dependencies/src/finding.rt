@@ -4,7 +4,7 @@ ghost use Rattle.unl_documents.specs.Series.{joined};
 ghost use Rattle.unl_documents.specs.Valid.{IsValidFeature};
 ghost use Rattle.unl_dependencies.specs.Evaluation.{feature_named as feature_with};
 
-use unl_documents::{Feature, List, Series, Shared};
+use unl_documents::{Feature, Run, Series, Shared};
 
 /// The feature of a name, if the series has one. It takes no memory.
 pub fn feature_named<'a>(features: &'a Series<Feature>, name: &str) -> Option<&'a Feature>
@@ -14,7 +14,7 @@ pub fn feature_named<'a>(features: &'a Series<Feature>, name: &str) -> Option<&'
     first_in_runs(features.runs(), name)
 }
 
-fn first_in_runs<'a>(runs: &'a [Shared<List<Shared<Feature>>>], name: &str) -> Option<&'a Feature>
+fn first_in_runs<'a>(runs: &'a [Run<Feature>], name: &str) -> Option<&'a Feature>
     ensures { option_map (λ f. f.now) result ≡ feature_with name.now (joined runs.now) }
 {
     for run in runs {

@@ -9,6 +9,7 @@ use crate::list::List;
 use crate::memory::Memory;
 use crate::segment::Segment;
 use crate::segments::segment_of;
+use crate::series::Run;
 use crate::shared::Shared;
 use crate::state::State;
 use crate::strategy::Strategy;
@@ -22,7 +23,7 @@ pub(crate) fn first_excess(state: &State) -> Result<Option<u64>, Memory>
 }
 
 fn first_excess_in(
-    runs: &[Shared<List<Shared<Feature>>>],
+    runs: &[Run<Feature>],
     segments: &List<Shared<Segment>>,
 ) -> Result<Option<u64>, Memory>
     ensures { IfOk result (λ found. found

@@ -18,7 +18,7 @@ use crate::memory::Memory;
 use crate::operator::Operator;
 use crate::segment::Segment;
 use crate::segments::segment_of;
-use crate::series::Series;
+use crate::series::{Run, Series};
 use crate::shared::Shared;
 use crate::state::State;
 use crate::strategy::Strategy;
@@ -74,9 +74,9 @@ fn inlined(alloc: Global, state: &State) -> Result<State, Memory>
 /// The runs, of as many features each.
 fn inlined_runs(
     alloc: Global,
-    runs: &[Shared<List<Shared<Feature>>>],
+    runs: &[Run<Feature>],
     segments: &List<Shared<Segment>>,
-) -> Result<List<Shared<List<Shared<Feature>>>>, Memory>
+) -> Result<List<Run<Feature>>, Memory>
     requires { NoneIsEmpty runs.now }
     ensures features { IfOk result (λ rs. joined rs ≡ map (feature_inlined segments.now) (joined runs.now)) }
     ensures full { IfOk result NoneIsEmpty }

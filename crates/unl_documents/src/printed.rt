@@ -14,7 +14,7 @@ ghost use Rattle.unl_documents.specs.Writing.{count, unless_zero as those_but_ze
 use crate::field::Field;
 use crate::list::List;
 use crate::memory::Memory;
-use crate::series::Series;
+use crate::series::{Run, Series};
 use crate::shared::Shared;
 use crate::text::Text;
 use crate::written::{Written, unless_zero};
@@ -102,7 +102,7 @@ impl<P: Printed> Printed for Series<P> {
 }
 
 /// Prints the items of the runs, one behind the other.
-fn print_runs<P: Printed>(out: &mut Writer, runs: &[Shared<List<Shared<P>>>]) -> Result<(), Memory>
+fn print_runs<P: Printed>(out: &mut Writer, runs: &[Run<P>]) -> Result<(), Memory>
     requires { All P.is_printable (joined runs.now) }
     ensures { OnOk result (Wrote (all_tokens (map P.written (joined runs.now))) out.old out.new) }
 {

@@ -13,12 +13,15 @@ use std::marker::Model;
 /// How many items a run has at most.
 const MOST: usize = 128;
 
+/// A run of items, each of which has many owners, as the run has.
+pub type Run<T> = Shared<List<Shared<T>>>;
+
 /// Items with many owners, in runs that have many owners too, which contracts see as the list of the items.
 ///
 /// A run has 1 to 128 items where it was made here.
 #[derive(Drop)]
 pub struct Series<T> {
-    runs: List<Shared<List<Shared<T>>>>,
+    runs: List<Run<T>>,
 }
 
 impl<T> Model for Series<T> {
@@ -52,7 +55,7 @@ impl<T: Drop> Series<T> {
     }
 
     /// The items of these runs.
-    pub fn of_runs(runs: List<Shared<List<Shared<T>>>>) -> Series<T>
+    pub fn of_runs(runs: List<Run<T>>) -> Series<T>
         requires { NoneIsEmpty runs }
         ensures { result ≡ joined runs }
     {
@@ -60,7 +63,7 @@ impl<T: Drop> Series<T> {
     }
 
     /// The runs in which the items stand.
-    pub fn runs(&self) -> &[Shared<List<Shared<T>>>]
+    pub fn runs(&self) -> &[Run<T>]
         ensures items { joined result.now ≡ self.now }
         ensures full { NoneIsEmpty result.now }
     {
@@ -107,7 +110,7 @@ impl<T: Drop> Copied for Series<T> {
 /// The series of these runs with another run at a place: cut into more where it is long, and none where it is empty.
 pub fn with_run<T: Drop>(
     alloc: Global,
-    runs: &[Shared<List<Shared<T>>>],
+    runs: &[Run<T>],
     place: usize,
     run: List<Shared<T>>,
 ) -> Result<Series<T>, Memory>
@@ -149,7 +152,7 @@ fn push_owners<T: Drop>(list: &mut List<Shared<T>>, more: &[Shared<T>]) -> Resul
 /// Adds a run that may be empty or long.
 fn push_run<T: Drop>(
     alloc: Global,
-    runs: &mut List<Shared<List<Shared<T>>>>,
+    runs: &mut List<Run<T>>,
     run: List<Shared<T>>,
 ) -> Result<(), Memory>
     requires { NoneIsEmpty runs.old }
@@ -165,7 +168,7 @@ fn push_run<T: Drop>(
 /// Adds items as runs of their own.
 fn push_cut<T: Drop>(
     alloc: Global,
-    runs: &mut List<Shared<List<Shared<T>>>>,
+    runs: &mut List<Run<T>>,
     items: &[Shared<T>],
 ) -> Result<(), Memory>
     requires { NoneIsEmpty runs.old }
@@ -196,7 +199,7 @@ fn owners<T: Drop>(alloc: Global, values: &[Shared<T>]) -> Result<List<Shared<T>
 }
 
 /// Items as runs.
-fn cut<T: Drop>(alloc: Global, items: &[Shared<T>]) -> Result<List<Shared<List<Shared<T>>>>, Memory>
+fn cut<T: Drop>(alloc: Global, items: &[Shared<T>]) -> Result<List<Run<T>>, Memory>
     ensures items { IfOk result (λ runs. joined runs ≡ items.now) }
     ensures full { IfOk result NoneIsEmpty }
 {
@@ -207,7 +210,7 @@ fn cut<T: Drop>(alloc: Global, items: &[Shared<T>]) -> Result<List<Shared<List<S
 
 fn appended<T: Drop>(
     alloc: Global,
-    runs: &[Shared<List<Shared<T>>>],
+    runs: &[Run<T>],
     items: &[Shared<T>],
 ) -> Result<Series<T>, Memory>
     requires { NoneIsEmpty runs.now }
@@ -224,10 +227,7 @@ fn appended<T: Drop>(
 }
 
 /// The last run, where it stays one with so many items more.
-fn last_with_room<T: Drop>(
-    runs: &[Shared<List<Shared<T>>>],
-    count: usize,
-) -> Option<&List<Shared<T>>>
+fn last_with_room<T: Drop>(runs: &[Run<T>], count: usize) -> Option<&List<Shared<T>>>
     ensures inside { IfSome result (λ last. 0 < length runs.now) }
     ensures items { IfSome result (λ last. joined (take (length runs.now - 1) runs.now) ++ last.now ≡ joined runs.now) }
 {
@@ -241,7 +241,7 @@ fn last_with_room<T: Drop>(
 /// The series of these runs, followed by items as runs of their own.
 fn with_runs<T: Drop>(
     alloc: Global,
-    runs: &[Shared<List<Shared<T>>>],
+    runs: &[Run<T>],
     items: &[Shared<T>],
 ) -> Result<Series<T>, Memory>
     requires { NoneIsEmpty runs.now }
@@ -253,7 +253,7 @@ fn with_runs<T: Drop>(
 }
 
 /// How many items the runs have together.
-fn count_of<T: Drop>(runs: &[Shared<List<Shared<T>>>]) -> Result<usize, Memory>
+fn count_of<T: Drop>(runs: &[Run<T>]) -> Result<usize, Memory>
     ensures { IfOk result (λ count. count ≡ length (joined runs.now)) }
 {
     let mut count = 0;
@@ -270,7 +270,7 @@ fn sum_of(count: usize, more: usize) -> Result<usize, Memory>
 }
 
 /// The item at a place of all runs.
-fn item_at<T: Drop>(runs: &[Shared<List<Shared<T>>>], place: usize) -> Option<&T>
+fn item_at<T: Drop>(runs: &[Run<T>], place: usize) -> Option<&T>
     ensures { option_map (λ x. x.now) result ≡ slice_get (joined runs.now) place }
 {
     let mut left = place;

@@ -1,4 +1,4 @@
-use Rattle.std.proofs.Common.{◌≡◌, Option, None, Some, List, map, sym, subst, ap, ◌∙◌}
+use Rattle.std.proofs.Common.{◌≡◌, None, Some, map, sym, subst, ap, ◌∙◌}
 use Rattle.std.specs.Prelude.{slice_get}
 use Rattle.std.proofs.lemmas.Result.{IfOk-weaker}
 use Rattle.unl_documents.specs.Parameters.{AreRising}
@@ -8,47 +8,25 @@ use Rattle.unl_delta.proofs.keyed.without_in_series.Goals as goal
 
 pub without_in_place-requires : goal.without_in_place-requires
 without_in_place-requires g c =
-    let key = g.T.Keyed.key in
-    let k = g.T.Key.Key.ranks c.args.key.now in
-    let runs = c.runs-runs.result.now in
-    let items = c.args.items.now in
-    let place = c.run_of-place.result in
-    let here : Some c.in-Some.run'.now ≡ slice_get runs place = rw c.in-Some.is at c.run_at.ensures in
-    let h = held key k runs items place c.in-Some.run'.now c.runs-runs.ensures.full c.runs-runs.ensures.items c.requires c.run_of-place.ensures (sym here) in
-    subst (λ xs. AreRising (map key xs)) (sym c.in_ok-copy-in-Some.ensures) h.rising
+    let here : Some c.in-Some.run'.now ≡ slice_get c.runs-runs.result.now c.run_of-place.result = rw c.in-Some.is at c.run_at.ensures in
+    let h = held g.T.Keyed.key _ _ _ _ _ c.runs-runs.ensures.full c.runs-runs.ensures.items c.requires c.run_of-place.ensures (sym here) in
+    subst (λ xs. AreRising (map g.T.Keyed.key xs)) (sym c.in_ok-copy-in-Some.ensures) h.rising
 
 pub with_run-requires-clause-inside : goal.with_run-requires-clause-inside
 with_run-requires-clause-inside g c =
-    let key = g.T.Keyed.key in
-    let k = g.T.Key.Key.ranks c.args.key.now in
-    let runs = c.runs-runs.result.now in
-    let items = c.args.items.now in
-    let place = c.run_of-place.result in
-    let here : Some c.in-Some.run'.now ≡ slice_get runs place = rw c.in-Some.is at c.run_at.ensures in
-    let h = held key k runs items place c.in-Some.run'.now c.runs-runs.ensures.full c.runs-runs.ensures.items c.requires c.run_of-place.ensures (sym here) in
-    h.inside
+    let here : Some c.in-Some.run'.now ≡ slice_get c.runs-runs.result.now c.run_of-place.result = rw c.in-Some.is at c.run_at.ensures in
+    (held g.T.Keyed.key _ _ _ _ _ c.runs-runs.ensures.full c.runs-runs.ensures.items c.requires c.run_of-place.ensures (sym here)).inside
 
 pub returns-in-None : goal.returns-in-None
 returns-in-None g c =
-    let key = g.T.Keyed.key in
-    let k = g.T.Key.Key.ranks c.args.key.now in
-    let runs = c.runs-runs.result.now in
-    let items = c.args.items.now in
-    let place = c.run_of-place.result in
-    let none : None ≡ slice_get runs place = rw c.in-None.is at c.run_at.ensures in
-    let end = without_at_end key k runs items place c.runs-runs.ensures.full c.runs-runs.ensures.items c.requires c.run_of-place.ensures (sym none) in
+    let none : None ≡ slice_get c.runs-runs.result.now c.run_of-place.result = rw c.in-None.is at c.run_at.ensures in
+    let end = without_at_end g.T.Keyed.key (g.T.Key.Key.ranks c.args.key.now) _ _ _ c.runs-runs.ensures.full c.runs-runs.ensures.items c.requires c.run_of-place.ensures (sym none) in
     IfOk-weaker c.copy.result _ _ (λ new is. is ∙ end) c.copy.ensures
 
 pub returns-in_ok-copy-in-Some : goal.returns-in_ok-copy-in-Some
 returns-in_ok-copy-in-Some g c =
-    let key = g.T.Keyed.key in
-    let k = g.T.Key.Key.ranks c.args.key.now in
-    let runs = c.runs-runs.result.now in
-    let items = c.args.items.now in
-    let place = c.run_of-place.result in
-    let here : Some c.in-Some.run'.now ≡ slice_get runs place = rw c.in-Some.is at c.run_at.ensures in
-    let h = held key k runs items place c.in-Some.run'.now c.runs-runs.ensures.full c.runs-runs.ensures.items c.requires c.run_of-place.ensures (sym here) in
-    let run = c.in-Some.run'.now in
-    let same = c.without_in_place.ensures ∙ ap (λ xs. without key k xs) c.in_ok-copy-in-Some.ensures in
-    let all = without_in_run key k runs items place run c.without_in_place.result h c.runs-runs.ensures.items same in
+    let here : Some c.in-Some.run'.now ≡ slice_get c.runs-runs.result.now c.run_of-place.result = rw c.in-Some.is at c.run_at.ensures in
+    let h = held g.T.Keyed.key _ _ _ _ _ c.runs-runs.ensures.full c.runs-runs.ensures.items c.requires c.run_of-place.ensures (sym here) in
+    let same = c.without_in_place.ensures ∙ ap (λ xs. without g.T.Keyed.key (g.T.Key.Key.ranks c.args.key.now) xs) c.in_ok-copy-in-Some.ensures in
+    let all = without_in_run g.T.Keyed.key _ _ _ _ _ c.without_in_place.result h c.runs-runs.ensures.items same in
     IfOk-weaker c.with_run.result _ _ (λ new is. is ∙ all) c.with_run.ensures
