@@ -1,5 +1,5 @@
 //! A door, which hands out links and takes them back.
-ghost use Rattle.std.specs.Prelude.{◌≡◌, ◌<◌, ◌≤◌, ℕ, true, is_ok, IfOk, IfSome, OnErr};
+ghost use Rattle.std.specs.Prelude.{◌≡◌, ◌<◌, ◌≤◌, ℕ, true, is_ok, IfOk, IfSome, OnErr, OnOk};
 ghost use Rattle.unl_base.specs.Doors.{Accepts, DoorState, IsFresh, listening_if, taking_back};
 ghost use Rattle.unl_base.specs.Faults.{HasCause};
 
@@ -25,7 +25,8 @@ pub trait Door {
     /// `Failed`: the port can't be listened at. The fault is counted, and all else is as before.
     fn listen(&mut self, port: u16) -> Result<(), Failed>
         ensures listens { state self.new ≡ listening_if (is_ok result) (state self.old) }
-        ensures cause { HasCause (faults self.old) (faults self.new) result };
+        ensures cause { HasCause (faults self.old) (faults self.new) result }
+        ensures still { OnOk result (faults self.new ≡ faults self.old) };
 
     /// Waits for the next link, and hands it out: none exactly where the door is closed. The link has sent nothing and
     /// has counted no fault.
@@ -39,7 +40,8 @@ pub trait Door {
         ensures fresh { IfOk result (λ link. IfSome link (λ l.
             IsFresh (state self.old) (Self.L.Source.left l) (Self.L.Sink.sent l) (Self.L.Source.faults l))) }
         ensures kept { OnErr result (state self.new ≡ state self.old) }
-        ensures cause { HasCause (faults self.old) (faults self.new) result };
+        ensures cause { HasCause (faults self.old) (faults self.new) result }
+        ensures still { OnOk result (faults self.new ≡ faults self.old) };
 
     /// Takes back a link that was handed out.
     fn give_back(&mut self, link: Self::L)

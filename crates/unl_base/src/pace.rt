@@ -1,5 +1,5 @@
 //! The pace of a job that is done again and again.
-ghost use Rattle.std.specs.Prelude.{◌≡◌, ◌-◌, ℕ, Option, nat_lt, option_map, IfSome};
+ghost use Rattle.std.specs.Prelude.{◌≡◌, ◌-◌, ℕ, Option, nat_lt, option_map, true, IfNone, IfSome};
 
 use std::marker::Model;
 
@@ -8,10 +8,11 @@ pub trait Pace {
     /// How many turns are still to come, where that is told.
     ghost turns: { Self → Option ℕ };
 
-    /// Waits for the next turn: false where there is none.
+    /// Waits for the next turn: false where it is told that there is none, and there alone.
     fn more(&mut self) -> bool
         ensures takes { turns self.new ≡ option_map (λ n. n - 1) (turns self.old) }
-        ensures told { IfSome (turns self.old) (λ n. result ≡ nat_lt 0 n) };
+        ensures told { IfSome (turns self.old) (λ n. result ≡ nat_lt 0 n) }
+        ensures goes_on { IfNone (turns self.old) (result ≡ true) };
 }
 
 /// A pace of so many turns, which waits for none of them.

@@ -21,7 +21,8 @@ pub trait Peer: Link {
     fn connect(&mut self) -> Result<(), Failed>
         ensures connects { OnOk result (state self.new ≡ connecting (state self.old)) }
         ensures parts { OnErr result (state self.new ≡ parting (state self.old)) }
-        ensures cause { HasCause (Self.Source.faults self.old) (Self.Source.faults self.new) result };
+        ensures cause { HasCause (Self.Source.faults self.old) (Self.Source.faults self.new) result }
+        ensures still { OnOk result (Self.Source.faults self.new ≡ Self.Source.faults self.old) };
 
     /// Nothing is to come while there is no connection.
     ghost idle: { (peer : Self) → (state peer).connected ≡ false → HasEnded (state peer).left };

@@ -11,13 +11,12 @@ use std::time::{Clock, SystemTime};
 const LAST_MOMENT: u64 = 100_000_000_000_000;
 
 /// Draws whose moments a clock tells. The words come from a small generator, which is none for secrets. Where the
-/// clock fails, that is counted, and the moment of the draw before is told again.
+/// clock fails, the moment of the draw before is told again.
 #[derive(Drop)]
 pub struct RealDraws<C: Clock + Copy + Drop> {
     clock: C,
     words: Lcg64Xsh32,
     moment: u64,
-    faults: u64,
 }
 
 impl<C: Clock + Copy + Drop> RealDraws<C> {
@@ -27,7 +26,6 @@ impl<C: Clock + Copy + Drop> RealDraws<C> {
             clock,
             words: Lcg64Xsh32::new(0, 0),
             moment: 0,
-            faults: 0,
         };
         let seed = draws.moment();
         draws.words = Lcg64Xsh32::new(seed, 0);
@@ -38,9 +36,8 @@ impl<C: Clock + Copy + Drop> RealDraws<C> {
     fn moment(&mut self) -> u64
         ensures { result ≤ 100000000000000 }
     {
-        match moment_of(self.clock) {
-            Ok(moment) => self.moment = moment,
-            Err(_) => self.faults = self.faults.saturating_add(1),
+        if let Ok(moment) = moment_of(self.clock) {
+            self.moment = moment;
         }
         self.moment.min(LAST_MOMENT)
     }
@@ -72,7 +69,6 @@ impl<C: Clock + Copy + Drop> Draws for RealDraws<C> {
             clock: self.clock,
             words: Lcg64Xsh32::new(state, stream),
             moment: self.moment,
-            faults: 0,
         }
     }
 }

@@ -1,5 +1,6 @@
 //! The adapters over the network. They tell no content, and each counts its own errors.
-ghost use Rattle.std.specs.Prelude.{◌≤◌, None};
+ghost use Rattle.std.specs.Prelude.{◌≡◌, ◌≤◌, ◌-◌, ◌^◌, None, unwrap_or};
+ghost use Rattle.unl_base.specs.Peers.{nothing_beside};
 
 use crate::Failed;
 use crate::door::Door;
@@ -37,7 +38,11 @@ pub struct RealDoor<N: Net + Drop> {
 impl<N: Net + Drop> RealDoor<N> {
     /// A door that doesn't listen yet and has counted no error. It closes after `bound` links; without a bound, after
     /// more links than can ever come.
-    pub fn new(net: N, bound: Option<u64>) -> Self {
+    pub fn new(net: N, bound: Option<u64>) -> Self
+        ensures bound { result.bound ≡ unwrap_or bound (2 ^ 64 - 1) }
+        ensures counts { (result.given ≡ 0) × (result.back ≡ 0) × (result.faults ≡ 0) }
+        ensures listener { result.listener ≡ None }
+    {
         RealDoor {
             net,
             listener: None,
@@ -120,7 +125,10 @@ pub struct RealPeer<N: Net + Drop, A: ToSocketAddrs> {
 
 impl<N: Net + Drop, A: ToSocketAddrs> RealPeer<N, A> {
     /// A peer at an address, as `HOST:PORT`, that isn't connected yet and has counted no error.
-    pub fn new(net: N, address: A) -> Self {
+    pub fn new(net: N, address: A) -> Self
+        ensures state { ⟦<RealPeer<N, A> as Peer>⟧.state result ≡ nothing_beside }
+        ensures faults { ⟦<RealPeer<N, A> as Source>⟧.faults result ≡ 0 }
+    {
         RealPeer {
             net,
             address,
@@ -132,7 +140,6 @@ impl<N: Net + Drop, A: ToSocketAddrs> RealPeer<N, A> {
 
 impl<N: Net + Drop, A: ToSocketAddrs> Source for RealPeer<N, A> {
     ghost use Rattle.std.specs.Prelude.{is_some};
-    ghost use Rattle.unl_base.specs.Peers.{nothing_beside};
 
     ghost left = { λ _. None };
 
@@ -157,7 +164,6 @@ impl<N: Net + Drop, A: ToSocketAddrs> Source for RealPeer<N, A> {
 
 impl<N: Net + Drop, A: ToSocketAddrs> Sink for RealPeer<N, A> {
     ghost use Rattle.std.specs.Prelude.{is_some};
-    ghost use Rattle.unl_base.specs.Peers.{nothing_beside};
 
     ghost sent = { λ _. None };
 
@@ -193,7 +199,6 @@ impl<N: Net + Drop, A: ToSocketAddrs> Link for RealPeer<N, A> {
 impl<N: Net + Drop, A: ToSocketAddrs> Peer for RealPeer<N, A> {
     ghost use Rattle.std.specs.Prelude.{is_some};
     ghost use Rattle.std.proofs.Common.{refl};
-    ghost use Rattle.unl_base.specs.Peers.{nothing_beside};
 
     ghost state = { λ peer. record nothing_beside { connected = is_some peer.stream } };
 

@@ -1,4 +1,5 @@
 //! A pace by a clock.
+ghost use Rattle.std.specs.Prelude.{◌≡◌};
 ghost use Rattle.unl_base.specs.Paces.{turns_of};
 
 use crate::pace::Pace;
@@ -14,7 +15,9 @@ pub struct RealPace<C: Clock + Drop> {
 
 impl<C: Clock + Drop> RealPace<C> {
     /// A pace of turns that stand so far from each other, or of none where there is no interval.
-    pub fn new(clock: C, interval: Option<Duration>) -> Self {
+    pub fn new(clock: C, interval: Option<Duration>) -> Self
+        ensures { ⟦<RealPace<C> as Pace>⟧.turns result ≡ turns_of interval }
+    {
         RealPace { clock, interval }
     }
 }

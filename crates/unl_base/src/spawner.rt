@@ -51,6 +51,7 @@ pub trait Spawner {
         ensures each { IfOk result.1 (λ done. AllZip J.worked jobs.items done.items) }
         ensures cancelled { OnErr result.1 (M.cancelled here result.0) }
         ensures cause { HasCause (faults self.old) (faults self.new) result.1 }
+        ensures still { OnOk result.1 (faults self.new ≡ faults self.old) }
     {
         match self.place() {
             Place::Here => run_in_turn(jobs, here),

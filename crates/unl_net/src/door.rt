@@ -1,5 +1,5 @@
 //! A door over the network.
-ghost use Rattle.std.specs.Prelude.{◌≡◌, ◌≤◌, IfOk, None};
+ghost use Rattle.std.specs.Prelude.{◌≡◌, ◌≤◌, ◌-◌, ◌^◌, IfOk, None, unwrap_or};
 
 use crate::accepting::accept_link;
 use crate::crowd::Crowd;
@@ -35,12 +35,10 @@ impl<N: Net + Clock + Eprint + Copy + Drop> NetDoor<N> {
     ///
     /// # Errors
     /// Want of memory.
-    pub fn new(
-        alloc: Global,
-        net: N,
-        bound: Option<u64>,
-        workers: u32,
-    ) -> Result<Self, AllocError> {
+    pub fn new(alloc: Global, net: N, bound: Option<u64>, workers: u32) -> Result<Self, AllocError>
+        ensures new { IfOk result (λ door. (door.listener ≡ None) × (door.given ≡ 0) × (door.back ≡ 0) × (door.faults ≡ 0)) }
+        ensures bound { IfOk result (λ door. door.bound ≡ unwrap_or bound (2 ^ 64 - 1)) }
+    {
         Ok(NetDoor {
             net,
             listener: None,

@@ -1,6 +1,9 @@
 //! A link over the network that gives way to others.
-ghost use Rattle.std.specs.Prelude.{◌≡◌, IfOk, None};
+ghost use Rattle.std.specs.Prelude.{◌≡◌, ◌<◌, ◌≤◌, length, IfOk, None};
+ghost use Rattle.std.specs.Io.KnownBytes.{WriteAppends};
+ghost use Rattle.unl_base.specs.Faults.{HasExactCause};
 ghost use Rattle.unl_base.specs.Peers.{nothing_beside};
+ghost use Rattle.unl_net.specs.Streams.{Gives};
 
 use crate::crowd::Crowd;
 use crate::wire::Wire;
@@ -41,7 +44,13 @@ impl<S: Read + Write + OpenStream + Drop, C: Clock + Drop> Source for NetLink<S,
 
     ghost beside = { λ _. nothing_beside };
 
-    fn read(&mut self, room: &mut [u8]) -> Result<usize, Failed> {
+    /// Hands on what the stream gives, or nothing where the link gives way.
+    fn read(&mut self, room: &mut [u8]) -> Result<usize, Failed>
+        requires { 0 < length room.old }
+        ensures fits { IfOk result (λ n. n ≤ length room.new) }
+        ensures hands_on { Gives (S.remaining self.old.wire.stream) (S.remaining self.new.wire.stream) result room.new }
+        ensures cause { HasExactCause self.old.faults self.new.faults result }
+    {
         match self.wire.read(room) {
             Ok(count) => Ok(count),
             Err(_) => {
@@ -59,7 +68,14 @@ impl<S: Read + Write + OpenStream + Drop, C: Clock + Drop> Sink for NetLink<S, C
 
     ghost beside = { λ _. nothing_beside };
 
-    fn write(&mut self, piece: &[u8]) -> Result<usize, Failed> {
+    /// Hands the piece on to the stream, and tells how much that took.
+    fn write(&mut self, piece: &[u8]) -> Result<usize, Failed>
+        requires { 0 < length piece.now }
+        ensures some { IfOk result (λ n. 0 < n) }
+        ensures fits { IfOk result (λ n. n ≤ length piece.now) }
+        ensures hands_on { WriteAppends (S.contents self.old.wire.stream) (S.contents self.new.wire.stream) result piece.now }
+        ensures cause { HasExactCause self.old.faults self.new.faults result }
+    {
         match self.wire.write(piece) {
             Ok(count) if count > 0 => Ok(count),
             _ => {

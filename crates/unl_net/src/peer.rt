@@ -1,5 +1,5 @@
 //! A peer over the network.
-ghost use Rattle.std.specs.Prelude.{None};
+ghost use Rattle.std.specs.Prelude.{◌≡◌, None};
 
 use crate::log::{Told, WELL, tell};
 use crate::retrying::{read_once, write_once};
@@ -30,7 +30,9 @@ pub struct NetPeer<N: Net + Eprint + Drop, A: ToSocketAddrs + Display> {
 
 impl<N: Net + Eprint + Drop, A: ToSocketAddrs + Display> NetPeer<N, A> {
     /// A peer at an address, as `HOST:PORT`, that isn't connected yet and has counted no error.
-    pub fn new(net: N, address: A) -> Self {
+    pub fn new(net: N, address: A) -> Self
+        ensures { (result.stream ≡ None) × (result.faults ≡ 0) }
+    {
         NetPeer {
             net,
             address,

@@ -1,5 +1,5 @@
 //! What a link has been doing, and when it gives way.
-ghost use Rattle.std.specs.Prelude.{◌≡◌};
+ghost use Rattle.std.specs.Prelude.{◌≡◌, ◌+◌, ◌-◌, ◌^◌, min, true, false};
 ghost use Rattle.unl_net.specs.Turns.{gives_way, is_brief, is_slow, is_through};
 
 use std::time::Instant;
@@ -127,7 +127,9 @@ impl Pulse {
     }
 
     /// Notes that so many bytes came.
-    pub fn note_read(&mut self, now: Option<Instant>, count: usize) {
+    pub fn note_read(&mut self, now: Option<Instant>, count: usize)
+        ensures { (self.new.answered ≡ false) × (self.new.given ≡ min (self.old.given + count) (2 ^ 64 - 1)) }
+    {
         self.open.begin(now);
         self.coming.begin(now);
         self.given = self.given.saturating_add(count as u64);
@@ -135,7 +137,9 @@ impl Pulse {
     }
 
     /// Notes that the link was written to.
-    pub fn note_write(&mut self) {
+    pub fn note_write(&mut self)
+        ensures { (self.new.answered ≡ true) × (self.new.given ≡ 0) }
+    {
         self.open = Stopwatch { begun: None };
         self.coming = self.open;
         self.given = 0;
@@ -143,7 +147,9 @@ impl Pulse {
     }
 
     /// How the link stands where so many waits have passed.
-    pub fn standing(&self, now: Option<Instant>, silent: u64) -> Standing {
+    pub fn standing(&self, now: Option<Instant>, silent: u64) -> Standing
+        ensures { (result.answered ≡ self.now.answered) × (result.silent ≡ silent) × (result.given ≡ self.now.given) }
+    {
         Standing {
             answered: self.answered,
             silent,

@@ -1,5 +1,7 @@
 //! Calls that are tried again where a signal came between.
+ghost use Rattle.std.specs.Prelude.{◌≡◌, true, is_err};
 ghost use Rattle.std.specs.Io.{ReadsAtMost, WritesAtMost};
+ghost use Rattle.std.specs.Io.KnownBytes.{ReadConsumes, WriteAppends};
 
 use std::io;
 use std::io::{ErrorKind, Read, Write};
@@ -8,7 +10,9 @@ use std::io::{ErrorKind, Read, Write};
 const MOST_TRIES: usize = 1_000;
 
 /// Whether a signal came between.
-fn is_interrupted<T>(tried: &io::Result<T>) -> bool {
+fn is_interrupted<T>(tried: &io::Result<T>) -> bool
+    ensures { result ≡ true → is_err tried.now ≡ true }
+{
     match tried {
         Ok(_) => false,
         Err(fault) => fault.kind() == ErrorKind::Interrupted,
@@ -16,10 +20,12 @@ fn is_interrupted<T>(tried: &io::Result<T>) -> bool {
 }
 
 /// Reads once.
+#[tactic(auto, using(crate::proofs::Trying::stays, crate::proofs::Trying::read_then, crate::proofs::Trying::read_failed))]
 pub(crate) fn read_once<R: Read>(reader: &mut R, room: &mut [u8]) -> io::Result<usize>
-    ensures { ReadsAtMost result room.new }
+    ensures bound { ReadsAtMost result room.new }
+    ensures bytes { ReadConsumes (R.remaining reader.old) (R.remaining reader.new) result room.new }
 {
-    for _try in 0..MOST_TRIES {
+    'tries: for _try in 0..MOST_TRIES {
         let tried = reader.read(room);
         if !is_interrupted(&tried) {
             return tried;
@@ -29,10 +35,12 @@ pub(crate) fn read_once<R: Read>(reader: &mut R, room: &mut [u8]) -> io::Result<
 }
 
 /// Writes once.
+#[tactic(auto, using(crate::proofs::Trying::stays, crate::proofs::Trying::write_then, crate::proofs::Trying::write_failed))]
 pub(crate) fn write_once<W: Write>(writer: &mut W, piece: &[u8]) -> io::Result<usize>
-    ensures { WritesAtMost result piece.now }
+    ensures bound { WritesAtMost result piece.now }
+    ensures bytes { WriteAppends (W.contents writer.old) (W.contents writer.new) result piece.now }
 {
-    for _try in 0..MOST_TRIES {
+    'tries: for _try in 0..MOST_TRIES {
         let tried = writer.write(piece);
         if !is_interrupted(&tried) {
             return tried;

@@ -105,28 +105,49 @@ struct Kind {
     len: usize,
     key: u64,
     ghost fits: { len ≤ 64 },
+    ghost told: { All (λ byte. is_told byte ≡ true) (take len text) },
 }
 
 impl Kind {
     /// That of a request, of which these are the first bytes.
     fn of(request: &[u8]) -> Self {
         let len = told_len(request);
-        let mut text = [0; MOST_TOLD];
-        text[..len].copy_from_slice(&request[..len]);
         Kind {
-            text,
+            text: front_of(request, len),
             len,
             key: key_of(&request[..len], token_line(request)),
         }
     }
 
     /// What is told of it.
-    fn as_str(&self) -> &str {
+    fn as_str(&self) -> &str
+        ensures { All (λ byte. is_told byte ≡ true) result.now }
+    {
         match str::from_utf8(&self.text[..self.len]) {
             Ok(text) => text,
             Err(_) => "",
         }
     }
+}
+
+/// The first so many bytes, with zeros behind them.
+fn front_of(bytes: &[u8], len: usize) -> [u8; MOST_TOLD]
+    requires inside { len ≤ length bytes.now }
+    requires short { len ≤ 64 }
+    ensures { take len result ≡ take len bytes.now }
+{
+    let mut front = [0; MOST_TOLD];
+    copy_front(bytes, &mut front, len);
+    front
+}
+
+/// Copies the front of some bytes to the front of a room.
+fn copy_front(bytes: &[u8], room: &mut [u8], count: usize)
+    requires held { count ≤ length bytes.now }
+    requires fits { count ≤ length room.old }
+    ensures { take count room.new ≡ take count bytes.now }
+{
+    room[..count].copy_from_slice(&bytes[..count]);
 }
 
 /// The line of a request that has its token, without bytes where there is none.
@@ -221,7 +242,9 @@ impl Watch {
     }
 
     /// What is told of the request.
-    pub fn kind(&self) -> &str {
+    pub fn kind(&self) -> &str
+        ensures { All (λ byte. is_told byte ≡ true) result.now }
+    {
         self.kind.as_str()
     }
 }

@@ -1,5 +1,8 @@
 //! A stream whose reads wait for a while, and give way to others.
+ghost use Rattle.std.specs.Prelude.{◌≡◌};
 ghost use Rattle.std.specs.Io.{ReadsAtMost, WritesAtMost};
+ghost use Rattle.std.specs.Io.KnownBytes.{WriteAppends};
+ghost use Rattle.unl_net.specs.Streams.{Gives};
 
 use crate::crowd::Crowd;
 use crate::pulse::{Pulse, gives_way, is_brief};
@@ -56,10 +59,12 @@ impl<S: Read + Write + OpenStream + Drop, C: Clock + Drop> Wire<S, C> {
     ///
     /// # Errors
     /// That of the stream, or that no byte came in time.
+    #[tactic(auto, using(crate::proofs::Trying::stays_on, crate::proofs::Trying::none_consumed, crate::proofs::Trying::consumed_then))]
     pub fn read(&mut self, room: &mut [u8]) -> io::Result<usize>
-        ensures { ReadsAtMost result room.new }
+        ensures bound { ReadsAtMost result room.new }
+        ensures gives { Gives (S.remaining self.old.stream) (S.remaining self.new.stream) result room.new }
     {
-        for waits in 0..MOST_WAITS {
+        'waits: for waits in 0..MOST_WAITS {
             let Some(is_brief) = next_wait(&self.clock, &self.crowd, &mut self.pulse, waits) else {
                 return Ok(0);
             };
@@ -77,7 +82,9 @@ impl<S: Read + Write + OpenStream + Drop, C: Clock + Drop> Wire<S, C> {
     }
 
     /// Lets the stream's reads take a moment or a second.
-    fn wait_for(&mut self, is_brief: bool) {
+    fn wait_for(&mut self, is_brief: bool)
+        ensures { self.new.stream ≡ self.old.stream }
+    {
         if self.is_brief != is_brief {
             let wait = if is_brief { MOMENT } else { SECOND };
             // Where it can't be set the wait before stands, which is longer or shorter and no fault.
@@ -93,7 +100,8 @@ impl<S: Read + Write + OpenStream + Drop, C: Clock + Drop> Wire<S, C> {
     /// # Errors
     /// That of the stream.
     pub fn write(&mut self, piece: &[u8]) -> io::Result<usize>
-        ensures { WritesAtMost result piece.now }
+        ensures bound { WritesAtMost result piece.now }
+        ensures bytes { WriteAppends (S.contents self.old.stream) (S.contents self.new.stream) result piece.now }
     {
         let written = write_once(&mut self.stream, piece);
         self.pulse.note_write();

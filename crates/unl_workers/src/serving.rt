@@ -1,5 +1,5 @@
 //! The links of a door, served side by side.
-ghost use Rattle.std.specs.Prelude.{◌≡◌, IfOk, true};
+ghost use Rattle.std.specs.Prelude.{◌≡◌, IfOk, IsErrOf, true};
 ghost use Rattle.std.specs.List.{AllZip};
 ghost use Rattle.unl_workers.specs.Beside.{Accepted, HasCauses};
 ghost use Rattle.unl_workers.specs.Serving.{Attends};
@@ -66,6 +66,8 @@ where
     ensures posts { IfOk result (λ done. AllZip (Attends S.serves S.keeps R.coming) posts.items done.posts.items) }
     ensures turns { IfOk result (λ done. MakesTurns N.turned N.keeps done.turns turn.old turn.new (T.turns pace.old) (T.turns pace.new)) }
     ensures causes { HasCauses result (D.faults door.old) (D.faults door.new) (P.faults spawner.old) (P.faults spawner.new) }
+    ensures untouched { IsErrOf result BesideFault.Memory
+        → (D.faults door.new ≡ D.faults door.old) × (P.faults spawner.new ≡ P.faults spawner.old) }
 {
     let Ok(queue) = LinkQueue::new(alloc) else {
         return Err(BesideFault::Memory);

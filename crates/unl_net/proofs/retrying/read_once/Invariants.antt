@@ -1,0 +1,6 @@
+use Rattle.std.specs.Io.KnownBytes.{Keeps}
+use Rattle.unl_net.proofs.retrying.read_once.Given as goal
+
+-- the calls so far failed, and the known bytes stayed
+abbrev pub invariant-tries : goal.invariant-tries
+invariant-tries g l = Keeps (g.R.Read.remaining l.initial.reader) (g.R.Read.remaining l.reader)
