@@ -8,6 +8,7 @@ use Rattle.unl_documents.specs.declared.operator.Operator.TheVariants.{In, NotIn
 use Rattle.unl_documents.specs.declared.operator.Operator.TheVariants.{NumGte, NumLt, NumLte, DateAfter, DateBefore, SemverEq, SemverGt}
 use Rattle.unl_documents.specs.declared.operator.Operator.TheVariants.{SemverLt, Unknown}
 use Rattle.unl_documents.specs.Parameters.{AreRising}
+use Rattle.unl_context.specs.Known.{known_by}
 use Rattle.unl_constraints.specs.Decimal.{number_of, IsRead}
 use Rattle.unl_constraints.specs.Instant.{instant_of}
 use Rattle.unl_constraints.specs.Texts.{compared, is_among}
@@ -71,3 +72,4 @@ pub record IsRight (c : Constraint) (right : Right) : Type 0 where
   pub rising : AreRising right.values
   pub same : (test : List ℕ → Bool) → list_any test right.values ≡ list_any test (compared_values c)
   pub single : IsSingle (kind_of c.operator) c.value right.single
+  pub known : right.known ≡ known_by c.field

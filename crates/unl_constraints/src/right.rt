@@ -4,6 +4,7 @@ ghost use Rattle.std.specs.List.{list_any};
 ghost use Rattle.semver.specs.Identifiers.{parts_of};
 ghost use Rattle.unl_documents.specs.Parameters.{AreRising};
 ghost use Rattle.unl_documents.specs.declared.constraint.Constraint.{Constraint};
+ghost use Rattle.unl_context.specs.Known.{known_by};
 ghost use Rattle.unl_constraints.specs.Decimal.{number_of, IsRead};
 ghost use Rattle.unl_constraints.specs.Instant.{instant_of};
 ghost use Rattle.unl_constraints.specs.Right.{kind_of as kind_by, is_folded as is_folded_by, compared_values, IsSingle, IsRight};
@@ -17,6 +18,7 @@ use crate::texts::{Place, compared, is_among, is_given, some_given_stands, some_
 use crate::version::read_version;
 use semver::Version;
 use std::alloc::Global;
+use unl_context::Known;
 use unl_documents::{Constraint, List, Memory, Operator, Text};
 
 /// What an operator compares.
@@ -41,6 +43,8 @@ pub(crate) struct Right {
     pub values: List<Text>,
     /// The value.
     pub single: Single,
+    /// Which of a context's own fields the constraint's field is, if it is one.
+    pub known: Option<Known>,
 }
 
 /// The value of a constraint, as its operator reads it.
@@ -79,6 +83,11 @@ pub(crate) trait RightSide {
         requires kind { kind_by constraint.now.operator ≡ kind.Part }
         ensures { IfOk result (λ r. r ≡ some_there place constraint.now.caseless text.now constraint.now.values) };
 
+    /// Which of a context's own fields the constraint's field is, if it is one.
+    fn known(&self, constraint: &Constraint) -> Option<Known>
+        requires { is_of constraint.now self.now }
+        ensures { result ≡ known_by constraint.now.field };
+
     /// The constraint's value, as its operator reads it.
     fn single(&self, constraint: &Constraint) -> &Single
         requires { is_of constraint.now self.now }
@@ -102,6 +111,10 @@ impl RightSide for Right {
     ) -> Result<bool, Memory> {
         let values = self.values.as_slice();
         some_stands(alloc, place, constraint.caseless, text, values)
+    }
+
+    fn known(&self, _constraint: &Constraint) -> Option<Known> {
+        self.known
     }
 
     fn single(&self, _constraint: &Constraint) -> &Single {
@@ -128,6 +141,10 @@ impl RightSide for Single {
         some_given_stands(alloc, place, constraint.caseless, text, values)
     }
 
+    fn known(&self, constraint: &Constraint) -> Option<Known> {
+        Known::by(constraint.field.as_str())
+    }
+
     fn single(&self, _constraint: &Constraint) -> &Single {
         self
     }
@@ -141,6 +158,7 @@ impl Right {
         Ok(Right {
             values: values_of(alloc, constraint)?,
             single: Single::of(alloc, constraint)?,
+            known: Known::by(constraint.field.as_str()),
         })
     }
 }
