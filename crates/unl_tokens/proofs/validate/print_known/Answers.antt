@@ -6,7 +6,7 @@ use Rattle.unl_tokens.proofs.validate.print_known.Goals as goal
 
 pub loop-text-init : goal.loop-text-init
 unfolding known
-loop-text-init c = record { before = refl; rest = refl; marks = rw c.in_ok-answered.ensures (nothing_marked c.args.tokens.now) }
+loop-text-init c = record { before = refl; rest = refl; marks = rw (c.in_ok-answered.ensures, c.tokens.ensures) (nothing_marked c.args.tokens.now) }
 
 pub loop-text-preserved : goal.loop-text-preserved
 loop-text-preserved c =
