@@ -1,5 +1,5 @@
 -- Events that leave each feature at its place and in its project leave the places of each project.
-use Rattle.std.proofs.Common.{◌≡◌, ◌&&◌, ℕ, zero, suc, ◌+◌, Bool, true, false, not, cond, List, [], ◌∷◌, map, Option, Some, None, inl, inr, refl, sym, ap, subst, ◌∙◌}
+use Rattle.std.proofs.Common.{◌≡◌, ℕ, zero, suc, ◌+◌, Bool, true, false, not, cond, List, [], ◌∷◌, map, Option, Some, None, inl, inr, refl, sym, ap, subst, ◌∙◌}
 use Rattle.std.specs.Prelude.{option_and_then, option_map, slice_get, slice_set}
 use Rattle.std.specs.List.{AllByRecursion as Every, list_all, prefix_len}
 use Rattle.std.specs.Option.{option_map_or}
@@ -110,7 +110,7 @@ put_alike f fs rising within = decided (slice_get fs place) refl
           | inr other ↦ let none : false ≡ true = rw (at, other) at known in absurd cc
         ]
 
-none_named : (name : List ℕ) (fs : List Feature) → option_map_or (λ p. false) (project_of name fs) true ≡ true → Every (λ f. bytes_eq f.name name ≡ false) fs
+pub none_named : (name : List ℕ) (fs : List Feature) → option_map_or (λ p. false) (project_of name fs) true ≡ true → Every (λ f. bytes_eq f.name name ≡ false) fs
 none_named name [] none = tt
 none_named name (f ∷ fs) none =
     elim (cases_Bool (bytes_eq f.name name)) [

@@ -1,13 +1,20 @@
 -- Features in runs, one run more at a time.
-use Rattle.std.proofs.Common.{◌≡◌, ◌<◌, ◌+◌, ℕ, zero, suc, List, [], ◌∷◌, ◌++◌, length, drop, get_or, Option, Some, None, inl, inr, refl, sym, ap, ◌∙◌, append_assoc, arith}
+use Rattle.std.proofs.Common.{◌≡◌, ◌<◌, ◌≤◌, ◌+◌, ℕ, zero, suc, Bool, true, false, List, [], ◌∷◌, ◌++◌, length, map, take, drop, get_or, Less, Option, Some, None, is_lt, inl, inr, refl, sym, ap, subst, ◌∙◌, append_assoc, arith}
 use Rattle.std.specs.Prelude.{All, IsSome, option_map, slice_get}
+use Rattle.std.specs.List.{AllByRecursion as Every, prefix_len}
 use Rattle.std.specs.Str.{bytes_eq}
 use Rattle.std.proofs.lemmas.Bool.{cases_Bool}
-use Rattle.std.proofs.lemmas.List.{drop_more}
-use Rattle.std.proofs.lemmas.List.Elements.{All-cons, All-head, All-nil, All-tail}
+use Rattle.std.proofs.lemmas.List.{append-nil, drop_more}
+use Rattle.std.proofs.lemmas.List.Elements.{All-cons, All-head, All-nil, All-tail, recursion_from_All}
 use Rattle.unl_compiled.specs.Places.{places_from}
+use Rattle.unl_constraints.proofs.Searching.{is_below}
+use Rattle.unl_delta.specs.Keyed.{ends_before}
+use Rattle.unl_delta.proofs.Every.{every_weaker}
+use Rattle.unl_delta.proofs.Order.{cmp, less_back, rises_from_rising}
+use Rattle.unl_delta.proofs.Runs.{Around, Held, around}
 use Rattle.unl_documents.specs.declared.feature.Feature.{Feature}
-use Rattle.unl_documents.specs.Series.{joined}
+use Rattle.unl_documents.specs.Parameters.{AreRising}
+use Rattle.unl_documents.specs.Series.{joined, NoneIsEmpty}
 
 -- the items of the runs from a place on: those of the run there, and those behind it
 pub run_at : {T : Type 0} (runs : List (List T)) (i : ℕ) (run : List T) → i < length runs → run ≡ get_or runs i run → joined (drop i runs) ≡ run ++ joined (drop (i + 1) runs)
@@ -46,7 +53,7 @@ stands seen (Some x) xs place is lt = refl
 
 -- ---- the places of the features of a project
 
-places_join : (p : List ℕ) (place : ℕ) (fs gs : List Feature) → places_from place p (fs ++ gs) ≡ places_from place p fs ++ places_from (place + length fs) p gs
+pub places_join : (p : List ℕ) (place : ℕ) (fs gs : List Feature) → places_from place p (fs ++ gs) ≡ places_from place p fs ++ places_from (place + length fs) p gs
 places_join p place [] gs = ap (λ (n : ℕ). places_from n p gs) (omega arith)
 places_join p place (f ∷ fs) gs =
     let rest : places_from (place + 1) p (fs ++ gs) ≡ places_from (place + 1) p fs ++ places_from (place + suc (length fs)) p gs =
@@ -65,3 +72,52 @@ places_more p runs i run front new whole place next lt is goes behind so_far =
     ap (λ (ns : List ℕ). ns ++ places_from next p rest) goes ∙ append_assoc front (places_from place p run) (places_from next p rest)
     ∙ ap (λ (n : ℕ). front ++ (places_from place p run ++ places_from n p rest)) behind
     ∙ sym (ap (λ (ns : List ℕ). front ++ ns) (ap (places_from place p) (run_at runs i run lt is) ∙ places_join p place run rest)) ∙ so_far
+
+-- ---- where a key stands, or else belongs
+
+passing : {T : Type 0} (test : T → Bool) (xs ys : List T) → Every (λ x. test x ≡ true) xs → prefix_len test (xs ++ ys) ≡ length xs + prefix_len test ys
+passing test [] ys h = omega arith
+passing test (x ∷ xs) ys h =
+    let first : test x ≡ true = h.0 in
+    let rest : prefix_len test (xs ++ ys) ≡ length xs + prefix_len test ys = passing test xs ys h.1 in
+    rw first (omega (arith, rest))
+
+failing : {T : Type 0} (test : T → Bool) (xs ys : List T) → Every (λ y. test y ≡ false) ys → prefix_len test (xs ++ ys) ≡ prefix_len test xs
+failing test [] [] h = refl
+failing test [] (y ∷ ys) h = let first : test y ≡ false = h.0 in rw first refl
+failing test (x ∷ xs) ys h =
+    elim (cases_Bool (test x)) [
+      | inl is ↦ rw is (ap (λ (n : ℕ). 1 + n) (failing test xs ys h))
+      | inr not ↦ rw not refl
+    ]
+
+-- the place in its run, behind all runs before that
+pub place_in_run : {T : Type 0} (key : T → List ℕ) (k : List ℕ) (runs : List (List T)) (place : ℕ) (run : List T) → Held key k runs place run
+    → prefix_len (is_below key k) (joined runs) ≡ length (joined (take place runs)) + prefix_len (is_below key k) run
+place_in_run {T} key k runs place run h =
+    let low : Every (λ (y : T). is_below key k y ≡ true) (joined (take place runs)) =
+    every_weaker (λ (y : T). cmp (key y) k ≡ Less) (λ (y : T). is_below key k y ≡ true) (joined (take place runs)) (λ y less. ap is_lt less) h.low in
+    let high : Every (λ (y : T). is_below key k y ≡ false) (joined (drop (place + 1) runs)) =
+    every_weaker (λ (y : T). cmp k (key y) ≡ Less) (λ (y : T). is_below key k y ≡ false) (joined (drop (place + 1) runs)) (λ y less. ap is_lt (less_back k (key y) less)) h.high in
+    ap (prefix_len (is_below key k)) h.parts
+    ∙ passing (is_below key k) (joined (take place runs)) (run ++ joined (drop (place + 1) runs)) low
+    ∙ ap (λ (n : ℕ). length (joined (take place runs)) + n) (failing (is_below key k) run (joined (drop (place + 1) runs)) high)
+
+all_taken : {T : Type 0} (xs : List T) (place : ℕ) → None ≡ slice_get xs place → take place xs ≡ xs
+all_taken [] zero none = refl
+all_taken [] (suc place) none = refl
+all_taken (x ∷ xs) zero none = absurd cc
+all_taken {T} (x ∷ xs) (suc place) none = ap (λ (ys : List T). x ∷ ys) (all_taken xs place none)
+
+-- the place behind all runs
+pub place_at_end : {T : Type 0} (key : T → List ℕ) (k : List ℕ) (runs : List (List T)) (place : ℕ) → NoneIsEmpty runs → AreRising (map key (joined runs))
+    → place ≡ prefix_len (ends_before key k) runs → None ≡ slice_get runs place → prefix_len (is_below key k) (joined runs) ≡ length (joined (take place runs))
+place_at_end {T} key k runs place full rising is none =
+    let a : Around key k runs place = around key k runs place (recursion_from_All (λ (run : List T). 1 ≤ length run) runs full) (rises_from_rising key (joined runs) rising) is in
+    let all : take place runs ≡ runs = all_taken runs place none in
+    let low : Every (λ (y : T). is_below key k y ≡ true) (joined runs) =
+    every_weaker (λ (y : T). cmp (key y) k ≡ Less) (λ (y : T). is_below key k y ≡ true) (joined runs) (λ y less. ap is_lt less)
+    (subst (λ (rs : List (List T)). Every (λ (y : T). cmp (key y) k ≡ Less) (joined rs)) all a.low) in
+    let count : prefix_len (is_below key k) (joined runs ++ []) ≡ length (joined runs) + 0 = passing (is_below key k) (joined runs) [] low in
+    let counted : length (joined runs) + 0 ≡ length (joined runs) = omega arith in
+    ap (prefix_len (is_below key k)) (sym (append-nil (joined runs))) ∙ count ∙ counted ∙ ap (λ (rs : List (List T)). length (joined rs)) (sym all)

@@ -4,5 +4,6 @@ pub mod Finding
 mod InRuns
 mod Following
 mod Alike
+mod Shifts
 pub mod Projects
 pub mod Tokens

@@ -1,3 +1,4 @@
 pub mod Toggles
 pub mod Places
 pub mod Next
+pub mod Moving

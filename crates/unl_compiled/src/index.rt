@@ -7,19 +7,19 @@ ghost use Rattle.unl_documents.specs.Series.{joined};
 
 use crate::feature::CompiledFeature;
 use std::alloc::Global;
-use unl_documents::{Copied, List, Memory, Shared, Text};
+use unl_documents::{Copied, List, Memory, Run, Shared, Text};
 
 /// A project, and the places of its features, rising.
 #[derive(Drop)]
 pub(crate) struct ProjectPlaces {
-    pub project: Text,
+    pub project: Shared<Text>,
     pub places: List<usize>,
 }
 
 /// The places of the features of each project that has some, where the features stand in runs.
 pub(crate) fn index_of(
     alloc: Global,
-    runs: &[Shared<List<Shared<CompiledFeature>>>],
+    runs: &[Run<CompiledFeature>],
 ) -> Result<List<ProjectPlaces>, Memory>
     ensures { IfOk result (IsIndex (joined runs.now)) }
 {
@@ -75,7 +75,7 @@ fn add(
 }
 
 /// Adds a project with one place.
-fn add_project(
+pub(crate) fn add_project(
     index: &mut List<ProjectPlaces>,
     alloc: Global,
     project: &Text,
@@ -85,17 +85,17 @@ fn add_project(
 {
     let mut places = List::new(alloc);
     places.push(place)?;
-    let project = project.copy(alloc)?;
+    let project = Shared::new(alloc, project.copy(alloc)?)?;
     index.push(ProjectPlaces { project, places })
 }
 
 /// Where the project stands, or how many projects there are where it doesn't.
-fn slot_of(index: &[ProjectPlaces], project: &str) -> usize
+pub(crate) fn slot_of(index: &[ProjectPlaces], project: &str) -> usize
     ensures slot { result ≡ prefix_len (λ e. not (bytes_eq e.project project.now)) index.now }
     ensures inside { result ≤ length index.now }
 {
     for slot in 0..index.len() {
-        if index[slot].project.as_str() == project {
+        if index[slot].project.get().as_str() == project {
             return slot;
         }
     }
@@ -107,7 +107,7 @@ pub(crate) fn places_of<'a>(index: &'a [ProjectPlaces], project: &str) -> &'a [u
     ensures { result.now ≡ listed project.now index.now }
 {
     for entry in index {
-        if entry.project.as_str() == project {
+        if entry.project.get().as_str() == project {
             return entry.places.as_slice();
         }
     }

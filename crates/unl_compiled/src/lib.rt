@@ -3,6 +3,7 @@
 
 mod feature;
 mod index;
+mod moving;
 mod parts;
 mod seen;
 mod segment;

@@ -14,7 +14,7 @@ use std::marker::Model;
 use unl_constraints::Compiled;
 use unl_delta::Event;
 use unl_delta::keyed::{put_in_place, put_in_series, without_in_place, without_in_series};
-use unl_documents::{Copied, Feature, List, Memory, Segment, Series, Shared, State};
+use unl_documents::{Copied, Feature, List, Memory, Run, Segment, Series, Shared, State};
 
 /// The features by their names and the segments by their ids. Contracts see the state that they
 /// were compiled from.
@@ -55,7 +55,7 @@ impl Parts {
     }
 
     /// The features, in runs.
-    pub(crate) fn runs(&self) -> &[Shared<List<Shared<CompiledFeature>>>]
+    pub(crate) fn runs(&self) -> &[Run<CompiledFeature>]
         ensures features { joined result.now ≡ self.now.features }
         ensures full { NoneIsEmpty result.now }
     {
@@ -106,10 +106,7 @@ fn compiled_features(
     Ok(Series::of_runs(compiled_runs(alloc, features.runs())?))
 }
 
-fn compiled_runs(
-    alloc: Global,
-    runs: &[Shared<List<Shared<Feature>>>],
-) -> Result<List<Shared<List<Shared<CompiledFeature>>>>, Memory>
+fn compiled_runs(alloc: Global, runs: &[Run<Feature>]) -> Result<List<Run<CompiledFeature>>, Memory>
     requires { NoneIsEmpty runs.now }
     ensures same { IfOk result (λ all. all ≡ runs.now) }
     ensures full { IfOk result NoneIsEmpty }

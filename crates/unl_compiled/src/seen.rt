@@ -1,5 +1,5 @@
 //! What is seen of a version.
-ghost use Rattle.std.specs.Prelude.{◌≡◌, map, option_and_then, option_map, slice_get};
+ghost use Rattle.std.specs.Prelude.{◌≡◌, ◌+◌, ◌≤◌, IfOk, length, map, option_and_then, option_map, slice_get, take};
 ghost use Rattle.std.specs.Cmp.Lexicographic.{slice_cmp};
 ghost use Rattle.std.specs.List.{prefix_len};
 ghost use Rattle.std.specs.Ordering.{nat_cmp, is_lt};
@@ -19,7 +19,7 @@ use std::alloc::Global;
 use std::marker::Model;
 use unl_context::Context;
 use unl_dependencies::Features;
-use unl_documents::{Feature, List, Memory, Shared};
+use unl_documents::{Feature, List, Memory, Run, Shared};
 use unl_strategies::Moment;
 use unl_tokens::Projects;
 
@@ -139,12 +139,59 @@ pub(crate) fn feature_named<'a>(parts: &'a Parts, name: &str) -> Option<&'a Comp
     feature_among(parts.runs(), name)
 }
 
+/// Where the feature of a name stands, or else belongs, among features whose names rise. More than
+/// memory holds before it count as want of it.
+pub(crate) fn place_named(parts: &Parts, name: &str) -> Result<usize, Memory>
+    requires { AreRising (map name_key parts.now.features) }
+    ensures { IfOk result (λ place. place
+        ≡ prefix_len (λ f. is_lt (slice_cmp nat_cmp (name_key f) name.now)) parts.now.features) }
+{
+    place_among(parts.runs(), name)
+}
+
+/// Where it does among features in runs.
+fn place_among(runs: &[Run<CompiledFeature>], name: &str) -> Result<usize, Memory>
+    requires rising { AreRising (map name_key (joined runs.now)) }
+    requires full { NoneIsEmpty runs.now }
+    ensures { IfOk result (λ place. place
+        ≡ prefix_len (λ f. is_lt (slice_cmp nat_cmp (name_key f) name.now)) (joined runs.now)) }
+{
+    let place = run_of(runs, name);
+    let before = count_of(first(runs, place))?;
+    match run_at(runs, place) {
+        None => Ok(before),
+        Some(run) => sum_of(before, place_of(run.as_slice(), name)),
+    }
+}
+
+/// The runs before a place.
+fn first(runs: &[Run<CompiledFeature>], place: usize) -> &[Run<CompiledFeature>]
+    requires { place ≤ length runs.now }
+    ensures { result.now ≡ take place runs.now }
+{
+    &runs[..place]
+}
+
+/// How many features the runs have together.
+fn count_of(runs: &[Run<CompiledFeature>]) -> Result<usize, Memory>
+    ensures { IfOk result (λ count. count ≡ length (joined runs.now)) }
+{
+    let mut count = 0;
+    for run in runs {
+        count = sum_of(count, run.get().len())?;
+    }
+    Ok(count)
+}
+
+fn sum_of(count: usize, more: usize) -> Result<usize, Memory>
+    ensures { IfOk result (λ sum. sum ≡ count + more) }
+{
+    count.checked_add(more).ok_or(Memory)
+}
+
 /// The feature of a name, among features in runs whose names rise: it is in the first run that
 /// doesn't end before the name, or in none.
-fn feature_among<'a>(
-    runs: &'a [Shared<List<Shared<CompiledFeature>>>],
-    name: &str,
-) -> Option<&'a CompiledFeature>
+fn feature_among<'a>(runs: &'a [Run<CompiledFeature>], name: &str) -> Option<&'a CompiledFeature>
     requires rising { AreRising (map name_key (joined runs.now)) }
     requires full { NoneIsEmpty runs.now }
     ensures { option_map (λ f. f.now) result ≡ feature_with name.now (joined runs.now) }
@@ -156,17 +203,14 @@ fn feature_among<'a>(
 }
 
 /// The run at a place.
-fn run_at(
-    runs: &[Shared<List<Shared<CompiledFeature>>>],
-    place: usize,
-) -> Option<&List<Shared<CompiledFeature>>>
+fn run_at(runs: &[Run<CompiledFeature>], place: usize) -> Option<&List<Shared<CompiledFeature>>>
     ensures { option_map (λ run. run.now) result ≡ slice_get runs.now place }
 {
     Some(runs.get(place)?.get())
 }
 
 /// Which run the name stands in, or else belongs in, among runs of features.
-fn run_of(runs: &[Shared<List<Shared<CompiledFeature>>>], name: &str) -> usize
+fn run_of(runs: &[Run<CompiledFeature>], name: &str) -> usize
     requires rising { AreRising (map name_key (joined runs.now)) }
     requires full { NoneIsEmpty runs.now }
     ensures { result ≡ prefix_len (ends_before name_key name.now) runs.now }

@@ -11,10 +11,10 @@ ghost use Rattle.unl_dependencies.specs.Evaluation.{evaluation_of, feature_named
 ghost use Rattle.unl_documents.specs.Valid.{IsValidFeature};
 ghost use Rattle.unl_tokens.specs.Names.{sees};
 
-use crate::index::{ProjectPlaces, index_of, places_of};
+use crate::index::{ProjectPlaces, places_of};
 use crate::parts::Parts;
 use crate::seen::{Seen, document_of, seen_named};
-use crate::staying::places_after;
+use crate::staying::{all_places, places_after};
 use crate::toggles::toggles_of;
 use crate::toggles_text::toggles_text;
 use serde_json::Value;
@@ -58,7 +58,7 @@ impl Snapshot {
         ensures { IfOk result (λ s. s ≡ version) }
     {
         let parts = Parts::of(alloc, &version.state)?;
-        let projects = Shared::new(alloc, index_of(alloc, parts.runs())?)?;
+        let projects = all_places(alloc, &parts)?;
         Snapshot::of_parts(alloc, version, parts, projects)
     }
 

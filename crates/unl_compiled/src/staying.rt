@@ -1,17 +1,18 @@
 //! Where the features of each project stand after events, and whether these leave them where they stand.
-ghost use Rattle.std.specs.Prelude.{◌≡◌, false, true, IfOk, map, option_map};
+ghost use Rattle.std.specs.Prelude.{◌≡◌, [], ◌∷◌, false, true, IfOk, map, option_map};
 ghost use Rattle.std.specs.List.{list_all};
 ghost use Rattle.std.specs.Option.{option_map_or};
-ghost use Rattle.std.specs.Str.{bytes_eq};
 ghost use Rattle.unl_compiled.specs.Next.{keeps_place, state_after};
 ghost use Rattle.unl_compiled.specs.Places.{IsIndex};
+ghost use Rattle.unl_delta.specs.Keyed.{put, without};
 ghost use Rattle.unl_delta.specs.State as told;
 ghost use Rattle.unl_documents.specs.Parameters.{AreRising};
 ghost use Rattle.unl_documents.specs.States.{name_key};
 
 use crate::index::{ProjectPlaces, index_of};
+use crate::moving::{Change, changed, is_project};
 use crate::parts::Parts;
-use crate::seen::{document_of, feature_named};
+use crate::seen::{document_of, feature_named, place_named};
 use std::alloc::Global;
 use unl_delta::Event;
 use unl_documents::{Feature, List, Memory, Shared, Text};
@@ -34,7 +35,87 @@ pub(crate) fn places_after(
     if keeps_places(before, events) {
         return projects.copy();
     }
-    Shared::new(alloc, index_of(alloc, after.runs())?)
+    match events {
+        [event] => places_after_one(alloc, number, event, before, projects.get(), after),
+        _ => all_places(alloc, after),
+    }
+}
+
+/// Where the features of each project stand, as the features tell.
+pub(crate) fn all_places(
+    alloc: Global,
+    parts: &Parts,
+) -> Result<Shared<List<ProjectPlaces>>, Memory>
+    ensures { IfOk result (IsIndex parts.now.features) }
+{
+    Shared::new(alloc, index_of(alloc, parts.runs())?)
+}
+
+/// What `places_after` gives of one event, which moves the places behind the one feature that it
+/// names, where it names one.
+fn places_after_one(
+    alloc: Global,
+    number: u64,
+    event: &Event,
+    before: &Parts,
+    projects: &List<ProjectPlaces>,
+    after: &Parts,
+) -> Result<Shared<List<ProjectPlaces>>, Memory>
+    requires order { told.IsInOrder before.now }
+    requires projects { IsIndex before.now.features projects.now }
+    requires after { after.now ≡ state_after number (event.now ∷ []) before.now }
+    ensures { IfOk result (IsIndex after.now.features) }
+{
+    if event.number() <= number {
+        return all_places(alloc, after);
+    }
+    match event {
+        Event::Hydration { .. } => all_places(alloc, after),
+        Event::FeatureUpdated { feature, .. } => {
+            places_with(alloc, feature.get(), before, projects)
+        }
+        Event::FeatureRemoved { name, .. } => places_without(alloc, name, before, projects),
+        Event::SegmentUpdated { .. } => all_places(alloc, after),
+        Event::SegmentRemoved { .. } => all_places(alloc, after),
+    }
+}
+
+/// Where the features of each project stand when this one is put among them.
+fn places_with(
+    alloc: Global,
+    feature: &Feature,
+    parts: &Parts,
+    projects: &List<ProjectPlaces>,
+) -> Result<Shared<List<ProjectPlaces>>, Memory>
+    requires order { AreRising (map name_key parts.now.features) }
+    requires projects { IsIndex parts.now.features projects.now }
+    ensures { IfOk result (IsIndex (put name_key feature.now parts.now.features)) }
+{
+    let change = Change {
+        place: place_named(parts, feature.name.as_str())?,
+        gone: project_of(parts, &feature.name),
+        come: Some(&feature.project),
+    };
+    Shared::new(alloc, changed(alloc, projects.as_slice(), &change)?)
+}
+
+/// Where the features of each project stand without the one of a name.
+fn places_without(
+    alloc: Global,
+    name: &Text,
+    parts: &Parts,
+    projects: &List<ProjectPlaces>,
+) -> Result<Shared<List<ProjectPlaces>>, Memory>
+    requires order { AreRising (map name_key parts.now.features) }
+    requires projects { IsIndex parts.now.features projects.now }
+    ensures { IfOk result (IsIndex (without name_key name.now parts.now.features)) }
+{
+    let change = Change {
+        place: place_named(parts, name.as_str())?,
+        gone: project_of(parts, name),
+        come: None,
+    };
+    Shared::new(alloc, changed(alloc, projects.as_slice(), &change)?)
 }
 
 /// Whether each of the events leaves each feature at its place and in its project.
@@ -82,16 +163,6 @@ fn project_in(found: Option<&Feature>) -> Option<&Text>
     match found {
         None => None,
         Some(feature) => Some(&feature.project),
-    }
-}
-
-/// Whether a project was found, and is this one.
-fn is_project(found: Option<&Text>, project: &Text) -> bool
-    ensures { result ≡ option_map_or (λ p. bytes_eq p project.now) (option_map (λ t. t.now) found.entry) false }
-{
-    match found {
-        None => false,
-        Some(other) => other.as_str() == project.as_str(),
     }
 }
 

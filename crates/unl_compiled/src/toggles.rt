@@ -17,7 +17,7 @@ use std::alloc::Global;
 use unl_context::Context;
 use unl_dependencies::{Evaluation, VariantAnswer, evaluate_feature};
 use unl_documents::written::{put, put_some, put_value};
-use unl_documents::{Feature, Field, List, Memory, Shared};
+use unl_documents::{Feature, Field, List, Memory, Run, Shared};
 use unl_strategies::Moment;
 use unl_tokens::Projects;
 
@@ -73,7 +73,7 @@ fn write_toggles(alloc: Global, toggles: Vec<Value>) -> Result<Value, Memory>
 fn each_toggle(
     alloc: Global,
     seen: &Seen,
-    runs: &[Shared<List<Shared<CompiledFeature>>>],
+    runs: &[Run<CompiledFeature>],
     projects: &Projects,
     all: bool,
     context: &Context,

@@ -20,7 +20,7 @@ use std::alloc::Global;
 use unl_context::Context;
 use unl_dependencies::{Evaluation, VariantAnswer, evaluate_feature};
 use unl_documents::printed::{print_at, print_key, print_some};
-use unl_documents::{Feature, Field, List, Memory, Shared};
+use unl_documents::{Feature, Field, List, Memory, Run, Shared};
 use unl_strategies::Moment;
 use unl_tokens::Projects;
 
@@ -108,7 +108,7 @@ fn write_each(
     out: &mut Writer,
     alloc: Global,
     seen: &Seen,
-    runs: &[Shared<List<Shared<CompiledFeature>>>],
+    runs: &[Run<CompiledFeature>],
     projects: &Projects,
     all: bool,
     context: &Context,

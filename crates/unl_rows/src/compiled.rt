@@ -107,6 +107,41 @@ fn places_are_lent(rt: HostRuntime) {
     }
 }
 
+/// A change of one feature, and where the features of the projects A, B, C and D stand then.
+const ONE: [(&str, [&[usize]; 4]); 3] = [
+    (
+        r#"{"after":1,"events":[{"type":"feature-updated","eventId":2,"feature":{"name":"a","project":"D","enabled":true}}]}"#,
+        [&[3, 4], &[1], &[2], &[0]],
+    ),
+    (
+        r#"{"after":1,"events":[{"type":"feature-updated","eventId":2,"feature":{"name":"named","project":"C","enabled":true}}]}"#,
+        [&[3], &[0], &[1, 2], &[]],
+    ),
+    (
+        r#"{"after":1,"events":[{"type":"feature-removed","eventId":2,"featureName":"gone","project":"C"}]}"#,
+        [&[1, 2], &[0], &[], &[]],
+    ),
+];
+
+/// Whether the features of the four projects stand so.
+fn stand_so(snapshot: &Snapshot, places: [&[usize]; 4]) -> bool {
+    let [a, b, c, d] = places;
+    snapshot.of_project("A") == a
+        && snapshot.of_project("B") == b
+        && snapshot.of_project("C") == c
+        && snapshot.of_project("D") == d
+}
+
+#[test]
+fn places_move_with_one_feature(rt: HostRuntime) {
+    let alloc = rt.alloc();
+    let old = first(alloc, ALL).expect(&rt, "it applies");
+    for (change, places) in ONE {
+        let new = after(alloc, &old, change).expect(&rt, "it applies");
+        assert!(rt; stand_so(&new, places), "{change}");
+    }
+}
+
 /// Whether the toggles as they are written are the text of those as they are a value.
 fn is_text_of_value(alloc: Global, snapshot: &Snapshot, all: bool) -> Option<bool> {
     let context = Context::read_query(alloc, b"").ok()?;
