@@ -16,9 +16,7 @@ ghost use Rattle.unl_tokens.specs.Requests.{asked_in};
 use crate::board::Board;
 use crate::client::knows_no_segments;
 use crate::desk::Answer;
-use crate::reply::{
-    bare, made, one_text, refuse, refuse_method, refuse_unseen, tagged_text, unchanged, with_text,
-};
+use crate::reply::{bare, refuse, refuse_method, refuse_unseen, tagged_text, unchanged, with_text};
 use crate::shown::{Ready, ready_by, shown_by};
 use crate::tag::{inlined_tag_of, since_of, tag_of};
 use http::StatusCode;
@@ -147,11 +145,12 @@ fn reported_by(
     }
 }
 
+/// That it stands. Who asks for it asks often, so no value is made for its text.
 fn healthy(alloc: Global) -> Result<Reply, Memory>
     ensures { IfOk result (λ r. r ≡ reply 200 (one_text (codes "status") (codes "OK"))) }
 {
-    let body = one_text(alloc, "status", "OK")?;
-    made(alloc, StatusCode::OK, &body)
+    let text = List::from_slice(alloc, br#"{"status":"OK"}"#)?;
+    Ok(with_text(StatusCode::OK, text))
 }
 
 /// Which of the tokens asked for are known.

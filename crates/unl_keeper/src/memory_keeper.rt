@@ -61,6 +61,7 @@ impl Calls {
         requires { fails ≡ is_some (named self.old.failing self.old.calls) }
         ensures counted { self.new ≡ after_call self.old }
         ensures rose { fails ≡ true → HasRisen self.old.faults self.new.faults }
+        ensures well { fails ≡ false → self.new.faults ≡ self.old.faults }
     {
         self.calls = self.calls.saturating_add(1);
         if fails {

@@ -22,7 +22,7 @@ prints_cause {D = D} fault k cause comes desk old new is refuses =
     of_cause Bad refuses = (cause, refl, refuses)
     of_cause ReadFault refuses = refuses
     of_cause WriteFault refuses = refuses
-    of_cause Memory refuses = tt
+    of_cause Memory refuses = refuses
 
 -- ---- a line with its end
 

@@ -1,6 +1,6 @@
 -- The lines of a whole input, from their turns.
-use Rattle.std.proofs.Common.{◌≡◌, ℕ, ◌+◌, ◌<◌, ◌≤◌, List, [], ◌∷◌, ◌++◌, length, false, cond, ltb, Ok, Err, Option, Some, None, IfSome, sym, ap, subst, ◌∙◌, append_assoc, append-nil, arith}
-use Rattle.std.specs.Prelude.{codes}
+use Rattle.std.proofs.Common.{◌≡◌, ℕ, ◌+◌, ◌<◌, ◌≤◌, List, [], ◌∷◌, ◌++◌, length, false, cond, ltb, Result, Ok, Err, Option, Some, None, IfSome, refl, sym, ap, subst, ◌∙◌, append_assoc, append-nil, arith}
+use Rattle.std.specs.Prelude.{codes, IsErrOf}
 use Rattle.std.proofs.lemmas.Bool.{lt-ltb}
 use Rattle.std.proofs.lemmas.Bool.Decides.{nat_tests}
 use Rattle.unl_base.specs.Streams.{HasEnded, Sends, SendsFront}
@@ -80,7 +80,7 @@ errs taking WriteFault k before after out comes desk prints got heads = record {
       subst (BeginsWith (printed k comes)) (sym told.1) (prints_first k before.desk comes (λ next. take_from taking (k + 1) next told.0));
   sent = prints;
 }
-errs taking Memory k before after out comes desk prints got heads = tt
+errs taking Memory k before after out comes desk prints got heads = prints
 
 -- ---- how far the lines have come
 
@@ -252,6 +252,42 @@ ends_unread {D = D} taking first start sent k before after sofar now =
         sent = subst (λ t. Sends sent t after.sent) (sym (ap (λ r. r.text) is ∙ append-nil sofar.text)) (now.sent ∙ sofar.sends);
       };
     }
+
+-- what the bytes that were read leave of those to come
+rest_of : (x read : List ℕ) (left : Option (List ℕ)) → stream.Takes (Some x) read left → (rest : List ℕ) × (x ≡ read ++ rest)
+rest_of x read None took = absurd (cc took)
+rest_of x read (Some y) took = let parts : x ≡ read ++ y = let t = took in cc in (y, parts)
+
+-- where nothing was sent, that is a front of any text
+pub sent_none : (start sent : Option (List ℕ)) (text : List ℕ → List ℕ) → IfSome start (λ bytes. SendsFront sent (text bytes) sent)
+sent_none None sent text = tt
+sent_none (Some x) sent text = record { part = []; after = text x; split = refl; sends = sends_nothing sent }
+
+-- what was sent before a turn is a front of the text
+pub sent_before : {D : Type 0} (taking : Taking D) (first : D) (start sent after : Option (List ℕ)) (k : ℕ) (before : Scene D)
+    → Sofar taking first start sent k before → after ≡ before.sent
+    → IfSome start (λ bytes. SendsFront sent (whole_text (outcome_of taking first bytes)) after)
+sent_before taking first None sent after k before sofar same = tt
+sent_before {D = D} taking first (Some x) sent after k before sofar same =
+    let rest = rest_of x sofar.got.read before.left sofar.got.took in
+    let bytes : List ℕ = before.held ++ rest.0 in
+    let more : Outcome D = take_from taking k before.desk (lines bytes) in
+    let is : x ≡ sofar.taken ++ bytes = rest.1 ∙ ap (λ xs. xs ++ rest.0) sofar.got.split ∙ append_assoc sofar.taken before.held rest.0 in
+    record {
+      part = sofar.text;
+      after = whole_text more;
+      split = ap (λ xs. whole_text (outcome_of taking first xs)) is ∙ ap whole_text (sofar.leads bytes) ∙ append_assoc sofar.text more.text (ending_text more.ending);
+      sends = subst (λ (s : Option (List ℕ)). Sends sent sofar.text s) (sym same) sofar.sends;
+    }
+
+-- so it is where a turn wants memory
+pub sent_at_want : {D : Type 0} (taking : Taking D) (first : D) (fault : LinesFault) (start sent : Option (List ℕ)) (k : ℕ) (before after : Scene D)
+    → Sofar taking first start sent k before → Turns taking (Err fault) k before after
+    → (let r : Result (Unit {0}) LinesFault = Err fault in IsErrOf r Memory)
+    → IfSome start (λ bytes. SendsFront sent (whole_text (outcome_of taking first bytes)) after.sent)
+sent_at_want taking first fault start sent k before after sofar now is =
+    let wants : fault ≡ Memory = let h = is in cc in
+    sent_before taking first start sent after.sent k before sofar (subst (λ (f : LinesFault). Turns taking (Err f) k before after) wants now)
 
 -- how the lines end at a fault of a turn
 pub ends_at : {D : Type 0} (taking : Taking D) (first : D) (fault : LinesFault) (start sent : Option (List ℕ)) (k : ℕ) (before after : Scene D)

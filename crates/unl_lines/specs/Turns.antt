@@ -14,7 +14,7 @@ abbrev pub Refuses : LinesFault → ℕ → List ℕ → Option (List ℕ) → O
 Refuses Bad k cause old new = Sends old (refused_text k cause) new
 Refuses ReadFault k cause old new = ⊥
 Refuses WriteFault k cause old new = SendsFront old (refused_text k cause) new
-Refuses Memory k cause old new = ⊤
+Refuses Memory k cause old new = new ≡ old
 
 -- What comes of a line was printed: as far as the result says.
 abbrev pub Prints : {D : Type 0} → Result (Unit {0}) LinesFault → ℕ → LineResult D → D → Option (List ℕ) → Option (List ℕ) → Type 0
@@ -22,7 +22,7 @@ Prints (Ok u) k comes desk old new = (text : List ℕ) × (comes ≡ Ok (record 
 Prints (Err Bad) k comes desk old new = (cause : List ℕ) × (comes ≡ Err cause) × Sends old (refused_text k cause) new
 Prints (Err ReadFault) k comes desk old new = ⊥
 Prints (Err WriteFault) k comes desk old new = SendsFront old (printed k comes) new
-Prints (Err Memory) k comes desk old new = ⊤
+Prints (Err Memory) k comes desk old new = new ≡ old
 
 -- There is room for the next line; where none may follow, for some line up to that one.
 abbrev pub FitsAfter : {D : Type 0} → (ℕ → D → Type 0) → ℕ → Progress → D → Type 0
@@ -96,4 +96,4 @@ Turns taking (Ok Over) k before after = ComesToEnd taking k before after
 Turns taking (Err Bad) k before after = IsRefusedAt taking k before after
 Turns taking (Err ReadFault) k before after = StopsReading before after
 Turns taking (Err WriteFault) k before after = BreaksOff taking k before after
-Turns taking (Err Memory) k before after = ⊤
+Turns taking (Err Memory) k before after = after.sent ≡ before.sent

@@ -1,7 +1,8 @@
 //! The lines of an input, one after another.
 ghost use Rattle.std.specs.Prelude.{◌≡◌, ◌≢◌, ◌+◌, ◌≤◌, ℕ, IfOk, IfSome, OnOk, IsErrOf, string_bytes};
 ghost use Rattle.unl_base.specs.Faults.{Rose};
-ghost use Rattle.unl_lines.specs.Taken.{most_lines, outcome_of, refused_text};
+ghost use Rattle.unl_base.specs.Streams.{SendsFront};
+ghost use Rattle.unl_lines.specs.Taken.{most_lines, outcome_of, refused_text, whole_text};
 ghost use Rattle.unl_lines.specs.Turns.{FitsAfter, Prints, Refuses, Turns};
 ghost use Rattle.unl_lines.specs.Whole.{AnswersAll, TakesLines};
 
@@ -165,6 +166,10 @@ pub fn take_lines<A: LineTaking, S: Source, K: Sink>(
     ensures all { OnOk result (AnswersAll A.taken desk.old desk.new
         (S.left source.old) (S.left source.new) (K.sent sink.old) (K.sent sink.new)) }
     ensures leaves { OnOk result (IfSome (S.left source.old) (λ bytes. (outcome_of A.taken desk.old bytes).desk ≡ desk.new)) }
+
+    // At want of memory nothing was sent but a front of the text.
+    ensures memory { IsErrOf result LinesFault.Memory → IfSome (S.left source.old)
+        (λ bytes. SendsFront (K.sent sink.old) (whole_text (outcome_of A.taken desk.old bytes)) (K.sent sink.new)) }
 
     // There is room for a line more.
     ensures room { OnOk result ((number : ℕ) × (number ≤ most_lines + 1) × A.fits number desk.new) }

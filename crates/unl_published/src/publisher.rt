@@ -1,5 +1,6 @@
 //! The writer as one value that changes in place.
-ghost use Rattle.std.specs.Prelude.{◌≡◌, true, [], ◌∷◌, length, fold, Some, is_some, unwrap_or, option_map, IfSome, IsErr, MatchResult};
+ghost use Rattle.std.specs.Prelude.{◌≡◌, true, false, [], ◌∷◌, length, fold, Some, is_some, unwrap_or, option_map};
+ghost use Rattle.std.specs.Prelude.{IfSome, IsErr, MatchResult, OnOk};
 ghost use Rattle.unl_published.specs.Meaning.{front_seen};
 ghost use Rattle.unl_published.specs.Rule.{knows_nothing, told_by, with_installs};
 
@@ -41,6 +42,7 @@ impl<'a, W: Wait, T: Counted<I> + Drop, I: Drop, P: Rules<T, I>> Publisher<'a, W
         ensures published { MatchResult result
             (λ front. (published self.new ≡ with_installs (what ∷ []) (published self.old)) × (front ≡ front_seen (published self.new)))
             (λ _. published self.new ≡ published self.old) }
+        ensures open { OnOk result (stays_closed self.new ≡ false) }
         ensures closed { stays_closed self.old ≡ true → (stays_closed self.new ≡ true) × IsErr result }
     {
         let Some(writer) = self.writer.take() else {

@@ -1,5 +1,6 @@
 //! The one who publishes.
-ghost use Rattle.std.specs.Prelude.{◌≡◌, ◌^◌, ◌<◌, ◌≤◌, false, [], ◌∷◌, ◌++◌, ℕ, length, drop, fold, IfOk, IfSome, IsErr, MatchResult};
+ghost use Rattle.std.specs.Prelude.{◌≡◌, ◌^◌, ◌<◌, ◌≤◌, false, [], ◌∷◌, ◌++◌, ℕ, length, drop, fold};
+ghost use Rattle.std.specs.Prelude.{IfOk, IfSome, IsErr, MatchResult, OnOk};
 ghost use Rattle.std.specs.Prelude.{true, Some};
 ghost use Rattle.left_right.specs.Sides.{view};
 ghost use Rattle.unl_published.specs.Rule.{Opens, knows_opening, told_by, with_installs};
@@ -105,6 +106,7 @@ impl<T: Counted<I> + Drop, I: Drop, P: Rules<T, I>> Writer<T, I, P> {
         ensures published { MatchResult result.1
             (λ front. (written result.0 ≡ with_installs (what ∷ []) (written self)) × (front ≡ front_seen (written result.0)))
             (λ _. written result.0 ≡ written self) }
+        ensures open { OnOk result.1 (is_closed result.0 ≡ false) }
         ensures closed { is_closed self ≡ true → (is_closed result.0 ≡ true) × IsErr result.1 }
     {
         let Writer { mut sides, refused } = self;

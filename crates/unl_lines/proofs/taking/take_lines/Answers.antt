@@ -1,6 +1,10 @@
 use Rattle.std.proofs.Common.{arith, ◌≡◌, refl, rules}
 use Rattle.unl_lines.proofs.Turns.{ends_past, none_left, stops}
-use Rattle.unl_lines.proofs.Whole.{ends_all, ends_at, ends_unread, goes_on}
+use Rattle.unl_lines.specs.declared.taking.LinesFault.{LinesFault}
+use Rattle.unl_lines.specs.declared.taking.LinesFault.TheVariants.{Memory}
+use Rattle.unl_lines.specs.Taken.{outcome_of, whole_text}
+use Rattle.unl_lines.specs.Turns.{Refuses}
+use Rattle.unl_lines.proofs.Whole.{ends_all, ends_at, ends_unread, goes_on, sent_at_want, sent_before, sent_none}
 use Rattle.unl_lines.proofs.taking.take_lines.Goals as goal
 
 pub returns-in-Err-clause-lines : goal.returns-in-Err-clause-lines
@@ -23,6 +27,19 @@ returns-in-Ok-None-clause-all g c =
     (none_left g.A.LineTaking.taken c.loop-number.number _
     (record { desk = c.loop-number.desk; held = c.next_byte.new.self; left = g.S.Source.left c.next_byte.new.source; sent = g.K.Sink.sent c.loop-number.sink })
     (rw (c.in-Ok-None.field-0-is) at c.in-Ok-None.ensures.byte) refl refl)
+
+pub returns-in_err-reader-clause-memory : goal.returns-in_err-reader-clause-memory
+returns-in_err-reader-clause-memory g c = λ is.
+    sent_none (g.S.Source.left c.args.source.now) (g.K.Sink.sent c.args.sink.now) (λ bytes. whole_text (outcome_of g.A.LineTaking.taken c.args.desk.now bytes))
+
+pub returns-in-Err-clause-memory : goal.returns-in-Err-clause-memory
+returns-in-Err-clause-memory g c = λ is.
+    sent_at_want g.A.LineTaking.taken _ c.in-Err.fault _ _ c.loop-number.number _ _ c.loop-number.invariant.sofar c.in-Err.ensures.turns is
+
+pub returns-in-Ok-Some-clause-memory : goal.returns-in-Ok-Some-clause-memory
+returns-in-Ok-Some-clause-memory g c = λ is.
+    let wants : c.refuse.result ≡ Memory = let h = is in cc in
+    sent_before g.A.LineTaking.taken _ _ _ _ c.loop-number.number _ c.loop-number.invariant.sofar (rw (wants) at c.refuse.ensures.prints)
 
 pub returns-in-Ok-Some-clause-lines : goal.returns-in-Ok-Some-clause-lines
 returns-in-Ok-Some-clause-lines g c =
