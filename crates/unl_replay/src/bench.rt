@@ -141,19 +141,19 @@ fn answer_op(
     alloc: Global,
     bench: &mut Bench,
     number: u64,
-    line: &Value,
+    line: Value,
     op: &str,
 ) -> Result<Vec<u8>, Refusal>
     requires { bench.old.desk.front < 2 ^ 64 - 1 }
-    ensures given { Steps result bench.new (answer_op number bench.old (view line.now) op.now) }
+    ensures given { Steps result bench.new (answer_op number bench.old (view line) op.now) }
     ensures front { bench.new.desk.front ≤ bench.old.desk.front + 1 }
 {
     match op {
-        "tokens" => tokens_of_line(alloc, &mut bench.desk, number, line),
+        "tokens" => tokens_of_line(alloc, &mut bench.desk, number, &line),
         "batch" => batch_of_line(alloc, &mut bench.desk, number, line),
         "feed" => feed_of_line(alloc, &mut bench.desk, number, line),
-        "ask" => ask_of_line(alloc, bench, number, line),
-        "metrics" => metrics_of_line(alloc, bench, number, line),
+        "ask" => ask_of_line(alloc, bench, number, &line),
+        "metrics" => metrics_of_line(alloc, bench, number, &line),
         _ => Err(Refusal::Document(BadDocument::WrongKind(Field::Op))),
     }
 }
@@ -163,13 +163,13 @@ fn answer_object(
     alloc: Global,
     bench: &mut Bench,
     number: u64,
-    line: &Value,
+    line: Value,
 ) -> Result<Vec<u8>, Refusal>
     requires { bench.old.desk.front < 2 ^ 64 - 1 }
-    ensures given { Steps result bench.new (answer_object number bench.old (view line.now)) }
+    ensures given { Steps result bench.new (answer_object number bench.old (view line)) }
     ensures front { bench.new.desk.front ≤ bench.old.desk.front + 1 }
 {
-    let op = required::<AnyText>(alloc, Field::Op, line)?;
+    let op = required::<AnyText>(alloc, Field::Op, &line)?;
     answer_op(alloc, bench, number, line, op.as_str())
 }
 
@@ -186,7 +186,7 @@ pub fn answer_line(
     ensures front { bench.new.desk.front ≤ bench.old.desk.front + 1 }
 {
     match read_object(alloc, bytes)? {
-        Some(line) => answer_object(alloc, bench, number, &line),
+        Some(line) => answer_object(alloc, bench, number, line),
         None => Err(Refusal::Document(BadDocument::NotJson)),
     }
 }

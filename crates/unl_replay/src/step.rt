@@ -195,33 +195,37 @@ fn environment_in(alloc: Global, desk: &OneDesk, line: &Value) -> Result<Text, R
     }
 }
 
+/// A line with a batch. The tree of the line is let go before anything is made of the batch.
 pub(crate) fn batch_of_line(
     alloc: Global,
     desk: &mut OneDesk,
     number: u64,
-    line: &Value,
+    line: Value,
 ) -> Result<Vec<u8>, Refusal>
     requires { desk.old.front < 2 ^ 64 - 1 }
-    ensures given { Steps result desk.new (batch_of_line number desk.old (view line.now)) }
+    ensures given { Steps result desk.new (batch_of_line number desk.old (view line)) }
     ensures front { desk.new.front ≤ desk.old.front + 1 }
 {
-    let environment = environment_in(alloc, desk, line)?;
+    let environment = environment_in(alloc, desk, &line)?;
     let held = number_in(desk, environment.as_str());
-    let batch = batch_in(alloc, held, line)?;
+    let batch = batch_in(alloc, held, &line)?;
+    drop(line);
     put_batch(alloc, desk, number, environment.as_str(), &batch)
 }
 
+/// A line with a feed. The tree of the line is let go before anything is made of the feed.
 pub(crate) fn feed_of_line(
     alloc: Global,
     desk: &mut OneDesk,
     number: u64,
-    line: &Value,
+    line: Value,
 ) -> Result<Vec<u8>, Refusal>
     requires { desk.old.front < 2 ^ 64 - 1 }
-    ensures given { Steps result desk.new (feed_of_line number desk.old (view line.now)) }
+    ensures given { Steps result desk.new (feed_of_line number desk.old (view line)) }
     ensures front { desk.new.front ≤ desk.old.front + 1 }
 {
-    let environment = environment_in(alloc, desk, line)?;
-    let batch = feed_in(alloc, line)?;
+    let environment = environment_in(alloc, desk, &line)?;
+    let batch = feed_in(alloc, &line)?;
+    drop(line);
     put_batch(alloc, desk, number, environment.as_str(), &batch)
 }
