@@ -11,5 +11,3 @@ mod edge_state;
 mod refresh;
 #[cfg(test)]
 mod upstream;
-#[cfg(test)]
-mod upstream_keeping;

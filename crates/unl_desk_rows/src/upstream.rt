@@ -17,7 +17,7 @@ const TOKENS: &str =
 const SECRET: &str = "upstream-secret";
 
 /// An upstream with the environment `dev`, in the epoch 0.
-pub(crate) fn upstream_of_dev(alloc: Global, secret: &str, book: Book) -> Result<Upstream, Memory>
+fn upstream_of_dev(alloc: Global, secret: &str, book: Book) -> Result<Upstream, Memory>
     ensures { IfOk result (λ up. up ≡ opening 0 secret.now (codes "dev" ∷ []) book 0) }
 {
     let mut environments = List::new(alloc);
@@ -26,7 +26,7 @@ pub(crate) fn upstream_of_dev(alloc: Global, secret: &str, book: Book) -> Result
 }
 
 /// The command of a text, which is one.
-pub(crate) fn command_of(alloc: Global, text: &str) -> Option<Command>
+fn command_of(alloc: Global, text: &str) -> Option<Command>
     ensures { IfSome result IsValidCommand }
 {
     let value = match read_json(alloc, text.as_bytes()) {

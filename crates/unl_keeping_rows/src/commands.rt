@@ -1,79 +1,13 @@
 //! Commands that are kept in a database, and upstreams that are opened from it.
-ghost use Rattle.std.specs.Prelude.{◌≡◌, true, IfOk};
-ghost use Rattle.unl_upstream.specs.Reopening.{IsOpening};
-
 mod machine;
 mod stops;
 
+use crate::upstreams::{PUT_A, PUT_B, REMOVE_Z, give, opened, stands};
 use sqlite::{Alter, Connection, MemStore};
 use std::alloc::Global;
 use std::test::Fail;
-use unl_documents::parsing::read_json;
-use unl_documents::{List, Memory, Text};
 use unl_keeper::{KeepMaker, Keeper, SqliteKeeper, SqliteMaker};
-use unl_tokens::Book;
-use unl_upstream::{KeepCommandRefusal, ReopenFault, Upstream, keep, read_command, reopen};
-
-const PUT_A: &str =
-    r#"{"command":"put-feature","environment":"dev","feature":{"name":"a","enabled":true}}"#;
-
-const PUT_B: &str =
-    r#"{"command":"put-feature","environment":"dev","feature":{"name":"b","enabled":true}}"#;
-
-const REMOVE_Z: &str = r#"{"command":"remove-feature","environment":"dev","name":"z"}"#;
-
-/// An upstream of the environment `dev` that was given no command.
-fn fresh(alloc: Global) -> Result<Upstream, Memory>
-    ensures { IfOk result IsOpening }
-{
-    let mut environments = List::new(alloc);
-    environments.push(Text::new(alloc, "dev")?)?;
-    Upstream::new(alloc, 0, "s", &environments, Book::new(alloc), 0)
-}
-
-/// An upstream that is opened from a keeper.
-fn opened<K: Keeper>(alloc: Global, keeper: &mut K) -> Result<Upstream, ReopenFault>
-    ensures { IfOk result (λ _. K.opened keeper.new ≡ true) }
-{
-    let Ok(mut up) = fresh(alloc) else {
-        return Err(ReopenFault::Memory);
-    };
-    match reopen(alloc, &mut up, keeper) {
-        Ok(_) => Ok(up),
-        Err(fault) => Err(fault),
-    }
-}
-
-/// What keeping a command comes to, where its text is one.
-fn give<K: Keeper>(
-    alloc: Global,
-    up: &mut Upstream,
-    keeper: &mut K,
-    text: &str,
-) -> Option<Result<u64, KeepCommandRefusal>>
-    requires { K.opened keeper.old ≡ true }
-    ensures { K.opened keeper.new ≡ true }
-{
-    match read_json(alloc, text.as_bytes()) {
-        Ok(Some(value)) => match read_command(alloc, &value) {
-            Ok(command) => Some(keep(alloc, up, keeper, &command)),
-            Err(_) => None,
-        },
-        _ => None,
-    }
-}
-
-/// The number of the environment, and the names of its features one behind the other.
-fn stands(alloc: Global, up: &Upstream) -> Option<(u64, String)> {
-    let version = up.board().snapshot("dev")?.version();
-    let mut names = String::new(alloc);
-    for run in version.state.features.runs() {
-        for feature in run.get().as_slice() {
-            names.push_str(feature.get().name.as_str()).ok()?;
-        }
-    }
-    Some((version.number, names))
-}
+use unl_upstream::{KeepCommandRefusal, ReopenFault};
 
 /// What keeping each of two commands comes to, in a new database.
 fn given_two<K: Keeper>(

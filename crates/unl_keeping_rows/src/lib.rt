@@ -1,5 +1,10 @@
-//! Rows of commands that are kept in a database: what an upstream that is opened again has of them, wherever the machine stops.
+//! Rows of commands that are kept, in memory and in a database: what an upstream that is opened again has of them, wherever a
+//! call fails or the machine stops.
 #![tactic(auto)]
 
 #[cfg(test)]
 mod commands;
+#[cfg(test)]
+mod failing;
+#[cfg(test)]
+mod upstreams;

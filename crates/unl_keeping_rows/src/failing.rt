@@ -1,27 +1,17 @@
-//! Commands that a keeper keeps, and upstreams that are reopened from it.
-ghost use Rattle.std.specs.Prelude.{◌≡◌, true, IfOk};
-ghost use Rattle.unl_upstream.specs.Reopening.{IsOpening};
+//! Commands whose keeper fails now and then, and upstreams that are opened from it again.
+ghost use Rattle.std.specs.Prelude.{◌≡◌, true};
 
-use crate::upstream::{command_of, upstream_of_dev};
+use crate::upstreams::{PUT_A, PUT_B, REMOVE_Z, give, opened, stands};
 use std::alloc::Global;
 use std::test::Fail;
 use unl_base::{ListDraws, MemoryLink};
-use unl_documents::{List, Memory, Text};
+use unl_documents::{List, Text};
 use unl_http_api::End;
 use unl_keeper::{KeepFail, KeepRefusal, Keeper, MemoryKeeper};
-use unl_tokens::Book;
-use unl_upstream::{KeepCommandRefusal, ReopenFault, Upstream, keep, reopen, serve_kept};
-
-const PUT_A: &str =
-    r#"{"command":"put-feature","environment":"dev","feature":{"name":"a","enabled":true}}"#;
-
-const PUT_B: &str =
-    r#"{"command":"put-feature","environment":"dev","feature":{"name":"b","enabled":true}}"#;
+use unl_upstream::{KeepCommandRefusal, ReopenFault, Upstream, serve_kept};
 
 const PUT_C: &str =
     r#"{"command":"put-feature","environment":"dev","feature":{"name":"c","enabled":true}}"#;
-
-const REMOVE_Z: &str = r#"{"command":"remove-feature","environment":"dev","name":"z"}"#;
 
 /// A command, and what keeping it comes to.
 type Given = (&'static str, Result<u64, KeepCommandRefusal>);
@@ -86,35 +76,6 @@ const CASES: [Case; 5] = [
     },
 ];
 
-/// An upstream that is opened from a keeper.
-fn opened<K: Keeper>(alloc: Global, keeper: &mut K) -> Result<Upstream, ReopenFault>
-    ensures { IfOk result (λ _. K.opened keeper.new ≡ true) }
-{
-    let Ok(mut up) = upstream_of_dev(alloc, "s", Book::new(alloc)) else {
-        return Err(ReopenFault::Memory);
-    };
-    match reopen(alloc, &mut up, keeper) {
-        Ok(_) => Ok(up),
-        Err(fault) => Err(fault),
-    }
-}
-
-/// What keeping a command comes to.
-fn give<K: Keeper>(
-    alloc: Global,
-    up: &mut Upstream,
-    keeper: &mut K,
-    text: &str,
-) -> Option<Result<u64, KeepCommandRefusal>>
-    requires { K.opened keeper.old ≡ true }
-    ensures { K.opened keeper.new ≡ true }
-{
-    match command_of(alloc, text) {
-        Some(command) => Some(keep(alloc, up, keeper, &command)),
-        None => None,
-    }
-}
-
 /// Whether keeping each command comes to what is said.
 fn give_all<K: Keeper>(alloc: Global, up: &mut Upstream, keeper: &mut K, given: &[Given]) -> bool
     requires { K.opened keeper.old ≡ true }
@@ -126,18 +87,6 @@ fn give_all<K: Keeper>(alloc: Global, up: &mut Upstream, keeper: &mut K, given: 
         }
     }
     true
-}
-
-/// The number of the environment, and the names of its features one behind the other.
-fn stands(alloc: Global, up: &Upstream) -> Option<(u64, String)> {
-    let version = up.board().snapshot("dev")?.version();
-    let mut names = String::new(alloc);
-    for run in version.state.features.runs() {
-        for feature in run.get().as_slice() {
-            names.push_str(feature.get().name.as_str()).ok()?;
-        }
-    }
-    Some((version.number, names))
 }
 
 /// Whether an upstream that is reopened has these rows and features.
