@@ -1,6 +1,7 @@
 //! An upstream is opened from what its keeper has, and serves the links of its door.
 ghost use Rattle.std.specs.Prelude.{◌≡◌, true, Err, IfOk, OnErr};
 ghost use Rattle.unl_base.specs.Faults.{Rose};
+ghost use Rattle.unl_keeping.specs.Beginning.{IsAskedFor, upstream_of};
 ghost use Rattle.unl_keeping.specs.Serving.{Ends, LinksEnd, facing};
 ghost use Rattle.unl_keeping.specs.declared.fault.KeepingFault.TheVariants.{Door as door_fault, Keeper as keeper_fault};
 ghost use Rattle.unl_upstream.specs.Kept.{keeper_by, kept_state};
@@ -22,7 +23,8 @@ use unl_words::{UpstreamWords, Words, own_book};
 /// `BadWords` where the words don't ask for an upstream; or want of memory.
 pub fn begin(alloc: Global, boot: u64, words: &Words) -> Result<Upstream, KeepingFault>
     requires { IsInRange words.now }
-    ensures { IfOk result IsOpening }
+    ensures opens { IfOk result IsOpening }
+    ensures asked { IfOk result (IsAskedFor boot words.now) }
 {
     match words {
         Words::Upstream(upstream) => Ok(new_upstream(alloc, boot, upstream)?),
@@ -33,11 +35,13 @@ pub fn begin(alloc: Global, boot: u64, words: &Words) -> Result<Upstream, Keepin
 /// An upstream that was given no command.
 fn new_upstream(alloc: Global, boot: u64, words: &UpstreamWords) -> Result<Upstream, Memory>
     requires { IsUpstream words.now }
-    ensures { IfOk result IsOpening }
+    ensures opens { IfOk result IsOpening }
+    ensures asked { IfOk result (λ up. up ≡ upstream_of boot words.now) }
 {
     let book = own_book(alloc, &words.client_tokens, &words.frontend_tokens)?;
     let secret = words.secret.as_str();
-    Upstream::new(alloc, boot, secret, &words.environments, book, words.epoch)
+    let up = Upstream::new(alloc, boot, secret, &words.environments, book, words.epoch)?;
+    Ok(up)
 }
 
 /// Opens an upstream from the rows of its keeper, listens at a port, and serves the links of the door, one after the other,

@@ -20,10 +20,11 @@ use unl_documents::Memory;
 /// same line.
 ///
 /// # Errors
-/// `WriteFault` where the sink failed: a front of the line was written. `Memory` where memory ran out.
+/// `WriteFault` where the sink failed: a front of the line was written. `Memory` where memory ran out: nothing was written.
 pub fn load<K: Sink>(alloc: Global, seed: u64, count: u64, sink: &mut K) -> Result<(), LoadFault>
     ensures ok { OnOk result (Sends (K.sent sink.old) (load_line seed count) (K.sent sink.new)) }
     ensures broken { IsErrOf result LoadFault.WriteFault → SendsFront (K.sent sink.old) (load_line seed count) (K.sent sink.new) }
+    ensures unsent { IsErrOf result LoadFault.Memory → K.sent sink.new ≡ K.sent sink.old }
     ensures write { IsErrOf result LoadFault.WriteFault → Rose (K.faults sink.old) (K.faults sink.new) }
     ensures later { K.faults sink.old ≤ K.faults sink.new }
 {
