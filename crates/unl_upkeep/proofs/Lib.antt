@@ -1,2 +1,3 @@
 pub mod Connecting
+mod Feeding
 mod Taking

@@ -1,17 +1,20 @@
 -- What a turn takes of the replies to come.
-use Rattle.std.proofs.Common.{◌≡◌, ◌∙◌, ℕ, suc, ◌+◌, List, drop, Option, Some, None, Result, Ok, Err, refl, subst, arith, inl, inr}
-use Rattle.std.specs.Prelude.{◌≢◌, option_map, IfOk, OnOk}
+use Rattle.std.proofs.Common.{◌≡◌, ◌⊎◌, ◌∙◌, ℕ, suc, ◌+◌, List, drop, Option, Some, None, Result, Ok, Err, refl, subst, arith, inl, inr}
+use Rattle.std.specs.Prelude.{◌≢◌, option_map, IfOk, OnErr, OnOk}
 use Rattle.serde_json.specs.Data.{Data}
 use Rattle.unl_base.specs.Doors.{next_of}
 use Rattle.unl_delta.specs.Installing.{Installed}
 use Rattle.unl_documents.specs.declared.memory.Memory.{Memory}
+use Rattle.unl_metrics.specs.Book.{Book, acknowledge}
 use Rattle.unl_upkeep.proofs.Connecting.{none_taken}
 use Rattle.unl_upkeep.specs.Turns.{Duty, FeedsSlot, FeedsSlots, MakesTurn, TakesBook, TakesSlot, Tells, Upkept, upkept}
 use Rattle.unl_refresh.specs.declared.ask.Ask.{Ask}
+use Rattle.unl_refresh.specs.declared.outcome.MetricsOutcome.{MetricsOutcome}
+use Rattle.unl_refresh.specs.declared.outcome.MetricsOutcome.TheVariants.{Nothing, Sent, Refused, BadAnswer}
 use Rattle.unl_refresh.specs.declared.outcome.Outcome.{Outcome}
 use Rattle.unl_refresh.specs.declared.outcome.RefreshFault.{RefreshFault}
 use Rattle.unl_refresh.specs.declared.outcome.RefreshFault.TheVariants.{PeerFault as peer_fault, Memory as want}
-use Rattle.unl_refresh.specs.Metrics.{AsksBulkAtMostOnce}
+use Rattle.unl_refresh.specs.Metrics.{AsksBulkAtMostOnce, book_after}
 use Rattle.unl_refresh.specs.Refresh.{Refreshes}
 use Rattle.unl_refresh.specs.Tokens.{RefreshesTokens}
 
@@ -36,12 +39,30 @@ pub slot_taken : (slot : ℕ) (ask : Ask) (tag : Option (List ℕ)) (before afte
     → IfOk told (λ outcome. Refreshes slot ask before (option_map next_of replies) (record { outcome = outcome; installed = after; tag = tag }))
     → (told ≡ Err peer_fault → Failed) → ¬ Failed
     → (¬ Failed → told ≢ Err want → replies_after ≡ option_map (λ list. drop 1 list) replies)
-    → OnOk result (TakesSlot slot (upkept before replies) (upkept after replies_after))
+    → OnOk result (TakesSlot slot ask tag (upkept before replies) (upkept after replies_after))
 slot_taken slot ask tag before after replies replies_after told (Err e) some takes cause none one = tt
 slot_taken slot ask tag before after replies replies_after (Ok outcome) (Ok u) some takes cause none one =
-    record { ask = ask; outcome = outcome; tag = tag; refreshes = takes; one_reply = one none some }
+    record { outcome = outcome; refreshes = takes; one_reply = one none some }
 slot_taken slot ask tag before after replies replies_after (Err peer_fault) (Ok u) some takes cause none one = absurd (none (cause refl))
 slot_taken slot ask tag before after replies replies_after (Err want) (Ok u) some takes cause none one = absurd (some refl)
+
+-- where memory was found and the peer did not fail, what an outcome tells of is so
+pub if_taken : {A Failed : Type 0} (X : Type 0) (told : Result A RefreshFault) (result : Result Unit Memory) → OnOk result (told ≢ Err want)
+    → OnOk told X → (told ≡ Err peer_fault → Failed) → ¬ Failed → OnOk result X
+if_taken X told (Err e) some known cause none = tt
+if_taken X (Ok outcome) (Ok u) some known cause none = known
+if_taken X (Err peer_fault) (Ok u) some known cause none = absurd (none (cause refl))
+if_taken X (Err want) (Ok u) some known cause none = absurd (some refl)
+
+-- some keys of an environment were dropped of what was counted, or none
+pub dropped : (environment : List ℕ) (before after : Book) (told : Result MetricsOutcome RefreshFault)
+    → IfOk told (λ outcome. after ≡ book_after environment outcome before) → OnErr told (after ≡ before)
+    → (after ≡ before) ⊎ ((count : ℕ) × (after ≡ acknowledge environment count before))
+dropped environment before after (Ok (Sent count)) takes fault = inr (count, takes)
+dropped environment before after (Ok Nothing) takes fault = inl takes
+dropped environment before after (Ok (Refused status)) takes fault = inl takes
+dropped environment before after (Ok (BadAnswer bad)) takes fault = inl takes
+dropped environment before after (Err e) takes fault = inl fault
 
 -- what was counted was told by one connect at most
 pub told_once : (installed : Installed) (found : Option (Data × ℕ)) (host token : List ℕ) (replies replies_after : Option (List (List ℕ)))
@@ -57,8 +78,9 @@ told_once installed (Some (report, count)) host token replies replies_after sent
 -- ---- slots
 
 -- a slot was fed
-pub fed_slot : {slot : ℕ} {before middle after : Upkept} → TakesSlot slot before middle → Tells middle after → FeedsSlot slot before after
-fed_slot {middle = middle} takes tells = (middle, takes, tells)
+pub fed_slot : {slot : ℕ} {ask : Ask} {tag : Option (List ℕ)} {before middle after : Upkept} → TakesSlot slot ask tag before middle
+    → Tells middle after → FeedsSlot slot before after
+fed_slot {ask = ask} {tag = tag} {middle = middle} takes tells = (ask, tag, middle, takes, tells)
 
 -- one slot more was
 pub feeds_more : (n : ℕ) (before middle after : Upkept) → FeedsSlots n before middle → FeedsSlot n middle after → FeedsSlots (n + 1) before after

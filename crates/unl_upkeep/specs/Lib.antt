@@ -1,3 +1,4 @@
 pub mod Connects
+pub mod Feeding
 pub mod Handing
 pub mod Turns

@@ -6,11 +6,15 @@ use Rattle.unl_refresh.specs.Refresh.{Refreshes}
 use Rattle.unl_refresh.specs.Tokens.{RefreshesTokens}
 use Rattle.unl_refresh.specs.declared.ask.Ask.{Ask}
 use Rattle.unl_refresh.specs.declared.outcome.Outcome.{Outcome}
+use Rattle.unl_upkeep.specs.Feeding.{Feeding}
 
--- the texts of the tokens that may be known, and how many slots are asked for
+-- the texts of the tokens that may be known, how many slots are asked for, who is asked for each of them, and which server is
+-- asked for the book
 pub record Duty : Type 0 where
   pub known : List (List ℕ)
   pub slots : ℕ
+  pub feeders : List Feeding
+  pub upstream : List ℕ
 
 -- what is installed, and the replies to come
 pub record Upkept : Type 0 where
@@ -36,11 +40,9 @@ pub record TakesBook (texts : List (List ℕ)) (before after : Upkept) : Type 0 
   pub refreshes : RefreshesTokens texts before.installed (option_map next_of before.replies) outcome after.installed
   pub one_reply : Taken 1 before after
 
--- one reply was taken and read, and what it says of what stands in a slot is installed
-pub record TakesSlot (slot : ℕ) (before after : Upkept) : Type 0 where
-  pub ask : Ask
+-- One reply to an ask was taken and read, and what it says of what stands in a slot is installed. The next ask has this tag.
+pub record TakesSlot (slot : ℕ) (ask : Ask) (tag : Option (List ℕ)) (before after : Upkept) : Type 0 where
   pub outcome : Outcome
-  pub tag : Option (List ℕ)
   pub refreshes : Refreshes slot ask before.installed (option_map next_of before.replies)
       (record { outcome = outcome; installed = after.installed; tag = tag })
   pub one_reply : Taken 1 before after
@@ -54,7 +56,8 @@ pub record Tells (before after : Upkept) : Type 0 where
 
 -- a slot was asked for, and then what was counted there was told
 abbrev pub FeedsSlot : ℕ → Upkept → Upkept → Type 0
-FeedsSlot slot before after = (middle : Upkept) × TakesSlot slot before middle × Tells middle after
+FeedsSlot slot before after =
+    (ask : Ask) × (tag : Option (List ℕ)) × (middle : Upkept) × TakesSlot slot ask tag before middle × Tells middle after
 
 -- so for each of so many slots, in their order
 abbrev pub FeedsSlots : ℕ → Upkept → Upkept → Type 0

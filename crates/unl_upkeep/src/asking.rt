@@ -1,9 +1,15 @@
 //! Asking the upstream for what is new, and telling it what was counted. A fault of the peer ends no call, and want of
 //! memory is the one fault that is told.
-ghost use Rattle.std.specs.Prelude.{◌≡◌, ◌≢◌, ◌<◌, ◌≤◌, ◌+◌, ◌-◌, ◌^◌, Err, IsTrue, OnErr, OnOk, length};
+ghost use Rattle.std.specs.Prelude.{◌≡◌, ◌≢◌, ◌<◌, ◌≤◌, ◌+◌, ◌-◌, ◌^◌, ◌⊎◌, ℕ, Err, IsTrue, OnErr, OnOk, length, map};
 ghost use Rattle.unl_base.specs.Faults.{Rose};
 ghost use Rattle.unl_delta.specs.Installing.{Installed};
+ghost use Rattle.unl_metrics.specs.Book.{acknowledge};
+ghost use Rattle.unl_metrics.specs.Bulk.{bulk as bulk_of};
+ghost use Rattle.unl_refresh.specs.Exchange.{Asks};
+ghost use Rattle.unl_refresh.specs.Metrics.{AsksBulk};
+ghost use Rattle.unl_refresh.specs.Refresh.{refresh_request};
 ghost use Rattle.unl_upkeep.specs.Connects.{Connects};
+ghost use Rattle.unl_upkeep.specs.Feeding.{feeding_of};
 ghost use Rattle.unl_upkeep.specs.Turns.{FeedsSlot, FeedsSlots, Goes, TakesBook, TakesSlot, Tells, upkept};
 ghost use Rattle.unl_http_api.specs.RequestText.{fits_line};
 
@@ -55,8 +61,12 @@ fn refresh_slot<I: Installer, P: Peer>(
     ensures connects { Connects 0
         (P.state peer.old).replies (P.Source.faults peer.old) (P.state peer.new).replies (P.Source.faults peer.new) }
     ensures takes { (I.installed to.old).front < 2 ^ 64 - 1 → ¬ (Rose (P.Source.faults peer.old) (P.Source.faults peer.new))
-        → OnOk result (TakesSlot slot (upkept (I.installed to.old) (P.state peer.old).replies)
+        → OnOk result (TakesSlot slot feeder.old.ask feeder.new.ask.tag (upkept (I.installed to.old) (P.state peer.old).replies)
         (upkept (I.installed to.new) (P.state peer.new).replies)) }
+    ensures sends { (I.installed to.old).front < 2 ^ 64 - 1 → ¬ (Rose (P.Source.faults peer.old) (P.Source.faults peer.new))
+        → OnOk result (Asks (refresh_request feeder.old.ask.delta feeder.old.ask.host feeder.old.ask.token feeder.old.ask.tag)
+        (P.state peer.old).replies (P.Sink.sent peer.old) (P.state peer.new).replies (P.Sink.sent peer.new)) }
+    ensures same { feeding_of feeder.new ≡ feeding_of feeder.old }
 {
     if to.front() == u64::MAX {
         return Ok(());
@@ -76,6 +86,11 @@ fn tell_metrics<P: Peer>(
         (P.state peer.old).replies (P.Source.faults peer.old) (P.state peer.new).replies (P.Source.faults peer.new) }
     ensures tells { (installed : Installed)
         → Tells (upkept installed (P.state peer.old).replies) (upkept installed (P.state peer.new).replies) }
+    ensures sends { ¬ (Rose (P.Source.faults peer.old) (P.Source.faults peer.new)) → OnOk result (AsksBulk
+        (bulk_of feeder.now.environment book.old) feeder.now.ask.host feeder.now.ask.token
+        (P.state peer.old).replies (P.Sink.sent peer.old) (P.state peer.new).replies (P.Sink.sent peer.new)) }
+    ensures book { (book.new ≡ book.old)
+        ⊎ ((count : ℕ) × (book.new ≡ acknowledge feeder.now.environment count book.old)) }
 {
     let environment = feeder.environment.as_str();
     let (token, host) = (feeder.ask.token.as_str(), feeder.ask.host.as_str());
@@ -101,6 +116,7 @@ fn feed_slot<I: Installer, P: Peer>(
     ensures takes { (I.installed to.old).front < 2 ^ 64 - 1 → ¬ (Rose (P.Source.faults peer.old) (P.Source.faults peer.new))
         → OnOk result (FeedsSlot slot (upkept (I.installed to.old) (P.state peer.old).replies)
         (upkept (I.installed to.new) (P.state peer.new).replies)) }
+    ensures same { feeding_of feeder.new ≡ feeding_of feeder.old }
 {
     match refresh_slot(alloc, to, slot, feeder, peer) {
         Ok(()) => tell_metrics(alloc, book, feeder, peer),
@@ -127,6 +143,7 @@ pub(crate) fn feed_slots<I: Installer, P: Peer>(
         → ¬ (Rose (P.Source.faults peer.old) (P.Source.faults peer.new))
         → OnOk result (FeedsSlots (length feeders.old) (upkept (I.installed to.old) (P.state peer.old).replies)
         (upkept (I.installed to.new) (P.state peer.new).replies)) }
+    ensures same { map feeding_of feeders.new ≡ map feeding_of feeders.old }
 {
     let count = to.slots().min(feeders.len());
     for slot in 0..count {

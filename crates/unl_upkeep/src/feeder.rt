@@ -1,9 +1,9 @@
 //! Who is asked for what stands in a slot.
-ghost use Rattle.std.specs.Prelude.{◌≡◌, All, IfOk, IsTrue, None, length};
+ghost use Rattle.std.specs.Prelude.{◌≡◌, IfOk, IsTrue, None};
 ghost use Rattle.unl_http_api.specs.RequestText.{fits_if_any, fits_line};
 
 use std::alloc::Global;
-use unl_documents::{List, Memory, Text};
+use unl_documents::{Memory, Text};
 use unl_refresh::Ask;
 
 /// The environment of a slot, and how a server is asked for it.
@@ -16,50 +16,8 @@ pub(crate) struct Feeder {
     ghost tag: { IsTrue (fits_if_any ask.tag) },
 }
 
-/// One feeder for each token, over a server and in the order of the tokens. The environments stand in the same order.
-pub(crate) fn feeders(
-    alloc: Global,
-    host: &Text,
-    tokens: &List<Text>,
-    environments: &List<Text>,
-    delta: bool,
-) -> Result<Vec<Feeder>, Memory>
-    requires host { IsTrue (fits_line host.now) }
-    requires tokens { All (λ token. IsTrue (fits_line token)) tokens.now }
-    requires environments { length environments.now ≡ length tokens.now }
-    ensures { IfOk result (λ feeders. length feeders.items ≡ length tokens.now) }
-{
-    feeders_of(
-        alloc,
-        host,
-        tokens.as_slice(),
-        environments.as_slice(),
-        delta,
-    )
-}
-
-/// One feeder for each token.
-fn feeders_of(
-    alloc: Global,
-    host: &Text,
-    tokens: &[Text],
-    environments: &[Text],
-    delta: bool,
-) -> Result<Vec<Feeder>, Memory>
-    requires host { IsTrue (fits_line host.now) }
-    requires tokens { All (λ token. IsTrue (fits_line token)) tokens.now }
-    requires environments { length environments.now ≡ length tokens.now }
-    ensures { IfOk result (λ feeders. length feeders.items ≡ length tokens.now) }
-{
-    let mut feeders = Vec::new(alloc);
-    for place in 0..tokens.len() {
-        feeders.push(feeder_with(alloc, host, &tokens[place], &environments[place], delta)?)?;
-    }
-    Ok(feeders)
-}
-
 /// Who asks with a token.
-fn feeder_with(
+pub(crate) fn feeder_with(
     alloc: Global,
     host: &Text,
     token: &Text,
@@ -68,6 +26,9 @@ fn feeder_with(
 ) -> Result<Feeder, Memory>
     requires host { IsTrue (fits_line host.now) }
     requires token { IsTrue (fits_line token.now) }
+    ensures environment { IfOk result (λ feeder. feeder.environment ≡ environment.now) }
+    ensures ask { IfOk result (λ feeder. feeder.ask
+        ≡ record { host = host.now; token = token.now; delta = delta; tag = None }) }
 {
     let environment = Text::new(alloc, environment.as_str())?;
     let ask = first_ask(alloc, host, token, delta)?;

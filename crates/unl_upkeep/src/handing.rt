@@ -1,5 +1,5 @@
 //! Handing on what was counted, through a book that threads share.
-ghost use Rattle.unl_upkeep.specs.Handing.{IsHandedOn};
+ghost use Rattle.unl_upkeep.specs.Handing.{IsHandedOn, Moves, TakesOver};
 
 use std::alloc::Global;
 use std::sync::{Mutex, Wait};
@@ -23,14 +23,16 @@ pub(crate) fn take_over<W: Wait>(
     rt: &W,
     shared: &Mutex<MetricsBook>,
     book: &mut MetricsBook,
-) {
+)
+    ensures { TakesOver book.old book.new }
+{
     let mut all = shared.lock(rt);
     move_all(alloc, &mut all, book);
 }
 
 /// Adds what one book has to another and empties it, or leaves both where there is no room for it or no memory.
 fn move_all(alloc: Global, from: &mut MetricsBook, to: &mut MetricsBook)
-    ensures { IsHandedOn from.old from.new }
+    ensures { Moves from.old to.old from.new to.new }
 {
     match to.merge(alloc, from) {
         Ok(()) => {}

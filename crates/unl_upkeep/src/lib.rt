@@ -4,6 +4,7 @@
 
 mod asking;
 mod feeder;
+mod feeders;
 mod handing;
 mod upkeep;
 

@@ -3,10 +3,12 @@ ghost use Rattle.std.specs.Prelude.{◌≡◌, ◌≤◌, ◌+◌, All, IfOk, Is
 ghost use Rattle.unl_base.specs.Faults.{Rose};
 ghost use Rattle.unl_http_api.specs.RequestText.{fits_line};
 ghost use Rattle.unl_upkeep.specs.Connects.{Connects};
+ghost use Rattle.unl_upkeep.specs.Feeding.{feedings};
 ghost use Rattle.unl_upkeep.specs.Turns.{MakesTurn, upkept};
 
 use crate::asking::{feed_slots, refresh_book};
-use crate::feeder::{Feeder, feeders};
+use crate::feeder::Feeder;
+use crate::feeders::feeders;
 use crate::handing::take_over;
 use std::alloc::Global;
 use std::marker::Model;
@@ -17,7 +19,7 @@ use unl_documents::{List, Memory, Text};
 use unl_metrics::MetricsBook;
 
 /// Who is asked for each slot of a board, the texts of the tokens that may be known, the server that is asked, and what was
-/// counted and is not told yet. Contracts see for which tokens and how many slots it is.
+/// counted and is not told yet. Contracts see all of it but what was counted and the tags of what stands.
 #[derive(Drop)]
 pub struct Upkeep {
     feeders: Vec<Feeder>,
@@ -27,13 +29,19 @@ pub struct Upkeep {
 }
 
 impl Model for Upkeep {
-    ghost use Rattle.std.specs.Prelude.{IsTrue, length};
+    ghost use Rattle.std.specs.Prelude.{IsTrue, length, map};
     ghost use Rattle.unl_http_api.specs.RequestText.{fits_line};
+    ghost use Rattle.unl_upkeep.specs.Feeding.{feeding_of};
     ghost use Rattle.unl_upkeep.specs.Turns.{Duty};
 
     ghost Value = { Duty };
 
-    ghost view = { λ upkeep. record { known = upkeep.known; slots = length upkeep.feeders.items } };
+    ghost view = { λ upkeep. record {
+      known = upkeep.known;
+      slots = length upkeep.feeders.items;
+      feeders = map feeding_of upkeep.feeders.items;
+      upstream = upkeep.upstream;
+    } };
 
     ghost invariant = { λ upkeep. IsTrue (fits_line upkeep.upstream) };
 }
@@ -55,7 +63,12 @@ impl Upkeep {
         requires upstream { IsTrue (fits_line upstream.now) }
         requires tokens { All (λ token. IsTrue (fits_line token)) upstream_tokens.now }
         requires environments { length environments.now ≡ length upstream_tokens.now }
-        ensures { IfOk result (λ upkeep. upkeep ≡ record { known = tokens.now; slots = length upstream_tokens.now }) }
+        ensures { IfOk result (λ upkeep. upkeep ≡ record {
+          known = tokens.now;
+          slots = length upstream_tokens.now;
+          feeders = feedings upstream.now delta upstream_tokens.now environments.now;
+          upstream = upstream.now;
+        }) }
     {
         let feeders = feeders(alloc, upstream, upstream_tokens, environments, delta)?;
         let known = copies(alloc, tokens.as_slice())?;
@@ -79,6 +92,7 @@ impl Upkeep {
         to: &mut I,
         peer: &mut P,
     ) -> Result<(), Memory>
+        ensures same { self.new ≡ self.old }
         ensures asks { (I.installed to.old).front ≡ 0 → self.old.slots ≤ length (I.installed to.old).places → self.old.slots ≤ 8
             → OnOk result (Connects (self.old.slots + 1)
             (P.state peer.old).replies (P.Source.faults peer.old) (P.state peer.new).replies (P.Source.faults peer.new)) }
@@ -96,7 +110,9 @@ impl Upkeep {
     }
 
     /// Takes over what was counted since, unless there is no room for it. The lock is held no longer than that.
-    pub fn take_over<W: Wait>(&mut self, alloc: Global, rt: &W, shared: &Mutex<MetricsBook>) {
+    pub fn take_over<W: Wait>(&mut self, alloc: Global, rt: &W, shared: &Mutex<MetricsBook>)
+        ensures same { self.new ≡ self.old }
+    {
         take_over(alloc, rt, shared, &mut self.book);
     }
 }

@@ -1,5 +1,7 @@
 use Rattle.std.proofs.Common.{◌∙◌, arith}
 use Rattle.std.proofs.lemmas.List.{length-set}
+use Rattle.std.proofs.Math.Seq.{map-set_same}
+use Rattle.unl_upkeep.specs.Feeding.{feeding_of}
 use Rattle.unl_upkeep.proofs.Connecting.{connects_both, none_after, none_before}
 use Rattle.unl_upkeep.proofs.Taking.{feeds_more}
 use Rattle.unl_upkeep.proofs.asking.feed_slots.Goals as goal
@@ -7,13 +9,20 @@ use Rattle.unl_upkeep.proofs.asking.feed_slots.Goals as goal
 pub returns-in-Err-clause-connects : goal.returns-in-Err-clause-connects
 returns-in-Err-clause-connects g c = connects_both c.loop-slot.invariant.connects c.in-Err.ensures.connects
 
+pub returns-in-Err-clause-same : goal.returns-in-Err-clause-same
+returns-in-Err-clause-same g c =
+    map-set_same feeding_of c.loop-slot.feeders c.loop-slot.slot c.feed_slot.new.feeder c.index-feeders-slot.result
+    c.in-Err.ensures.same ∙ c.loop-slot.invariant.same
+
 pub loop-slot-preserved : goal.loop-slot-preserved
 loop-slot-preserved g c =
     let front = c.in-Ok.ensures.goes.front in
     record {
       places = c.in-Ok.ensures.goes.places ∙ c.loop-slot.invariant.places;
       front = omega (arith, c.loop-slot.invariant.front, front);
-      size = length-set _ _ _ ∙ c.loop-slot.invariant.size;
+      size = length-set c.loop-slot.feeders c.loop-slot.slot c.feed_slot.new.feeder ∙ c.loop-slot.invariant.size;
+      same = map-set_same feeding_of c.loop-slot.feeders c.loop-slot.slot c.feed_slot.new.feeder c.index-feeders-slot.result
+          c.in-Ok.ensures.same ∙ c.loop-slot.invariant.same;
       asks = λ room. connects_both (c.loop-slot.invariant.asks room)
           (c.in-Ok.ensures.asks (omega (arith, room, c.loop-slot.invariant.front, c.loop-slot-test.true, c.min-count.ensures)));
       connects = connects_both c.loop-slot.invariant.connects c.in-Ok.ensures.connects;

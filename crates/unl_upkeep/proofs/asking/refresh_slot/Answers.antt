@@ -1,5 +1,5 @@
 use Rattle.unl_upkeep.proofs.Connecting.{asked_once, none_or_one, slot_told}
-use Rattle.unl_upkeep.proofs.Taking.{slot_taken}
+use Rattle.unl_upkeep.proofs.Taking.{if_taken, slot_taken}
 use Rattle.unl_upkeep.proofs.asking.refresh_slot.Goals as goal
 
 pub returns-clause-asks : goal.returns-clause-asks
@@ -17,3 +17,8 @@ pub returns-clause-takes : goal.returns-clause-takes
 returns-clause-takes g c room none =
     slot_taken _ _ _ _ _ _ _ c.refresh_once-told.result c.unless_memory.result c.unless_memory.ensures.ok c.refresh_once-told.ensures.takes
     c.refresh_once-told.ensures.cause none c.refresh_once-told.ensures.one_reply
+
+pub returns-clause-sends : goal.returns-clause-sends
+returns-clause-sends g c room none =
+    if_taken _ c.refresh_once-told.result c.unless_memory.result c.unless_memory.ensures.ok c.refresh_once-told.ensures.asks
+    c.refresh_once-told.ensures.cause none

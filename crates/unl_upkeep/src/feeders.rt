@@ -1,0 +1,52 @@
+//! Those who are asked for what stands in the slots of a board.
+ghost use Rattle.std.specs.Prelude.{◌≡◌, All, IfOk, IsTrue, length, map};
+ghost use Rattle.unl_http_api.specs.RequestText.{fits_line};
+ghost use Rattle.unl_upkeep.specs.Feeding.{feeding_of, feedings};
+
+use crate::feeder::{Feeder, feeder_with};
+use std::alloc::Global;
+use unl_documents::{List, Memory, Text};
+
+/// One feeder for each token, over a server and in the order of the tokens. The environments stand in the same order.
+pub(crate) fn feeders(
+    alloc: Global,
+    host: &Text,
+    tokens: &List<Text>,
+    environments: &List<Text>,
+    delta: bool,
+) -> Result<Vec<Feeder>, Memory>
+    requires host { IsTrue (fits_line host.now) }
+    requires tokens { All (λ token. IsTrue (fits_line token)) tokens.now }
+    requires environments { length environments.now ≡ length tokens.now }
+    ensures count { IfOk result (λ feeders. length feeders.items ≡ length tokens.now) }
+    ensures made { IfOk result (λ feeders. map feeding_of feeders.items ≡ feedings host.now delta tokens.now environments.now) }
+{
+    feeders_of(
+        alloc,
+        host,
+        tokens.as_slice(),
+        environments.as_slice(),
+        delta,
+    )
+}
+
+/// One feeder for each token.
+fn feeders_of(
+    alloc: Global,
+    host: &Text,
+    tokens: &[Text],
+    environments: &[Text],
+    delta: bool,
+) -> Result<Vec<Feeder>, Memory>
+    requires host { IsTrue (fits_line host.now) }
+    requires tokens { All (λ token. IsTrue (fits_line token)) tokens.now }
+    requires environments { length environments.now ≡ length tokens.now }
+    ensures count { IfOk result (λ feeders. length feeders.items ≡ length tokens.now) }
+    ensures made { IfOk result (λ feeders. map feeding_of feeders.items ≡ feedings host.now delta tokens.now environments.now) }
+{
+    let mut feeders = Vec::new(alloc);
+    for place in 0..tokens.len() {
+        feeders.push(feeder_with(alloc, host, &tokens[place], &environments[place], delta)?)?;
+    }
+    Ok(feeders)
+}
