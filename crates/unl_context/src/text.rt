@@ -26,6 +26,13 @@ impl Text {
         })
     }
 
+    /// A text as it is held, without a copy.
+    pub(crate) fn of(string: String) -> Text
+        ensures { result ≡ string_bytes string }
+    {
+        Text { string }
+    }
+
     /// The text.
     pub(crate) fn as_str(&self) -> &str
         ensures { result.now ≡ self.now }

@@ -1,13 +1,15 @@
 //! Values of JSON (RFC 8259): what stands at a key, and texts.
-ghost use Rattle.std.specs.Prelude.{◌≡◌, IfOk, option_map};
-ghost use Rattle.serde_json.specs.View.{view};
+ghost use Rattle.std.specs.Prelude.{◌≡◌, IfOk, IfNone, option_map};
+ghost use Rattle.serde_json.specs.Data.{number};
+ghost use Rattle.serde_json.specs.View.{number_view, view};
 ghost use Rattle.unl_context.specs.Reading.{Gives};
 ghost use Rattle.unl_context.specs.Values.{json_of, at, text_in};
 
 use crate::fault::{BadContext, Part};
-use crate::limits::short_text;
+use crate::limits::{short, short_text};
 use crate::text::Text;
-use serde_json::Value;
+use itoa::Buffer;
+use serde_json::{Number, Value};
 use std::alloc::{AllocError, Global};
 
 /// The value that the bytes spell, or none where they are no UTF-8 or no JSON.
@@ -32,6 +34,30 @@ pub(crate) fn value_at<'a>(key: &str, value: &'a Value) -> Option<&'a Value>
     }
 }
 
+/// Takes the value at a key out of an object, so that what it holds need not be copied; null counts
+/// as absent, and then nothing is taken.
+#[tactic(auto, unfolding(crate::specs::Values::at))]
+pub(crate) fn taken_at(key: &str, value: &mut Value) -> Option<Value>
+    ensures gives { option_map view result ≡ at key.now (view value.old) }
+    ensures left { IfNone result (value.new ≡ value.old) }
+{
+    match value.get(key) {
+        None | Some(Value::Null) => None,
+        Some(_) => Some(value.get_mut(key)?.take()),
+    }
+}
+
+/// As [`text_in`], of a value that is let go: a text is taken without a copy.
+#[tactic(auto, unfolding(crate::specs::Values::text_in))]
+pub(crate) fn text_of(alloc: Global, part: Part, value: Value) -> Result<Text, BadContext>
+    ensures { Gives result (text_in part (view value)) }
+{
+    match value {
+        Value::String(text) => short(text),
+        other => text_in(alloc, part, &other),
+    }
+}
+
 /// The text of the value at a part of a context: a text, or an integer or a boolean by its text.
 #[tactic(auto, unfolding(crate::specs::Values::text_in))]
 pub(crate) fn text_in(alloc: Global, part: Part, value: &Value) -> Result<Text, BadContext>
@@ -39,11 +65,24 @@ pub(crate) fn text_in(alloc: Global, part: Part, value: &Value) -> Result<Text, 
 {
     match value {
         Value::String(text) => short_text(alloc, text.as_str()),
-        Value::Number(n) if n.is_f64() => Err(BadContext::WrongKind(part)),
-        Value::Number(_) | Value::Bool(_) => {
-            let text = value.to_string(alloc)?;
-            short_text(alloc, text.as_str())
-        }
+        Value::Bool(true) => short_text(alloc, "true"),
+        Value::Bool(false) => short_text(alloc, "false"),
+        Value::Number(number) => integer_in(alloc, part, number),
         Value::Null | Value::Array(_) | Value::Object(_) => Err(BadContext::WrongKind(part)),
+    }
+}
+
+/// The text of an integer at a part of a context.
+#[tactic(auto, unfolding(crate::specs::Values::text_in))]
+fn integer_in(alloc: Global, part: Part, value: &Number) -> Result<Text, BadContext>
+    ensures { Gives result (text_in part (number (number_view value.now))) }
+{
+    let mut buffer = Buffer::new();
+    if let Some(whole) = value.as_u64() {
+        return short_text(alloc, buffer.format(whole));
+    }
+    match value.as_i64() {
+        Some(below_zero) => short_text(alloc, buffer.format(below_zero)),
+        None => Err(BadContext::WrongKind(part)),
     }
 }

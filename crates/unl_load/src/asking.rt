@@ -77,7 +77,7 @@ fn context(alloc: Global, user: u32) -> Result<Context, Memory>
 {
     let number = decimal_text(alloc, user)?;
     let value = user_value(alloc, number.as_str())?;
-    match Context::read_json(alloc, &value) {
+    match Context::take_json(alloc, value) {
         Ok(context) => Ok(context),
         Err(_) => Err(Memory),
     }

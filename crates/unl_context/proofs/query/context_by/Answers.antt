@@ -1,4 +1,4 @@
-use Rattle.std.proofs.Common.{rules, ◌<◌, ◌∙◌, ap, fold, length, sym}
+use Rattle.std.proofs.Common.{rules, ◌<◌, ◌∙◌, ap, fold, length}
 use Rattle.unl_context.specs.Query.{pairs_of, taken, with_inner}
 use Rattle.unl_context.proofs.Counting.{none_yet, set_apart, too_many}
 use Rattle.unl_context.proofs.query.context_by.Goals as goal
