@@ -51,6 +51,8 @@ pub fn explain_run<S: Source, K: Sink>(
     ensures write { IsErrOf result ExplainFault.WriteFault → Rose (K.faults sink.old) (K.faults sink.new) }
     ensures source_later { S.faults source.old ≤ S.faults source.new }
     ensures sink_later { K.faults sink.old ≤ K.faults sink.new }
+    // A failed read is never told as want of memory.
+    ensures untouched { IsErrOf result ExplainFault.Memory → S.faults source.new ≡ S.faults source.old }
 {
     match answer_input::<Explaining, S, K>(alloc, &Explaining, source, sink) {
         Ok(_line) => Ok(()),

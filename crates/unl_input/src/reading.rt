@@ -1,5 +1,5 @@
 //! Reading a whole input.
-ghost use Rattle.std.specs.Prelude.{◌≡◌, ◌<◌, ◌≤◌, ◌++◌, length, take, IfOk, IsErrOf, OnOk};
+ghost use Rattle.std.specs.Prelude.{◌≡◌, ◌≢◌, ◌<◌, ◌≤◌, ◌++◌, length, take, Err, IfOk, IsErrOf, OnOk};
 ghost use Rattle.unl_base.specs.Faults.{Rose};
 ghost use Rattle.unl_input.specs.Input.{HasRead};
 
@@ -55,6 +55,7 @@ pub fn read_input<S: Source>(alloc: Global, source: &mut S) -> Result<List<u8>, 
     ensures read { HasRead result (S.left source.old) (S.left source.new) }
     ensures failed { IsErrOf result InputFault.ReadFault → Rose (S.faults source.old) (S.faults source.new) }
     ensures later { S.faults source.old ≤ S.faults source.new }
+    ensures untouched { result ≢ Err InputFault.ReadFault → S.faults source.new ≡ S.faults source.old }
 {
     let mut room = new_room(alloc)?;
     read_to_end(alloc, source, &mut room)
@@ -70,6 +71,7 @@ fn read_to_end<S: Source>(
     ensures read { HasRead result (S.left source.old) (S.left source.new) }
     ensures failed { IsErrOf result InputFault.ReadFault → Rose (S.faults source.old) (S.faults source.new) }
     ensures later { S.faults source.old ≤ S.faults source.new }
+    ensures untouched { result ≢ Err InputFault.ReadFault → S.faults source.new ≡ S.faults source.old }
 {
     let mut bytes = Vec::new(alloc);
     'reads: while bytes.len() <= LONGEST {

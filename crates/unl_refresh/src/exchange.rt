@@ -1,7 +1,7 @@
 //! One exchange with a peer: a connect, a request, and the reply to it.
 ghost use Rattle.std.specs.Prelude.{◌≡◌, ◌≢◌, ◌<◌, ◌≤◌, [], Err, IfOk, IfErr, OnOk, OnErr, IsTrue, drop, length, option_map};
 ghost use Rattle.unl_base.specs.Doors.{next_of};
-ghost use Rattle.unl_base.specs.Faults.{HasCause, Rose};
+ghost use Rattle.unl_base.specs.Faults.{Rose};
 ghost use Rattle.unl_base.specs.Streams.{Sends, SendsFront};
 ghost use Rattle.unl_http_api.specs.Received.{IsReply};
 ghost use Rattle.unl_http_api.specs.RequestText.{fits_if_any};
@@ -35,6 +35,8 @@ pub(crate) fn exchange<P: Peer>(
         (P.state peer.old).replies (P.Sink.sent peer.old) (P.state peer.new).replies (P.Sink.sent peer.new) }
     ensures later { P.Source.faults peer.old ≤ P.Source.faults peer.new }
     ensures cause { result ≡ Err RefreshFault.PeerFault → Rose (P.Source.faults peer.old) (P.Source.faults peer.new) }
+    ensures still { OnOk result (P.Source.faults peer.new ≡ P.Source.faults peer.old) }
+    ensures untouched { result ≡ Err RefreshFault.Memory → P.Source.faults peer.new ≡ P.Source.faults peer.old }
 {
     peer.connect()?;
     write_all(peer, request)?;
@@ -49,6 +51,8 @@ fn read_reply<P: Peer>(alloc: Global, peer: &mut P) -> Result<Result<Got, BadRep
     ensures beside { P.Source.beside peer.new ≡ P.Source.beside peer.old }
     ensures later { P.Source.faults peer.old ≤ P.Source.faults peer.new }
     ensures cause { result ≡ Err RefreshFault.PeerFault → Rose (P.Source.faults peer.old) (P.Source.faults peer.new) }
+    ensures still { OnOk result (P.Source.faults peer.new ≡ P.Source.faults peer.old) }
+    ensures untouched { result ≡ Err RefreshFault.Memory → P.Source.faults peer.new ≡ P.Source.faults peer.old }
 {
     let mut reader = ReplyReader::new(alloc);
     receive(peer, &mut reader)?;
@@ -80,6 +84,8 @@ fn receive<P: Peer>(peer: &mut P, reader: &mut ReplyReader) -> Result<(), Refres
     ensures beside { P.Source.beside peer.new ≡ P.Source.beside peer.old }
     ensures later { P.Source.faults peer.old ≤ P.Source.faults peer.new }
     ensures cause { result ≡ Err RefreshFault.PeerFault → Rose (P.Source.faults peer.old) (P.Source.faults peer.new) }
+    ensures still { OnOk result (P.Source.faults peer.new ≡ P.Source.faults peer.old) }
+    ensures untouched { result ≡ Err RefreshFault.Memory → P.Source.faults peer.new ≡ P.Source.faults peer.old }
 {
     let mut room = [0; PIECE];
     while reader.held() < ENOUGH {
@@ -103,6 +109,8 @@ fn read_piece<P: Peer>(
     ensures beside { P.Source.beside peer.new ≡ P.Source.beside peer.old }
     ensures later { P.Source.faults peer.old ≤ P.Source.faults peer.new }
     ensures cause { result ≡ Err RefreshFault.PeerFault → Rose (P.Source.faults peer.old) (P.Source.faults peer.new) }
+    ensures still { OnOk result (P.Source.faults peer.new ≡ P.Source.faults peer.old) }
+    ensures untouched { result ≡ Err RefreshFault.Memory → P.Source.faults peer.new ≡ P.Source.faults peer.old }
 {
     match peer.read(room) {
         Ok(0) => Ok(false),

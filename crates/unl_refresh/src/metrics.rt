@@ -61,9 +61,10 @@ pub fn send_metrics<P: Peer>(
         (P.state peer.old).replies (P.Sink.sent peer.old) (P.state peer.new).replies (P.Sink.sent peer.new) }
     ensures silent { bulk_of environment.now book.old ≡ None → peer.new ≡ peer.old }
 
-    // A fault is told only where the peer counted one.
+    // A fault is told only where the peer counted one, and want of memory only where it counted none.
     ensures later { P.Source.faults peer.old ≤ P.Source.faults peer.new }
     ensures cause { result ≡ Err RefreshFault.PeerFault → Rose (P.Source.faults peer.old) (P.Source.faults peer.new) }
+    ensures untouched { result ≡ Err RefreshFault.Memory → P.Source.faults peer.new ≡ P.Source.faults peer.old }
 {
     send(alloc, book, environment, token, host, peer)
 }
@@ -90,6 +91,7 @@ fn send<P: Peer>(
     ensures silent { bulk_of environment.now book.old ≡ None → peer.new ≡ peer.old }
     ensures later { P.Source.faults peer.old ≤ P.Source.faults peer.new }
     ensures cause { result ≡ Err RefreshFault.PeerFault → Rose (P.Source.faults peer.old) (P.Source.faults peer.new) }
+    ensures untouched { result ≡ Err RefreshFault.Memory → P.Source.faults peer.new ≡ P.Source.faults peer.old }
 {
     let found = book.bulk(alloc, environment)?;
     let outcome = send_found(alloc, found, token, host, peer)?;
@@ -118,6 +120,7 @@ fn send_found<P: Peer>(
     ensures silent { found ≡ None → peer.new ≡ peer.old }
     ensures later { P.Source.faults peer.old ≤ P.Source.faults peer.new }
     ensures cause { result ≡ Err RefreshFault.PeerFault → Rose (P.Source.faults peer.old) (P.Source.faults peer.new) }
+    ensures untouched { result ≡ Err RefreshFault.Memory → P.Source.faults peer.new ≡ P.Source.faults peer.old }
 {
     let Some((report, count)) = found else {
         return Ok(MetricsOutcome::Nothing);

@@ -64,9 +64,10 @@ pub fn refresh_tokens<I: Installer, P: Peer>(
     ensures one_reply { ¬ (Rose (P.Source.faults peer.old) (P.Source.faults peer.new)) → result ≢ Err RefreshFault.Memory
         → (P.state peer.new).replies ≡ option_map (λ list. drop 1 list) (P.state peer.old).replies }
 
-    // A fault is told only where the peer counted one.
+    // A fault is told only where the peer counted one, and want of memory only where it counted none.
     ensures later { P.Source.faults peer.old ≤ P.Source.faults peer.new }
     ensures cause { result ≡ Err RefreshFault.PeerFault → Rose (P.Source.faults peer.old) (P.Source.faults peer.new) }
+    ensures untouched { result ≡ Err RefreshFault.Memory → P.Source.faults peer.new ≡ P.Source.faults peer.old }
 {
     refresh(alloc, to, texts, host, peer)
 }
@@ -91,6 +92,7 @@ fn refresh<I: Installer, P: Peer>(
         (P.state peer.old).replies (P.Sink.sent peer.old) (P.state peer.new).replies (P.Sink.sent peer.new) }
     ensures later { P.Source.faults peer.old ≤ P.Source.faults peer.new }
     ensures cause { result ≡ Err RefreshFault.PeerFault → Rose (P.Source.faults peer.old) (P.Source.faults peer.new) }
+    ensures untouched { result ≡ Err RefreshFault.Memory → P.Source.faults peer.new ≡ P.Source.faults peer.old }
 {
     let request = request_of(alloc, texts, host)?;
     let reading = exchange(alloc, peer, request.as_slice())?;

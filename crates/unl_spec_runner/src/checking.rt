@@ -35,6 +35,8 @@ pub fn check<S: Source, K: Sink>(
     ensures write { IsErrOf result CheckFault.WriteFault → Rose (K.faults sink.old) (K.faults sink.new) }
     ensures source_later { S.faults source.old ≤ S.faults source.new }
     ensures sink_later { K.faults sink.old ≤ K.faults sink.new }
+    // A failed read is never told as want of memory.
+    ensures untouched { IsErrOf result CheckFault.Memory → S.faults source.new ≡ S.faults source.old }
 {
     match answer_input::<Checking, S, K>(alloc, &Checking { draw: *draw }, source, sink) {
         Ok(report) => Ok(report.summary()),

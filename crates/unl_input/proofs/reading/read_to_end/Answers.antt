@@ -1,4 +1,4 @@
-use Rattle.std.proofs.Common.{arith}
+use Rattle.std.proofs.Common.{◌∙◌, arith, refl}
 use Rattle.unl_input.proofs.Taking.{takes_more, takes_none, takes_end}
 use Rattle.unl_input.proofs.reading.read_to_end.Goals as goal
 
@@ -6,6 +6,7 @@ pub reads-init : goal.reads-init
 reads-init g c = record {
   took = rw c.new-bytes.ensures.items (takes_none (g.S.Source.left c.args.source.now));
   later = omega arith;
+  still = refl;
   room = c.requires;
 }
 
@@ -13,6 +14,7 @@ pub reads-preserved : goal.reads-preserved
 reads-preserved g c = record {
   took = rw c.in_ok-take_front-in-Ok.ensures (takes_more _ _ _ _ _ c.reads.invariant.took c.in-Ok.ensures.taken);
   later = omega (arith, c.reads.invariant.later, c.read.ensures.cause.later);
+  still = c.in-Ok.ensures.cause.still ∙ c.reads.invariant.still;
   room = omega (arith, c.in-Ok.ensures.fits, c.in-Ok.count-test);
 }
 

@@ -8,6 +8,7 @@ invariant-loop-room g l = record {
   taking : Taking (g.P.Source.left l.initial.peer) l.reader (g.P.Source.left l.peer);
   beside : g.P.Source.beside l.peer ≡ g.P.Source.beside l.initial.peer;
   later : g.P.Source.faults l.initial.peer ≤ g.P.Source.faults l.peer;
+  still : g.P.Source.faults l.peer ≡ g.P.Source.faults l.initial.peer;
 }
 
 -- each piece has a byte, and fewer than these are held before it
