@@ -1,2 +1,4 @@
 pub mod Beginning
+pub mod Faults
+pub mod Given
 pub mod Serving

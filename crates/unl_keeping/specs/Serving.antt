@@ -1,5 +1,5 @@
 -- How an upstream ends that is opened from its keeper, and then serves the links of its door.
-use Rattle.std.specs.Prelude.{◌≡◌, ◌⊎◌, ⊤, ℕ, Result, Ok, Err}
+use Rattle.std.specs.Prelude.{◌≡◌, ◌⊎◌, ℕ, Result, Ok, Err}
 use Rattle.unl_base.specs.Doors.{DoorState, IsClosed}
 use Rattle.unl_base.specs.declared.Failed.{Failed}
 use Rattle.unl_exchange.specs.Answering.{Coming}
@@ -62,7 +62,7 @@ pub record RefusesRow (start : KeptState) (place : ℕ) (last : KeptState) (befo
   pub reopens : Reopens start (Err fault) last
   pub same : after ≡ before
 
--- how it ends, unless memory ran out
+-- how it ends
 abbrev pub Ends : KeptState → Result ℕ KeepingFault → KeptState → Facing → Facing → Type 0
 Ends start (Ok served) last before after = OpensAndServes start (Ok served) last before after
 Ends start (Err BadWords) last before after = ⊥
@@ -70,4 +70,4 @@ Ends start (Err (File error)) last before after = ⊥
 Ends start (Err (Row place)) last before after = RefusesRow start place last before after
 Ends start (Err Keeper) last before after = Reopens start (Err reopening.Fault) last × (after ≡ before)
 Ends start (Err Door) last before after = (failed : Failed) × OpensAndServes start (Err failed) last before after
-Ends start (Err Memory) last before after = ⊤
+Ends start (Err Memory) last before after = Reopens start (Err reopening.Memory) last × (after ≡ before)

@@ -1,5 +1,6 @@
 //! Why the program ends before its door is closed.
 ghost use Rattle.std.specs.Prelude.{◌≡◌};
+ghost use Rattle.unl_keeping.specs.Faults.{fault_of};
 ghost use Rattle.unl_keeping.specs.Serving.{code_of};
 ghost use Rattle.unl_keeping.specs.declared.fault.KeepingFault.TheVariants.{Memory as want};
 
@@ -48,6 +49,8 @@ impl KeepingFault {
 }
 
 impl From<sqlite::Error> for KeepingFault {
+    ghost from_gives = { λ error fault. fault ≡ fault_of error };
+
     fn from(error: sqlite::Error) -> KeepingFault {
         match error {
             sqlite::Error::SqliteFailure(ErrorCode::OutOfMemory) => KeepingFault::Memory,

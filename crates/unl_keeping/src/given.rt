@@ -1,9 +1,12 @@
 //! The words of the program: a path, and then the options of an upstream.
-ghost use Rattle.std.specs.Prelude.{◌≡◌, IfOk};
+ghost use Rattle.std.specs.Prelude.{◌≡◌, ℕ, List, IfOk, drop, map, string_bytes};
+ghost use Rattle.std.specs.Vec.Iter.{into_iter_items};
+ghost use Rattle.unl_keeping.specs.Given.{IsReading, bound_of, port_of};
 ghost use Rattle.unl_words.specs.Ranges.{IsInRange};
 
 use crate::fault::KeepingFault;
-use std::alloc::Global;
+use std::alloc::{AllocError, Global};
+use std::env::Args;
 use std::io::ErrorKind;
 use std::{env, mem};
 use unl_words::{Words, WordsRefusal, read_words};
@@ -17,7 +20,9 @@ pub struct Given {
 
 impl Given {
     /// The port to listen at.
-    pub fn port(&self) -> u16 {
+    pub fn port(&self) -> u16
+        ensures { result ≡ port_of self.now.words }
+    {
         match &self.words {
             Words::Upstream(upstream) => upstream.port,
             _ => 0,
@@ -25,7 +30,9 @@ impl Given {
     }
 
     /// After how many links the door closes, where the words say so.
-    pub fn bound(&self) -> Option<u64> {
+    pub fn bound(&self) -> Option<u64>
+        ensures { result ≡ bound_of self.now.words }
+    {
         match &self.words {
             Words::Upstream(upstream) if upstream.connections > 0 => Some(upstream.connections),
             _ => None,
@@ -37,22 +44,31 @@ impl Given {
 /// them.
 ///
 /// # Errors
-/// `BadWords` where there is no path, or `read_words` refuses the options; or want of memory.
+/// `BadWords` where there is no path, `read_words` refuses the options, or a word is not UTF-8; or want of memory.
 pub fn read_given(rt: &HostRuntime) -> Result<Given, KeepingFault>
-    ensures { IfOk result (λ given. IsInRange given.words) }
+    ensures reads { (words : List (List ℕ)) × IsReading words result }
+    ensures valid { IfOk result (λ given. IsInRange given.words) }
 {
     let args = match env::args(rt) {
         Ok(args) => args,
         Err(fault) if fault.kind() == ErrorKind::OutOfMemory => return Err(KeepingFault::Memory),
         Err(_) => return Err(KeepingFault::BadWords),
     };
-    let words = args.skip(1).collect::<Vec<String>>(rt.alloc())?;
+    let words = behind_name(rt.alloc(), args)?;
     read_path_first(rt.alloc(), words)
+}
+
+/// The words behind the program's own name.
+fn behind_name(alloc: Global, args: Args) -> Result<Vec<String>, AllocError>
+    ensures { IfOk result (λ words. words.items ≡ drop 1 (into_iter_items args)) }
+{
+    args.skip(1).collect(alloc)
 }
 
 /// Takes the first word for the path, in whose place then stands the name of the command.
 fn read_path_first(alloc: Global, mut words: Vec<String>) -> Result<Given, KeepingFault>
-    ensures { IfOk result (λ given. IsInRange given.words) }
+    ensures reads { IsReading (map string_bytes words.items) result }
+    ensures valid { IfOk result (λ given. IsInRange given.words) }
 {
     let command = String::from_str(alloc, "upstream")?;
     let Some(first) = words.first_mut() else {

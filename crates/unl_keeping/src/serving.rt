@@ -1,7 +1,7 @@
 //! An upstream is opened from what its keeper has, and serves the links of its door.
 ghost use Rattle.std.specs.Prelude.{◌≡◌, true, Err, IfOk, OnErr};
 ghost use Rattle.unl_base.specs.Faults.{Rose};
-ghost use Rattle.unl_keeping.specs.Beginning.{IsAskedFor, upstream_of};
+ghost use Rattle.unl_keeping.specs.Beginning.{Begins, upstream_of};
 ghost use Rattle.unl_keeping.specs.Serving.{Ends, LinksEnd, facing};
 ghost use Rattle.unl_keeping.specs.declared.fault.KeepingFault.TheVariants.{Door as door_fault, Keeper as keeper_fault};
 ghost use Rattle.unl_upstream.specs.Kept.{keeper_by, kept_state};
@@ -20,11 +20,11 @@ use unl_words::{UpstreamWords, Words, own_book};
 /// An upstream of these words, which was given no command.
 ///
 /// # Errors
-/// `BadWords` where the words don't ask for an upstream; or want of memory.
+/// `BadWords` exactly where the words don't ask for an upstream; or want of memory.
 pub fn begin(alloc: Global, boot: u64, words: &Words) -> Result<Upstream, KeepingFault>
     requires { IsInRange words.now }
     ensures opens { IfOk result IsOpening }
-    ensures asked { IfOk result (IsAskedFor boot words.now) }
+    ensures begins { Begins boot words.now result }
 {
     match words {
         Words::Upstream(upstream) => Ok(new_upstream(alloc, boot, upstream)?),
@@ -49,8 +49,8 @@ fn new_upstream(alloc: Global, boot: u64, words: &UpstreamWords) -> Result<Upstr
 ///
 /// # Errors
 /// `Row` where a row of the keeper is no command that is accepted, or isn't there; `Keeper` where the keeper failed as it was
-/// opened; `Door` where the port can't be listened at, or no link could be had; or want of memory. A keeper that fails while
-/// links are served ends nothing.
+/// opened; `Memory` where memory ran out as it was opened; `Door` where the port can't be listened at, or no link could be had. A
+/// keeper that fails while links are served ends nothing.
 pub fn serve_reopened<K: Keeper, D: Door, R: Draws, W: Wait>(
     rt: &W,
     alloc: Global,
