@@ -1,17 +1,22 @@
 -- How an edge ends that has taken its first draw and listened.
-use Rattle.std.proofs.Common.{◌≡◌, ◌+◌, ◌≤◌, ◌∙◌, ℕ, Bool, List, length, drop, Option, Some, None, Result, Ok, Err, IfSome, ap, arith, refl, sym, subst}
-use Rattle.std.specs.Prelude.{OnOk, IsErrOf, option_map}
+use Rattle.std.proofs.Common.{◌≡◌, ◌≤◌, ◌∙◌, ℕ, Bool, List, length, Option, Some, None, Result, Ok, Err, IfSome, ap, arith, inl, inr, refl, sym, subst}
+use Rattle.std.specs.Prelude.{◌⊎◌, map}
+use Rattle.unl_base.specs.Draws.{TakesDraw}
 use Rattle.unl_base.specs.Doors.{DoorState, IsClosed, listening_if}
 use Rattle.unl_base.specs.Streams.{Sends, SendsFront}
 use Rattle.unl_base.specs.declared.draws.Draw.{Draw}
-use Rattle.unl_delta.specs.Installing.{Installed}
-use Rattle.unl_edge.specs.Edges.{EdgeEnds, HandsLinks, IsServed}
+use Rattle.unl_core.specs.declared.board.Board.{Board}
+use Rattle.unl_edge.specs.Edges.{EdgeEnds, EdgeRuns, HandsLinks, IsServed, RunsEdge, StopsForMemory}
 use Rattle.unl_edge.specs.Scene.{Scene}
-use Rattle.unl_edge.specs.Sites.{Site}
+use Rattle.unl_edge.specs.Sites.{Site, begun_board, site_at, site_of}
 use Rattle.unl_edge.specs.Upstreams.{connections_line, line_end}
 use Rattle.unl_edge.specs.declared.ends.ServingEnd.{ServingEnd}
 use Rattle.unl_edge.specs.declared.ends.ServingEnd.TheVariants.{Closed, WriteFault, DoorFault, OutOfMemory}
+use Rattle.unl_exchange.specs.Answering.{Coming}
 use Rattle.unl_upkeep.proofs.Connecting.{none_taken}
+use Rattle.unl_upkeep.specs.Feeding.{Feeding, feedings}
+use Rattle.unl_words.specs.Lists.{environment_of}
+use Rattle.unl_words.specs.declared.words.EdgeWords.{EdgeWords}
 use Rattle.unl_input.specs.Refusal.{SaysLine}
 use Rattle.unl_input.specs.declared.refusal.SayFault.{SayFault}
 use Rattle.unl_input.specs.declared.refusal.SayFault.TheVariants as say
@@ -55,24 +60,47 @@ from_draw : {served : ℕ} {before after : Scene} {draws : Option (List Draw × 
 from_draw hands =
     record { given = hands.given; had = hands.had; none_back = hands.none_back; left = hands.left; unread = hands.unread }
 
--- a draw changes nothing of how an edge ends
-drawn_ends : (site : Site) (end : ServingEnd) (before after : Scene) (draws : Option (List Draw × Draw))
-    → EdgeEnds site end (record before { draws = draws }) after → EdgeEnds site end before after
-drawn_ends site Closed before after draws ends = (ends.0, from_draw {draws = draws} ends.1, ends.2, ends.3, ends.4)
-drawn_ends site WriteFault before after draws ends = (ends.0, from_draw {draws = draws} ends.1, ends.2, ends.3, ends.4)
-drawn_ends site DoorFault before after draws ends = (ends.0, from_draw {draws = draws} ends.1, ends.2)
-drawn_ends site OutOfMemory before after draws ends = tt
+-- memory ran out before anything was handed out or sent
+pub stops_at_once : (before after middle : Scene) → before ≡ middle → after.door.state ≡ middle.door.state → after.input.left ≡ middle.input.left
+    → after.output.sent ≡ middle.output.sent → StopsForMemory before after
+stops_at_once before after middle same shut unread silent =
+    subst (λ (scene : Scene). StopsForMemory scene after) (sym same) (0, none, inl refl, silent)
+  where
+    none : HandsLinks 0 middle after
+    none = record {
+      given = ap (λ (d : DoorState). d.given) shut ∙ omega arith;
+      had = none_had middle.door.state.links;
+      none_back = ap (λ (d : DoorState). d.back) shut;
+      left = ap (λ (d : DoorState). d.links) shut ∙ none_taken middle.door.state.links;
+      unread = unread;
+    }
 
--- the same, where what stood before and the site are known by their parts
-pub begun_ends : (known tokens : List (List ℕ)) (opening begun : Installed) (workers : ℕ) (end : ServingEnd) (before middle after : Scene)
-    (draws : Option (List Draw × Draw)) → known ≡ tokens → begun ≡ opening → before ≡ middle
-    → EdgeEnds (record { known = known; opening = begun; workers = workers }) end (record middle { draws = draws }) after
-    → EdgeEnds (record { known = tokens; opening = opening; workers = workers }) end before after
-begun_ends known tokens opening begun workers end before middle after draws told opens same ends =
-    subst (λ (scene : Scene). EdgeEnds (record { known = tokens; opening = opening; workers = workers }) end scene after) (sym same)
-    (drawn_ends (record { known = tokens; opening = opening; workers = workers }) end middle after draws
-    (subst (λ (t : List (List ℕ)). EdgeEnds (record { known = t; opening = opening; workers = workers }) end (record middle { draws = draws }) after) told
-    (subst (λ (o : Installed). EdgeEnds (record { known = known; opening = o; workers = workers }) end (record middle { draws = draws }) after) opens ends)))
+-- how an edge ends that took a draw first
+runs_so : (site : ℕ → Site) (end : ServingEnd) (before after : Scene) (draw : Draw) (coming : Coming) → TakesDraw before.draws draw coming
+    → EdgeEnds (site draw.word) end (record before { draws = coming }) after → EdgeRuns site end before after
+runs_so site end before after draw coming taken ends = by_end end ends
+  where
+    runs : (end : ServingEnd) → EdgeEnds (site draw.word) end (record before { draws = coming }) after → RunsEdge site end before after
+    runs end ends = record { draw = draw; coming = coming; taken = taken; ends = ends }
+
+    by_end : (end : ServingEnd) → EdgeEnds (site draw.word) end (record before { draws = coming }) after → EdgeRuns site end before after
+    by_end Closed ends = runs Closed ends
+    by_end WriteFault ends = runs WriteFault ends
+    by_end DoorFault ends = runs DoorFault ends
+    by_end OutOfMemory ends = (ends.0, from_draw {draws = coming} ends.1, ends.2, ends.3)
+
+-- the same, where what stood before and what it serves by are known by their parts
+pub begun_ends : (words : EdgeWords) (known : List (List ℕ)) (board : Board) (feeders : List Feeding) (end : ServingEnd) (before middle after : Scene)
+    (draw : Draw) (coming : Coming) → known ≡ words.tokens → board ≡ begun_board draw.word words.host words.upstream_tokens
+    → feeders ≡ feedings words.upstream words.delta words.upstream_tokens (map environment_of words.upstream_tokens)
+    → before ≡ middle → TakesDraw middle.draws draw coming
+    → EdgeEnds (site_at known board feeders words.workers) end (record middle { draws = coming }) after
+    → EdgeRuns (site_of words) end before after
+begun_ends words known board feeders end before middle after draw coming tells begins feeds same taken ends =
+    subst (λ (scene : Scene). EdgeRuns (site_of words) end scene after) (sym same)
+    (runs_so (site_of words) end middle after draw coming taken
+    (subst (λ (site : Site). EdgeEnds site end (record middle { draws = coming }) after)
+    (λ i. site_at (tells i) (begins i) (feeds i) words.workers) ends))
 
 -- ---- the last line
 
@@ -105,6 +133,15 @@ failed_ends site served before middle after same hands silent =
     ends : EdgeEnds site DoorFault middle after
     ends = (served, hands, silent)
 
+-- memory ran out before the first link, or for the line
+pub stopped_ends : (site : Site) (served : ℕ) (before middle after : Scene) → before ≡ middle → HandsLinks served middle after
+    → (served ≡ 0) ⊎ IsClosed after.door.state → after.output.sent ≡ middle.output.sent → EdgeEnds site OutOfMemory before after
+stopped_ends site served before middle after same hands over silent =
+    subst (λ (scene : Scene). EdgeEnds site OutOfMemory scene after) (sym same) ends
+  where
+    ends : EdgeEnds site OutOfMemory middle after
+    ends = (served, hands, over, silent)
+
 -- the same, by how the line was sent
 pub told_ends : (site : Site) (served : ℕ) (told : Result Unit SayFault) (end : ServingEnd) (before middle after : Scene)
     → end ≡ line_end told → before ≡ middle → HandsLinks served middle after → IsServed site middle after
@@ -116,4 +153,4 @@ told_ends site served told end before middle after is same hands serves said clo
         → EdgeEnds site (line_end told) before after
     by_told (Ok u) said = closed_ends site served before middle after same hands serves said closed
     by_told (Err say.WriteFault) said = broken_ends site served before middle after same hands serves said closed
-    by_told (Err say.Memory) said = tt
+    by_told (Err say.Memory) said = stopped_ends site served before middle after same hands (inr closed) said

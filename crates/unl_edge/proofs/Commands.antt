@@ -124,14 +124,14 @@ after_lines opened kept last desk end left left_after before after sent has is t
       links.3,
     )
     by_end DoorFault links = (links.0, serves links.0 links.1, links.2 ∙ same_sent)
-    by_end OutOfMemory links = tt
+    by_end OutOfMemory links = (links.0, serves links.0 links.1, links.2 ∙ same_sent, links.3)
 
 -- ---- the keeper
 
 -- how an upstream ends that was reopened
 pub after_reopening : (start opened : KeptState) (reopened : ℕ) (end : UpstreamEnd) (last : KeeperState) (left left_after : Option (List ℕ)) (before after : Facing)
     → Opens start reopened opened → LinesEnd opened end last left left_after before after → KeeperEnd start end last left left_after before after
-after_reopening start opened reopened NoMemory last left left_after before after opens ends = tt
+after_reopening start opened reopened NoMemory last left left_after before after opens ends = absurd ends
 after_reopening start opened reopened KeeperFault last left left_after before after opens ends = ends
 after_reopening start opened reopened (Row told) last left left_after before after opens ends = absurd ends
 after_reopening start opened reopened (Lines fault) last left left_after before after opens ends =
@@ -236,7 +236,7 @@ ends_kept start end made last before after is_made ends back = by_end end ends
 
     by_end : (end : UpstreamEnd) → KeeperEnd (kept_state start made) end last before.input.left after.input.left (facing_of before) (facing_of after)
         → UpstreamEnds start end before after
-    by_end NoMemory ends = tt
+    by_end NoMemory ends = ends
     by_end KeeperFault ends = ends
     by_end (Row told) ends = kept (Row told) ends
     by_end (Lines fault) ends = kept (Lines fault) ends
@@ -257,7 +257,7 @@ runs_so secret environments book epoch end before after start coming begins ends
 
     by_end : (end : UpstreamEnd) → UpstreamEnds start end (record before { draws = coming }) after
         → UpstreamRuns secret environments book epoch end before after
-    by_end NoMemory ends = tt
+    by_end NoMemory ends = record { silent = ends.silent; shut = ends.shut }
     by_end KeeperFault ends = runs KeeperFault ends
     by_end (Row told) ends = runs (Row told) ends
     by_end (Lines fault) ends = runs (Lines fault) ends

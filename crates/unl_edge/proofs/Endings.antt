@@ -4,8 +4,10 @@ use Rattle.unl_base.specs.declared.draws.Draw.{Draw}
 use Rattle.unl_documents.specs.Reading.{Reading}
 use Rattle.unl_documents.specs.Results.{Gives}
 use Rattle.unl_edge.specs.Ends.{CheckEnds, Ended, Ends, HasCauses, IsDecided, SaysOfInput, explained_status, outcome_end}
-use Rattle.unl_edge.specs.Scene.{Scene, ServingFailed}
+use Rattle.unl_edge.specs.Follows.{ask_of, ends_in, subject_of}
+use Rattle.unl_edge.specs.Scene.{Scene}
 use Rattle.unl_edge.specs.Status.{Caused, FailsToKeep, IsCaused, check_status, code_of, ending_status, explain_status, follow_status, lines_status, load_status, serving_status, words_status}
+use Rattle.unl_edge.proofs.Closing.{stops_at_once}
 use Rattle.unl_edge.proofs.Commands.{refusing_decides, upstream_decided}
 use Rattle.unl_edge.specs.declared.ends.CheckEnd.{CheckEnd}
 use Rattle.unl_edge.specs.declared.ends.CheckEnd.TheVariants as check
@@ -21,6 +23,7 @@ use Rattle.unl_explain.specs.declared.running.ExplainFault.{ExplainFault}
 use Rattle.unl_explain.specs.declared.running.ExplainFault.TheVariants as explain
 use Rattle.unl_follow.specs.declared.fault.FollowFault.{FollowFault}
 use Rattle.unl_follow.specs.declared.fault.FollowFault.TheVariants as follow
+use Rattle.unl_follow.proofs.Turning.{none_made}
 use Rattle.unl_input.proofs.Outcomes.{decides}
 use Rattle.unl_input.specs.Answer.{ComesTo, Outcome, outcome_of}
 use Rattle.unl_lines.specs.Whole.{TakesLines}
@@ -43,10 +46,14 @@ at_memory : (reading : WordsReading) (scene : Scene) → Ends reading OutOfMemor
 at_memory (Ok Replay) scene = record { end = Err lines.Memory; is = refl; ends = tt }
 at_memory (Ok (Check now word)) scene = record { end = check.OutOfMemory; is = refl; ends = refl }
 at_memory (Ok Explain) scene = record { end = Err explain.Memory; is = refl; ends = refl }
-at_memory (Ok (Edge edge)) scene = record { end = serving.OutOfMemory; is = refl; ends = tt }
-at_memory (Ok (Upstream up)) scene = record { end = upstream.OutOfMemory; is = refl; ends = tt }
-at_memory (Ok (Follow replica)) scene = record { end = Err follow.Memory; is = refl; ends = tt }
-at_memory (Ok (Load seed count)) scene = record { end = Err load.Memory; is = refl; ends = tt }
+at_memory (Ok (Edge edge)) scene = record { end = serving.OutOfMemory; is = refl; ends = stops_at_once scene scene scene refl refl refl refl }
+at_memory (Ok (Upstream up)) scene = record { end = upstream.OutOfMemory; is = refl; ends = record { silent = refl; shut = refl } }
+at_memory (Ok (Follow replica)) scene = record {
+  end = Err follow.Memory;
+  is = refl;
+  ends = none_made {T = Unit {0}} replica.turns scene.pace (ask_of replica) (subject_of replica) (ends_in scene) (Err follow.Memory) refl;
+}
+at_memory (Ok (Load seed count)) scene = record { end = Err load.Memory; is = refl; ends = refl }
 at_memory (Err Bad) scene = record { end = words.OutOfMemory; is = refl; ends = refl }
 at_memory (Err Memory) scene = refl
 

@@ -51,7 +51,7 @@ faults_same before after same = let faults : after.keeper.faults ≡ before.keep
 -- a keeper's count of faults doesn't fall
 pub faults_later : (command : Command) (before : KeptState) (result : Result ℕ KeepCommandRefusal) (after : KeptState)
     → Keeps command before result after → before.keeper.faults ≤ after.keeper.faults
-faults_later command before (Ok number) after keeps = keeps.row.later
+faults_later command before (Ok number) after keeps = let still = keeps.row.still in omega (arith, still)
 faults_later command before (Err NoSuchEnvironment) after keeps = faults_same before after keeps.same
 faults_later command before (Err NoSuchFeature) after keeps = faults_same before after keeps.same
 faults_later command before (Err NoSuchSegment) after keeps = faults_same before after keeps.same

@@ -1,26 +1,27 @@
 -- What posts attended to, as what workers did.
-use Rattle.std.proofs.Common.{◌≡◌, ◌≤◌, ◌+◌, ◌∙◌, ℕ, zero, suc, List, [], ◌∷◌, ◌++◌, length, map, Option, Result, Ok, Err, ap, arith, subst, sym}
+use Rattle.std.proofs.Common.{◌≡◌, ◌≤◌, ◌+◌, ◌∙◌, ℕ, zero, suc, List, [], ◌∷◌, ◌++◌, length, map, Option, Some, Result, Ok, Err, ap, arith, subst, sym}
 use Rattle.std.specs.Prelude.{All, IfOk, OnOk}
 use Rattle.std.specs.List.{AllZip}
 use Rattle.std.proofs.lemmas.List.{length-map}
 use Rattle.std.proofs.lemmas.List.Elements.{All-cons, All-head, All-nil, All-push, All-tail}
 use Rattle.unl_base.specs.Faults.{Rose}
+use Rattle.unl_core.specs.declared.board.Board.{Board}
 use Rattle.unl_core.specs.declared.board.Install.{Install}
 use Rattle.unl_delta.specs.Installing.{Installed}
-use Rattle.unl_edge.specs.Attending.{HasLearned, ReadsOnAt, ServesAt}
+use Rattle.unl_edge.specs.Attending.{HasLearned, IsOfOrigin, ReadsOnAt, ServesAt}
 use Rattle.unl_edge.specs.Edges.{links_of}
-use Rattle.unl_edge.specs.Sites.{ServesALink, ServesLinks, ServesSite, WorkBeside, Worker, Works, worker_of}
+use Rattle.unl_edge.specs.Sites.{ServesLinks, ServesSite, Site, WorkBeside, Worker, Works, opened, site_at, worker_of}
 use Rattle.unl_edge.specs.declared.attending.EdgeAttendant.{EdgeAttendant}
-use Rattle.unl_edge_state.specs.Editions.{BoardAt}
-use Rattle.unl_edge_state.specs.Reading.{next_of, told_to}
+use Rattle.unl_edge_state.specs.Editions.{BoardAt, opening_at}
+use Rattle.unl_edge_state.specs.Reading.{seen_by, told_to}
 use Rattle.unl_edge_state.specs.declared.reader.EdgeReader.{EdgeReader}
 use Rattle.unl_exchange.specs.Answering.{Coming}
-use Rattle.unl_published.specs.Looking.{SameOrigin}
 use Rattle.unl_published.specs.declared.knowledge.Knowledge.{Knowledge}
 use Rattle.unl_serve.specs.Notes.{Rise}
 use Rattle.unl_serve.specs.declared.served.ServedOne.{ServedOne}
 use Rattle.unl_upkeep.proofs.Connecting.{connects_still, none_before}
 use Rattle.unl_upkeep.specs.Connects.{Connects}
+use Rattle.unl_upkeep.specs.Feeding.{Feeding}
 use Rattle.unl_upkeep.specs.Turns.{MakesTurn, upkept}
 use Rattle.unl_workers.specs.Serving.{Attends, ServesMany, Serving, serving}
 use Rattle.unl_workers.specs.declared.serving.Beside.{Beside}
@@ -67,8 +68,18 @@ all_told : {W R : Type 0} (coming_of : R → Coming) (known : Knowledge BoardAt 
 all_told coming_of known [] learned = All-nil (λ (worker : Worker). length known.installs ≤ told_to worker.reader)
 all_told {W} {R} coming_of known (post ∷ posts) learned =
     All-cons (λ (worker : Worker). length known.installs ≤ told_to worker.reader) (worker_of coming_of post) (map (worker_of coming_of) posts)
-    (All-head (λ (p : Post (EdgeAttendant W) R). HasLearned known p.server.desk.reader) post posts learned)
+    (All-head (λ (p : Post (EdgeAttendant W) R). HasLearned known p.server.desk.reader) post posts learned).least
     (all_told coming_of known posts (All-tail (λ (p : Post (EdgeAttendant W) R). HasLearned known p.server.desk.reader) post posts learned))
+
+-- and with which board that began
+all_open : {W R : Type 0} (coming_of : R → Coming) (known : Knowledge BoardAt Install) (posts : List (Post (EdgeAttendant W) R))
+    → All (λ post. HasLearned known post.server.desk.reader) posts
+    → All (λ worker. (seen_by worker.reader).opening ≡ known.opening) (map (worker_of coming_of) posts)
+all_open coming_of known [] learned = All-nil (λ (worker : Worker). (seen_by worker.reader).opening ≡ known.opening)
+all_open {W} {R} coming_of known (post ∷ posts) learned =
+    All-cons (λ (worker : Worker). (seen_by worker.reader).opening ≡ known.opening) (worker_of coming_of post) (map (worker_of coming_of) posts)
+    (All-head (λ (p : Post (EdgeAttendant W) R). HasLearned known p.server.desk.reader) post posts learned).opens
+    (all_open coming_of known posts (All-tail (λ (p : Post (EdgeAttendant W) R). HasLearned known p.server.desk.reader) post posts learned))
 
 -- one post more has learned
 pub learned_more : {W R : Type 0} (known now : Knowledge BoardAt Install) (posts longer : List (Post (EdgeAttendant W) R)) (post : Post (EdgeAttendant W) R)
@@ -81,19 +92,19 @@ learned_more {W} {R} known now posts longer post same more learned one =
 
 -- the readers behind one are of its origin
 pub others_of : (known : Knowledge BoardAt Install) (readers rest : List EdgeReader) (reader : EdgeReader) → readers ≡ reader ∷ rest
-    → All (λ reader. SameOrigin known (next_of reader)) readers → All (λ reader. SameOrigin known (next_of reader)) rest
+    → All (IsOfOrigin known) readers → All (IsOfOrigin known) rest
 others_of known readers rest reader steps all =
-    All-tail (λ (r : EdgeReader). SameOrigin known (next_of r)) reader rest
-    (subst (λ (rs : List EdgeReader). All (λ r. SameOrigin known (next_of r)) rs) steps all)
+    All-tail (IsOfOrigin known) reader rest (subst (λ (rs : List EdgeReader). All (IsOfOrigin known) rs) steps all)
 
 -- so many workers worked beside one another
 work_beside : {W R : Type 0} (coming_of : R → Coming) (known : Knowledge BoardAt Install) (before after : List (Post (EdgeAttendant W) R))
     (workers : ℕ) → length before ≡ workers → All (λ post. HasLearned known post.server.desk.reader) before
-    → AllZip (Attends ServesAt ReadsOnAt coming_of) before after → WorkBeside workers (length known.installs)
+    → AllZip (Attends ServesAt ReadsOnAt coming_of) before after → WorkBeside workers known.opening (length known.installs)
 work_beside coming_of known before after workers many learned all = record {
   begun = map (worker_of coming_of) before;
   ended = map (worker_of coming_of) after;
   many = length-map before (worker_of coming_of) ∙ many;
+  opens = all_open coming_of known before learned;
   told = all_told coming_of known before learned;
   worked = all_attended coming_of before after all;
 }
@@ -102,12 +113,12 @@ work_beside coming_of known before after workers many learned all = record {
 pub served_beside : {W R : Type 0} (coming_of : R → Coming) (known : Knowledge BoardAt Install) (before : List (Post (EdgeAttendant W) R)) (workers : ℕ)
     (served : Result (Beside (EdgeAttendant W) R) BesideFault) (result : Result ℕ BesideFault) → result ≡ links_of served → length before ≡ workers
     → All (λ post. HasLearned known post.server.desk.reader) before
-    → IfOk served (λ beside. AllZip (Attends ServesAt ReadsOnAt coming_of) before beside.posts.items) → OnOk result (WorkBeside workers (length known.installs))
+    → IfOk served (λ beside. AllZip (Attends ServesAt ReadsOnAt coming_of) before beside.posts.items) → OnOk result (WorkBeside workers known.opening (length known.installs))
 served_beside coming_of known before workers (Ok beside) result is many learned all =
-    subst (λ (r : Result ℕ BesideFault). OnOk r (WorkBeside workers (length known.installs))) (sym is)
+    subst (λ (r : Result ℕ BesideFault). OnOk r (WorkBeside workers known.opening (length known.installs))) (sym is)
     (work_beside coming_of known before beside.posts.items workers many learned all)
 served_beside coming_of known before workers (Err fault) result is many learned all =
-    subst (λ (r : Result ℕ BesideFault). OnOk r (WorkBeside workers (length known.installs))) (sym is) tt
+    subst (λ (r : Result ℕ BesideFault). OnOk r (WorkBeside workers known.opening (length known.installs))) (sym is) tt
 
 -- ---- a site
 
@@ -120,27 +131,22 @@ asked_first slots places {replies} last {faults} after (Ok links) count first th
 asked_first slots places last after (Err fault) count first then = tt
 
 -- the first turn was made, and links were served behind it
-pub site_served : (known : List (List ℕ)) (slots : ℕ) (opening first : Installed) (workers : ℕ) (replies later last : Option (List (List ℕ)))
-    (faults middle after : ℕ) (served : Result ℕ BesideFault) → slots ≡ length opening.places
-    → (¬ (Rose faults middle) → MakesTurn known slots (upkept opening replies) (upkept first later))
-    → OnOk served (Connects 0 later middle last after) → OnOk served (WorkBeside workers first.front)
-    → OnOk served (ServesSite (record { known = known; opening = opening; workers = workers }) replies faults after)
-site_served known slots opening first workers replies later last faults middle after (Ok links) count turn then work = record {
-  first = first;
-  turn = λ none. (
-    later,
-    subst (λ (n : ℕ). MakesTurn known n (upkept opening replies) (upkept first later)) count
-        (turn (none_before faults middle after then.later none)),
-  );
-  work = work;
-}
-site_served known slots opening first workers replies later last faults middle after (Err fault) count turn then work = tt
+pub site_served : (site : Site) (first : Installed) (replies later last : Option (List (List ℕ))) (faults middle after : ℕ)
+    (served : Result ℕ BesideFault)
+    → (¬ (Rose faults middle) → MakesTurn site.known site.feeders (upkept site.opening replies) (upkept first later))
+    → OnOk served (Connects 0 later middle last after) → OnOk served (WorkBeside site.workers site.edition first.front)
+    → OnOk served (ServesSite site replies faults after)
+site_served site first replies later last faults middle after (Ok links) turn then work =
+    record { first = first; turn = λ none. (later, turn (none_before faults middle after then.later none)); work = work }
+site_served site first replies later last faults middle after (Err fault) turn then work = tt
 
 -- the same site, by its parts
-pub same_site : (known : List (List ℕ)) (opening begun : Installed) (workers readers : ℕ) (replies : Option (List (List ℕ))) (faults after : ℕ)
-    (served : Result ℕ BesideFault) → begun ≡ opening → readers ≡ workers
-    → OnOk served (ServesSite (record { known = known; opening = begun; workers = readers }) replies faults after)
-    → OnOk served (ServesSite (record { known = known; opening = opening; workers = workers }) replies faults after)
-same_site known opening begun workers readers replies faults after served same count serves =
-    subst (λ (o : Installed). OnOk served (ServesSite (record { known = known; opening = o; workers = workers }) replies faults after)) same
-    (subst (λ (n : ℕ). OnOk served (ServesSite (record { known = known; opening = begun; workers = n }) replies faults after)) count serves)
+pub same_site : (known : List (List ℕ)) (board : Board) (begun : Installed) (edition : Option BoardAt) (feeders : List Feeding)
+    (workers readers : ℕ) (replies : Option (List (List ℕ))) (faults after : ℕ) (served : Result ℕ BesideFault)
+    → begun ≡ opened board → edition ≡ Some (opening_at board) → readers ≡ workers
+    → OnOk served (ServesSite (record { known = known; opening = begun; edition = edition; feeders = feeders; workers = readers })
+    replies faults after)
+    → OnOk served (ServesSite (site_at known board feeders workers) replies faults after)
+same_site known board begun edition feeders workers readers replies faults after served same opens count serves =
+    subst (λ (site : Site). OnOk served (ServesSite site replies faults after))
+    (λ i. record { known = known; opening = same i; edition = opens i; feeders = feeders; workers = count i }) serves

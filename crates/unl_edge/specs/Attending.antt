@@ -1,25 +1,32 @@
 -- What a worker of an edge does: it serves a link over what is published, and hands on what was reported.
-use Rattle.std.specs.Prelude.{◌≤◌, ℕ, List, [], length, max, Some}
+use Rattle.std.specs.Prelude.{◌≡◌, ◌≤◌, ℕ, List, [], length, max, Some}
 use Rattle.unl_core.specs.Desk.{Keeps}
 use Rattle.unl_edge.specs.declared.attending.EdgeAttendant.{EdgeAttendant}
 use Rattle.unl_edge_state.specs.declared.reader.EdgeReader.{EdgeReader}
 use Rattle.unl_core.specs.declared.board.Install.{Install}
 use Rattle.unl_edge_state.specs.Editions.{BoardAt}
-use Rattle.unl_edge_state.specs.Reading.{board_of, seen_by, told_to}
+use Rattle.unl_edge_state.specs.Reading.{board_of, next_of, seen_by, told_to}
 use Rattle.unl_exchange.specs.Answering.{Coming}
 use Rattle.unl_exchange.specs.Conversation.{Converses}
 use Rattle.unl_exchange.specs.Links.{LinkState}
 use Rattle.unl_http_api.specs.declared.end.End.{End}
 use Rattle.unl_metrics.specs.Book.{Book}
 use Rattle.unl_published.specs.declared.knowledge.Knowledge.{Knowledge}
+use Rattle.unl_published.specs.Looking.{SameOrigin}
 use Rattle.unl_published.specs.Meaning.{front_seen}
 use Rattle.unl_serve.specs.Notes.{DrawsAtLeast, LooksFor, Notes, NotesNothing, Rise, noted}
 use Rattle.unl_serve.specs.declared.served.ServedOne.{ServedOne}
 use Rattle.unl_upkeep.specs.Handing.{IsHandedOn}
 
--- a reader was told of all that is known, so that it answers from no earlier board
-abbrev pub HasLearned : Knowledge BoardAt Install → EdgeReader → Type 0
-HasLearned known reader = length known.installs ≤ told_to reader
+-- a reader knows of the writer of what is known, and of the board with which that began
+pub record IsOfOrigin (known : Knowledge BoardAt Install) (reader : EdgeReader) : Type 0 where
+  pub next : SameOrigin known (next_of reader)
+  pub seen : (seen_by reader).opening ≡ known.opening
+
+-- a reader was told of all that is known, so that it answers from no earlier board, and knows the board with which that began
+pub record HasLearned (known : Knowledge BoardAt Install) (reader : EdgeReader) : Type 0 where
+  pub least : length known.installs ≤ told_to reader
+  pub opens : (seen_by reader).opening ≡ known.opening
 
 -- a reader answers from no earlier front: it was told of so many publications, or saw so many
 abbrev pub least_front : EdgeReader → ℕ

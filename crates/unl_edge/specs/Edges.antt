@@ -1,12 +1,15 @@
 -- How an edge ends: it asks its upstream, and serves the links of its door.
-use Rattle.std.specs.Prelude.{◌≡◌, ⊤, ℕ, ◌+◌, ◌≤◌, List, Option, option_map, drop, length, IfSome, Result, Ok, Err}
+use Rattle.std.specs.Prelude.{◌≡◌, ◌⊎◌, ℕ, ◌+◌, ◌≤◌, List, Option, option_map, drop, length, IfSome, Result, Ok, Err}
 use Rattle.unl_base.specs.Doors.{DoorState, IsClosed}
+use Rattle.unl_base.specs.Draws.{TakesDraw}
 use Rattle.unl_base.specs.Streams.{Sends, SendsFront}
+use Rattle.unl_base.specs.declared.draws.Draw.{Draw}
 use Rattle.unl_edge.specs.Scene.{Scene}
 use Rattle.unl_edge.specs.Sites.{ServesSite, Site}
 use Rattle.unl_edge.specs.Upstreams.{connections_line}
 use Rattle.unl_edge.specs.declared.ends.ServingEnd.{ServingEnd}
 use Rattle.unl_edge.specs.declared.ends.ServingEnd.TheVariants.{Closed, WriteFault, DoorFault, OutOfMemory}
+use Rattle.unl_exchange.specs.Answering.{Coming}
 use Rattle.unl_upkeep.specs.Connects.{Connects}
 use Rattle.unl_workers.specs.Accepting.{HandsOut}
 use Rattle.unl_workers.specs.declared.serving.Beside.{Beside}
@@ -49,9 +52,15 @@ abbrev pub IsServed : Site → Scene → Scene → Type 0
 IsServed site before after = AsksPeer (length site.opening.places + 1) before after
     × ServesSite site before.peer.state.replies before.peer.faults after.peer.faults
 
+-- memory ran out before the first link was handed out, or for the last line, once the door was closed; and nothing was sent
+abbrev pub StopsForMemory : Scene → Scene → Type 0
+StopsForMemory before after =
+    (served : ℕ) × HandsLinks served before after × ((served ≡ 0) ⊎ IsClosed after.door.state)
+    × (after.output.sent ≡ before.output.sent)
+
 -- How an edge ends: the door is closed, and the last line was sent, or its front; or the door failed or a thread could not be
--- started, and nothing was sent. Before the door is closed, the upstream was asked for the book and for each slot at least once,
--- and links were served behind that.
+-- started, or memory ran out, and nothing was sent. Before the door is closed, the upstream was asked for the book and for each
+-- slot at least once, and links were served behind that.
 abbrev pub EdgeEnds : Site → ServingEnd → Scene → Scene → Type 0
 EdgeEnds site Closed before after =
     (served : ℕ) × HandsLinks served before after × IsServed site before after
@@ -61,4 +70,18 @@ EdgeEnds site WriteFault before after =
     × SendsFront before.output.sent (connections_line served) after.output.sent × IsClosed after.door.state
 EdgeEnds site DoorFault before after =
     (served : ℕ) × HandsLinks served before after × (after.output.sent ≡ before.output.sent)
-EdgeEnds site OutOfMemory before after = ⊤
+EdgeEnds site OutOfMemory before after = StopsForMemory before after
+
+-- an edge took a draw for its boot number, and ended so
+pub record RunsEdge (site : ℕ → Site) (end : ServingEnd) (before after : Scene) : Type 0 where
+  pub draw : Draw
+  pub coming : Coming
+  pub taken : TakesDraw before.draws draw coming
+  pub ends : EdgeEnds (site draw.word) end (record before { draws = coming }) after
+
+-- how an edge ends, by what it serves by at a boot number
+abbrev pub EdgeRuns : (ℕ → Site) → ServingEnd → Scene → Scene → Type 0
+EdgeRuns site Closed before after = RunsEdge site Closed before after
+EdgeRuns site WriteFault before after = RunsEdge site WriteFault before after
+EdgeRuns site DoorFault before after = RunsEdge site DoorFault before after
+EdgeRuns site OutOfMemory before after = StopsForMemory before after

@@ -1,9 +1,9 @@
 -- How the program ends, over what it finds outside, before and after.
-use Rattle.std.specs.Prelude.{◌≡◌, ⊤, ℕ, ◌==◌, Bool, List, length, codes, Option, IfSome, Result, Ok, Err, if◌then◌else◌}
+use Rattle.std.specs.Prelude.{◌≡◌, ℕ, ◌==◌, List, codes, Option, IfSome, Result, Ok, Err, if◌then◌else◌}
 use Rattle.unl_base.specs.Faults.{Rose}
 use Rattle.unl_base.specs.Streams.{Sends, SendsFront}
 use Rattle.unl_base.specs.declared.draws.Draw.{Draw}
-use Rattle.unl_edge.specs.Edges.{EdgeEnds}
+use Rattle.unl_edge.specs.Edges.{EdgeRuns}
 use Rattle.unl_edge.specs.Follows.{FollowEnds}
 use Rattle.unl_edge.specs.Scene.{Scene, ServingFailed}
 use Rattle.unl_edge.specs.Sites.{site_of}
@@ -69,11 +69,11 @@ CheckEnds draw OutOfMemory left left_after old new = new ≡ old
 
 -- ---- a load
 
--- How a load of a seed and a count ends: its line was sent, or at a failed write a front of it.
+-- How a load of a seed and a count ends: its line was sent, or at a failed write a front of it, or nothing where memory ran out.
 abbrev pub LoadEnds : ℕ → ℕ → Result (Unit {0}) LoadFault → Option (List ℕ) → Option (List ℕ) → Type 0
 LoadEnds seed count (Ok u) old new = Sends old (load_line seed count) new
 LoadEnds seed count (Err load.WriteFault) old new = SendsFront old (load_line seed count) new
-LoadEnds seed count (Err load.Memory) old new = ⊤
+LoadEnds seed count (Err load.Memory) old new = new ≡ old
 
 -- ---- bad words
 
@@ -108,12 +108,12 @@ Ends (Ok Explain) status before after =
     Ended explain_status
     (λ end. Explains end before.input.left after.input.left before.output.sent after.output.sent) status
 Ends (Ok (Edge edge)) status before after =
-    Ended serving_status (λ end. EdgeEnds (site_of edge.tokens edge.upstream_tokens edge.workers) end before after) status
+    Ended serving_status (λ end. EdgeRuns (site_of edge) end before after) status
 Ends (Ok (Upstream up)) status before after =
     Ended upstream_status
     (λ end. UpstreamRuns up.secret up.environments (own_book up.client_tokens up.frontend_tokens) up.epoch end before after) status
 Ends (Ok (Follow replica)) status before after =
-    Ended follow_status (λ end. FollowEnds replica.turns replica.delta replica.feature replica.context end before after) status
+    Ended follow_status (λ end. FollowEnds replica end before after) status
 Ends (Ok (Load seed count)) status before after =
     Ended load_status (λ end. LoadEnds seed count end before.output.sent after.output.sent) status
 Ends (Err Bad) status before after = Ended words_status (λ end. SaysBadWords end before.output.sent after.output.sent) status

@@ -1,26 +1,28 @@
 -- How following a server ends.
-use Rattle.std.specs.Prelude.{ℕ, Bool, List, Result}
-use Rattle.unl_context.specs.Context.{Fields}
+use Rattle.std.specs.Prelude.{None, Result}
 use Rattle.unl_edge.specs.Scene.{Scene}
 use Rattle.unl_follow.specs.Replica.{Subject}
 use Rattle.unl_follow.specs.Run.{Ends, Runs}
 use Rattle.unl_follow.specs.declared.fault.FollowFault.{FollowFault}
+use Rattle.unl_refresh.specs.declared.ask.Ask.{Ask}
+use Rattle.unl_words.specs.declared.words.FollowWords.{FollowWords}
 
 -- the ends of the program that a run of turns uses
 abbrev pub ends_in : Scene → Ends
-ends_in scene = record {
-  replies = scene.peer.state.replies;
-  faults = scene.peer.faults;
-  coming = scene.draws;
-  sent = scene.output.sent;
-}
+ends_in scene =
+    record { peer = scene.peer.state; faults = scene.peer.faults; coming = scene.draws; sent = scene.output.sent }
 
--- a feature, and the context that it is evaluated in
-abbrev pub subject_of : List ℕ → Fields → Subject
-subject_of feature context = record { feature = feature; context = context }
+-- who is asked, with which token and for what, with no tag yet
+abbrev pub ask_of : FollowWords → Ask
+ask_of words = record { host = words.upstream; token = words.token; delta = words.delta; tag = None }
 
--- How following ends that is to make so many turns and to tell of a feature: after as many as the pace allows, with their text
--- sent, or after a failed write, with a front of it.
-abbrev pub FollowEnds : ℕ → Bool → List ℕ → Fields → Result (Unit {0}) FollowFault → Scene → Scene → Type 0
-FollowEnds turns delta feature context end before after =
-    Runs turns before.pace delta (subject_of feature context) (ends_in before) end (ends_in after)
+-- the feature, and the context that it is evaluated in
+abbrev pub subject_of : FollowWords → Subject
+subject_of words = record { feature = words.feature; context = words.context }
+
+-- How following ends that is to ask an upstream for so many turns, and to tell of a feature: after as many as the pace allows,
+-- with their requests sent to the peer and their text to the output, or after a failed write, with a front of that text, or for
+-- want of memory, with whole lines of it.
+abbrev pub FollowEnds : FollowWords → Result (Unit {0}) FollowFault → Scene → Scene → Type 0
+FollowEnds words end before after =
+    Runs words.turns before.pace (ask_of words) (subject_of words) (ends_in before) end (ends_in after)

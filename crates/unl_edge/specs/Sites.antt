@@ -1,5 +1,5 @@
 -- How an edge serves links side by side, behind its first turn.
-use Rattle.std.specs.Prelude.{◌≡◌, ◌≤◌, ℕ, zero, suc, List, [], All, length, map, Option}
+use Rattle.std.specs.Prelude.{◌≡◌, ◌≤◌, ℕ, zero, suc, List, [], All, length, map, Option, Some}
 use Rattle.std.specs.List.{AllZip}
 use Rattle.unl_base.specs.Faults.{Rose}
 use Rattle.unl_core.specs.Board.{empty_slot}
@@ -8,32 +8,51 @@ use Rattle.unl_core.specs.declared.board.Board.{Board}
 use Rattle.unl_delta.specs.Installing.{Installed}
 use Rattle.unl_edge.specs.Attending.{ServesOver}
 use Rattle.unl_edge.specs.declared.attending.EdgeAttendant.{EdgeAttendant}
-use Rattle.unl_edge_state.specs.Reading.{told_to}
+use Rattle.unl_edge_state.specs.Editions.{BoardAt, opening_at}
+use Rattle.unl_edge_state.specs.Reading.{seen_by, told_to}
 use Rattle.unl_edge_state.specs.declared.reader.EdgeReader.{EdgeReader}
 use Rattle.unl_exchange.specs.Answering.{Coming}
 use Rattle.unl_exchange.specs.Links.{LinkState}
 use Rattle.unl_metrics.specs.Book.{Book}
+use Rattle.unl_upkeep.specs.Feeding.{Feeding, feedings}
 use Rattle.unl_upkeep.specs.Turns.{MakesTurn, upkept}
 use Rattle.unl_words.specs.Lists.{environment_of}
+use Rattle.unl_words.specs.declared.words.EdgeWords.{EdgeWords}
 use Rattle.unl_workers.specs.declared.worker.Post.{Post}
 
--- what the words ask for: the texts of the tokens that may be known, what stands before the first turn, and how many workers
+-- what an edge serves by: the texts of the tokens that may be known, what stands before the first turn and on which board, who is
+-- asked for what stands in each slot, and how many workers there are
 pub record Site : Type 0 where
   pub known : List (List ℕ)
   pub opening : Installed
+  pub edition : Option BoardAt
+  pub feeders : List Feeding
   pub workers : ℕ
 
 -- what stands on a board before anything is published
 abbrev pub opened : Board → Installed
 opened board = record { places = map place_at board.slots; front = 0; book = board.book }
 
--- a slot for each of the upstream's tokens, all of them empty, and no book
-abbrev pub site_of : List (List ℕ) → List (List ℕ) → ℕ → Site
-site_of tokens upstream_tokens workers = record {
-  known = tokens;
-  opening = record { places = map place_at (map empty_slot (map environment_of upstream_tokens)); front = 0; book = [] };
+-- the board of a boot number and a host: a slot for each of the upstream's tokens, all of them empty, and no book
+abbrev pub begun_board : ℕ → List ℕ → List (List ℕ) → Board
+begun_board boot host upstream_tokens =
+    record { boot = boot; host = host; generation = 0; book = []; slots = map empty_slot (map environment_of upstream_tokens) }
+
+-- what an edge serves by that begins with this board
+abbrev pub site_at : List (List ℕ) → Board → List Feeding → ℕ → Site
+site_at known board feeders workers = record {
+  known = known;
+  opening = opened board;
+  edition = Some (opening_at board);
+  feeders = feeders;
   workers = workers;
 }
+
+-- what the words ask for, at a boot number
+abbrev pub site_of : EdgeWords → ℕ → Site
+site_of words boot =
+    site_at words.tokens (begun_board boot words.host words.upstream_tokens)
+    (feedings words.upstream words.delta words.upstream_tokens (map environment_of words.upstream_tokens)) words.workers
 
 -- what a worker serves by: its reader, what was reported and is not handed on, and the draws to come
 pub record Worker : Type 0 where
@@ -61,11 +80,13 @@ ServesLinks (suc n) before after = (middle : Worker) × ServesLinks n before mid
 abbrev pub Works : Worker → Worker → Type 0
 Works before after = (links : ℕ) × ServesLinks links before after
 
--- So many workers served links side by side. Before its first link each was told of at least so many publications.
-pub record WorkBeside (workers front : ℕ) : Type 0 where
+-- So many workers served links side by side, over what was published behind this board. Before its first link each was told of at
+-- least so many publications.
+pub record WorkBeside (workers : ℕ) (edition : Option BoardAt) (front : ℕ) : Type 0 where
   pub begun : List Worker
   pub ended : List Worker
   pub many : length begun ≡ workers
+  pub opens : All (λ worker. (seen_by worker.reader).opening ≡ edition) begun
   pub told : All (λ worker. front ≤ told_to worker.reader) begun
   pub worked : AllZip Works begun ended
 
@@ -75,5 +96,5 @@ pub record ServesSite (site : Site) (replies : Option (List (List ℕ))) (faults
   pub first : Installed
   pub turn : ¬ (Rose faults faults_after)
       → (later : Option (List (List ℕ)))
-      × MakesTurn site.known (length site.opening.places) (upkept site.opening replies) (upkept first later)
-  pub work : WorkBeside site.workers first.front
+      × MakesTurn site.known site.feeders (upkept site.opening replies) (upkept first later)
+  pub work : WorkBeside site.workers site.edition first.front

@@ -1,6 +1,6 @@
 -- How an upstream ends: it is reopened on a keeper, takes the commands of its input's lines, and then serves the links of its
 -- door.
-use Rattle.std.specs.Prelude.{◌≡◌, ◌≢◌, ◌⊎◌, ⊤, ℕ, false, List, [], ◌++◌, codes, decimal, Option, Some, IfSome, Result, Ok, Err}
+use Rattle.std.specs.Prelude.{◌≡◌, ◌≢◌, ◌⊎◌, ℕ, false, List, [], ◌++◌, codes, decimal, Option, Some, IfSome, Result, Ok, Err}
 use Rattle.std.specs.Prelude.{option_and_then, option_map}
 use Rattle.unl_base.specs.Doors.{DoorState, IsClosed}
 use Rattle.unl_base.specs.Draws.{TakesDraw}
@@ -20,6 +20,7 @@ use Rattle.unl_input.specs.declared.refusal.SayFault.TheVariants as say
 use Rattle.unl_lines.specs.Lines.{lines}
 use Rattle.unl_lines.specs.Taken.{Taking, done, outcome_of}
 use Rattle.unl_lines.specs.Whole.{TakesLines}
+use Rattle.unl_lines.specs.declared.taking.LinesFault.TheVariants as line
 use Rattle.unl_tokens.specs.declared.token.Token.{Token}
 use Rattle.unl_exchange.specs.Answering.{Coming}
 use Rattle.unl_exchange.specs.Linked.{ServesLinks as ServesTold, linking}
@@ -64,6 +65,11 @@ facing sent door coming = record { sent = sent; door = door; coming = coming }
 abbrev pub facing_of : Scene → Facing
 facing_of scene = facing scene.output.sent scene.door.state scene.draws
 
+-- nothing was sent, and the door is as before
+pub record IsUntouched (before after : Facing) : Type 0 where
+  pub silent : after.sent ≡ before.sent
+  pub shut : after.door ≡ before.door
+
 -- ---- the links
 
 -- So many links were served by an upstream and its keeper. Whatever the door tells, what was to be kept of the links is all that
@@ -72,7 +78,8 @@ pub record ServesLinks (state last : KeptState) (before after : Facing) (served 
   pub hosts : Hosts (linking state before.coming before.door) (linking last after.coming after.door) served
   pub carries : HoldsOn state last
 
--- How the links of a door were served: until it was closed, and then the last line was sent, or its front; or until it failed.
+-- How the links of a door were served: until it was closed, and then the last line was sent, or its front, or nothing where memory
+-- ran out; or until it failed.
 abbrev pub LinksEnd : KeptState → KeptState → ServingEnd → Facing → Facing → Type 0
 LinksEnd state last Closed before after =
     (served : ℕ) × ServesLinks state last before after served × Sends before.sent (connections_line served) after.sent × IsClosed after.door
@@ -81,7 +88,8 @@ LinksEnd state last WriteFault before after =
     × IsClosed after.door
 LinksEnd state last DoorFault before after =
     (served : ℕ) × ServesLinks state last before after served × (after.sent ≡ before.sent)
-LinksEnd state last OutOfMemory before after = ⊤
+LinksEnd state last OutOfMemory before after =
+    (served : ℕ) × ServesLinks state last before after served × (after.sent ≡ before.sent) × IsClosed after.door
 
 -- The links of a door that tells them, by commands and draws from the opening on. The first is served after those of the lines,
 -- and each adds the commands of its requests that were kept. So the keeper keeps all of them, behind those of the opening. Where
@@ -120,13 +128,15 @@ pub record ServesAfterLines
       → before.door.returned ≡ Some returned
       → NamesLinks opened spelled.commands kept (kept_state up last) before after served links returned
 
--- How an upstream ends that was reopened. Where a line is refused, or the input or the keeper fails, no link was handed out.
+-- How an upstream ends that was reopened. Where a line is refused, or the input or the keeper fails, no link was handed out. It ends
+-- so for want of memory only where the keeper has never failed.
 abbrev pub LinesEnd : KeptState → UpstreamEnd → KeeperState → Option (List ℕ) → Option (List ℕ) → Facing → Facing → Type 0
-LinesEnd opened NoMemory last left left_after before after = ⊤
+LinesEnd opened NoMemory last left left_after before after = ⊥
 LinesEnd opened KeeperFault last left left_after before after = after.door ≡ before.door
 LinesEnd opened (Row told) last left left_after before after = ⊥
 LinesEnd opened (Lines fault) last left left_after before after =
     TakesLines keeping (shelf_of opened) (Err fault) left left_after before.sent after.sent × (after.door ≡ before.door)
+    × (fault ≡ line.Memory → last.faults ≡ 0)
 LinesEnd opened (Links Closed) last left left_after before after =
     (served : ℕ) × ServesAfterLines opened last left left_after before after served
     × Sends before.sent (connections_line served) after.sent × IsClosed after.door
@@ -135,7 +145,9 @@ LinesEnd opened (Links WriteFault) last left left_after before after =
     × SendsFront before.sent (connections_line served) after.sent × IsClosed after.door
 LinesEnd opened (Links DoorFault) last left left_after before after =
     (served : ℕ) × ServesAfterLines opened last left left_after before after served × (after.sent ≡ before.sent)
-LinesEnd opened (Links OutOfMemory) last left left_after before after = ⊤
+LinesEnd opened (Links OutOfMemory) last left left_after before after =
+    (served : ℕ) × ServesAfterLines opened last left left_after before after served × (after.sent ≡ before.sent)
+    × IsClosed after.door
 
 -- ---- the keeper
 
@@ -184,9 +196,10 @@ pub record EndsReopened
   pub opens : Opens start reopened opened
   pub ends : LinesEnd opened end last left left_after before after
 
--- How an upstream ends, with a keeper that was made. Where a row is refused that was said, and no link was handed out.
+-- How an upstream ends, with a keeper that was made. Where a row is refused that was said, and no link was handed out. Where memory
+-- ran out before that, nothing was sent either.
 abbrev pub KeeperEnd : KeptState → UpstreamEnd → KeeperState → Option (List ℕ) → Option (List ℕ) → Facing → Facing → Type 0
-KeeperEnd start NoMemory last left left_after before after = ⊤
+KeeperEnd start NoMemory last left left_after before after = IsUntouched before after
 KeeperEnd start KeeperFault last left left_after before after = after.door ≡ before.door
 KeeperEnd start (Row told) last left left_after before after =
     (place : ℕ) × RefusesRow start place × SaysLine told (row_line place) before.sent after.sent × (after.door ≡ before.door)
@@ -208,9 +221,10 @@ pub record EndsKept (start : UpstreamState) (end : UpstreamEnd) (before after : 
       → kept_commands last ≡ option_map (λ kept. kept ++ commands) (kept_commands opened.keeper)
       → IfSome after.keep.held (λ texts. commands_in texts ≡ commands)
 
--- How an upstream ends, from what it begins with. Where no keeper could be made no link was handed out.
+-- How an upstream ends, from what it begins with. Where no keeper could be made no link was handed out, and where memory ran out
+-- nothing was sent either.
 abbrev pub UpstreamEnds : UpstreamState → UpstreamEnd → Scene → Scene → Type 0
-UpstreamEnds start NoMemory before after = ⊤
+UpstreamEnds start NoMemory before after = IsUntouched (facing_of before) (facing_of after)
 UpstreamEnds start KeeperFault before after = after.door.state ≡ before.door.state
 UpstreamEnds start (Row told) before after = EndsKept start (Row told) before after
 UpstreamEnds start (Lines fault) before after = EndsKept start (Lines fault) before after
@@ -235,9 +249,9 @@ pub record RunsUpstream
   pub begins : Begins secret environments book epoch before.draws start coming
   pub ends : UpstreamEnds start end (record before { draws = coming }) after
 
--- how an upstream of these words ends, unless memory ran out before it took lines
+-- how an upstream of these words ends; where memory ran out before it took lines nothing was sent, and no link was handed out
 abbrev pub UpstreamRuns : List ℕ → List (List ℕ) → List Token → ℕ → UpstreamEnd → Scene → Scene → Type 0
-UpstreamRuns secret environments book epoch NoMemory before after = ⊤
+UpstreamRuns secret environments book epoch NoMemory before after = IsUntouched (facing_of before) (facing_of after)
 UpstreamRuns secret environments book epoch KeeperFault before after =
     RunsUpstream secret environments book epoch KeeperFault before after
 UpstreamRuns secret environments book epoch (Row told) before after =

@@ -1,11 +1,12 @@
 //! The command `edge`: it asks its upstream for what stands, and serves the links of its door over that.
-ghost use Rattle.std.specs.Prelude.{◌≡◌, ◌<◌, ◌≤◌, ℕ, [], IfOk, length, map, true};
+ghost use Rattle.std.specs.Prelude.{◌≡◌, ◌<◌, ◌≤◌, IfOk, length, map, true};
 ghost use Rattle.unl_base.specs.Faults.{Rose};
 ghost use Rattle.unl_core.specs.Board.{AreSlots};
-ghost use Rattle.unl_edge.specs.Edges.{EdgeEnds};
+ghost use Rattle.unl_edge.specs.Edges.{EdgeEnds, EdgeRuns};
 ghost use Rattle.unl_edge.specs.Scene.{ServingFailed};
-ghost use Rattle.unl_edge.specs.Sites.{opened, site_of};
+ghost use Rattle.unl_edge.specs.Sites.{begun_board, opened, site_at, site_of};
 ghost use Rattle.unl_edge.specs.Status.{Caused, serving_status};
+ghost use Rattle.unl_upkeep.specs.Feeding.{feedings};
 ghost use Rattle.unl_words.specs.Lists.{are_upstream_tokens, environment_of};
 ghost use Rattle.unl_words.specs.Ranges.{IsEdge};
 
@@ -36,7 +37,7 @@ where
     R: Draws + Drop + Send,
     T: Pace + Send,
     requires { IsEdge words.now }
-    ensures ends { EdgeEnds (site_of words.now.tokens words.now.upstream_tokens words.now.workers) result world.old world.new }
+    ensures runs { EdgeRuns (site_of words.now) result world.old world.new }
     ensures caused { Caused (serving_status result) ⊥ (Rose world.old.output.faults world.new.output.faults)
         (ServingFailed world.old world.new) ⊥ }
 {
@@ -52,9 +53,11 @@ where
 fn begin_site(alloc: Global, boot: u64, words: &EdgeWords) -> Result<(Board, Upkeep), Memory>
     requires { IsEdge words.now }
     ensures slots { IfOk result (λ site. AreSlots site.0.slots) }
-    ensures opening { IfOk result (λ site. opened site.0 ≡ (site_of words.now.tokens words.now.upstream_tokens 0).opening) }
+    ensures board { IfOk result (λ site. site.0 ≡ begun_board boot words.now.host words.now.upstream_tokens) }
     ensures known { IfOk result (λ site. site.1.known ≡ words.now.tokens) }
-    ensures feeders { IfOk result (λ site. site.1.slots ≡ length (opened site.0).places) }
+    ensures feeders { IfOk result (λ site. site.1.feeders
+        ≡ feedings words.now.upstream words.now.delta words.now.upstream_tokens (map environment_of words.now.upstream_tokens)) }
+    ensures places { IfOk result (λ site. site.1.slots ≡ length (opened site.0).places) }
 {
     let environments = token_environments(alloc, &words.upstream_tokens)?;
     let board = board_of(
@@ -87,7 +90,7 @@ fn board_of(
     requires tokens { are_upstream_tokens upstream_tokens.now ≡ true }
     requires environments { environments.now ≡ map environment_of upstream_tokens.now }
     ensures slots { IfOk result (λ board. AreSlots board.slots) }
-    ensures opening { IfOk result (λ board. opened board ≡ (site_of [] upstream_tokens.now 0).opening) }
+    ensures board { IfOk result (λ board. board ≡ begun_board boot host.now upstream_tokens.now) }
 {
     Board::new(alloc, boot, host.as_str(), environments)
 }
@@ -109,7 +112,7 @@ where
     requires workers { (0 < workers) × (workers ≤ 16) }
     requires slots { AreSlots board.slots }
     requires feeders { upkeep.slots ≡ length (opened board).places }
-    ensures ends { EdgeEnds (record { known = upkeep.known; opening = opened board; workers = workers }) result world.old world.new }
+    ensures ends { EdgeEnds (site_at upkeep.known board upkeep.feeders workers) result world.old world.new }
     ensures caused { Caused (serving_status result) ⊥ (Rose world.old.output.faults world.new.output.faults)
         (ServingFailed world.old world.new) ⊥ }
 {

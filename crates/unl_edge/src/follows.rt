@@ -1,6 +1,6 @@
 //! The command `follow`: a replica behind a server, which tells of a feature turn by turn.
 ghost use Rattle.unl_base.specs.Faults.{Rose};
-ghost use Rattle.unl_edge.specs.Follows.{subject_of};
+ghost use Rattle.unl_edge.specs.Follows.{ask_of, subject_of};
 ghost use Rattle.unl_edge.specs.Status.{Caused, follow_status};
 ghost use Rattle.unl_follow.specs.Run.{Runs};
 ghost use Rattle.unl_words.specs.Ranges.{IsFollow};
@@ -25,16 +25,16 @@ pub fn run_follow<P: Peer, R: Draws, T: Pace, O: Sink>(
     output: &mut O,
 ) -> Result<(), FollowFault>
     requires { IsFollow words.now }
-    ensures runs { Runs words.now.turns (T.turns pace.old) words.now.delta (subject_of words.now.feature words.now.context)
+    ensures runs { Runs words.now.turns (T.turns pace.old) (ask_of words.now) (subject_of words.now)
         (record {
-          replies = (P.state peer.old).replies;
+          peer = P.state peer.old;
           faults = P.Source.faults peer.old;
           coming = R.coming draws.old;
           sent = O.sent output.old;
         })
         result
         (record {
-          replies = (P.state peer.new).replies;
+          peer = P.state peer.new;
           faults = P.Source.faults peer.new;
           coming = R.coming draws.new;
           sent = O.sent output.new;

@@ -22,7 +22,7 @@ pub(crate) struct KeptUpstream<K: Keeper> {
 }
 
 impl<K: Keeper> Model for KeptUpstream<K> {
-    ghost use Rattle.std.specs.Prelude.{◌≡◌, ◌≢◌, true};
+    ghost use Rattle.std.specs.Prelude.{◌≡◌, ◌≢◌, false, true};
     ghost use Rattle.unl_edge.specs.Keeping.{Shelf, shelf_of};
     ghost use Rattle.unl_upstream.specs.Kept.{keeper_by, kept_state};
 
@@ -30,7 +30,8 @@ impl<K: Keeper> Model for KeptUpstream<K> {
 
     ghost view = { λ kept. shelf_of (kept_state kept.up (keeper_by K.opened K.faults K.count K.rows kept.keeper)) };
 
-    ghost invariant = { λ kept. (K.opened kept.keeper ≡ true) × (kept.failed ≡ true → K.faults kept.keeper ≢ 0) };
+    ghost invariant = { λ kept. (K.opened kept.keeper ≡ true) × (kept.failed ≡ true → K.faults kept.keeper ≢ 0)
+        × (kept.failed ≡ false → K.faults kept.keeper ≡ 0) };
 }
 
 /// Keeps the command of each line. One that is kept prints nothing; one that can't be read or is refused refuses its line, by

@@ -1,8 +1,6 @@
 //! The posts of an edge's workers.
 ghost use Rattle.std.specs.Prelude.{◌≡◌, All, IfOk, length};
-ghost use Rattle.unl_edge.specs.Attending.{HasLearned};
-ghost use Rattle.unl_edge_state.specs.Reading.{next_of};
-ghost use Rattle.unl_published.specs.Looking.{SameOrigin};
+ghost use Rattle.unl_edge.specs.Attending.{HasLearned, IsOfOrigin};
 
 use crate::attending::EdgeAttendant;
 use std::alloc::Global;
@@ -22,7 +20,7 @@ pub(crate) fn posts_of<'a, R: Draws + Drop, W: Wait>(
     readers: Vec<EdgeReader>,
     draws: &mut R,
 ) -> Result<Vec<Post<EdgeAttendant<'a, W>, R>>, Memory>
-    requires { All (λ reader. SameOrigin writer.old.known (next_of reader)) readers.items }
+    requires { All (IsOfOrigin writer.old.known) readers.items }
     ensures same { writer.new ≡ writer.old }
     ensures draws { R.coming draws.new ≡ R.coming draws.old }
     ensures count { IfOk result (λ posts. length posts.items ≡ length readers.items) }
@@ -44,7 +42,7 @@ fn post_of<'a, R: Draws + Drop, W: Wait>(
     mut reader: EdgeReader,
     draws: &mut R,
 ) -> Result<Post<EdgeAttendant<'a, W>, R>, Memory>
-    requires { SameOrigin writer.old.known (next_of reader) }
+    requires { IsOfOrigin writer.old.known reader }
     ensures same { writer.new ≡ writer.old }
     ensures draws { R.coming draws.new ≡ R.coming draws.old }
     ensures learned { IfOk result (λ post. HasLearned writer.old.known post.server.desk.reader) }

@@ -84,7 +84,7 @@ pub(crate) fn turn_by<'w, W: Wait, P: Peer>(
     ensures takes { length writer.entry.known.installs ≡ 0 → upkeep.old.slots ≤ length writer.entry.places
         → upkeep.old.slots ≤ 8
         → ¬ (Rose (P.Source.faults peer.old) (P.Source.faults peer.new))
-        → OnOk result.1 (MakesTurn upkeep.old.known (upkeep.old.slots)
+        → OnOk result.1 (MakesTurn upkeep.old.known upkeep.old.feeders
         (upkept (installed_by writer.entry) (P.state peer.old).replies) (upkept (installed_by result.0) (P.state peer.new).replies)) }
 {
     turn_from::<W, P, Brand>(alloc, upkeep, writer, peer)
@@ -106,7 +106,7 @@ fn turn_from<'w, W: Wait, P: Peer, K: Root>(
     ensures takes { length writer.entry.known.installs ≡ 0 → upkeep.old.slots ≤ length writer.entry.places
         → upkeep.old.slots ≤ 8
         → ¬ (Rose (P.Source.faults peer.old) (P.Source.faults peer.new))
-        → OnOk result.1 (MakesTurn upkeep.old.known (upkeep.old.slots)
+        → OnOk result.1 (MakesTurn upkeep.old.known upkeep.old.feeders
         (upkept (installed_by writer.entry) (P.state peer.old).replies) (upkept (installed_by result.0) (P.state peer.new).replies)) }
 {
     let mut rooted = Rooted::<W, K> {

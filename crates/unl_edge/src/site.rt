@@ -2,12 +2,11 @@
 ghost use Rattle.std.specs.Prelude.{◌≡◌, ◌<◌, ◌≤◌, ◌+◌, All, IfOk, OnOk, length, true};
 ghost use Rattle.std.specs.List.{AllZip};
 ghost use Rattle.unl_core.specs.Board.{AreSlots};
-ghost use Rattle.unl_edge.specs.Attending.{ReadsOnAt, ServesAt};
+ghost use Rattle.unl_edge.specs.Attending.{IsOfOrigin, ReadsOnAt, ServesAt};
 ghost use Rattle.unl_edge.specs.Edges.{HandsOver, links_of};
-ghost use Rattle.unl_edge.specs.Sites.{ServesSite, WorkBeside, opened};
-ghost use Rattle.unl_edge_state.specs.Reading.{HasBegun, next_of};
+ghost use Rattle.unl_edge.specs.Sites.{ServesSite, WorkBeside, opened, site_at};
+ghost use Rattle.unl_edge_state.specs.Reading.{HasBegun};
 ghost use Rattle.unl_edge_state.specs.Writing.{installed_by};
-ghost use Rattle.unl_published.specs.Looking.{SameOrigin};
 ghost use Rattle.unl_upkeep.specs.Connects.{Connects};
 ghost use Rattle.unl_workers.specs.Beside.{HasCauses};
 ghost use Rattle.unl_workers.specs.Serving.{Attends};
@@ -56,7 +55,7 @@ where
     ensures hands { HandsOver (λ links. links) result (D.state door.old) (D.state door.new) }
     ensures connects { OnOk result (Connects (length (opened board).places + 1)
         (P.state peer.old).replies (P.Source.faults peer.old) (P.state peer.new).replies (P.Source.faults peer.new)) }
-    ensures serves { OnOk result (ServesSite (record { known = upkeep.known; opening = opened board; workers = workers })
+    ensures serves { OnOk result (ServesSite (site_at upkeep.known board upkeep.feeders workers)
         (P.state peer.old).replies (P.Source.faults peer.old) (P.Source.faults peer.new)) }
     ensures causes { HasCauses result (D.faults door.old) (D.faults door.new) (S.faults spawner.old) (S.faults spawner.new) }
 {
@@ -97,6 +96,8 @@ where
     ensures serves { OnOk result (ServesSite (record {
       known = upkeep.known;
       opening = installed_by writer.entry;
+      edition = writer.entry.known.opening;
+      feeders = upkeep.feeders;
       workers = length readers.items;
     }) (P.state peer.old).replies (P.Source.faults peer.old) (P.Source.faults peer.new)) }
     ensures causes { HasCauses result (D.faults door.old) (D.faults door.new) (S.faults spawner.old) (S.faults spawner.new) }
@@ -147,11 +148,11 @@ where
     R: Draws + Drop + Send,
     T: Pace + Send,
     requires listens { (D.state door.old).listening ≡ true }
-    requires readers { All (λ reader. SameOrigin writer.old.known (next_of reader)) readers.items }
+    requires readers { All (IsOfOrigin writer.old.known) readers.items }
     ensures hands { HandsOver (λ links. links) result (D.state door.old) (D.state door.new) }
     ensures connects { OnOk result (Connects 0
         (P.state peer.old).replies (P.Source.faults peer.old) (P.state peer.new).replies (P.Source.faults peer.new)) }
-    ensures work { OnOk result (WorkBeside (length readers.items) (length writer.old.known.installs)) }
+    ensures work { OnOk result (WorkBeside (length readers.items) writer.old.known.opening (length writer.old.known.installs)) }
     ensures causes { HasCauses result (D.faults door.old) (D.faults door.new) (S.faults spawner.old) (S.faults spawner.new) }
 {
     let shared = Mutex::new(MetricsBook::new(alloc));

@@ -150,7 +150,8 @@ fn run_reopened<K: Keeper, I: Source, O: Sink, D: Door, R: Draws, W: Wait>(
     door: &mut D,
     draws: &mut R,
 ) -> (UpstreamEnd, K)
-    requires { IsOpening up }
+    requires opens { IsOpening up }
+    requires faultless { K.faults keeper ≡ 0 }
     ensures ends { KeeperEnd (kept_state up (keeper_by K.opened K.faults K.count K.rows keeper)) result.0
         (keeper_by K.opened K.faults K.count K.rows result.1) (I.left input.old) (I.left input.new)
         (facing (O.sent output.old) (D.state door.old) (R.coming draws.old))
@@ -181,7 +182,8 @@ fn take_commands<K: Keeper, I: Source, O: Sink, D: Door, R: Draws, W: Wait>(
     door: &mut D,
     draws: &mut R,
 ) -> (UpstreamEnd, K)
-    requires { K.opened keeper ≡ true }
+    requires opened { K.opened keeper ≡ true }
+    requires faultless { K.faults keeper ≡ 0 }
     ensures ends { LinesEnd (kept_state up (keeper_by K.opened K.faults K.count K.rows keeper)) result.0
         (keeper_by K.opened K.faults K.count K.rows result.1) (I.left input.old) (I.left input.new)
         (facing (O.sent output.old) (D.state door.old) (R.coming draws.old))

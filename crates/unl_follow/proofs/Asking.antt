@@ -1,7 +1,8 @@
 -- What one ask comes to, by the reply that was read or the fault.
-use Rattle.std.proofs.Common.{◌≡◌, ◌≤◌, ℕ, List, Option, Some, None, ap, inl, inr, ⊎_elim}
+use Rattle.std.proofs.Common.{◌≡◌, ◌≤◌, ℕ, List, Option, Some, None, ap, subst, sym}
 use Rattle.unl_base.specs.Faults.{Rose}
 use Rattle.unl_base.specs.Doors.{next_of}
+use Rattle.unl_base.specs.Peers.{PeerState}
 use Rattle.std.specs.Option.{option_map}
 use Rattle.unl_refresh.specs.declared.ask.Ask.{Ask}
 use Rattle.unl_refresh.specs.declared.outcome.Outcome.{Outcome}
@@ -9,29 +10,50 @@ use Rattle.unl_refresh.specs.Exchange.{Asks, AsksAtMostOnce}
 use Rattle.unl_refresh.specs.Refresh.{Refreshed, Refreshes}
 use Rattle.unl_follow.specs.Replica.{Kept, installed_by}
 use Rattle.unl_follow.specs.Run.{AsksOnce}
-use Rattle.unl_follow.specs.Turns.{turned_by, turned_to}
+use Rattle.unl_follow.specs.Turns.{Stand, request_at, turned_by, turned_to}
 
-pub replied : (ask : Ask) (before after : Kept) (tag : Option (List ℕ)) (outcome : Outcome) (request : List ℕ)
-    (replies replies_after : Option (List (List ℕ))) (sent sent_after : Option (List ℕ)) (faults faults_after : ℕ)
-    → Refreshes 0 ask (installed_by before) (option_map next_of replies) (record { outcome = outcome; installed = installed_by after; tag = tag })
-    → Asks request replies sent replies_after sent_after → faults ≤ faults_after
-    → AsksOnce ask.delta (record { installed = installed_by before; tag = ask.tag }) replies faults
-    (record { outcome = Some outcome; stand = record { installed = installed_by after; tag = tag } }) replies_after faults_after
+-- what is so of the bytes sent is so of what the peer tells of them
+told : (Holds : Option (List ℕ) → Option (List ℕ) → Type 0) (sent sent_after : Option (List ℕ)) (peer peer_after : PeerState)
+    → peer.sent ≡ sent → peer_after.sent ≡ sent_after → Holds sent sent_after → Holds peer.sent peer_after.sent
+told Holds sent sent_after peer peer_after same same_after holds =
+    subst (λ (o : Option (List ℕ)). Holds peer.sent o) (sym same_after)
+    (subst (λ (o : Option (List ℕ)). Holds o sent_after) (sym same) holds)
+
+-- what is kept, and the tag of the next ask
+abbrev standing : Kept → Option (List ℕ) → Stand
+standing kept tag = record { installed = installed_by kept; tag = tag }
+
+pub replied : (ask : Ask) (before after : Kept) (tag : Option (List ℕ)) (outcome : Outcome) (peer peer_after : PeerState)
+    (sent sent_after : Option (List ℕ)) (faults faults_after : ℕ) → peer.sent ≡ sent → peer_after.sent ≡ sent_after
+    → Refreshes 0 ask (installed_by before) (option_map next_of peer.replies)
+    (record { outcome = outcome; installed = installed_by after; tag = tag })
+    → Asks (request_at ask (standing before ask.tag)) peer.replies sent peer_after.replies sent_after → faults ≤ faults_after
+    → AsksOnce ask (standing before ask.tag) peer faults (record { outcome = Some outcome; stand = standing after tag }) peer_after faults_after
 unfolding turned_to
-replied ask before after tag outcome request replies replies_after sent sent_after faults faults_after takes asks later = record {
+replied ask before after tag outcome peer peer_after sent sent_after faults faults_after same same_after takes asks later = record {
   came = Some takes.reading;
-  meets = (takes.is_read, asks.one_reply, later);
+  meets = (
+    takes.is_read,
+    told (λ old new. Asks (request_at ask (standing before ask.tag)) peer.replies old peer_after.replies new)
+        sent sent_after peer peer_after same same_after asks,
+    later,
+  );
   turned_so = ap (λ (r : Refreshed). turned_by r) takes.gives;
 }
 
-pub parted : (ask : Ask) (before after : Kept) (tag : Option (List ℕ)) (request : List ℕ)
-    (replies replies_after : Option (List (List ℕ))) (sent sent_after : Option (List ℕ)) (faults faults_after : ℕ)
-    → after ≡ before → tag ≡ None → AsksAtMostOnce request replies sent replies_after sent_after → Rose faults faults_after
-    → AsksOnce ask.delta (record { installed = installed_by before; tag = ask.tag }) replies faults
-    (record { outcome = None; stand = record { installed = installed_by after; tag = tag } }) replies_after faults_after
+pub parted : (ask : Ask) (before after : Kept) (tag : Option (List ℕ)) (peer peer_after : PeerState)
+    (sent sent_after : Option (List ℕ)) (faults faults_after : ℕ) → peer.sent ≡ sent → peer_after.sent ≡ sent_after
+    → after ≡ before → tag ≡ None
+    → AsksAtMostOnce (request_at ask (standing before ask.tag)) peer.replies sent peer_after.replies sent_after
+    → Rose faults faults_after
+    → AsksOnce ask (standing before ask.tag) peer faults (record { outcome = None; stand = standing after tag }) peer_after faults_after
 unfolding turned_to
-parted ask before after tag request replies replies_after sent sent_after faults faults_after same none once rose = record {
+parted ask before after tag peer peer_after sent sent_after faults faults_after same same_after stays none once rose = record {
   came = None;
-  meets = (⊎_elim (λ kept. inl kept.0) (λ part. inr part.one_reply) once, rose);
-  turned_so = λ i. record { outcome = None; stand = record { installed = installed_by (same i); tag = none i } };
+  meets = (
+    told (λ old new. AsksAtMostOnce (request_at ask (standing before ask.tag)) peer.replies old peer_after.replies new)
+        sent sent_after peer peer_after same same_after once,
+    rose,
+  );
+  turned_so = λ i. record { outcome = None; stand = standing (stays i) (none i) };
 }

@@ -1,3 +1,3 @@
 mod Asking
 mod Keeping
-mod Turning
+pub mod Turning

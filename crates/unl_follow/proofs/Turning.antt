@@ -1,5 +1,5 @@
 -- The turns of a run, one after another.
-use Rattle.std.proofs.Common.{◌≡◌, ◌<◌, ◌≤◌, ◌+◌, ◌-◌, ◌^◌, ◌++◌, ◌∙◌, ◌⊎◌, ℕ, min, Bool, List, [], ◌∷◌, drop, length, Option, Some, None, Result, Ok, Err, true, false, true≢false, zero, suc, nat_lt, ap, append_assoc, append-nil, arith, inl, inr, refl, subst, sym}
+use Rattle.std.proofs.Common.{◌≡◌, ◌<◌, ◌≤◌, ◌+◌, ◌-◌, ◌++◌, ◌∙◌, ℕ, List, [], ◌∷◌, drop, length, Option, Some, None, Result, Err, true, false, true≢false, zero, suc, nat_lt, ap, append_assoc, append-nil, arith, inl, inr, ⊎_elim, refl, subst, sym}
 use Rattle.std.proofs.lemmas.Bool.Decides.{nat_tests}
 use Rattle.std.proofs.lemmas.List.{drop-drop}
 use Rattle.std.specs.Prelude.{IfSome}
@@ -8,14 +8,17 @@ use Rattle.unl_base.specs.declared.draws.Draw.{Draw}
 use Rattle.unl_base.specs.Doors.{next_of}
 use Rattle.unl_base.specs.Draws.{TakesDraw}
 use Rattle.unl_base.specs.Faults.{Rose}
+use Rattle.unl_base.specs.Peers.{PeerState}
 use Rattle.unl_base.specs.Streams.{Sends, SendsFront}
+use Rattle.unl_refresh.specs.declared.ask.Ask.{Ask}
 use Rattle.unl_refresh.specs.Exchange.{IsRead}
+use Rattle.unl_refresh.specs.Refresh.{with_tag}
 use Rattle.unl_follow.specs.Replica.{Subject}
 use Rattle.unl_follow.specs.declared.fault.FollowFault.{FollowFault}
 use Rattle.unl_follow.specs.declared.fault.FollowFault.TheVariants.{WriteFault, Memory}
 use Rattle.unl_refresh.specs.declared.outcome.Outcome.{Outcome}
 use Rattle.unl_follow.specs.Run.{AreAsMany, AsksOnce, Ends, Follows, Meets, RoseBy, Runs, TakesTurn}
-use Rattle.unl_follow.specs.Turns.{Came, Comes, HaveDrawn, HaveTurned, Stand, Turn, Turned, first_stand, follow_text, reply_at, stand_after, turn_line, turned_to}
+use Rattle.unl_follow.specs.Turns.{Came, Comes, IsAsked, Stand, Turn, Turned, first_stand, follow_text, reply_at, request_at, stand_after, turn_line, turned_to}
 
 -- ---- what is sent
 
@@ -66,44 +69,50 @@ later_still k before mid after rose later = omega (arith, rose, later)
 one_more : (k before mid after : ℕ) → RoseBy k before mid → Rose mid after → RoseBy (k + 1) before after
 one_more k before mid after rose more = omega (arith, rose, more)
 
-came_on : (came : Came) (replies between replies_after : Option (List (List ℕ))) (i k before mid after : ℕ)
-    → between ≡ option_map (λ list. drop i list) replies → RoseBy k before mid
-    → Meets came between mid replies_after after → Came_on came replies i k before replies_after after
-came_on (Some reading) replies between replies_after i k before mid after left counted meets = record {
+came_on : (came : Came) (request : List ℕ) (replies : Option (List (List ℕ))) (between peer_after : PeerState) (i k before mid after : ℕ)
+    → between.replies ≡ option_map (λ list. drop i list) replies → RoseBy k before mid
+    → Meets came request between mid peer_after after → Came_on came replies i k before peer_after.replies after
+came_on (Some reading) request replies between peer_after i k before mid after left counted meets = record {
   taken = i + 1;
   failed = k;
   comes = (subst (λ (o : Option (List ℕ)). IsRead o reading) (ap (option_map next_of) left ∙ next_is replies i) meets.0, refl, refl);
-  left = meets.1 ∙ ap (option_map (λ list. drop 1 list)) left ∙ taken_more replies i;
+  left = meets.1.one_reply ∙ ap (option_map (λ list. drop 1 list)) left ∙ taken_more replies i;
   counted = later_still k before mid after counted meets.2;
 }
-came_on None replies between replies_after i k before mid after left counted (inl same, rose) = record {
+came_on None request replies between peer_after i k before mid after left counted (inl kept, rose) = record {
   taken = i;
   failed = k + 1;
   comes = (inl refl, refl);
-  left = same ∙ left;
+  left = kept.0 ∙ left;
   counted = one_more k before mid after counted rose;
 }
-came_on None replies between replies_after i k before mid after left counted (inr one, rose) = record {
+came_on None request replies between peer_after i k before mid after left counted (inr part, rose) = record {
   taken = i + 1;
   failed = k + 1;
   comes = (inr refl, refl);
-  left = one ∙ ap (option_map (λ list. drop 1 list)) left ∙ taken_more replies i;
+  left = part.one_reply ∙ ap (option_map (λ list. drop 1 list)) left ∙ taken_more replies i;
   counted = one_more k before mid after counted rose;
 }
+
+-- what the peer was sent in a turn
+asked_on : (came : Came) (request : List ℕ) (peer peer_after : PeerState) (faults faults_after : ℕ)
+    → Meets came request peer faults peer_after faults_after → IsAsked came request peer.sent peer_after.sent
+asked_on (Some reading) request peer peer_after faults faults_after meets = meets.1.sends
+asked_on None request peer peer_after faults faults_after meets = ⊎_elim (λ kept. inl kept.1) (λ part. inr part.sends) meets.0
 
 -- ---- the run so far
 
 -- so many turns were made, and this stands after them
-pub record Reached (delta : Bool) (subject : Subject) (start : Ends) (count : ℕ) (stand : Stand) (now : Ends) : Type 0 where
+pub record Reached (ask : Ask) (subject : Subject) (start : Ends) (count : ℕ) (stand : Stand) (now : Ends) : Type 0 where
   pub turns : List Turn
   pub many : length turns ≡ count
-  pub stands : stand ≡ stand_after delta turns
-  pub follows : Follows Sends delta subject start turns now
+  pub stands : stand ≡ stand_after ask.delta turns
+  pub follows : Follows Sends ask subject start turns now
 
-pub Reached_begin : (delta : Bool) (subject : Subject) (start : Ends) (stand : Stand) → stand ≡ first_stand
-    → Reached delta subject start 0 stand start
+pub Reached_begin : (ask : Ask) (subject : Subject) (start : Ends) (stand : Stand) → stand ≡ first_stand
+    → Reached ask subject start 0 stand start
 unfolding stand_after follow_text
-Reached_begin delta subject start stand first = record {
+Reached_begin ask subject start stand first = record {
   turns = [];
   many = refl;
   stands = first;
@@ -111,7 +120,8 @@ Reached_begin delta subject start stand first = record {
     taken = 0;
     failed = 0;
     turned = (refl, refl);
-    left = same_replies start.replies;
+    left = same_replies start.peer.replies;
+    asked = refl;
     counted = omega arith;
     drawn = refl;
     sends = Sends_nothing start.sent;
@@ -125,40 +135,46 @@ Reached_begin delta subject start stand first = record {
 -- the turns with one more, of which a text was sent by a relation that goes on after what was sent whole
 turns_more : (Sent : Option (List ℕ) → List ℕ → Option (List ℕ) → Type 0)
     → ((old mid new : Option (List ℕ)) (a b : List ℕ) → Sends old a mid → Sent mid b new → Sent old (a ++ b) new)
-    → (delta : Bool) (subject : Subject) (start mid now : Ends) (count : ℕ) (stand next : Stand) (reached : Reached delta subject start count stand mid)
-    → (takes : TakesTurn Sent delta subject (count + 1) stand mid next now) → Follows Sent delta subject start (takes.turn ∷ reached.turns) now
+    → (ask : Ask) (subject : Subject) (start mid now : Ends) (count : ℕ) (stand next : Stand) (reached : Reached ask subject start count stand mid)
+    → (takes : TakesTurn Sent ask subject (count + 1) stand mid next now) → Follows Sent ask subject start (takes.turn ∷ reached.turns) now
 unfolding follow_text
-turns_more Sent goes_on delta subject start mid now count stand next reached takes =
-    let on = came_on takes.turn.came start.replies mid.replies now.replies reached.follows.taken reached.follows.failed start.faults mid.faults now.faults
-    reached.follows.left reached.follows.counted takes.meets in
+turns_more Sent goes_on ask subject start mid now count stand next reached takes =
+    let on = came_on takes.turn.came (request_at ask stand) start.peer.replies mid.peer now.peer reached.follows.taken reached.follows.failed
+    start.faults mid.faults now.faults reached.follows.left reached.follows.counted takes.meets in
+    let asks = asked_on takes.turn.came (request_at ask stand) mid.peer now.peer mid.faults now.faults takes.meets in
     record {
       taken = on.taken;
       failed = on.failed;
       turned = (reached.follows.taken, reached.follows.failed, reached.follows.turned, on.comes);
       left = on.left;
+      asked = (
+        mid.peer.sent,
+        reached.follows.asked,
+        subst (λ (s : Stand). IsAsked takes.turn.came (request_at ask s) mid.peer.sent now.peer.sent) reached.stands asks,
+      );
       counted = on.counted;
       drawn = (mid.coming, reached.follows.drawn, takes.drawn);
-      sends = goes_on start.sent mid.sent now.sent (follow_text delta subject reached.turns) _ reached.follows.sends
-          (subst (λ (k : ℕ). Sent mid.sent (turn_line subject (k + 1) takes.turn.draw (turned_to delta (stand_after delta reached.turns) takes.turn.came)) now.sent) (sym reached.many)
-          (subst (λ (s : Stand). Sent mid.sent (turn_line subject (count + 1) takes.turn.draw (turned_to delta s takes.turn.came)) now.sent) reached.stands takes.sends));
+      sends = goes_on start.sent mid.sent now.sent (follow_text ask.delta subject reached.turns) _ reached.follows.sends
+          (subst (λ (k : ℕ). Sent mid.sent (turn_line subject (k + 1) takes.turn.draw (turned_to ask.delta (stand_after ask.delta reached.turns) takes.turn.came)) now.sent) (sym reached.many)
+          (subst (λ (s : Stand). Sent mid.sent (turn_line subject (count + 1) takes.turn.draw (turned_to ask.delta s takes.turn.came)) now.sent) reached.stands takes.sends));
     }
 
 -- one turn more
-pub Reached_more : (delta : Bool) (subject : Subject) (start mid now : Ends) (count : ℕ) (stand next : Stand) → Reached delta subject start count stand mid
-    → TakesTurn Sends delta subject (count + 1) stand mid next now → Reached delta subject start (count + 1) next now
+pub Reached_more : (ask : Ask) (subject : Subject) (start mid now : Ends) (count : ℕ) (stand next : Stand) → Reached ask subject start count stand mid
+    → TakesTurn Sends ask subject (count + 1) stand mid next now → Reached ask subject start (count + 1) next now
 unfolding stand_after
-Reached_more delta subject start mid now count stand next reached takes = record {
+Reached_more ask subject start mid now count stand next reached takes = record {
   turns = takes.turn ∷ reached.turns;
   many = omega (arith, reached.many);
-  stands = takes.stands ∙ ap (λ (s : Stand). (turned_to delta s takes.turn.came).stand) reached.stands;
-  follows = turns_more Sends Sends_more delta subject start mid now count stand next reached takes;
+  stands = takes.stands ∙ ap (λ (s : Stand). (turned_to ask.delta s takes.turn.came).stand) reached.stands;
+  follows = turns_more Sends Sends_more ask subject start mid now count stand next reached takes;
 }
 
 -- one turn more, of whose line a front was sent
-pub Reached_cut : (delta : Bool) (subject : Subject) (start mid now : Ends) (count : ℕ) (stand next : Stand) → Reached delta subject start count stand mid
-    → TakesTurn SendsFront delta subject (count + 1) stand mid next now → (turns : List Turn) × Follows SendsFront delta subject start turns now
-Reached_cut delta subject start mid now count stand next reached takes =
-    (takes.turn ∷ reached.turns, turns_more SendsFront front_more delta subject start mid now count stand next reached takes)
+pub Reached_cut : (ask : Ask) (subject : Subject) (start mid now : Ends) (count : ℕ) (stand next : Stand) → Reached ask subject start count stand mid
+    → TakesTurn SendsFront ask subject (count + 1) stand mid next now → (turns : List Turn) × Follows SendsFront ask subject start turns now
+Reached_cut ask subject start mid now count stand next reached takes =
+    (takes.turn ∷ reached.turns, turns_more SendsFront front_more ask subject start mid now count stand next reached takes)
 
 -- ---- the pace
 
@@ -218,13 +234,13 @@ stopped asked (suc made) start mid now turns paced many few first told =
 
 -- ---- one turn of the code
 
-pub turn_taken : (Sent : Option (List ℕ) → List ℕ → Option (List ℕ) → Type 0) (delta : Bool) (subject : Subject) (number : ℕ)
+pub turn_taken : (Sent : Option (List ℕ) → List ℕ → Option (List ℕ) → Type 0) (ask : Ask) (subject : Subject) (number : ℕ)
     (stand next : Stand) (before after : Ends) (draw : Draw) (outcome : Option Outcome) (line : List ℕ)
     → TakesDraw before.coming draw after.coming
-    → AsksOnce delta stand before.replies before.faults (record { outcome = outcome; stand = next }) after.replies after.faults
+    → AsksOnce ask stand before.peer before.faults (record { outcome = outcome; stand = next }) after.peer after.faults
     → line ≡ turn_line subject number draw (record { outcome = outcome; stand = next })
-    → Sent before.sent line after.sent → TakesTurn Sent delta subject number stand before next after
-turn_taken Sent delta subject number stand next before after draw outcome line drawn asks same sends = record {
+    → Sent before.sent line after.sent → TakesTurn Sent ask subject number stand before next after
+turn_taken Sent ask subject number stand next before after draw outcome line drawn asks same sends = record {
   turn = record { draw = draw; came = asks.came };
   drawn = drawn;
   meets = asks.meets;
@@ -233,20 +249,41 @@ turn_taken Sent delta subject number stand next before after draw outcome line d
       (same ∙ ap (λ (t : Turned). turn_line subject number draw t) asks.turned_so) sends;
 }
 
+-- a turn's own ask, which differs from the run's in its tag, is asked as the run's at the tag that stands
+of_the_run : (Sent : Option (List ℕ) → List ℕ → Option (List ℕ) → Type 0) (ask asked : Ask) → asked ≡ with_tag asked.tag ask
+    → (subject : Subject) (number : ℕ) (stand next : Stand) (before after : Ends)
+    → TakesTurn Sent asked subject number stand before next after → TakesTurn Sent ask subject number stand before next after
+of_the_run Sent ask asked same subject number stand next before after takes =
+    at_tag asked.tag (subst (λ (a : Ask). TakesTurn Sent a subject number stand before next after) same takes)
+  where
+    at_tag : (tag : Option (List ℕ)) → TakesTurn Sent (with_tag tag ask) subject number stand before next after
+        → TakesTurn Sent ask subject number stand before next after
+    at_tag tag turn =
+        record { turn = turn.turn; drawn = turn.drawn; meets = turn.meets; stands = turn.stands; sends = turn.sends }
+
 -- one turn more, which asked as the run does
-pub Reached_next : (delta asked : Bool) → asked ≡ delta → (subject : Subject) (start mid now : Ends) (count : ℕ) (stand next : Stand)
-    → Reached delta subject start count stand mid → TakesTurn Sends asked subject (count + 1) stand mid next now
-    → Reached delta subject start (count + 1) next now
-Reached_next delta asked same subject start mid now count stand next reached takes =
-    Reached_more delta subject start mid now count stand next reached
-    (subst (λ (d : Bool). TakesTurn Sends d subject (count + 1) stand mid next now) same takes)
+pub Reached_next : (ask asked : Ask) → asked ≡ with_tag asked.tag ask → (subject : Subject) (start mid now : Ends) (count : ℕ)
+    (stand next : Stand) → Reached ask subject start count stand mid → TakesTurn Sends asked subject (count + 1) stand mid next now
+    → Reached ask subject start (count + 1) next now
+Reached_next ask asked same subject start mid now count stand next reached takes =
+    Reached_more ask subject start mid now count stand next reached
+    (of_the_run Sends ask asked same subject (count + 1) stand next mid now takes)
 
 -- the run after a turn that failed
-pub cut_runs : {T : Type 0} (delta asked : Bool) → asked ≡ delta → (subject : Subject) (start mid now : Ends) (count : ℕ) (stand next : Stand)
-    (most : ℕ) (pace : Option ℕ) (result : Result T FollowFault) (fault : FollowFault) → Reached delta subject start count stand mid
-    → result ≡ Err fault → (result ≡ Err WriteFault → TakesTurn SendsFront asked subject (count + 1) stand mid next now)
-    → Runs {T = T} most pace delta subject start (Err fault) now
-cut_runs delta asked same subject start mid now count stand next most pace result WriteFault reached is cut =
-    Reached_cut delta subject start mid now count stand next reached
-    (subst (λ (d : Bool). TakesTurn SendsFront d subject (count + 1) stand mid next now) same (cut is))
-cut_runs delta asked same subject start mid now count stand next most pace result Memory reached is cut = tt
+pub cut_runs : {T : Type 0} (ask asked : Ask) → asked ≡ with_tag asked.tag ask → (subject : Subject) (start mid now : Ends) (count : ℕ)
+    (stand next : Stand) (most : ℕ) (pace : Option ℕ) (result : Result T FollowFault) (fault : FollowFault)
+    → Reached ask subject start count stand mid → result ≡ Err fault
+    → (result ≡ Err WriteFault → TakesTurn SendsFront asked subject (count + 1) stand mid next now)
+    → (result ≡ Err Memory → now.sent ≡ mid.sent) → Runs {T = T} most pace ask subject start (Err fault) now
+cut_runs ask asked same subject start mid now count stand next most pace result WriteFault reached is cut silent =
+    Reached_cut ask subject start mid now count stand next reached
+    (of_the_run SendsFront ask asked same subject (count + 1) stand next mid now (cut is))
+cut_runs ask asked same subject start mid now count stand next most pace result Memory reached is cut silent =
+    (reached.turns, silent is ∙ reached.follows.sends)
+
+-- a run of no turn, for want of memory, with which nothing was done
+pub none_made : {T : Type 0} (most : ℕ) (pace : Option ℕ) (ask : Ask) (subject : Subject) (ends : Ends) (result : Result T FollowFault)
+    → result ≡ Err Memory → Runs {T = T} most pace ask subject ends result ends
+unfolding follow_text
+none_made {T} most pace ask subject ends result is =
+    subst (λ (r : Result T FollowFault). Runs {T = T} most pace ask subject ends r ends) (sym is) ([], Sends_nothing ends.sent)

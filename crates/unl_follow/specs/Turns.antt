@@ -3,13 +3,15 @@ use Rattle.std.specs.Prelude.{◌≡◌, ℕ, ◌+◌, ◌⊎◌, Bool, List, []
 use Rattle.unl_base.specs.declared.draws.Draw.{Draw}
 use Rattle.unl_base.specs.Doors.{next_of}
 use Rattle.unl_base.specs.Draws.{TakesDraw}
+use Rattle.unl_base.specs.Streams.{SendsFront}
 use Rattle.unl_delta.specs.declared.version.EnvVersion.{EnvVersion}
 use Rattle.unl_delta.specs.Installing.{Installed, place_of}
 use Rattle.unl_http_api.specs.declared.got.BadReply.{BadReply}
 use Rattle.unl_http_api.specs.declared.got.Got.{Got}
+use Rattle.unl_refresh.specs.declared.ask.Ask.{Ask}
 use Rattle.unl_refresh.specs.declared.outcome.Outcome.{Outcome}
 use Rattle.unl_refresh.specs.Exchange.{IsRead}
-use Rattle.unl_refresh.specs.Refresh.{Refreshed, after_reading}
+use Rattle.unl_refresh.specs.Refresh.{Refreshed, after_reading, refresh_request}
 use Rattle.unl_strategies.specs.Moment.{Moment}
 use Rattle.unl_follow.specs.Line.{line_of, number_text, on_text, word_of}
 use Rattle.unl_follow.specs.Replica.{Subject, found_in, installed_by, new_replica}
@@ -72,7 +74,7 @@ follow_text delta subject (turn ∷ earlier) =
     follow_text delta subject earlier
     ++ turn_line subject (length earlier + 1) turn.draw (turned_to delta (stand_after delta earlier) turn.came)
 
--- ---- where the turns come from
+-- ---- where the turns come from, and what they ask
 
 -- what the connect after so many others gives to read, where it is told
 abbrev pub reply_at : Option (List (List ℕ)) → ℕ → Option (List ℕ)
@@ -89,6 +91,23 @@ abbrev pub HaveTurned : Option (List (List ℕ)) → List Turn → ℕ → ℕ �
 HaveTurned replies [] j m = (j ≡ 0) × (m ≡ 0)
 HaveTurned replies (turn ∷ earlier) j m =
     (i : ℕ) × (k : ℕ) × HaveTurned replies earlier i k × Comes replies turn.came i k j m
+
+-- the request of a turn: of the ask's host and with its token, in its mode, and with the tag that stands before the turn
+abbrev pub request_at : Ask → Stand → List ℕ
+request_at ask stand = refresh_request ask.delta ask.host ask.token stand.tag
+
+-- What a turn leaves on the peer's last connection, by what came: its request, sent on a new one. At a fault the front of that,
+-- which may be all of it, or still what was sent before.
+abbrev pub IsAsked : Came → List ℕ → Option (List ℕ) → Option (List ℕ) → Type 0
+IsAsked (Some reading) request asked asked_after = asked_after ≡ option_map (λ _. request) asked
+IsAsked None request asked asked_after = (asked_after ≡ asked) ⊎ SendsFront (option_map (λ _. []) asked) request asked_after
+
+-- what these turns of an ask, one after another, leave on the peer's last connection
+abbrev pub HaveAsked : Ask → Option (List ℕ) → List Turn → Option (List ℕ) → Type 0
+HaveAsked ask asked [] asked_after = asked_after ≡ asked
+HaveAsked ask asked (turn ∷ earlier) asked_after =
+    (between : Option (List ℕ)) × HaveAsked ask asked earlier between
+    × IsAsked turn.came (request_at ask (stand_after ask.delta earlier)) between asked_after
 
 -- these turns took their draws one after another
 abbrev pub HaveDrawn : Option (List Draw × Draw) → List Turn → Option (List Draw × Draw) → Type 0

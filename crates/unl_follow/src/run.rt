@@ -19,7 +19,8 @@ use unl_refresh::Ask;
 /// version or no such feature. The evaluation is at the draw's moment, on a host without a name.
 ///
 /// # Errors
-/// `WriteFault` where the sink fails, after a front of the turns' text, or want of memory. A fault of the peer ends no run.
+/// `WriteFault` where the sink fails, after a front of the turns' text, or want of memory, after whole lines. A fault of the
+/// peer ends no run.
 pub fn follow<P: Peer, R: Draws, T: Pace, K: Sink>(
     alloc: Global,
     subject: &Subject<'_>,
@@ -33,18 +34,19 @@ pub fn follow<P: Peer, R: Draws, T: Pace, K: Sink>(
     requires host { IsTrue (fits_line ask.host) }
     requires token { IsTrue (fits_line ask.token) }
     requires new { ask.tag ≡ None }
-    // As many turns were made as were asked for and the pace had, of the replies and draws that came, and their text was
-    // sent; at a failed write a front of it.
-    ensures runs { Runs turns (T.turns pace.old) ask.delta subject.now
+    // As many turns were made as were asked for and the pace had, of the replies and draws that came. Each with a reply sent
+    // the ask's request, with the tag that stood, on a connection of its own. Their text was sent; at a failed write a front
+    // of it, and for want of memory whole lines.
+    ensures runs { Runs turns (T.turns pace.old) ask subject.now
         (record {
-          replies = (P.state peer.old).replies;
+          peer = P.state peer.old;
           faults = P.Source.faults peer.old;
           coming = R.coming draws.old;
           sent = K.sent sink.old;
         })
         result
         (record {
-          replies = (P.state peer.new).replies;
+          peer = P.state peer.new;
           faults = P.Source.faults peer.new;
           coming = R.coming draws.new;
           sent = K.sent sink.new;

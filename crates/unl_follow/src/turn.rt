@@ -34,36 +34,37 @@ pub(crate) fn turn<P: Peer, R: Draws, K: Sink>(
     requires host { IsTrue (fits_line ask.old.host) }
     requires token { IsTrue (fits_line ask.old.token) }
     requires tag { IsTrue (fits_if_any ask.old.tag) }
-    ensures turn { OnOk result (TakesTurn Sends ask.old.delta subject.now number
+    ensures turn { OnOk result (TakesTurn Sends ask.old subject.now number
         (record { installed = installed_by replica.old; tag = ask.old.tag })
         (record {
-          replies = (P.state peer.old).replies;
+          peer = P.state peer.old;
           faults = P.Source.faults peer.old;
           coming = R.coming draws.old;
           sent = K.sent sink.old;
         })
         (record { installed = installed_by replica.new; tag = ask.new.tag })
         (record {
-          replies = (P.state peer.new).replies;
+          peer = P.state peer.new;
           faults = P.Source.faults peer.new;
           coming = R.coming draws.new;
           sent = K.sent sink.new;
         })) }
-    ensures cut { result ≡ Err FollowFault.WriteFault → TakesTurn SendsFront ask.old.delta subject.now number
+    ensures cut { result ≡ Err FollowFault.WriteFault → TakesTurn SendsFront ask.old subject.now number
         (record { installed = installed_by replica.old; tag = ask.old.tag })
         (record {
-          replies = (P.state peer.old).replies;
+          peer = P.state peer.old;
           faults = P.Source.faults peer.old;
           coming = R.coming draws.old;
           sent = K.sent sink.old;
         })
         (record { installed = installed_by replica.new; tag = ask.new.tag })
         (record {
-          replies = (P.state peer.new).replies;
+          peer = P.state peer.new;
           faults = P.Source.faults peer.new;
           coming = R.coming draws.new;
           sent = K.sent sink.new;
         }) }
+    ensures memory { result ≡ Err FollowFault.Memory → K.sent sink.new ≡ K.sent sink.old }
     ensures same_ask { ask.new ≡ with_tag ask.new.tag ask.old }
     ensures next_tag { IsTrue (fits_if_any ask.new.tag) }
     ensures next_front { replica.new.front ≤ replica.old.front + 1 }
@@ -88,11 +89,11 @@ fn ask_once<P: Peer>(
     requires host { IsTrue (fits_line ask.old.host) }
     requires token { IsTrue (fits_line ask.old.token) }
     requires tag { IsTrue (fits_if_any ask.old.tag) }
-    ensures asks { IfOk result (λ outcome. AsksOnce ask.old.delta
+    ensures asks { IfOk result (λ outcome. AsksOnce ask.old
         (record { installed = installed_by replica.old; tag = ask.old.tag })
-        (P.state peer.old).replies (P.Source.faults peer.old)
+        (P.state peer.old) (P.Source.faults peer.old)
         (record { outcome = outcome; stand = record { installed = installed_by replica.new; tag = ask.new.tag } })
-        (P.state peer.new).replies (P.Source.faults peer.new)) }
+        (P.state peer.new) (P.Source.faults peer.new)) }
     ensures same_ask { ask.new ≡ with_tag ask.new.tag ask.old }
     ensures next_tag { IsTrue (fits_if_any ask.new.tag) }
     ensures next_front { replica.new.front ≤ replica.old.front + 1 }

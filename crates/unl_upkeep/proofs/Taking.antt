@@ -1,5 +1,6 @@
 -- What a turn takes of the replies to come.
-use Rattle.std.proofs.Common.{◌≡◌, ◌⊎◌, ◌∙◌, ℕ, suc, ◌+◌, List, drop, Option, Some, None, Result, Ok, Err, refl, subst, arith, inl, inr}
+use Rattle.std.proofs.Common.{◌≡◌, ◌⊎◌, ◌∙◌, ◌<◌, ◌≤◌, ℕ, ◌+◌, List, [], ◌∷◌, drop, get_or, length, map, Option, Some, None, Result, Ok, Err, ap, refl, subst, sym, arith, inl, inr}
+use Rattle.std.proofs.lemmas.List.{drop_all, drop_more, get_or-map, length-map}
 use Rattle.std.specs.Prelude.{◌≢◌, option_map, IfOk, OnErr, OnOk}
 use Rattle.serde_json.specs.Data.{Data}
 use Rattle.unl_base.specs.Doors.{next_of}
@@ -7,7 +8,9 @@ use Rattle.unl_delta.specs.Installing.{Installed}
 use Rattle.unl_documents.specs.declared.memory.Memory.{Memory}
 use Rattle.unl_metrics.specs.Book.{Book, acknowledge}
 use Rattle.unl_upkeep.proofs.Connecting.{none_taken}
-use Rattle.unl_upkeep.specs.Turns.{Duty, FeedsSlot, FeedsSlots, MakesTurn, TakesBook, TakesSlot, Tells, Upkept, upkept}
+use Rattle.unl_upkeep.specs.Feeding.{Feeding, feeding_of}
+use Rattle.unl_upkeep.specs.declared.feeder.Feeder.{Feeder}
+use Rattle.unl_upkeep.specs.Turns.{AsksFor, Duty, FeedsFrom, FeedsSlot, MakesTurn, TakesBook, TakesSlot, Tells, Upkept, upkept}
 use Rattle.unl_refresh.specs.declared.ask.Ask.{Ask}
 use Rattle.unl_refresh.specs.declared.outcome.MetricsOutcome.{MetricsOutcome}
 use Rattle.unl_refresh.specs.declared.outcome.MetricsOutcome.TheVariants.{Nothing, Sent, Refused, BadAnswer}
@@ -77,27 +80,51 @@ told_once installed (Some (report, count)) host token replies replies_after sent
 
 -- ---- slots
 
--- a slot was fed
-pub fed_slot : {slot : ℕ} {ask : Ask} {tag : Option (List ℕ)} {before middle after : Upkept} → TakesSlot slot ask tag before middle
-    → Tells middle after → FeedsSlot slot before after
-fed_slot {ask = ask} {tag = tag} {middle = middle} takes tells = (ask, tag, middle, takes, tells)
+-- a slot was fed by what was asked with an ask that is for it
+pub fed_slot : {feeding : Feeding} {slot : ℕ} {ask : Ask} {tag : Option (List ℕ)} {before middle after : Upkept} → AsksFor feeding ask
+    → TakesSlot slot ask tag before middle → Tells middle after → FeedsSlot feeding slot before after
+fed_slot {ask = ask} {tag = tag} {middle = middle} asks takes tells = (ask, asks, tag, middle, takes, tells)
 
--- one slot more was
-pub feeds_more : (n : ℕ) (before middle after : Upkept) → FeedsSlots n before middle → FeedsSlot n middle after → FeedsSlots (n + 1) before after
-feeds_more n before middle after many one =
-    let longer : suc n ≡ n + 1 = omega arith in subst (λ (m : ℕ). FeedsSlots m before after) longer both
+-- one slot more was, and what feeds those behind it feeds all
+pub feeds_next : (feeders initial : List Feeder) (slot : ℕ) (feeder : Feeder) (start now next : Upkept) → slot < length feeders
+    → map feeding_of feeders ≡ map feeding_of initial
+    → ((last : Upkept) → FeedsFrom slot (drop slot (map feeding_of initial)) now last → FeedsFrom 0 (map feeding_of initial) start last)
+    → FeedsSlot (feeding_of (get_or feeders slot feeder)) slot now next
+    → (last : Upkept) → FeedsFrom (slot + 1) (drop (slot + 1) (map feeding_of initial)) next last → FeedsFrom 0 (map feeding_of initial) start last
+feeds_next feeders initial slot feeder start now next inside same before one last behind =
+    before last (subst (λ (fs : List Feeding). FeedsFrom slot fs now last) (sym split) (next, one, behind))
   where
-    both : FeedsSlots (suc n) before after
-    both = (middle, many, one)
+    here : get_or (map feeding_of initial) slot (feeding_of feeder) ≡ feeding_of (get_or feeders slot feeder)
+    here = ap (λ (fs : List Feeding). get_or fs slot (feeding_of feeder)) (sym same)
+        ∙ get_or-map feeding_of feeders slot feeder (feeding_of feeder) inside
 
--- so many, where these are all
-feeds_all : (n m : ℕ) (before after : Upkept) → n ≡ m → FeedsSlots n before after → FeedsSlots m before after
-feeds_all n m before after same feeds = subst (λ (k : ℕ). FeedsSlots k before after) same feeds
+    as_many : length feeders ≡ length (map feeding_of initial)
+    as_many = sym (length-map feeders feeding_of) ∙ ap length same
 
--- a turn was made for a duty, by what was asked for these texts and so many slots
-pub made_turn : {A E : Type 0} (result : Result A E) (duty : Duty) (texts : List (List ℕ)) (slots : ℕ) (before middle after : Upkept)
-    → texts ≡ duty.known → slots ≡ duty.slots → TakesBook texts before middle → OnOk result (FeedsSlots slots middle after)
-    → OnOk result (MakesTurn duty.known duty.slots before after)
-made_turn (Ok a) duty texts slots before middle after known count book fed =
-    (middle, subst (λ (t : List (List ℕ)). TakesBook t before middle) known book, feeds_all slots duty.slots middle after count fed)
-made_turn (Err e) duty texts slots before middle after known count book fed = tt
+    split : drop slot (map feeding_of initial) ≡ feeding_of (get_or feeders slot feeder) ∷ drop (slot + 1) (map feeding_of initial)
+    split = drop_more (map feeding_of initial) slot (feeding_of feeder) (omega (arith, inside, as_many))
+        ∙ ap (λ (f : Feeding). f ∷ drop (slot + 1) (map feeding_of initial)) here
+
+-- no slot is left
+pub fed_all : (feeders : List Feeder) (slot : ℕ) (start now : Upkept) → length feeders ≤ slot
+    → ((last : Upkept) → FeedsFrom slot (drop slot (map feeding_of feeders)) now last → FeedsFrom 0 (map feeding_of feeders) start last)
+    → FeedsFrom 0 (map feeding_of feeders) start now
+fed_all feeders slot start now many before =
+    before now (subst (λ (fs : List Feeding). FeedsFrom slot fs now now) (sym none) refl)
+  where
+    as_many : length feeders ≡ length (map feeding_of feeders)
+    as_many = sym (length-map feeders feeding_of)
+
+    none : drop slot (map feeding_of feeders) ≡ []
+    none = drop_all slot (map feeding_of feeders) (omega (arith, many, as_many))
+
+-- a turn was made for a duty, by what was asked for these texts and of these
+pub made_turn : {A E : Type 0} (result : Result A E) (duty : Duty) (texts : List (List ℕ)) (feedings : List Feeding) (before middle after : Upkept)
+    → texts ≡ duty.known → feedings ≡ duty.feeders → TakesBook texts before middle → OnOk result (FeedsFrom 0 feedings middle after)
+    → OnOk result (MakesTurn duty.known duty.feeders before after)
+made_turn (Ok a) duty texts feedings before middle after known feeders book fed = (
+  middle,
+  subst (λ (t : List (List ℕ)). TakesBook t before middle) known book,
+  subst (λ (fs : List Feeding). FeedsFrom 0 fs middle after) feeders fed,
+)
+made_turn (Err e) duty texts feedings before middle after known feeders book fed = tt

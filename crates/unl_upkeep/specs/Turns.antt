@@ -1,5 +1,5 @@
 -- What a turn takes: the next reply is the upstream's book, and each one after it is for the next slot.
-use Rattle.std.specs.Prelude.{◌≡◌, ◌≤◌, ◌+◌, ℕ, zero, suc, List, Option, drop, length, option_map}
+use Rattle.std.specs.Prelude.{◌≡◌, ◌≤◌, ◌+◌, ℕ, List, [], ◌∷◌, Option, drop, length, option_map}
 use Rattle.unl_base.specs.Doors.{next_of}
 use Rattle.unl_delta.specs.Installing.{Installed}
 use Rattle.unl_refresh.specs.Refresh.{Refreshes}
@@ -54,16 +54,24 @@ pub record Tells (before after : Upkept) : Type 0 where
   pub once : count ≤ 1
   pub replies : Taken count before after
 
--- a slot was asked for, and then what was counted there was told
-abbrev pub FeedsSlot : ℕ → Upkept → Upkept → Type 0
-FeedsSlot slot before after =
-    (ask : Ask) × (tag : Option (List ℕ)) × (middle : Upkept) × TakesSlot slot ask tag before middle × Tells middle after
+-- an ask is made where a slot is fed from: at its server and with its token, for changes or for whole feeds
+pub record AsksFor (feeding : Feeding) (ask : Ask) : Type 0 where
+  pub host : ask.host ≡ feeding.host
+  pub token : ask.token ≡ feeding.token
+  pub delta : ask.delta ≡ feeding.delta
 
--- so for each of so many slots, in their order
-abbrev pub FeedsSlots : ℕ → Upkept → Upkept → Type 0
-FeedsSlots zero before after = after ≡ before
-FeedsSlots (suc n) before after = (middle : Upkept) × FeedsSlots n before middle × FeedsSlot n middle after
+-- a slot was asked for where it is fed from, and then what was counted there was told
+abbrev pub FeedsSlot : Feeding → ℕ → Upkept → Upkept → Type 0
+FeedsSlot feeding slot before after =
+    (ask : Ask) × AsksFor feeding ask × (tag : Option (List ℕ)) × (middle : Upkept) × TakesSlot slot ask tag before middle
+    × Tells middle after
 
--- a turn for these tokens and so many slots: the book first, and then the slots
-abbrev pub MakesTurn : List (List ℕ) → ℕ → Upkept → Upkept → Type 0
-MakesTurn texts slots before after = (middle : Upkept) × TakesBook texts before middle × FeedsSlots slots middle after
+-- so for each slot from one on, in their order
+abbrev pub FeedsFrom : ℕ → List Feeding → Upkept → Upkept → Type 0
+FeedsFrom slot [] before after = after ≡ before
+FeedsFrom slot (feeding ∷ feedings) before after =
+    (middle : Upkept) × FeedsSlot feeding slot before middle × FeedsFrom (slot + 1) feedings middle after
+
+-- a turn for these tokens, and for the slots that are fed so: the book first, and then the slots
+abbrev pub MakesTurn : List (List ℕ) → List Feeding → Upkept → Upkept → Type 0
+MakesTurn texts feedings before after = (middle : Upkept) × TakesBook texts before middle × FeedsFrom 0 feedings middle after

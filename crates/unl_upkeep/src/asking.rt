@@ -10,7 +10,7 @@ ghost use Rattle.unl_refresh.specs.Metrics.{AsksBulk};
 ghost use Rattle.unl_refresh.specs.Refresh.{refresh_request};
 ghost use Rattle.unl_upkeep.specs.Connects.{Connects};
 ghost use Rattle.unl_upkeep.specs.Feeding.{feeding_of};
-ghost use Rattle.unl_upkeep.specs.Turns.{FeedsSlot, FeedsSlots, Goes, TakesBook, TakesSlot, Tells, upkept};
+ghost use Rattle.unl_upkeep.specs.Turns.{FeedsFrom, FeedsSlot, Goes, TakesBook, TakesSlot, Tells, upkept};
 ghost use Rattle.unl_http_api.specs.RequestText.{fits_line};
 
 use crate::feeder::Feeder;
@@ -114,7 +114,7 @@ fn feed_slot<I: Installer, P: Peer>(
     ensures connects { Connects 0
         (P.state peer.old).replies (P.Source.faults peer.old) (P.state peer.new).replies (P.Source.faults peer.new) }
     ensures takes { (I.installed to.old).front < 2 ^ 64 - 1 → ¬ (Rose (P.Source.faults peer.old) (P.Source.faults peer.new))
-        → OnOk result (FeedsSlot slot (upkept (I.installed to.old) (P.state peer.old).replies)
+        → OnOk result (FeedsSlot (feeding_of feeder.old) slot (upkept (I.installed to.old) (P.state peer.old).replies)
         (upkept (I.installed to.new) (P.state peer.new).replies)) }
     ensures same { feeding_of feeder.new ≡ feeding_of feeder.old }
 {
@@ -141,7 +141,7 @@ pub(crate) fn feed_slots<I: Installer, P: Peer>(
     ensures takes { (I.installed to.old).front + length feeders.old < 2 ^ 64 - 1
         → length feeders.old ≤ length (I.installed to.old).places
         → ¬ (Rose (P.Source.faults peer.old) (P.Source.faults peer.new))
-        → OnOk result (FeedsSlots (length feeders.old) (upkept (I.installed to.old) (P.state peer.old).replies)
+        → OnOk result (FeedsFrom 0 (map feeding_of feeders.old) (upkept (I.installed to.old) (P.state peer.old).replies)
         (upkept (I.installed to.new) (P.state peer.new).replies)) }
     ensures same { map feeding_of feeders.new ≡ map feeding_of feeders.old }
 {

@@ -100,7 +100,7 @@ impl Upkeep {
             (P.state peer.old).replies (P.Source.faults peer.old) (P.state peer.new).replies (P.Source.faults peer.new) }
         ensures takes { (I.installed to.old).front ≡ 0 → self.old.slots ≤ length (I.installed to.old).places → self.old.slots ≤ 8
             → ¬ (Rose (P.Source.faults peer.old) (P.Source.faults peer.new))
-            → OnOk result (MakesTurn self.old.known self.old.slots
+            → OnOk result (MakesTurn self.old.known self.old.feeders
             (upkept (I.installed to.old) (P.state peer.old).replies) (upkept (I.installed to.new) (P.state peer.new).replies)) }
     {
         match refresh_book(alloc, to, &self.known, &self.upstream, peer) {

@@ -321,7 +321,7 @@ carries_written command before number after has told =
       appended = ap (option_map commands_in) rows ∙ commands_more text command told.spelled (kept_rows before.keeper);
       left = λ failed left. subst (λ (o : Option (List (List ℕ))). IfSome o (AreLeft after.up [])) (sym (past_written text before.keeper after.keeper has told.row))
           (none_left before.keeper.rows after.up []);
-      faults = omega (arith, told.row.later);
+      faults = let still = told.row.still in omega (arith, still);
     }
 
 one_more : (up : UpstreamState) (command : Command) (failed : List Command) (texts : List (List ℕ)) → AreLeft up failed texts → AreLeft up (command ∷ failed) texts

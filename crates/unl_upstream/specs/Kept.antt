@@ -83,7 +83,7 @@ pub record IsWritten (text : List ℕ) (before after : KeeperState) : Type 0 whe
   pub opened : after.opened ≡ true
   pub counted : after.count ≡ before.count + 1
   pub rows : after.rows ≡ with_row before.count text before.rows
-  pub later : before.faults ≤ after.faults
+  pub still : after.faults ≡ before.faults
 
 -- the keeper failed: it keeps what it kept, past which stands what stood there or the text
 pub record IsFailed (text : List ℕ) (before after : KeeperState) : Type 0 where

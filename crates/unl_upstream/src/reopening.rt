@@ -55,6 +55,7 @@ pub fn reopen<K: Keeper>(
 ) -> Result<u64, ReopenFault>
     requires { IsOpening up.old }
     ensures opened { OnOk result (K.opened keeper.new ≡ true) }
+    ensures still { OnOk result (K.faults keeper.new ≡ K.faults keeper.old) }
     ensures keeper { IsSameKeeper (keeper_by K.opened K.faults K.count K.rows keeper.old)
         (keeper_by K.opened K.faults K.count K.rows keeper.new) }
     ensures reopens { Reopens (kept_state up.old (keeper_by K.opened K.faults K.count K.rows keeper.old)) result
@@ -88,7 +89,7 @@ fn take_row<K: Keeper>(
     requires fits { before + 1 < 2 ^ 64 }
     ensures stays { K.opened keeper.new ≡ true }
     ensures same { (K.count keeper.new ≡ K.count keeper.old) × (K.rows keeper.new ≡ K.rows keeper.old) }
-    ensures later { K.faults keeper.old ≤ K.faults keeper.new }
+    ensures faults { (K.faults keeper.old ≤ K.faults keeper.new) × OnOk result (K.faults keeper.new ≡ K.faults keeper.old) }
     ensures taken { OnOk result (TakesRow before (K.rows keeper.old) up.old up.new) }
     ensures barred { IfErr result (λ e. (up.new ≡ up.old)
         × Bars before (K.rows keeper.old) (K.faults keeper.old) (K.faults keeper.new) up.old e) }

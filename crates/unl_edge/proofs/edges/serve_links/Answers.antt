@@ -1,17 +1,17 @@
-use Rattle.std.proofs.Common.{◌∙◌, refl, sym}
-use Rattle.unl_edge.specs.Sites.{opened}
-use Rattle.unl_edge.proofs.Closing.{failed_ends, hands_links, hands_none, told_ends}
+use Rattle.std.proofs.Common.{◌∙◌, inl, refl, sym}
+use Rattle.unl_edge.specs.Sites.{site_at}
+use Rattle.unl_edge.proofs.Closing.{failed_ends, hands_links, hands_none, stopped_ends, told_ends}
 use Rattle.unl_edge.proofs.edges.serve_links.Goals as goal
 
 pub returns-then-is_err-clause-ends : goal.returns-then-is_err-clause-ends
 returns-then-is_err-clause-ends g c =
-    failed_ends (record { known = c.args.upkeep.known; opening = opened c.args.board; workers = c.args.workers }) 0 _ _ _ (sym c.world.view_is)
+    failed_ends (site_at c.args.upkeep.known c.args.board c.args.upkeep.feeders c.args.workers) 0 _ _ _ (sym c.world.view_is)
     (hands_none _ _ _ c.listen.ensures.listens refl) refl
 
 pub returns-in-Err-Spawner-clause-ends : goal.returns-in-Err-Spawner-clause-ends
 returns-in-Err-Spawner-clause-ends g c =
     let handed = rw (c.in-Err-Spawner.field-0-is) at c.in-Err-Spawner.ensures.hands in
-    failed_ends (record { known = c.args.upkeep.known; opening = opened c.args.board; workers = c.args.workers }) 0 _ _ _ (sym c.world.view_is)
+    failed_ends (site_at c.args.upkeep.known c.args.board c.args.upkeep.feeders c.args.workers) 0 _ _ _ (sym c.world.view_is)
     (hands_none _ _ _ (handed ∙ c.listen.ensures.listens) refl) refl
 
 pub returns-in-Ok-clause-ends : goal.returns-in-Ok-clause-ends
@@ -19,3 +19,9 @@ returns-in-Ok-clause-ends g c =
     told_ends _ c.in-Ok.links c.say_connections.result c.of_line.result _ _ _ c.of_line.ensures (sym c.world.view_is)
     (hands_links _ _ _ _ _ c.listen.ensures.listens c.in-Ok.ensures.hands.0 refl) (c.in-Ok.ensures.connects, c.in-Ok.ensures.serves)
     c.say_connections.ensures.said c.in-Ok.ensures.hands.1
+
+pub returns-in-Err-Memory-clause-ends : goal.returns-in-Err-Memory-clause-ends
+returns-in-Err-Memory-clause-ends g c =
+    let handed = rw (c.in-Err-Memory.field-0-is) at c.in-Err-Memory.ensures.hands in
+    stopped_ends (site_at c.args.upkeep.known c.args.board c.args.upkeep.feeders c.args.workers) 0 _ _ _ (sym c.world.view_is)
+    (hands_none _ _ _ (handed ∙ c.listen.ensures.listens) refl) (inl refl) refl

@@ -1,4 +1,5 @@
-use Rattle.std.proofs.Common.{arith}
+use Rattle.std.proofs.Common.{arith, length, rules}
+use Rattle.unl_edge_state.specs.Writing.{installed_by}
 use Rattle.unl_edge.proofs.Working.{asked_first, site_served}
 use Rattle.unl_edge.proofs.site.serve_from.Goals as goal
 
@@ -12,5 +13,10 @@ pub returns-in-Ok-clause-serves : goal.returns-in-Ok-clause-serves
 returns-in-Ok-clause-serves g c =
     let takes = rw (c.in-Ok.is) at c.turn_by-writer.ensures.takes c.requires.opens (omega (arith, c.requires.feeders))
     (omega (arith, c.requires.feeders, c.requires.few)) in
-    site_served _ _ _ _ _ _ _ _ _ _ _ c.serve_after-served.result c.requires.feeders takes c.serve_after-served.ensures.connects
-    c.serve_after-served.ensures.work
+    site_served (record {
+      known = c.args.upkeep.known;
+      opening = installed_by c.args.writer;
+      edition = c.args.writer.known.opening;
+      feeders = c.args.upkeep.feeders;
+      workers = length c.args.readers.items;
+    }) _ _ _ _ _ _ _ c.serve_after-served.result takes c.serve_after-served.ensures.connects (search rules)

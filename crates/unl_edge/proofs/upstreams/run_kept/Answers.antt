@@ -24,5 +24,5 @@ returns-in-Ok-clause-ends g c =
       calm = never_failed (g.Q.K.Keeper.faults last) rose;
     }))
 
-pub run_reopened-end-requires : goal.run_reopened-end-requires
-run_reopened-end-requires g c = c.into_upstream-up.ensures.new.opens
+pub run_reopened-end-requires-clause-opens : goal.run_reopened-end-requires-clause-opens
+run_reopened-end-requires-clause-opens g c = c.into_upstream-up.ensures.new.opens

@@ -37,7 +37,7 @@ loop-made-preserved g c =
     let turn = c.in-Ok.ensures in
     let paces = c.if-not-goes_on.ensures in
     record {
-      reached = Reached_next _ _ (ap (λ (a : Ask). a.delta) so_far.same) _ _ _ _ _ _ _ so_far.reached turn.turn;
+      reached = Reached_next _ _ so_far.same _ _ _ _ _ _ _ so_far.reached turn.turn;
       paced = went_on _ _ _ _ so_far.paced paces.first paces.takes paces.told;
       front = omega (arith, so_far.front, turn.next_front);
       same = turn.same_ask ∙ ap (λ (a : Ask). with_tag c.turn.new.ask.tag a) so_far.same;
@@ -60,8 +60,8 @@ returns-then-not-goes_on-clause-later g c = c.loop-made.invariant.later
 pub returns-in-Err-clause-runs : goal.returns-in-Err-clause-runs
 returns-in-Err-clause-runs g c =
     let so_far = c.loop-made.invariant in
-    cut_runs _ _ (ap (λ (a : Ask). a.delta) so_far.same) _ _ _ _ _ _ _ c.args.turns (g.T.Pace.turns c.args.pace.now) c.turn.result c.in-Err.fault so_far.reached c.in-Err.is
-    c.turn.ensures.cut
+    cut_runs _ _ so_far.same _ _ _ _ _ _ _ c.args.turns (g.T.Pace.turns c.args.pace.now) c.turn.result c.in-Err.fault so_far.reached c.in-Err.is
+    c.turn.ensures.cut c.turn.ensures.memory
 
 pub returns-in-Err-clause-later : goal.returns-in-Err-clause-later
 returns-in-Err-clause-later g c = omega (arith, c.loop-made.invariant.later, c.in-Err.ensures.later)

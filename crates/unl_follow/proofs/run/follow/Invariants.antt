@@ -9,9 +9,9 @@ use Rattle.unl_follow.proofs.run.follow.Given as goal
 -- so many turns were made
 abbrev pub invariant-loop-made : goal.invariant-loop-made
 invariant-loop-made g l = record {
-  reached : Reached l.initial.ask.delta l.subject
+  reached : Reached l.initial.ask l.subject
       (record {
-        replies = (g.P.Peer.state l.initial.peer).replies;
+        peer = g.P.Peer.state l.initial.peer;
         faults = g.P.Source.faults l.initial.peer;
         coming = g.R.Draws.coming l.initial.draws;
         sent = g.K.Sink.sent l.initial.sink;
@@ -19,7 +19,7 @@ invariant-loop-made g l = record {
       l.made
       (record { installed = installed_by l.replica; tag = l.ask.tag })
       (record {
-        replies = (g.P.Peer.state l.peer).replies;
+        peer = g.P.Peer.state l.peer;
         faults = g.P.Source.faults l.peer;
         coming = g.R.Draws.coming l.draws;
         sent = g.K.Sink.sent l.sink;

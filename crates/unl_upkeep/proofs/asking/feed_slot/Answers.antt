@@ -1,3 +1,4 @@
+use Rattle.std.proofs.Common.{refl}
 use Rattle.unl_upkeep.proofs.Connecting.{connects_both, if_ok, none_before}
 use Rattle.unl_upkeep.proofs.Taking.{fed_slot}
 use Rattle.unl_upkeep.proofs.asking.feed_slot.Goals as goal
@@ -11,4 +12,4 @@ returns-in-Ok-clause-connects g c = connects_both c.in-Ok.ensures.connects c.tel
 pub returns-in-Ok-clause-takes : goal.returns-in-Ok-clause-takes
 returns-in-Ok-clause-takes g c room none =
     if_ok c.tell_metrics.result
-    (fed_slot (c.in-Ok.ensures.takes room (none_before _ _ _ c.tell_metrics.ensures.connects.later none)) (c.tell_metrics.ensures.tells _))
+    (fed_slot (record { host = refl; token = refl; delta = refl }) (c.in-Ok.ensures.takes room (none_before _ _ _ c.tell_metrics.ensures.connects.later none)) (c.tell_metrics.ensures.tells _))

@@ -3,7 +3,7 @@ use Rattle.std.proofs.lemmas.List.{length-set}
 use Rattle.std.proofs.Math.Seq.{map-set_same}
 use Rattle.unl_upkeep.specs.Feeding.{feeding_of}
 use Rattle.unl_upkeep.proofs.Connecting.{connects_both, none_after, none_before}
-use Rattle.unl_upkeep.proofs.Taking.{feeds_more}
+use Rattle.unl_upkeep.proofs.Taking.{fed_all, feeds_next}
 use Rattle.unl_upkeep.proofs.asking.feed_slots.Goals as goal
 
 pub returns-in-Err-clause-connects : goal.returns-in-Err-clause-connects
@@ -26,8 +26,14 @@ loop-slot-preserved g c =
       asks = λ room. connects_both (c.loop-slot.invariant.asks room)
           (c.in-Ok.ensures.asks (omega (arith, room, c.loop-slot.invariant.front, c.loop-slot-test.true, c.min-count.ensures)));
       connects = connects_both c.loop-slot.invariant.connects c.in-Ok.ensures.connects;
-      takes = λ room none. feeds_more c.loop-slot.slot _ _ _
+      takes = λ room none. feeds_next c.loop-slot.feeders c.args.feeders.now c.loop-slot.slot c.index-feeders-slot.result _ _ _
+          (omega (arith, c.loop-slot.invariant.size, c.loop-slot-test.true, c.min-count.ensures)) c.loop-slot.invariant.same
           (c.loop-slot.invariant.takes room (none_before _ _ _ c.in-Ok.ensures.connects.later none))
           (c.in-Ok.ensures.takes (omega (arith, room, c.loop-slot.invariant.front, c.loop-slot-test.true, c.min-count.ensures))
           (none_after _ _ _ c.loop-slot.invariant.connects.later none));
     }
+
+pub returns-clause-takes : goal.returns-clause-takes
+returns-clause-takes g c room slots none =
+    fed_all c.args.feeders.now c.loop-slot.slot _ _ (omega (arith, slots, c.loop-slot-test.false, c.min-count.ensures))
+    (c.loop-slot.invariant.takes room none)

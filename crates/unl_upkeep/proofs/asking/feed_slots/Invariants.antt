@@ -1,11 +1,11 @@
-use Rattle.std.proofs.Common.{◌≡◌, ◌<◌, ◌≤◌, ◌+◌, ◌-◌, ◌^◌, length, map}
+use Rattle.std.proofs.Common.{◌≡◌, ◌<◌, ◌≤◌, ◌+◌, ◌-◌, ◌^◌, drop, length, map}
 use Rattle.unl_base.specs.Faults.{Rose}
 use Rattle.unl_upkeep.specs.Connects.{Connects}
 use Rattle.unl_upkeep.specs.Feeding.{feeding_of}
-use Rattle.unl_upkeep.specs.Turns.{FeedsSlots, upkept}
+use Rattle.unl_upkeep.specs.Turns.{FeedsFrom, Upkept, upkept}
 use Rattle.unl_upkeep.proofs.asking.feed_slots.Given as goal
 
--- so many slots were fed
+-- so many slots were fed, and what feeds the others feeds all
 abbrev pub invariant-loop-slot : goal.invariant-loop-slot
 invariant-loop-slot g l = record {
   places : length (g.I.Installer.installed l.to).places ≡ length (g.I.Installer.installed l.initial.to).places;
@@ -17,6 +17,7 @@ invariant-loop-slot g l = record {
   connects : Connects 0 (g.P.Peer.state l.initial.peer).replies (g.P.Source.faults l.initial.peer) (g.P.Peer.state l.peer).replies (g.P.Source.faults l.peer);
   takes : (g.I.Installer.installed l.initial.to).front + length l.initial.feeders < 2 ^ 64 - 1
       → ¬ (Rose (g.P.Source.faults l.initial.peer) (g.P.Source.faults l.peer))
-      → FeedsSlots l.slot (upkept (g.I.Installer.installed l.initial.to) (g.P.Peer.state l.initial.peer).replies)
-      (upkept (g.I.Installer.installed l.to) (g.P.Peer.state l.peer).replies);
+      → (last : Upkept)
+      → FeedsFrom l.slot (drop l.slot (map feeding_of l.initial.feeders)) (upkept (g.I.Installer.installed l.to) (g.P.Peer.state l.peer).replies) last
+      → FeedsFrom 0 (map feeding_of l.initial.feeders) (upkept (g.I.Installer.installed l.initial.to) (g.P.Peer.state l.initial.peer).replies) last;
 }

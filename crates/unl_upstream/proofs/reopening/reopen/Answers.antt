@@ -11,7 +11,7 @@ rows-preserved g c =
       c.in-Ok-take_row.ensures.stays,
       same.0 ∙ before.1,
       same.1 ∙ before.2,
-      omega (arith, before.3, c.in-Ok-take_row.ensures.later),
+      c.in-Ok-take_row.ensures.faults.1 ∙ before.3,
       subst (λ (o : Option (List (List ℕ))). IfSome o (λ list. c.in-Ok.count ≡ length list)) (sym same.1) before.4,
       subst (λ (o : Option (List (List ℕ))). Applies c.args.up.now o (c.rows.place + 1) c.take_row.new.up) (sym same.1)
           (applies_more c.args.up.now (g.K.Keeper.rows c.rows.keeper) c.rows.place c.rows.up c.take_row.new.up before.5 c.in-Ok-take_row.ensures.taken),

@@ -1,4 +1,5 @@
-use Rattle.std.proofs.Common.{◌≡◌, ap, arith, length}
+use Rattle.std.proofs.Common.{◌≡◌, ◌∙◌, ap, arith, length, map}
+use Rattle.unl_upkeep.specs.Feeding.{feeding_of}
 use Rattle.unl_upkeep.specs.Turns.{Duty}
 use Rattle.unl_upkeep.proofs.Connecting.{connects_both, none_after, none_before, one_and_more}
 use Rattle.unl_upkeep.proofs.Taking.{made_turn}
@@ -22,7 +23,7 @@ returns-in-Ok-clause-takes g c opens slots few none =
     let places = c.in-Ok.ensures.goes.places in
     let many : length c.self.inside.feeders.items ≡ c.args.self.now.slots = ap (λ (d : Duty). d.slots) c.self.view_is in
     made_turn c.feed_slots.result c.args.self.now _ _ _ _ _ (ap (λ (d : Duty). d.known) c.self.view_is)
-    (omega (arith, many, c.deref_mut.ensures.len))
+    (ap (map feeding_of) c.deref_mut.ensures.value ∙ ap (λ (d : Duty). d.feeders) c.self.view_is)
     (c.in-Ok.ensures.takes (omega (arith, opens)) (none_before _ _ _ c.feed_slots.ensures.connects.later none))
     (c.feed_slots.ensures.takes (omega (arith, opens, few, front, many, c.deref_mut.ensures.len))
     (omega (arith, slots, places, many, c.deref_mut.ensures.len)) (none_after _ _ _ c.in-Ok.ensures.connects.later none))
