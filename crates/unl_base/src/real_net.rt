@@ -1,5 +1,7 @@
 //! The adapters over the network. They tell no content, and each counts its own errors.
-ghost use Rattle.std.specs.Prelude.{◌≡◌, ◌≤◌, ◌-◌, ◌^◌, None, unwrap_or};
+ghost use Rattle.std.specs.Io.KnownBytes.{ReadConsumes, WriteAppends};
+ghost use Rattle.std.specs.Prelude.{◌≡◌, ◌<◌, ◌≤◌, ◌-◌, ◌^◌, length, IfNone, IfOk, IfSome, None, Ok, unwrap_or};
+ghost use Rattle.unl_base.specs.Faults.{HasExactCause};
 ghost use Rattle.unl_base.specs.Peers.{nothing_beside};
 
 use crate::Failed;
@@ -147,8 +149,16 @@ impl<N: Net + Drop, A: ToSocketAddrs> Source for RealPeer<N, A> {
 
     ghost beside = { λ peer. record nothing_beside { connected = is_some peer.stream } };
 
-    /// Reads from the last connection. Where there is none, nothing is to come.
-    fn read(&mut self, room: &mut [u8]) -> Result<usize, Failed> {
+    /// Hands on what the last connection gives. Where there is none, nothing is to come.
+    fn read(&mut self, room: &mut [u8]) -> Result<usize, Failed>
+        requires { 0 < length room.old }
+        ensures fits { IfOk result (λ n. n ≤ length room.new) }
+        ensures hands_on { IfSome self.old.stream (λ was. IfSome self.new.stream (λ now.
+            ReadConsumes (⟦<N::Stream as Read>⟧.remaining was) (⟦<N::Stream as Read>⟧.remaining now) result room.new)) }
+        ensures alone { IfNone self.old.stream (result ≡ Ok 0) }
+        ensures beside { is_some self.new.stream ≡ is_some self.old.stream }
+        ensures cause { HasExactCause self.old.faults self.new.faults result }
+    {
         let Some(stream) = &mut self.stream else {
             return Ok(0);
         };
@@ -171,8 +181,17 @@ impl<N: Net + Drop, A: ToSocketAddrs> Sink for RealPeer<N, A> {
 
     ghost beside = { λ peer. record nothing_beside { connected = is_some peer.stream } };
 
-    /// Writes to the last connection. Where there is none, the piece is dropped.
-    fn write(&mut self, piece: &[u8]) -> Result<usize, Failed> {
+    /// Hands the piece on to the last connection, and tells how much that took. Where there is none, the whole piece is dropped.
+    fn write(&mut self, piece: &[u8]) -> Result<usize, Failed>
+        requires { 0 < length piece.now }
+        ensures some { IfOk result (λ n. 0 < n) }
+        ensures fits { IfOk result (λ n. n ≤ length piece.now) }
+        ensures hands_on { IfSome self.old.stream (λ was. IfSome self.new.stream (λ now.
+            WriteAppends (⟦<N::Stream as Write>⟧.contents was) (⟦<N::Stream as Write>⟧.contents now) result piece.now)) }
+        ensures alone { IfNone self.old.stream (result ≡ Ok (length piece.now)) }
+        ensures beside { is_some self.new.stream ≡ is_some self.old.stream }
+        ensures cause { HasExactCause self.old.faults self.new.faults result }
+    {
         let Some(stream) = &mut self.stream else {
             return Ok(piece.len());
         };

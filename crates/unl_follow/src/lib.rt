@@ -16,6 +16,3 @@ pub use crate::once::follow_once;
 pub use crate::replica::Replica;
 pub use crate::run::follow;
 pub use crate::subject::Subject;
-
-#[cfg(test)]
-mod tests;

@@ -4,8 +4,6 @@
 
 mod queue;
 mod state;
-#[cfg(test)]
-mod tests;
 
 pub use crate::queue::LinkQueue;
 pub use crate::state::{LinkState, LinksMemory, Popped};

@@ -7,8 +7,6 @@ mod knowledge;
 mod publisher;
 mod reader;
 mod rule;
-#[cfg(test)]
-mod tests;
 mod value;
 mod writer;
 

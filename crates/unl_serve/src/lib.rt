@@ -2,12 +2,8 @@
 #![tactic(auto)]
 
 mod by_desk;
-#[cfg(test)]
-mod poll_tests;
 mod serve;
 mod served;
-#[cfg(test)]
-mod tests;
 
 pub use serve::serve_connection;
 pub use served::{Served, ServedOne};

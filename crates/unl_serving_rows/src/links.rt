@@ -1,9 +1,9 @@
 ghost use Rattle.std.specs.Prelude.{◌≡◌};
 
-use crate::{LinkQueue, LinkState, Popped};
 use std::sync::Wait;
 use std::test::Fail;
 use unl_base::{Job, RealSpawner, Spawner};
+use unl_links::{LinkQueue, LinkState, Popped};
 
 /// The number that was taken, or what there is in its place.
 fn taken(state: &mut LinkState<u64>) -> u64 {

@@ -2,12 +2,12 @@ ghost use Rattle.std.specs.Prelude.{◌≡◌, ◌<◌, ◌≤◌, IfOk, IfSome}
 ghost use Rattle.unl_published.specs.Looking.{SameOrigin};
 ghost use Rattle.unl_published.specs.Seen.{next, published, told_list};
 
-use crate::{Counted, Publisher, Reader, Ruled, Told, Writer, begin, new_reader};
 use left_right::Absorb;
 use std::alloc::{AllocError, Global};
 use std::sync::Wait;
 use std::test::Fail;
 use std::thread::{Threads, join};
+use unl_published::{Counted, Publisher, Reader, Ruled, Told, Writer, begin, new_reader};
 
 /// A number that is published, and its front.
 #[derive(Drop)]

@@ -1,9 +1,9 @@
 //! Connections that are cut, heads at their limit, and links of which a call fails.
 
-use crate::served::{Served, ServedOne};
-use crate::tests::{DRAW, HEALTH, HEALTHY, repeated, serve};
+use crate::connections::{DRAW, HEALTH, HEALTHY, repeated, serve};
 use std::test::Fail;
 use unl_http_api::End;
+use unl_serve::{Served, ServedOne};
 
 #[test]
 fn a_connection_that_is_cut(rt: HostRuntime) -> Result<(), Fail> {

@@ -1,7 +1,6 @@
 ghost use Rattle.std.specs.Prelude.{IfOk};
 ghost use Rattle.unl_delta.specs.Valid.{IsValidBatch};
 
-use crate::{FollowFault, Replica, ReplicaRefusal, Subject, follow};
 use std::alloc::Global;
 use std::test::Fail;
 use unl_base::{CountPace, ListDraws, MemoryPeer, MemorySink};
@@ -10,6 +9,7 @@ use unl_delta::{
     BadBatch, Batch, DeltaAnswer, Installer, answer, read_batch_bytes, take_batch, write_batch,
 };
 use unl_documents::{List, Text};
+use unl_follow::{FollowFault, Replica, ReplicaRefusal, Subject, follow};
 use unl_http_api::fits_line;
 use unl_refresh::Ask;
 use unl_strategies::Moment;

@@ -1,7 +1,6 @@
 //! Links that are served side by side, of which the first waits for others.
 ghost use Rattle.std.specs.Prelude.{◌≤◌};
 
-use crate::{Attendant, Beside, BesideFault, Post, Turn, serve_beside};
 use std::alloc::{AllocError, Global};
 use std::sync::Wait;
 use std::sync::atomic::{AtomicU64, Ordering};
@@ -13,6 +12,7 @@ use unl_base::{
     Spawner,
 };
 use unl_exchange::Server;
+use unl_workers::{Attendant, Beside, BesideFault, Post, Turn, serve_beside};
 
 /// A link that asks once. Its first read waits until so many things happened, and fails after many turns.
 #[derive(Drop)]

@@ -1,10 +1,12 @@
 ghost use Rattle.std.specs.Prelude.{◌≡◌, ◌≤◌, true};
 
-use crate::*;
 use sqlite::{Alter, Connection};
 use std::alloc::Global;
 use std::test::Fail;
 use unl_documents::{List, Text};
+use unl_keeper::{
+    KeepFail, KeepMaker, KeepRefusal, Keeper, MemoryKeeper, MemoryMaker, SqliteKeeper, SqliteMaker,
+};
 
 /// Puts a text.
 fn put<K: Keeper>(alloc: Global, keeper: &mut K, text: &str) -> Result<(), KeepRefusal>

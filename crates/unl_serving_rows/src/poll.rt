@@ -1,6 +1,4 @@
 //! A poll such as an SDK sends, whose state has not changed.
-use crate::serve::serve_connection;
-use crate::served::Served;
 use std::alloc::Global;
 use std::test::Fail;
 use unl_base::{ListDraws, MemoryLink};
@@ -9,6 +7,7 @@ use unl_delta::{Installer, Verdict, read_batch_bytes, verdict};
 use unl_documents::List;
 use unl_http_api::End;
 use unl_metrics::MetricsBook;
+use unl_serve::{Served, serve_connection};
 use unl_tokens::Book;
 
 const TOKENS: &[u8] =
