@@ -226,9 +226,15 @@ def play_upstreams():
 CLIENT, FRONT = b"*:dev.c", b"*:dev.f"
 PUT_IN_A = b'{"command":"put-feature","environment":"dev","feature":{"name":"a","project":"A","enabled":true}}'
 REMOVE_A = b'{"command":"remove-feature","environment":"dev","name":"a"}'
-PUT_4 = b'{"command":"put-segment","environment":"dev","segment":{"id":4}}'
 REMOVE_7 = b'{"command":"remove-segment","environment":"dev","id":7}'
 SEGMENT_4 = b'{"constraints":[],"id":4}'
+
+
+def put_segment(of):
+    return b'{"command":"put-segment","environment":"dev","segment":{"id":%d}}' % of
+
+
+PUT_4 = put_segment(4)
 
 
 def error(name):
@@ -290,6 +296,16 @@ def play_commands():
         link.shutdown(socket.SHUT_WR)
         check("commands at once", REPLIES, rest_of(link))
     check("an upstream of commands at once", (b"connections 1\n", DONE), run.ended())
+
+
+def play_most_segments():
+    """An environment with as many segments as it may have takes no more, and one of them again."""
+    run = Run([*OF_UPSTREAM, "--connections", "1"], whole(b"".join(put_segment(of) + b"\n" for of in range(1_000))))
+    with within(lambda: connect(PORT), run.lives) as link:
+        for of, status, body in [(1_000, 409, error(b"TooMany")), (999, 200, number(1_001))]:
+            link.sendall(command(put_segment(of)))
+            check(f"the segment {of}", (status, body), reply_of(link))
+    check("an upstream of a thousand segments", (b"connections 1\n", DONE), run.ended())
 
 
 # ---- an edge, behind an upstream that gives replies
@@ -556,6 +572,7 @@ def main():
     play_segments()
     play_upstreams()
     play_commands()
+    play_most_segments()
     play_edges()
     play_waiting()
     play_turns()

@@ -1,46 +1,9 @@
-//! Connections that are cut, heads at their limit, and links of which a call fails.
+//! Links of which a call fails.
 
-use crate::connections::{DRAW, HEALTH, HEALTHY, repeated, serve};
+use crate::connections::{DRAW, HEALTHY, serve};
 use std::test::Fail;
 use unl_http_api::End;
 use unl_serve::{Served, ServedOne};
-
-#[test]
-fn a_connection_that_is_cut(rt: HostRuntime) -> Result<(), Fail> {
-    let alloc = rt.alloc();
-    for count in 0..HEALTH.len() {
-        let outcome = serve(alloc, &HEALTH[..count], 7, &[])?;
-        let end = if count == 0 { End::Closed } else { End::CutOff };
-        assert_eq!(rt; outcome.end, end);
-        assert!(rt; outcome.sent.is_empty() && outcome.served.len() == 0);
-    }
-    let outcome = serve(alloc, HEALTH, 7, &[])?;
-    assert_eq!(rt; outcome.end, End::Closed);
-    assert_eq!(rt; outcome.sent.as_slice(), HEALTHY);
-    Ok(())
-}
-
-/// The length of a field, what follows it, how many requests are answered, and how the connection ends. The bytes before the
-/// field are 30.
-const HEADS: [(usize, &[u8], usize, End); 4] = [
-    (8_161, b"", 0, End::CutOff),
-    (8_162, b"", 0, End::Refused(431)),
-    (8_158, b"\r\n\r\n", 1, End::Closed),
-    (8_159, b"\r\n\r\n", 0, End::Refused(431)),
-];
-
-#[test]
-fn heads_at_their_limit(rt: HostRuntime) -> Result<(), Fail> {
-    let alloc = rt.alloc();
-    for (count, rest, answered, end) in HEADS {
-        let start = b"GET /no HTTP/1.1\r\nHost: x\r\na: ";
-        let bytes = repeated(alloc, start, b"b", count, rest)?;
-        let outcome = serve(alloc, &bytes, 4_096, &[])?;
-        assert_eq!(rt; outcome.end, end);
-        assert_eq!(rt; outcome.served.len(), answered);
-    }
-    Ok(())
-}
 
 /// Two requests, of 52 bytes and of 38.
 const TWO: &[u8] = b"GET /internal-backstage/health HTTP/1.1\r\nHost: x\r\n\r\n\
