@@ -1,12 +1,14 @@
 //! A peer over the network.
-ghost use Rattle.std.specs.Prelude.{◌≡◌, None};
+ghost use Rattle.std.specs.Io.KnownBytes.{ReadConsumes, WriteAppends};
+ghost use Rattle.std.specs.Prelude.{◌≡◌, ◌<◌, ◌≤◌, length, IfNone, IfOk, IfSome, None, Ok};
+ghost use Rattle.unl_base.specs.Faults.{HasExactCause};
 
 use crate::log::{Told, WELL, tell};
 use crate::retrying::{read_once, write_once};
 use crate::watch::Watch;
 use std::fmt::Display;
 use std::io;
-use std::io::ErrorKind;
+use std::io::{ErrorKind, Read, Write};
 use std::net::{Net, OpenStream, TcpStream, ToSocketAddrs};
 use std::time::Duration;
 use unl_base::{Failed, Link, Peer, Sink, Source};
@@ -106,8 +108,16 @@ impl<N: Net + Eprint + Drop, A: ToSocketAddrs + Display> Source for NetPeer<N, A
 
     ghost beside = { λ peer. record nothing_beside { connected = is_some peer.stream } };
 
-    /// Reads from the last connection. Where there is none, nothing is to come.
-    fn read(&mut self, room: &mut [u8]) -> Result<usize, Failed> {
+    /// Hands on what the last connection gives. Where there is none, nothing is to come.
+    fn read(&mut self, room: &mut [u8]) -> Result<usize, Failed>
+        requires { 0 < length room.old }
+        ensures fits { IfOk result (λ n. n ≤ length room.new) }
+        ensures hands_on { IfSome self.old.stream (λ was. IfSome self.new.stream (λ now.
+            ReadConsumes (⟦<N::Stream as Read>⟧.remaining was) (⟦<N::Stream as Read>⟧.remaining now) result room.new)) }
+        ensures alone { IfNone self.old.stream (result ≡ Ok 0) }
+        ensures beside { is_some self.new.stream ≡ is_some self.old.stream }
+        ensures cause { HasExactCause self.old.faults self.new.faults result }
+    {
         let Some(stream) = &mut self.stream else {
             return Ok(0);
         };
@@ -135,8 +145,17 @@ impl<N: Net + Eprint + Drop, A: ToSocketAddrs + Display> Sink for NetPeer<N, A> 
 
     ghost beside = { λ peer. record nothing_beside { connected = is_some peer.stream } };
 
-    /// Writes to the last connection. Where there is none, the piece is dropped.
-    fn write(&mut self, piece: &[u8]) -> Result<usize, Failed> {
+    /// Hands the piece on to the last connection, and tells how much that took. Where there is none, the whole piece is dropped.
+    fn write(&mut self, piece: &[u8]) -> Result<usize, Failed>
+        requires { 0 < length piece.now }
+        ensures some { IfOk result (λ n. 0 < n) }
+        ensures fits { IfOk result (λ n. n ≤ length piece.now) }
+        ensures hands_on { IfSome self.old.stream (λ was. IfSome self.new.stream (λ now.
+            WriteAppends (⟦<N::Stream as Write>⟧.contents was) (⟦<N::Stream as Write>⟧.contents now) result piece.now)) }
+        ensures alone { IfNone self.old.stream (result ≡ Ok (length piece.now)) }
+        ensures beside { is_some self.new.stream ≡ is_some self.old.stream }
+        ensures cause { HasExactCause self.old.faults self.new.faults result }
+    {
         let Some(stream) = &mut self.stream else {
             return Ok(piece.len());
         };
