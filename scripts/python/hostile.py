@@ -37,6 +37,7 @@ ROWS = [
     ("two hosts", [400], [request(b"/internal-backstage/health", fields=b"Host: i\r\n")]),
     ("bytes that are no request", [400], [b"\x16\x03\x01\x02\x00\x01\x00\x01\xfc\x03\x03" * 10]),
     ("a query with broken escapes", [200], [request(b"/api/frontend?userId=%zz&%=%&=&&a", FRONT)]),
+    ("a token behind the word Bearer", [200], [request(b"/api/frontend", b"Bearer " + FRONT)]),
     ("1,000 requests at once", [200] * 1_000, [HEALTH * 1_000]),
     ("1,001 requests at once", [200] * 1_000, [HEALTH * 1_001]),
     ("half a request", [], [HEALTH[:20]]),
