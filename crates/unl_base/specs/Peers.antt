@@ -1,5 +1,6 @@
 -- What is known of a peer. What is not told is none.
-use Rattle.std.specs.Prelude.{Bool, true, false, List, [], Option, None, ℕ, drop, option_map}
+use Rattle.std.specs.Io.KnownBytes.{ReadConsumes, WriteAppends}
+use Rattle.std.specs.Prelude.{◌≡◌, Bool, true, false, List, [], Option, None, ℕ, Result, Ok, IfNone, IfSome, drop, length, option_map}
 use Rattle.unl_base.specs.Doors.{next_of}
 
 -- Whether a peer is connected; the bytes to come; those sent since the last connect; what each of the next connects gives to
@@ -26,3 +27,14 @@ connecting peer = record {
 -- after a connect that failed there is no connection, and nothing is to come
 abbrev pub parting : PeerState → PeerState
 parting peer = record peer { connected = false; left = option_map (λ _. []) peer.left }
+
+-- what a read gives of the connection that there may be: the bytes at the front of its stream, and without one that nothing is to come
+pub record ReadsConnection {S E : Type 0} (remaining : S → Option (List ℕ)) (old new : Option S) (result : Result ℕ E) (room : List ℕ) : Type 0 where
+  pub hands_on : IfSome old (λ was. IfSome new (λ now. ReadConsumes (remaining was) (remaining now) result room))
+  pub alone : IfNone old (result ≡ Ok 0)
+
+-- what becomes of a piece written to the connection that there may be: as much of it as is told follows what was sent, and without
+-- one all of it is dropped
+pub record WritesConnection {S E : Type 0} (contents : S → Option (List ℕ)) (old new : Option S) (result : Result ℕ E) (piece : List ℕ) : Type 0 where
+  pub hands_on : IfSome old (λ was. IfSome new (λ now. WriteAppends (contents was) (contents now) result piece))
+  pub alone : IfNone old (result ≡ Ok (length piece))

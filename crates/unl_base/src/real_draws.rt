@@ -1,5 +1,7 @@
 //! Draws by a clock, with words of a generator.
-ghost use Rattle.std.specs.Prelude.{◌≤◌, None, IfOk};
+ghost use Rattle.rand_core.specs.Stream.{next_u64};
+ghost use Rattle.std.specs.Prelude.{◌≡◌, ◌≤◌, None, IfOk};
+ghost use Rattle.unl_base.specs.Draws.{IsInLimit};
 
 use crate::draws::{Draw, Draws};
 use rand_pcg::Lcg64Xsh32;
@@ -34,7 +36,8 @@ impl<C: Clock + Copy + Drop> RealDraws<C> {
 
     /// The moment that the clock tells, or the last that it told.
     fn moment(&mut self) -> u64
-        ensures { result ≤ 100000000000000 }
+        ensures limit { result ≤ 100000000000000 }
+        ensures words { self.new.words ≡ self.old.words }
     {
         if let Ok(moment) = moment_of(self.clock) {
             self.moment = moment;
@@ -54,7 +57,12 @@ fn moment_of<C: Clock + Copy + Drop>(clock: C) -> io::Result<u64> {
 impl<C: Clock + Copy + Drop> Draws for RealDraws<C> {
     ghost coming = { λ _. None };
 
-    fn draw(&mut self) -> Draw {
+    /// The moment of the clock, and the generator's next word.
+    fn draw(&mut self) -> Draw
+        ensures limit { IsInLimit result }
+        ensures word { (result.word, ⟦<Lcg64Xsh32 as Rng>⟧.stream self.new.words)
+            ≡ next_u64 (⟦<Lcg64Xsh32 as Rng>⟧.stream self.old.words) }
+    {
         Draw {
             now: self.moment(),
             word: self.words.next_u64(),

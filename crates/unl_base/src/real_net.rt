@@ -1,8 +1,7 @@
 //! The adapters over the network. They tell no content, and each counts its own errors.
-ghost use Rattle.std.specs.Io.KnownBytes.{ReadConsumes, WriteAppends};
-ghost use Rattle.std.specs.Prelude.{◌≡◌, ◌<◌, ◌≤◌, ◌-◌, ◌^◌, length, IfNone, IfOk, IfSome, None, Ok, unwrap_or};
+ghost use Rattle.std.specs.Prelude.{◌≡◌, ◌<◌, ◌≤◌, ◌-◌, ◌^◌, length, IfOk, None, unwrap_or};
 ghost use Rattle.unl_base.specs.Faults.{HasExactCause};
-ghost use Rattle.unl_base.specs.Peers.{nothing_beside};
+ghost use Rattle.unl_base.specs.Peers.{ReadsConnection, WritesConnection, nothing_beside};
 
 use crate::Failed;
 use crate::door::Door;
@@ -153,9 +152,7 @@ impl<N: Net + Drop, A: ToSocketAddrs> Source for RealPeer<N, A> {
     fn read(&mut self, room: &mut [u8]) -> Result<usize, Failed>
         requires { 0 < length room.old }
         ensures fits { IfOk result (λ n. n ≤ length room.new) }
-        ensures hands_on { IfSome self.old.stream (λ was. IfSome self.new.stream (λ now.
-            ReadConsumes (⟦<N::Stream as Read>⟧.remaining was) (⟦<N::Stream as Read>⟧.remaining now) result room.new)) }
-        ensures alone { IfNone self.old.stream (result ≡ Ok 0) }
+        ensures hands_on { ReadsConnection ⟦<N::Stream as Read>⟧.remaining self.old.stream self.new.stream result room.new }
         ensures beside { is_some self.new.stream ≡ is_some self.old.stream }
         ensures cause { HasExactCause self.old.faults self.new.faults result }
     {
@@ -186,9 +183,7 @@ impl<N: Net + Drop, A: ToSocketAddrs> Sink for RealPeer<N, A> {
         requires { 0 < length piece.now }
         ensures some { IfOk result (λ n. 0 < n) }
         ensures fits { IfOk result (λ n. n ≤ length piece.now) }
-        ensures hands_on { IfSome self.old.stream (λ was. IfSome self.new.stream (λ now.
-            WriteAppends (⟦<N::Stream as Write>⟧.contents was) (⟦<N::Stream as Write>⟧.contents now) result piece.now)) }
-        ensures alone { IfNone self.old.stream (result ≡ Ok (length piece.now)) }
+        ensures hands_on { WritesConnection ⟦<N::Stream as Write>⟧.contents self.old.stream self.new.stream result piece.now }
         ensures beside { is_some self.new.stream ≡ is_some self.old.stream }
         ensures cause { HasExactCause self.old.faults self.new.faults result }
     {

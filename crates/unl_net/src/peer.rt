@@ -1,7 +1,7 @@
 //! A peer over the network.
-ghost use Rattle.std.specs.Io.KnownBytes.{ReadConsumes, WriteAppends};
-ghost use Rattle.std.specs.Prelude.{◌≡◌, ◌<◌, ◌≤◌, length, IfNone, IfOk, IfSome, None, Ok};
+ghost use Rattle.std.specs.Prelude.{◌≡◌, ◌<◌, ◌≤◌, length, IfOk, None};
 ghost use Rattle.unl_base.specs.Faults.{HasExactCause};
+ghost use Rattle.unl_base.specs.Peers.{ReadsConnection, WritesConnection};
 
 use crate::log::{Told, WELL, tell};
 use crate::retrying::{read_once, write_once};
@@ -112,9 +112,7 @@ impl<N: Net + Eprint + Drop, A: ToSocketAddrs + Display> Source for NetPeer<N, A
     fn read(&mut self, room: &mut [u8]) -> Result<usize, Failed>
         requires { 0 < length room.old }
         ensures fits { IfOk result (λ n. n ≤ length room.new) }
-        ensures hands_on { IfSome self.old.stream (λ was. IfSome self.new.stream (λ now.
-            ReadConsumes (⟦<N::Stream as Read>⟧.remaining was) (⟦<N::Stream as Read>⟧.remaining now) result room.new)) }
-        ensures alone { IfNone self.old.stream (result ≡ Ok 0) }
+        ensures hands_on { ReadsConnection ⟦<N::Stream as Read>⟧.remaining self.old.stream self.new.stream result room.new }
         ensures beside { is_some self.new.stream ≡ is_some self.old.stream }
         ensures cause { HasExactCause self.old.faults self.new.faults result }
     {
@@ -150,9 +148,7 @@ impl<N: Net + Eprint + Drop, A: ToSocketAddrs + Display> Sink for NetPeer<N, A> 
         requires { 0 < length piece.now }
         ensures some { IfOk result (λ n. 0 < n) }
         ensures fits { IfOk result (λ n. n ≤ length piece.now) }
-        ensures hands_on { IfSome self.old.stream (λ was. IfSome self.new.stream (λ now.
-            WriteAppends (⟦<N::Stream as Write>⟧.contents was) (⟦<N::Stream as Write>⟧.contents now) result piece.now)) }
-        ensures alone { IfNone self.old.stream (result ≡ Ok (length piece.now)) }
+        ensures hands_on { WritesConnection ⟦<N::Stream as Write>⟧.contents self.old.stream self.new.stream result piece.now }
         ensures beside { is_some self.new.stream ≡ is_some self.old.stream }
         ensures cause { HasExactCause self.old.faults self.new.faults result }
     {
