@@ -1,3 +1,4 @@
 pub mod Streams
+pub mod Telling
 pub mod Turns
 pub mod Watching

@@ -1,11 +1,20 @@
 -- What is told of an exchange with a server.
-use Rattle.std.specs.Prelude.{Bool, ℕ, ◌&&◌, ◌-◌, ◌+◌, ◌*◌, not, List, Option, Some, None, nat_le, nat_eq, if◌then◌else◌}
-use Rattle.std.specs.Prelude.{codes, length, slice_index_or}
+use Rattle.std.specs.Prelude.{Bool, ℕ, ◌&&◌, ◌-◌, ◌+◌, ◌*◌, List, Option, Some, None, nat_le, nat_eq}
+use Rattle.std.specs.Prelude.{if◌then◌else◌, codes, length, slice_index_or, take}
+use Rattle.std.specs.Prelude.{◌≡◌, IfSome, unwrap_or}
+use Rattle.std.specs.Fmt.{decimal}
 use Rattle.std.specs.List.{starts_with}
+use Rattle.unl_net.specs.Telling.{told_text}
+use Rattle.unl_net.specs.declared.watch.Answer.{Answer}
+use Rattle.unl_net.specs.declared.watch.Stage.{Stage}
+use Rattle.unl_net.specs.declared.watch.Stage.TheVariants.{Fresh, Asked, Answered}
+use Rattle.unl_net.specs.declared.watch.Watch.{Watch}
 
--- a byte that may be told: one of ASCII that is seen, or a space, and no question mark
-abbrev pub is_told : ℕ → Bool
-is_told byte = nat_le 32 byte && nat_le byte 126 && not (nat_eq byte 63)
+-- by how far the exchange on a connection has come
+abbrev pub match_stage : Stage → Type 0 → Type 0 → Type 0 → Type 0
+match_stage Fresh fresh asked answered = fresh
+match_stage Asked fresh asked answered = asked
+match_stage Answered fresh asked answered = answered
 
 -- a digit
 abbrev pub is_digit : ℕ → Bool
@@ -24,6 +33,24 @@ status_of reply =
     if nat_le 12 (length reply) && starts_with nat_eq reply (codes "HTTP/1.")
     then digits_of (slice_index_or reply 9 0) (slice_index_or reply 10 0) (slice_index_or reply 11 0)
     else None
+
+-- what was written told which kind of request was asked, if it came first on its connection
+abbrev pub NotesWritten : Watch → List ℕ → Watch → Type 0
+NotesWritten old piece new = match_stage old.stage
+    ((new.stage ≡ Asked) × (take new.kind.len new.kind.text ≡ told_text piece) × (new.known ≡ old.known))
+    (new ≡ old)
+    (new ≡ old)
+
+-- what came answers the request that was asked, if it came first behind it
+abbrev pub NotesRead : Watch → List ℕ → Option Answer → Watch → Type 0
+NotesRead old bytes result new = match_stage old.stage
+    ((new ≡ old) × (result ≡ None))
+    ((new.stage ≡ Answered) × (new.kind ≡ old.kind) × IfSome result (λ answer. answer.status ≡ unwrap_or (status_of bytes) 1))
+    ((new ≡ old) × (result ≡ None))
+
+-- what is told of an answer: its status, and 1 is that of none
+abbrev pub answer_text : ℕ → List ℕ
+answer_text status = if nat_eq status 1 then codes "no answer" else decimal status
 
 -- what is told of a status: all those of the classes 2 and 3 are well, which is 0
 abbrev pub class_of : ℕ → ℕ

@@ -1,4 +1,6 @@
 //! Whether links wait.
+ghost use Rattle.std.specs.Prelude.{◌≡◌, IfOk};
+ghost use Rattle.std.specs.Arc.{arc_value};
 
 use std::alloc::{AllocError, Global};
 use std::sync::Arc;
@@ -12,14 +14,18 @@ pub(crate) struct Crowd {
 
 impl Crowd {
     /// That of a door without links, of which so many are served at once.
-    pub fn new(alloc: Global, workers: u32) -> Result<Self, AllocError> {
+    pub fn new(alloc: Global, workers: u32) -> Result<Self, AllocError>
+        ensures { IfOk result (λ crowd. arc_value crowd.workers ≡ workers) }
+    {
         Ok(Crowd {
             workers: Arc::new(alloc, workers)?,
         })
     }
 
     /// One link more.
-    pub fn join(&self) -> Result<Self, AllocError> {
+    pub fn join(&self) -> Result<Self, AllocError>
+        ensures { IfOk result (λ crowd. arc_value crowd.workers ≡ arc_value self.now.workers) }
+    {
         Ok(Crowd {
             workers: Arc::try_clone(&self.workers)?,
         })

@@ -1,4 +1,5 @@
 //! A door over the network.
+ghost use Rattle.std.specs.Arc.{arc_value};
 ghost use Rattle.std.specs.Prelude.{◌≡◌, ◌≤◌, ◌-◌, ◌^◌, IfOk, None, unwrap_or};
 
 use crate::accepting::accept_link;
@@ -38,6 +39,7 @@ impl<N: Net + Clock + Eprint + Copy + Drop> NetDoor<N> {
     pub fn new(alloc: Global, net: N, bound: Option<u64>, workers: u32) -> Result<Self, AllocError>
         ensures new { IfOk result (λ door. (door.listener ≡ None) × (door.given ≡ 0) × (door.back ≡ 0) × (door.faults ≡ 0)) }
         ensures bound { IfOk result (λ door. door.bound ≡ unwrap_or bound (2 ^ 64 - 1)) }
+        ensures workers { IfOk result (λ door. arc_value door.crowd.workers ≡ workers) }
     {
         Ok(NetDoor {
             net,

@@ -6,6 +6,7 @@
 mod accepting;
 mod crowd;
 mod door;
+mod kind;
 mod link;
 mod log;
 mod peer;

@@ -28,7 +28,8 @@ impl<S: Read + Write + OpenStream + Drop, C: Clock + Drop> NetLink<S, C> {
     /// # Errors
     /// The stream's limits of time can't be set.
     pub(crate) fn new(stream: S, clock: C, crowd: Crowd) -> io::Result<Self>
-        ensures { IfOk result (λ link. link.faults ≡ 0) }
+        ensures faults { IfOk result (λ link. link.faults ≡ 0) }
+        ensures ends { IfOk result (λ link. (link.wire.stream ≡ stream) × (link.wire.clock ≡ clock) × (link.wire.crowd ≡ crowd)) }
     {
         Ok(NetLink {
             wire: Wire::new(stream, clock, crowd)?,

@@ -1,6 +1,7 @@
 //! What a link has been doing, and when it gives way.
-ghost use Rattle.std.specs.Prelude.{◌≡◌, ◌+◌, ◌-◌, ◌^◌, min, true, false};
-ghost use Rattle.unl_net.specs.Turns.{gives_way, is_brief, is_slow, is_through};
+ghost use Rattle.std.specs.Prelude.{◌≡◌, is_some};
+ghost use Rattle.unl_net.specs.Turns.{accepted, after_read, after_write, gives_way, is_brief, is_slow, is_through};
+ghost use Rattle.unl_net.specs.Turns.{running, seconds_between, standing_of};
 
 use std::time::Instant;
 
@@ -78,14 +79,18 @@ struct Stopwatch {
 
 impl Stopwatch {
     /// Begins now, unless it has begun.
-    fn begin(&mut self, now: Option<Instant>) {
+    fn begin(&mut self, now: Option<Instant>)
+        ensures { self.new ≡ running self.old now }
+    {
         if self.begun.is_none() {
             self.begun = now;
         }
     }
 
     /// How many whole seconds have passed: none where it has not begun, or where a moment could not be told.
-    fn seconds(&self, now: Option<Instant>) -> u64 {
+    fn seconds(&self, now: Option<Instant>) -> u64
+        ensures { result ≡ seconds_between self.now.begun now }
+    {
         match (self.begun, now) {
             (Some(begun), Some(now)) => now.duration_since(begun).as_secs(),
             _ => 0,
@@ -105,7 +110,9 @@ pub(crate) struct Pulse {
 
 impl Pulse {
     /// That of a link that is accepted now.
-    pub fn new(now: Option<Instant>) -> Self {
+    pub fn new(now: Option<Instant>) -> Self
+        ensures { result ≡ accepted now }
+    {
         let never = Stopwatch { begun: None };
         Pulse {
             served: never,
@@ -117,18 +124,22 @@ impl Pulse {
     }
 
     /// Whether it is known since when the link is served.
-    pub fn has_turn(&self) -> bool {
+    pub fn has_turn(&self) -> bool
+        ensures { result ≡ is_some self.now.served.begun }
+    {
         self.served.begun.is_some()
     }
 
     /// Notes that the link is being served.
-    pub fn note_turn(&mut self, now: Option<Instant>) {
+    pub fn note_turn(&mut self, now: Option<Instant>)
+        ensures { self.new ≡ record self.old { served = running self.old.served now } }
+    {
         self.served.begin(now);
     }
 
     /// Notes that so many bytes came.
     pub fn note_read(&mut self, now: Option<Instant>, count: usize)
-        ensures { (self.new.answered ≡ false) × (self.new.given ≡ min (self.old.given + count) (2 ^ 64 - 1)) }
+        ensures { self.new ≡ after_read self.old now count }
     {
         self.open.begin(now);
         self.coming.begin(now);
@@ -138,7 +149,7 @@ impl Pulse {
 
     /// Notes that the link was written to.
     pub fn note_write(&mut self)
-        ensures { (self.new.answered ≡ true) × (self.new.given ≡ 0) }
+        ensures { self.new ≡ after_write self.old }
     {
         self.open = Stopwatch { begun: None };
         self.coming = self.open;
@@ -148,7 +159,7 @@ impl Pulse {
 
     /// How the link stands where so many waits have passed.
     pub fn standing(&self, now: Option<Instant>, silent: u64) -> Standing
-        ensures { (result.answered ≡ self.now.answered) × (result.silent ≡ silent) × (result.given ≡ self.now.given) }
+        ensures { result ≡ standing_of self.now now silent }
     {
         Standing {
             answered: self.answered,

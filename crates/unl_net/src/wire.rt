@@ -1,8 +1,10 @@
 //! A stream whose reads wait for a while, and give way to others.
-ghost use Rattle.std.specs.Prelude.{◌≡◌};
+ghost use Rattle.std.specs.Prelude.{◌≡◌, IfOk, Option};
 ghost use Rattle.std.specs.Io.{ReadsAtMost, WritesAtMost};
 ghost use Rattle.std.specs.Io.KnownBytes.{WriteAppends};
+ghost use Rattle.std.specs.declared.time.Instant.{Instant};
 ghost use Rattle.unl_net.specs.Streams.{Gives};
+ghost use Rattle.unl_net.specs.Turns.{accepted};
 
 use crate::crowd::Crowd;
 use crate::pulse::{Pulse, gives_way, is_brief};
@@ -40,7 +42,10 @@ impl<S: Read + Write + OpenStream + Drop, C: Clock + Drop> Wire<S, C> {
     ///
     /// # Errors
     /// The limits can't be set.
-    pub fn new(stream: S, clock: C, crowd: Crowd) -> io::Result<Self> {
+    pub fn new(stream: S, clock: C, crowd: Crowd) -> io::Result<Self>
+        ensures ends { IfOk result (λ wire. (wire.stream ≡ stream) × (wire.clock ≡ clock) × (wire.crowd ≡ crowd)) }
+        ensures pulse { IfOk result (λ wire. (now : Option Instant) × (wire.pulse ≡ accepted now)) }
+    {
         stream.set_read_timeout(Some(Duration::from_millis(SECOND)))?;
         stream.set_write_timeout(Some(Duration::from_secs(WRITE_LIMIT)))?;
         // A reply is written as a whole: none of its bytes is to wait for others.
