@@ -29,12 +29,14 @@ abbrev pub parting : PeerState → PeerState
 parting peer = record peer { connected = false; left = option_map (λ _. []) peer.left }
 
 -- what a read gives of the connection that there may be: the bytes at the front of its stream, and without one that nothing is to come
-pub record ReadsConnection {S E : Type 0} (remaining : S → Option (List ℕ)) (old new : Option S) (result : Result ℕ E) (room : List ℕ) : Type 0 where
+pub record ReadsConnection {S E : Type 0} (remaining : S → Option (List ℕ))
+    (old new : Option S) (result : Result ℕ E) (room : List ℕ) : Type 0 where
   pub hands_on : IfSome old (λ was. IfSome new (λ now. ReadConsumes (remaining was) (remaining now) result room))
   pub alone : IfNone old (result ≡ Ok 0)
 
 -- what becomes of a piece written to the connection that there may be: as much of it as is told follows what was sent, and without
 -- one all of it is dropped
-pub record WritesConnection {S E : Type 0} (contents : S → Option (List ℕ)) (old new : Option S) (result : Result ℕ E) (piece : List ℕ) : Type 0 where
+pub record WritesConnection {S E : Type 0} (contents : S → Option (List ℕ))
+    (old new : Option S) (result : Result ℕ E) (piece : List ℕ) : Type 0 where
   pub hands_on : IfSome old (λ was. IfSome new (λ now. WriteAppends (contents was) (contents now) result piece))
   pub alone : IfNone old (result ≡ Ok (length piece))

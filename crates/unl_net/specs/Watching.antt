@@ -1,11 +1,13 @@
 -- What is told of an exchange with a server.
 use Rattle.std.specs.Prelude.{Bool, ℕ, ◌&&◌, ◌-◌, ◌+◌, ◌*◌, List, Option, Some, None, nat_le, nat_eq}
 use Rattle.std.specs.Prelude.{if◌then◌else◌, codes, length, slice_index_or, take}
-use Rattle.std.specs.Prelude.{◌≡◌, IfSome, unwrap_or}
+use Rattle.std.specs.Prelude.{◌≡◌, ◌||◌, List, false, not, position, slice_set, unwrap_or}
+use Rattle.std.specs.Option.{option_map_or}
 use Rattle.std.specs.Fmt.{decimal}
 use Rattle.std.specs.List.{starts_with}
 use Rattle.unl_net.specs.Telling.{told_text}
 use Rattle.unl_net.specs.declared.watch.Answer.{Answer}
+use Rattle.unl_net.specs.declared.watch.Known.{Known}
 use Rattle.unl_net.specs.declared.watch.Stage.{Stage}
 use Rattle.unl_net.specs.declared.watch.Stage.TheVariants.{Fresh, Asked, Answered}
 use Rattle.unl_net.specs.declared.watch.Watch.{Watch}
@@ -41,17 +43,47 @@ NotesWritten old piece new = match_stage old.stage
     (new ≡ old)
     (new ≡ old)
 
--- what came answers the request that was asked, if it came first behind it
+-- what is told of a status: all those of the classes 2 and 3 are well, which is 0
+abbrev pub class_of : ℕ → ℕ
+class_of status = if nat_le 200 status && nat_le status 399 then 0 else status
+
+-- an entry that is free: no kind has the number 0, and all is well at first, which is not told
+abbrev pub nothing_known : Known
+nothing_known = record { key = 0; told = record { last = 0 } }
+
+-- where the answers to a kind are noted: at the first entry that is its own or free
+abbrev pub place_of : ℕ → List Known → Option ℕ
+place_of key known = position (λ entry. nat_eq entry.key key || nat_eq entry.key 0) known
+
+-- what was last told of the kind that has this entry
+abbrev pub last_at : List Known → ℕ → ℕ
+last_at known at = (slice_index_or known at nothing_known).told.last
+
+-- how a kind was answered is known at its place
+abbrev pub after_answer : ℕ → ℕ → List Known → List Known
+after_answer key class known =
+    option_map_or (λ at. slice_set known at (record { key = key; told = record { last = class } })) (place_of key known) known
+
+-- that a kind is answered so is to be told where something else was last told of it
+abbrev pub is_news : ℕ → ℕ → List Known → Bool
+is_news key class known = option_map_or (λ at. not (nat_eq class (last_at known at))) (place_of key known) false
+
+-- the status of an answer that begins so, and 1 where there is none
+abbrev pub answer_status : List ℕ → ℕ
+answer_status reply = unwrap_or (status_of reply) 1
+
+-- an answer with this status to a kind, where it is to be told
+abbrev pub told_answer : ℕ → ℕ → List Known → Option Answer
+told_answer key status known = if is_news key (class_of status) known then Some (record { status = status }) else None
+
+-- what came answers the request that was asked, if it came first behind it: how its kind is answered is known, and told where it is news
 abbrev pub NotesRead : Watch → List ℕ → Option Answer → Watch → Type 0
 NotesRead old bytes result new = match_stage old.stage
     ((new ≡ old) × (result ≡ None))
-    ((new.stage ≡ Answered) × (new.kind ≡ old.kind) × IfSome result (λ answer. answer.status ≡ unwrap_or (status_of bytes) 1))
+    ((new ≡ record old { stage = Answered; known = after_answer old.kind.key (class_of (answer_status bytes)) old.known })
+    × (result ≡ told_answer old.kind.key (answer_status bytes) old.known))
     ((new ≡ old) × (result ≡ None))
 
 -- what is told of an answer: its status, and 1 is that of none
 abbrev pub answer_text : ℕ → List ℕ
 answer_text status = if nat_eq status 1 then codes "no answer" else decimal status
-
--- what is told of a status: all those of the classes 2 and 3 are well, which is 0
-abbrev pub class_of : ℕ → ℕ
-class_of status = if nat_le 200 status && nat_le status 399 then 0 else status

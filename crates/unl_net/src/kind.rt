@@ -1,6 +1,6 @@
 //! What is told of a request, and the kinds of requests.
-ghost use Rattle.std.specs.Prelude.{◌≡◌, ◌≤◌, ◌||◌, All, false, length, nat_eq, take, true};
-ghost use Rattle.unl_net.specs.Telling.{goes_on, is_told, told_count, told_text};
+ghost use Rattle.std.specs.Prelude.{◌≡◌, ◌≤◌, ◌&&◌, ◌||◌, All, length, nat_eq, not, take, true};
+ghost use Rattle.unl_net.specs.Telling.{is_told, longest_front, told_text};
 
 use std::str;
 
@@ -14,9 +14,10 @@ fn is_told(byte: u8) -> bool
     byte >= b' ' && byte <= b'~' && byte != b'?'
 }
 
-/// Whether a byte of a request is told behind those before it, in which its method has ended or not.
+/// Whether a byte of a request is told behind those before it, in which its method has ended or not: it may be, and is no second
+/// space.
 fn goes_on(has_method: bool, byte: u8) -> bool
-    ensures { result ≡ goes_on has_method byte }
+    ensures { result ≡ (is_told byte && not (has_method && nat_eq byte 32)) }
 {
     is_told(byte) && !(has_method && byte == b' ')
 }
@@ -29,9 +30,9 @@ fn has_ended(has_method: bool, byte: u8) -> bool
 }
 
 /// How many of these bytes are told.
-#[tactic(auto, using(crate::proofs::Telling::one_more, crate::proofs::Telling::no_more))]
+#[tactic(auto, using(crate::proofs::Telling::no_more))]
 fn told_count(front: &[u8]) -> usize
-    ensures { result ≡ told_count false front.now }
+    ensures { result ≡ longest_front (length front.now) front.now }
 {
     let mut has_method = false;
     for at in 0..front.len() {
@@ -45,7 +46,7 @@ fn told_count(front: &[u8]) -> usize
 }
 
 /// How many bytes of a request are told: its method and its path. What a query or a field holds is not told.
-#[tactic(auto, using(crate::proofs::Telling::within, crate::proofs::Telling::told_front, crate::proofs::Telling::short, crate::proofs::Telling::same_front))]
+#[tactic(auto, using(crate::proofs::Telling::cut_short, crate::proofs::Telling::cut_told, crate::proofs::Telling::same_text))]
 fn told_len(request: &[u8]) -> usize
     ensures exact { take result request.now ≡ told_text request.now }
     ensures inside { result ≤ length request.now }

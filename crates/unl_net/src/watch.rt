@@ -1,8 +1,9 @@
 //! What a server answers to each kind of request, and when that changes.
-ghost use Rattle.std.specs.Prelude.{◌≡◌, All, take, true};
+ghost use Rattle.std.specs.Prelude.{◌≡◌, ◌<◌, All, IfSome, replicate, take, true};
 ghost use Rattle.unl_net.specs.Telling.{is_told};
 ghost use Rattle.unl_net.specs.declared.watch.Stage.TheVariants.{Fresh};
-ghost use Rattle.unl_net.specs.Watching.{NotesRead, NotesWritten, class_of, digits_of, is_digit, status_of};
+ghost use Rattle.unl_net.specs.Watching.{NotesRead, NotesWritten, after_answer, class_of, digits_of, is_digit, is_news};
+ghost use Rattle.unl_net.specs.Watching.{nothing_known, place_of, status_of};
 
 use crate::kind::Kind;
 use crate::log::{Told, WELL};
@@ -106,7 +107,8 @@ pub(crate) struct Watch {
 impl Watch {
     /// Nothing was asked.
     pub fn new() -> Self
-        ensures { result.stage ≡ Fresh }
+        ensures stage { result.stage ≡ Fresh }
+        ensures known { result.known ≡ replicate 32 nothing_known }
     {
         let none = Known {
             key: 0,
@@ -161,13 +163,28 @@ impl Watch {
     }
 }
 
+/// Where the answers to a kind are noted: at the first entry that is its own or free, and nowhere once others have taken all.
+fn place_of(known: &[Known; MOST_KINDS], key: u64) -> Option<usize>
+    ensures place { result ≡ place_of key known.now }
+    ensures inside { IfSome result (λ at. at < 32) }
+{
+    known
+        .iter()
+        .position(|entry| entry.key == key || entry.key == 0)
+}
+
 /// Notes how a kind is answered, and whether that is to be told. Where more kinds are asked than have room the others are not told.
-fn is_news(known: &mut [Known; MOST_KINDS], key: u64, now: u16) -> bool {
-    for at in 0..MOST_KINDS {
-        if known[at].key == key || known[at].key == 0 {
-            known[at].key = key;
-            return known[at].told.is_news(now);
+fn is_news(known: &mut [Known; MOST_KINDS], key: u64, now: u16) -> bool
+    ensures noted { known.new ≡ after_answer key now known.old }
+    ensures news { result ≡ is_news key now known.old }
+{
+    match place_of(known, key) {
+        Some(at) => {
+            let mut told = known[at].told;
+            let is_news = told.is_news(now);
+            known[at] = Known { key, told };
+            is_news
         }
+        None => false,
     }
-    false
 }
