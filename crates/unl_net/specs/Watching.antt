@@ -1,7 +1,7 @@
 -- What is told of an exchange with a server.
 use Rattle.std.specs.Prelude.{Bool, ℕ, ◌&&◌, ◌-◌, ◌+◌, ◌*◌, List, Option, Some, None, nat_le, nat_eq}
 use Rattle.std.specs.Prelude.{if◌then◌else◌, codes, length, slice_index_or, take}
-use Rattle.std.specs.Prelude.{◌≡◌, ◌||◌, List, false, not, position, slice_set, unwrap_or}
+use Rattle.std.specs.Prelude.{◌≡◌, ◌||◌, false, not, position, slice_set, unwrap_or}
 use Rattle.std.specs.Option.{option_map_or}
 use Rattle.std.specs.Fmt.{decimal}
 use Rattle.std.specs.List.{starts_with}
