@@ -1,11 +1,11 @@
 -- What a door hands out and is handed back. What is not told is none.
-use Rattle.std.specs.Prelude.{◌≡◌, ◌+◌, ◌||◌, Bool, true, false, List, [], ◌∷◌, ◌++◌, Option, Some, None, ℕ, drop, option_map}
-use Rattle.std.specs.Prelude.{option_and_then, IfSome}
+use Rattle.std.specs.Prelude.{◌≡◌, ◌⊎◌, ◌+◌, Bool, true, false, List, [], ◌∷◌, ◌++◌, Option, Some, None, ℕ, drop, if◌then◌else◌}
+use Rattle.std.specs.Prelude.{is_some, option_and_then, option_map, IfSome}
 
--- Whether a door listens and is closed; how many links it handed out and was handed back; what each link to come gives to
+-- At which port a door listens, and whether it is closed; how many links it handed out and was handed back; what each link to come gives to
 -- read; what each that came back had sent, and how often it had failed.
 pub record DoorState : Type 0 where
-  pub listening : Bool
+  pub port : Option ℕ
   pub closed : Bool
   pub given : ℕ
   pub back : ℕ
@@ -22,14 +22,27 @@ abbrev pub count_of : {A : Type 0} → Option A → ℕ
 count_of None = 0
 count_of (Some link) = 1
 
--- a door that listens from now on, or does so if it did before
-abbrev pub listening_if : Bool → DoorState → DoorState
-listening_if now door = record door { listening = now || door.listening }
+-- a door that listens at a port from now on where it could, and else where it did before
+abbrev pub listening_at : ℕ → Bool → DoorState → DoorState
+listening_at port could door = record door { port = if could then Some port else door.port }
+
+-- it listens at a port
+abbrev pub IsListening : DoorState → Type 0
+IsListening door = is_some door.port ≡ true
 
 -- no link comes any more
 pub record IsClosed (door : DoorState) : Type 0 where
   pub closed : door.closed ≡ true
   pub none_left : IfSome door.links (λ links. links ≡ [])
+
+-- no link comes any more at this port
+pub record IsClosedAt (port : ℕ) (door : DoorState) : Type 0 where
+  pub closed : IsClosed door
+  pub at : door.port ≡ Some port
+
+-- of so many links each came at this port
+abbrev pub CameAt : ℕ → ℕ → DoorState → Type 0
+CameAt port served door = (served ≡ 0) ⊎ (door.port ≡ Some port)
 
 -- a link comes
 pub record IsOpen (door : DoorState) : Type 0 where

@@ -1,6 +1,6 @@
 //! A door, which hands out links and takes them back.
-ghost use Rattle.std.specs.Prelude.{◌≡◌, ◌<◌, ◌≤◌, ℕ, true, is_ok, IfOk, IfSome, OnErr, OnOk};
-ghost use Rattle.unl_base.specs.Doors.{Accepts, DoorState, IsFresh, listening_if, taking_back};
+ghost use Rattle.std.specs.Prelude.{◌≡◌, ◌<◌, ◌≤◌, ℕ, is_ok, IfOk, IfSome, OnErr, OnOk};
+ghost use Rattle.unl_base.specs.Doors.{Accepts, DoorState, IsFresh, IsListening, listening_at, taking_back};
 ghost use Rattle.unl_base.specs.Faults.{HasCause};
 
 use crate::Failed;
@@ -11,20 +11,20 @@ pub trait Door {
     /// The links that it hands out.
     type L: Link;
 
-    /// Whether it listens and is closed, how many links it has handed out and was handed back, and, where that is told, what
+    /// At which port it listens, whether it is closed, how many links it has handed out and was handed back, and, where that is told, what
     /// each link to come gives to read and what each that came back had sent and how often it had failed.
     ghost state: { Self → DoorState };
 
     /// How often this door has failed.
     ghost faults: { Self → ℕ };
 
-    /// Begins to listen at a port, and listens from then on.
+    /// Begins to listen at a port, and listens there from then on.
     ///
     /// # Errors
     ///
     /// `Failed`: the port can't be listened at. The fault is counted, and all else is as before.
     fn listen(&mut self, port: u16) -> Result<(), Failed>
-        ensures listens { state self.new ≡ listening_if (is_ok result) (state self.old) }
+        ensures listens { state self.new ≡ listening_at port (is_ok result) (state self.old) }
         ensures cause { HasCause (faults self.old) (faults self.new) result }
         ensures still { OnOk result (faults self.new ≡ faults self.old) };
 
@@ -35,7 +35,7 @@ pub trait Door {
     ///
     /// `Failed`: no link could be had. The fault is counted, and all else is as before.
     fn accept(&mut self) -> Result<Option<Self::L>, Failed>
-        requires { (state self.old).listening ≡ true }
+        requires { IsListening (state self.old) }
         ensures accepts { IfOk result (λ link. Accepts link (state self.old) (state self.new)) }
         ensures fresh { IfOk result (λ link. IfSome link (λ l.
             IsFresh (state self.old) (Self.L.Source.left l) (Self.L.Sink.sent l) (Self.L.Source.faults l))) }

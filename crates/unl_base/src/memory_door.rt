@@ -1,6 +1,6 @@
 //! A door whose links are kept in memory.
-ghost use Rattle.std.specs.Prelude.{◌≡◌, ◌<◌, ◌+◌, ◌-◌, ◌∷◌, ◌++◌, ◌||◌, [], Some, All, drop, false, is_ok, true, length, map};
-ghost use Rattle.std.specs.Prelude.{option_map, slice_get, IfOk, IfSome, IsNone, OnErr, ◌↔◌};
+ghost use Rattle.std.specs.Prelude.{◌≡◌, ◌<◌, ◌+◌, ◌-◌, ◌∷◌, ◌++◌, ◌↔◌, [], Some, None, All, drop, length, map, if◌then◌else◌};
+ghost use Rattle.std.specs.Prelude.{is_ok, is_some, option_map, slice_get, true, IfOk, IfSome, IsNone, OnErr};
 ghost use Rattle.unl_base.specs.Doors.{Accepts, count_of};
 ghost use Rattle.unl_base.specs.Memory.{Answers, IsNew, IsNext, brought, calls_of, door_of, to_come};
 
@@ -88,7 +88,7 @@ impl Stock {
 /// A door whose links are kept in memory, for tests. It is closed once all of them were handed out.
 #[derive(Debug, Drop)]
 pub struct MemoryDoor {
-    listening: bool,
+    port: Option<u16>,
     stock: Stock,
     calls: Calls,
 }
@@ -98,7 +98,7 @@ impl Model for MemoryDoor {
 
     ghost Value = { Gate };
 
-    ghost view = { λ door. record { listening = door.listening; stock = door.stock; calls = door.calls } };
+    ghost view = { λ door. record { port = door.port; stock = door.stock; calls = door.calls } };
 }
 
 impl MemoryDoor {
@@ -107,13 +107,13 @@ impl MemoryDoor {
     pub fn new(links: Vec<Option<MemoryLink>>, failing: Vec<u64>) -> Self
         requires { All IsNew links.items }
         ensures { result ≡ record {
-          listening = false;
+          port = None;
           stock = record { links = map to_come links.items; out = 0; returned = [] };
           calls = calls_of failing.items;
         } }
     {
         MemoryDoor {
-            listening: false,
+            port: None,
             stock: Stock::new(links),
             calls: Calls::new(failing),
         }
@@ -138,25 +138,25 @@ impl Door for MemoryDoor {
     ghost faults = { λ door. door.calls.faults };
 
     /// Fails exactly where it is told to.
-    fn listen(&mut self, _port: u16) -> Result<(), Failed>
-        ensures listens { self.new.listening ≡ (is_ok result || self.old.listening) }
+    fn listen(&mut self, port: u16) -> Result<(), Failed>
+        ensures listens { self.new.port ≡ (if is_ok result then Some port else self.old.port) }
         ensures stock { self.new.stock ≡ self.old.stock }
         ensures answers { Answers result self.old.calls self.new.calls }
     {
         if self.calls.fails() {
             return Err(Failed);
         }
-        self.listening = true;
+        self.port = Some(port);
         Ok(())
     }
 
     /// Fails exactly where it is told to.
     fn accept(&mut self) -> Result<Option<MemoryLink>, Failed>
-        requires { self.old.listening ≡ true }
+        requires { is_some self.old.port ≡ true }
         ensures accepts { IfOk result (λ link. Accepts link (door_of self.old) (door_of self.new)) }
         ensures comes { IfOk result (λ link. IfSome link (λ wire. IsNext self.old.stock.links wire)) }
         ensures kept { OnErr result (self.new.stock ≡ self.old.stock) }
-        ensures same { self.new.listening ≡ self.old.listening }
+        ensures same { self.new.port ≡ self.old.port }
         ensures answers { Answers result self.old.calls self.new.calls }
     {
         if self.calls.fails() {

@@ -24,11 +24,20 @@ fn limited<S: OpenStream + Drop>(stream: S) -> io::Result<S> {
     Ok(stream)
 }
 
+/// A listener, and the port that it listens at.
+#[derive(Drop)]
+pub struct Listening<L> {
+    /// The port that was asked for.
+    pub port: u16,
+    /// What listens there.
+    pub listener: L,
+}
+
 /// A door over the network: it listens on each IPv4 address of this machine.
 #[derive(Drop)]
 pub struct RealDoor<N: Net + Drop> {
     net: N,
-    listener: Option<N::Listener>,
+    listening: Option<Listening<N::Listener>>,
     bound: u64,
     given: u64,
     back: u64,
@@ -42,11 +51,11 @@ impl<N: Net + Drop> RealDoor<N> {
     pub fn new(net: N, bound: Option<u64>) -> Self
         ensures bound { result.bound ≡ unwrap_or bound (2 ^ 64 - 1) }
         ensures counts { (result.given ≡ 0) × (result.back ≡ 0) × (result.faults ≡ 0) }
-        ensures listener { result.listener ≡ None }
+        ensures listening { result.listening ≡ None }
     {
         RealDoor {
             net,
-            listener: None,
+            listening: None,
             bound: bound.unwrap_or(u64::MAX),
             given: 0,
             back: 0,
@@ -56,20 +65,20 @@ impl<N: Net + Drop> RealDoor<N> {
 
     /// Waits for the next stream.
     fn next(&self) -> io::Result<N::Stream> {
-        match &self.listener {
-            Some(listener) => limited(listener.accept()?.0),
+        match &self.listening {
+            Some(listening) => limited(listening.listener.accept()?.0),
             None => Err(io::Error::from(ErrorKind::NotConnected)),
         }
     }
 }
 
 impl<N: Net + Drop> Door for RealDoor<N> {
-    ghost use Rattle.std.specs.Prelude.{is_some, nat_le};
+    ghost use Rattle.std.specs.Prelude.{nat_le, option_map};
 
     type L = RealLink<N::Stream>;
 
     ghost state = { λ door. record {
-      listening = is_some door.listener;
+      port = option_map (λ listening. listening.port) door.listening;
       closed = nat_le door.bound door.given;
       given = door.given;
       back = door.back;
@@ -82,7 +91,7 @@ impl<N: Net + Drop> Door for RealDoor<N> {
     fn listen(&mut self, port: u16) -> Result<(), Failed> {
         match TcpListener::bind(&self.net, (Ipv4Addr::UNSPECIFIED, port)) {
             Ok(listener) => {
-                self.listener = Some(listener);
+                self.listening = Some(Listening { port, listener });
                 Ok(())
             }
             Err(_) => {

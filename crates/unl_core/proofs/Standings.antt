@@ -2,7 +2,7 @@
 use Rattle.std.proofs.Common.{◌≡◌, ℕ, zero, suc, ◌<◌, ◌+◌, List, [], ◌∷◌, ◌++◌, length, map, Some, None, Option, ap, refl, sym, ◌∙◌, All, IfSome, subst, get_or, unwrap_or, true, false}
 use Rattle.std.proofs.Math.ListN.{set}
 use Rattle.std.proofs.Math.Seq.{map-set_same}
-use Rattle.std.proofs.lemmas.List.{map-set, map-append, length-map}
+use Rattle.std.proofs.lemmas.List.{map-set, map-append}
 use Rattle.std.proofs.lemmas.List.Elements.{All-set, All-append, All-cons, All-nil, All-get_or}
 use Rattle.unl_delta.specs.declared.version.EnvVersion.{EnvVersion}
 use Rattle.unl_delta.specs.declared.version.Place.{Place}
@@ -34,11 +34,6 @@ standing board places front = record { board = board; places = places; front = f
 -- the places made for a board's slots
 pub standing_begun : (board : Board) (places : List Place) → AreSlots board.slots → places ≡ map place_at board.slots → All IsValidPlace places → IsStanding board places
 standing_begun board places slots made valid = record { slots = slots; versions = ap versions made ∙ versions_at board.slots; valid = valid }
-
--- there are as many places as slots
-pub as_many : (board : Board) (places : List Place) → IsStanding board places → length places ≡ length board.slots
-as_many board places standing =
-    sym (length-map places (λ place. place.version)) ∙ ap length standing.versions ∙ length-map board.slots (λ slot. slot.snapshot)
 
 snapshots_taking : (slot : ℕ) (version : EnvVersion) (slots : List Slot) → snapshots (taking slot version slots) ≡ set (snapshots slots) slot (Some version)
 snapshots_taking slot version [] = refl

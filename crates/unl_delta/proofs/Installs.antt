@@ -1,7 +1,7 @@
 -- What an install, a hold and a batch leave at a slot.
-use Rattle.std.proofs.Common.{◌≡◌, ℕ, zero, suc, ◌<◌, arith, List, [], ◌∷◌, length, true, false, unwrap_or, Option, Some, Result, Ok, Err, OnOk, IfOk, refl, sym, ap, subst, ◌∙◌}
-use Rattle.std.specs.Prelude.{◌≢◌, slice_get, slice_set}
-use Rattle.std.proofs.lemmas.List.{get_or-set_same, get_or-set_other}
+use Rattle.std.proofs.Common.{◌≡◌, ℕ, ◌<◌, [], length, true, false, Option, Some, Result, Ok, Err, OnOk, IfOk, refl, sym, ap, subst, ◌∙◌}
+use Rattle.std.specs.Prelude.{slice_set}
+use Rattle.std.proofs.lemmas.List.{get_or-set_same}
 use Rattle.std.proofs.lemmas.Option.{unwrap_or-slice_get}
 use Rattle.unl_delta.specs.declared.batch.Batch.{Batch}
 use Rattle.unl_delta.specs.declared.batch.Verdict.{Verdict}
@@ -16,17 +16,6 @@ use Rattle.unl_delta.proofs.Delivery.{taken_follows, next_follows}
 -- the place that was put at a slot
 pub placed : (slot : ℕ) (place : Place) (now : Installed) → slot < length now.places → place_of (with_place slot place now) slot ≡ place
 placed slot place now low = unwrap_or-slice_get (slice_set now.places slot place) slot empty_place ∙ get_or-set_same now.places slot place empty_place low
-
--- the places of the other slots stay
-pub elsewhere : (slot other : ℕ) (place : Place) (now : Installed) → other ≢ slot → place_of (with_place slot place now) other ≡ place_of now other
-elsewhere slot other place now differ =
-    unwrap_or-slice_get (slice_set now.places slot place) other empty_place ∙ get_or-set_other now.places slot other place empty_place differ
-    ∙ sym (unwrap_or-slice_get now.places other empty_place)
-
--- the place of one who keeps one place
-pub only_place : (slot : ℕ) (places : List Place) (place : Place) → slot < length places → places ≡ place ∷ [] → unwrap_or (slice_get places slot) empty_place ≡ place
-only_place zero places place low is = ap (λ (ps : List Place). unwrap_or (slice_get ps 0) empty_place) is
-only_place (suc slot) places place low is = absurd (omega (arith, low, ap length is))
 
 -- a batch that applies was published
 pub installed_follows : (slot : ℕ) (batch : Batch) (old new : Installed) → slot < length old.places → verdict_of (place_of old slot) batch ≡ Apply

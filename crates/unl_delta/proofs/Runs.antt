@@ -292,11 +292,6 @@ later_keeps {T} number n xs i x inside is above before =
     let one : filter (λ y. nat_lt n (number y)) (x ∷ []) ≡ x ∷ [] = filter_in (λ y. nat_lt n (number y)) x [] (lt-ltb _ _ above) in
     ap (later number n) taken ∙ later_append number n (take i xs) (x ∷ []) ∙ ap (λ (ys : List T). ys ++ filter (λ y. nat_lt n (number y)) (x ∷ [])) before ∙ ap (λ (ys : List T). take i xs ++ ys) one ∙ sym taken
 
--- what passes a test in the runs so far, and in one more
-pub filter_next : {T : Type 0} (p : T → Bool) (runs : List (List T)) (i : ℕ) (here so_far next : List T) → i < length runs → here ≡ get_or runs i here → so_far ≡ filter p (joined (take i runs)) → next ≡ so_far ++ filter p here
-    → next ≡ filter p (joined (take (i + 1) runs))
-filter_next p runs i here so_far next inside is before now = gathers_next (filter p) [] runs i here so_far next (filter-append p) inside is before now
-
 -- ---- the first item that passes a test, run by run
 
 find_on : {T : Type 0} (p : T → Bool) (runs : List (List T)) (i : ℕ) (here : List T) → i < length runs → here ≡ get_or runs i here

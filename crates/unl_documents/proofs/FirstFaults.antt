@@ -1,11 +1,11 @@
 -- The fault that a reading ends with is the first of the faults of the keys.
-use Rattle.std.proofs.Common.{◌≡◌, List, [], ◌∷◌, Bool, true, false, cond, Option, Some, None, Ok, Err, refl, sym, ap, ◌∙◌}
+use Rattle.std.proofs.Common.{◌≡◌, List, [], ◌∷◌, Bool, true, false, cond, Ok, Err, refl, sym, ap, ◌∙◌}
 use Rattle.std.specs.Prelude.{codes}
 use Rattle.serde_json.specs.Data.{Data}
 use Rattle.unl_documents.specs.declared.fault.BadDocument.{BadDocument}
 use Rattle.unl_documents.specs.declared.fault.BadDocument.TheVariants.{NotJson}
 use Rattle.unl_documents.specs.Documents.{override_of, dependency_of, payload_of, variant_of, constraint_of, segment_of, strategy_of, feature_of}
-use Rattle.unl_documents.specs.Faults.{fault_of, before, first, faults_of_document, faults_of_lists, faults_of_override, faults_of_dependency, faults_of_payload, faults_of_variant, faults_of_constraint, faults_of_segment, faults_of_strategy, faults_of_feature, faults_of_state, faults_of_feed}
+use Rattle.unl_documents.specs.Faults.{fault_of, before, first, faults_of_document, faults_of_lists, faults_of_override, faults_of_dependency, faults_of_payload, faults_of_variant, faults_of_constraint, faults_of_segment, faults_of_strategy, faults_of_meta, faults_of_feature, faults_of_state, faults_of_feed}
 use Rattle.unl_documents.specs.declared.field.Field.TheVariants as field
 use Rattle.unl_documents.specs.declared.state.State.{State}
 use Rattle.unl_documents.specs.Kinds.{any_text, any_whole, defaulted, document, is_object, name, names, numbers, object_of, objects, optional, required, text, text_or_whole, texts, truth, whole}
@@ -87,6 +87,13 @@ payload_first value =
     keys_2 (required any_text field.Kind value)
     (required (text_or_whole 65536) field.Value value)
     (λ a b. record { kind = a; value = b })
+
+pub meta_first : (value : Data) → fault_of (meta_of value) ≡ first (faults_of_meta value)
+unfolding meta_of faults_of_meta
+meta_first value =
+    keys_2 (defaulted 0 any_whole field.Epoch value)
+    (optional any_whole field.RevisionId value)
+    (λ a b. record { epoch = a; number = b })
 
 pub variant_first : (value : Data) → fault_of (variant_of value) ≡ first (faults_of_variant value)
 unfolding variant_of faults_of_variant

@@ -1,5 +1,5 @@
 -- Results, one after the other, and what a call answers beside want of memory.
-use Rattle.std.specs.Prelude.{◌≡◌, ◌≢◌, ◌⊎◌, ℕ, List, Option, Some, None, is_some, option_and_then, Result, Ok, Err, IsUtf8, if◌then◌else◌}
+use Rattle.std.specs.Prelude.{◌≡◌, ◌≢◌, ℕ, List, Option, Some, None, is_some, option_and_then, Result, Ok, Err, IsUtf8, if◌then◌else◌}
 use Rattle.std.specs.Str.{is_utf8}
 use Rattle.serde_json.specs.Data.{Data}
 use Rattle.serde_json.specs.Find.{as_object}
@@ -38,8 +38,3 @@ object_in bytes = option_and_then object_alone (json_of bytes)
 pub record IsJson (bytes : List ℕ) (value : Data) : Type 0 where
   pub utf8 : IsUtf8 bytes
   pub is : read bytes ≡ Some value
-
--- The bytes are JSON and are read as its value is, or they are none.
-abbrev pub Parsed : {T E : Type 0} → E → (Data → Result T E) → List ℕ → Result T E → Type 0
-Parsed none reads bytes reading =
-    ((value : Data) × IsJson bytes value × (reading ≡ reads value)) ⊎ (((value : Data) → IsJson bytes value → ⊥) × (reading ≡ Err none))

@@ -15,10 +15,10 @@ ghost use Rattle.unl_documents.specs.Kinds.{document};
 ghost use Rattle.unl_documents.specs.Reads.{ReadsFeature, ReadsSegment, ReadsState, ReadsFeed};
 ghost use Rattle.unl_documents.specs.Faults.{fault_of, first, first_fault_of_feature, first_fault_of_segment, first_fault_of_state};
 ghost use Rattle.unl_documents.specs.Faults.{first_fault_of_feed, faults_of_override, faults_of_dependency, faults_of_payload};
-ghost use Rattle.unl_documents.specs.Faults.{faults_of_variant, faults_of_constraint, faults_of_strategy};
+ghost use Rattle.unl_documents.specs.Faults.{faults_of_variant, faults_of_constraint, faults_of_strategy, faults_of_meta};
 ghost use Rattle.unl_documents.specs.Results.{json_of, IsJson};
 ghost use Rattle.unl_documents.specs.Sorting.{IsSorting, IsLeastTwice, in_order};
-ghost use Rattle.unl_documents.specs.States.{state_of, feed_of, IsValidState};
+ghost use Rattle.unl_documents.specs.States.{state_of, meta_of, feed_of, IsValidState};
 ghost use Rattle.unl_documents.specs.Valid.{IsValidFeature, IsValidSegment};
 ghost use Rattle.unl_documents.specs.Writing.{feature_data, segment_data, feed_data};
 
@@ -44,10 +44,11 @@ pub fn states_are_read()
     ensures fault { (value : Data) (e : BadDocument) → (document state_of value ≡ Err e) ↔ (first_fault_of_state value ≡ Some e) }
 {}
 
-/// The same of feeds.
+/// The same of feeds, and the fault of what stands beside a feed's state is the first of its keys' own.
 pub fn feeds_are_read()
     ensures read { (value : Data) (f : Feed) → (document feed_of value ≡ Ok f) ↔ (ReadsFeed value f × (first_fault_of_feed value ≡ None)) }
     ensures fault { (value : Data) (e : BadDocument) → (document feed_of value ≡ Err e) ↔ (first_fault_of_feed value ≡ Some e) }
+    ensures beside { (value : Data) → fault_of (meta_of value) ≡ first (faults_of_meta value) }
 {}
 
 /// The fault of an object in a document is the first of its keys' own faults, in the order of its table.

@@ -1,8 +1,8 @@
 -- How an edge ends that has taken its first draw and listened.
-use Rattle.std.proofs.Common.{◌≡◌, ◌≤◌, ◌∙◌, ℕ, Bool, List, length, Option, Some, None, Result, Ok, Err, IfSome, ap, arith, inl, inr, refl, sym, subst}
+use Rattle.std.proofs.Common.{◌≡◌, ◌≤◌, ◌∙◌, ℕ, Bool, List, length, Option, Some, None, Result, Ok, Err, IfSome, ap, arith, inl, inr, refl, sym, subst, true}
 use Rattle.std.specs.Prelude.{◌⊎◌, map}
 use Rattle.unl_base.specs.Draws.{TakesDraw}
-use Rattle.unl_base.specs.Doors.{DoorState, IsClosed, listening_if}
+use Rattle.unl_base.specs.Doors.{CameAt, DoorState, IsClosed, IsClosedAt, listening_at}
 use Rattle.unl_base.specs.Streams.{Sends, SendsFront}
 use Rattle.unl_base.specs.declared.draws.Draw.{Draw}
 use Rattle.unl_core.specs.declared.board.Board.{Board}
@@ -25,9 +25,9 @@ use Rattle.unl_workers.specs.Accepting.{HandsOut}
 -- ---- the links
 
 -- links that a door handed out once it listened
-pub hands_links : (served : ℕ) (listening : Bool) (before after : Scene) (door : DoorState) → door ≡ listening_if listening before.door.state
+pub hands_links : (served port : ℕ) (could : Bool) (before after : Scene) (door : DoorState) → door ≡ listening_at port could before.door.state
     → HandsOut served door after.door.state → after.input.left ≡ before.input.left → HandsLinks served before after
-hands_links served listening before after door listens hands unread = record {
+hands_links served port could before after door listens hands unread = record {
   given = ap (λ (d : DoorState). d.given) same.door;
   had = same.had;
   none_back = ap (λ (d : DoorState). d.back) same.door;
@@ -35,23 +35,36 @@ hands_links served listening before after door listens hands unread = record {
   unread = unread;
 }
   where
-    same : HandsOut served (listening_if listening before.door.state) after.door.state
+    same : HandsOut served (listening_at port could before.door.state) after.door.state
     same = subst (λ (d : DoorState). HandsOut served d after.door.state) listens hands
 
 none_had : (links : Option (List (List ℕ))) → IfSome links (λ list. 0 ≤ length list)
 none_had None = tt
 none_had (Some list) = omega arith
 
+-- they came at the port that was listened at
+pub came_at : (served port : ℕ) (could : Bool) (before door after : DoorState) → could ≡ true → door ≡ listening_at port could before
+    → HandsOut served door after → after.port ≡ Some port
+came_at served port could before door after did listens hands =
+    ap (λ (d : DoorState). d.port) hands.door ∙ ap (λ (d : DoorState). d.port) listens
+    ∙ ap (λ (b : Bool). (listening_at port b before).port) did
+
 -- none was handed out
-pub hands_none : (listening : Bool) (before after : Scene) → after.door.state ≡ listening_if listening before.door.state
+pub hands_none : (port : ℕ) (could : Bool) (before after : Scene) → after.door.state ≡ listening_at port could before.door.state
     → after.input.left ≡ before.input.left → HandsLinks 0 before after
-hands_none listening before after listens unread = record {
+hands_none port could before after listens unread = record {
   given = ap (λ (d : DoorState). d.given) listens ∙ omega arith;
   had = none_had before.door.state.links;
   none_back = ap (λ (d : DoorState). d.back) listens;
   left = ap (λ (d : DoorState). d.links) listens ∙ none_taken before.door.state.links;
   unread = unread;
 }
+
+-- so a door that is closed then was closed there
+pub closes_at : (served port : ℕ) (could : Bool) (before door after : DoorState) → could ≡ true → door ≡ listening_at port could before
+    → HandsOut served door after → IsClosed after → IsClosedAt port after
+closes_at served port could before door after did listens hands closed =
+    record { closed = closed; at = came_at served port could before door after did listens hands }
 
 -- ---- the draw before
 
@@ -61,10 +74,10 @@ from_draw hands =
     record { given = hands.given; had = hands.had; none_back = hands.none_back; left = hands.left; unread = hands.unread }
 
 -- memory ran out before anything was handed out or sent
-pub stops_at_once : (before after middle : Scene) → before ≡ middle → after.door.state ≡ middle.door.state → after.input.left ≡ middle.input.left
-    → after.output.sent ≡ middle.output.sent → StopsForMemory before after
-stops_at_once before after middle same shut unread silent =
-    subst (λ (scene : Scene). StopsForMemory scene after) (sym same) (0, none, inl refl, silent)
+pub stops_at_once : (port : ℕ) (before after middle : Scene) → before ≡ middle → after.door.state ≡ middle.door.state → after.input.left ≡ middle.input.left
+    → after.output.sent ≡ middle.output.sent → StopsForMemory port before after
+stops_at_once port before after middle same shut unread silent =
+    subst (λ (scene : Scene). StopsForMemory port scene after) (sym same) (0, none, inl refl, silent)
   where
     none : HandsLinks 0 middle after
     none = record {
@@ -76,14 +89,14 @@ stops_at_once before after middle same shut unread silent =
     }
 
 -- how an edge ends that took a draw first
-runs_so : (site : ℕ → Site) (end : ServingEnd) (before after : Scene) (draw : Draw) (coming : Coming) → TakesDraw before.draws draw coming
-    → EdgeEnds (site draw.word) end (record before { draws = coming }) after → EdgeRuns site end before after
-runs_so site end before after draw coming taken ends = by_end end ends
+runs_so : (words : EdgeWords) (end : ServingEnd) (before after : Scene) (draw : Draw) (coming : Coming) → TakesDraw before.draws draw coming
+    → EdgeEnds (site_of words draw.word) words.port end (record before { draws = coming }) after → EdgeRuns words end before after
+runs_so words end before after draw coming taken ends = by_end end ends
   where
-    runs : (end : ServingEnd) → EdgeEnds (site draw.word) end (record before { draws = coming }) after → RunsEdge site end before after
+    runs : (end : ServingEnd) → EdgeEnds (site_of words draw.word) words.port end (record before { draws = coming }) after → RunsEdge words end before after
     runs end ends = record { draw = draw; coming = coming; taken = taken; ends = ends }
 
-    by_end : (end : ServingEnd) → EdgeEnds (site draw.word) end (record before { draws = coming }) after → EdgeRuns site end before after
+    by_end : (end : ServingEnd) → EdgeEnds (site_of words draw.word) words.port end (record before { draws = coming }) after → EdgeRuns words end before after
     by_end Closed ends = runs Closed ends
     by_end WriteFault ends = runs WriteFault ends
     by_end DoorFault ends = runs DoorFault ends
@@ -94,63 +107,63 @@ pub begun_ends : (words : EdgeWords) (known : List (List ℕ)) (board : Board) (
     (draw : Draw) (coming : Coming) → known ≡ words.tokens → board ≡ begun_board draw.word words.host words.upstream_tokens
     → feeders ≡ feedings words.upstream words.delta words.upstream_tokens (map environment_of words.upstream_tokens)
     → before ≡ middle → TakesDraw middle.draws draw coming
-    → EdgeEnds (site_at known board feeders words.workers) end (record middle { draws = coming }) after
-    → EdgeRuns (site_of words) end before after
+    → EdgeEnds (site_at known board feeders words.workers) words.port end (record middle { draws = coming }) after
+    → EdgeRuns words end before after
 begun_ends words known board feeders end before middle after draw coming tells begins feeds same taken ends =
-    subst (λ (scene : Scene). EdgeRuns (site_of words) end scene after) (sym same)
-    (runs_so (site_of words) end middle after draw coming taken
-    (subst (λ (site : Site). EdgeEnds site end (record middle { draws = coming }) after)
+    subst (λ (scene : Scene). EdgeRuns words end scene after) (sym same)
+    (runs_so words end middle after draw coming taken
+    (subst (λ (site : Site). EdgeEnds site words.port end (record middle { draws = coming }) after)
     (λ i. site_at (tells i) (begins i) (feeds i) words.workers) ends))
 
 -- ---- the last line
 
 -- the door was closed, and the last line was sent
-pub closed_ends : (site : Site) (served : ℕ) (before middle after : Scene) → before ≡ middle → HandsLinks served middle after
-    → IsServed site middle after → Sends middle.output.sent (connections_line served) after.output.sent → IsClosed after.door.state
-    → EdgeEnds site Closed before after
-closed_ends site served before middle after same hands serves sent closed =
-    subst (λ (scene : Scene). EdgeEnds site Closed scene after) (sym same) ends
+pub closed_ends : (site : Site) (port served : ℕ) (before middle after : Scene) → before ≡ middle → HandsLinks served middle after
+    → IsServed site middle after → Sends middle.output.sent (connections_line served) after.output.sent → IsClosedAt port after.door.state
+    → EdgeEnds site port Closed before after
+closed_ends site port served before middle after same hands serves sent closed =
+    subst (λ (scene : Scene). EdgeEnds site port Closed scene after) (sym same) ends
   where
-    ends : EdgeEnds site Closed middle after
+    ends : EdgeEnds site port Closed middle after
     ends = (served, hands, serves, sent, closed)
 
 -- the door was closed, and a front of it was sent
-pub broken_ends : (site : Site) (served : ℕ) (before middle after : Scene) → before ≡ middle → HandsLinks served middle after
-    → IsServed site middle after → SendsFront middle.output.sent (connections_line served) after.output.sent → IsClosed after.door.state
-    → EdgeEnds site WriteFault before after
-broken_ends site served before middle after same hands serves sent closed =
-    subst (λ (scene : Scene). EdgeEnds site WriteFault scene after) (sym same) ends
+pub broken_ends : (site : Site) (port served : ℕ) (before middle after : Scene) → before ≡ middle → HandsLinks served middle after
+    → IsServed site middle after → SendsFront middle.output.sent (connections_line served) after.output.sent → IsClosedAt port after.door.state
+    → EdgeEnds site port WriteFault before after
+broken_ends site port served before middle after same hands serves sent closed =
+    subst (λ (scene : Scene). EdgeEnds site port WriteFault scene after) (sym same) ends
   where
-    ends : EdgeEnds site WriteFault middle after
+    ends : EdgeEnds site port WriteFault middle after
     ends = (served, hands, serves, sent, closed)
 
 -- the door failed, or no thread could be started
-pub failed_ends : (site : Site) (served : ℕ) (before middle after : Scene) → before ≡ middle → HandsLinks served middle after
-    → after.output.sent ≡ middle.output.sent → EdgeEnds site DoorFault before after
-failed_ends site served before middle after same hands silent =
-    subst (λ (scene : Scene). EdgeEnds site DoorFault scene after) (sym same) ends
+pub failed_ends : (site : Site) (port served : ℕ) (before middle after : Scene) → before ≡ middle → HandsLinks served middle after
+    → CameAt port served after.door.state → after.output.sent ≡ middle.output.sent → EdgeEnds site port DoorFault before after
+failed_ends site port served before middle after same hands came silent =
+    subst (λ (scene : Scene). EdgeEnds site port DoorFault scene after) (sym same) ends
   where
-    ends : EdgeEnds site DoorFault middle after
-    ends = (served, hands, silent)
+    ends : EdgeEnds site port DoorFault middle after
+    ends = (served, hands, came, silent)
 
 -- memory ran out before the first link, or for the line
-pub stopped_ends : (site : Site) (served : ℕ) (before middle after : Scene) → before ≡ middle → HandsLinks served middle after
-    → (served ≡ 0) ⊎ IsClosed after.door.state → after.output.sent ≡ middle.output.sent → EdgeEnds site OutOfMemory before after
-stopped_ends site served before middle after same hands over silent =
-    subst (λ (scene : Scene). EdgeEnds site OutOfMemory scene after) (sym same) ends
+pub stopped_ends : (site : Site) (port served : ℕ) (before middle after : Scene) → before ≡ middle → HandsLinks served middle after
+    → (served ≡ 0) ⊎ IsClosedAt port after.door.state → after.output.sent ≡ middle.output.sent → EdgeEnds site port OutOfMemory before after
+stopped_ends site port served before middle after same hands over silent =
+    subst (λ (scene : Scene). EdgeEnds site port OutOfMemory scene after) (sym same) ends
   where
-    ends : EdgeEnds site OutOfMemory middle after
+    ends : EdgeEnds site port OutOfMemory middle after
     ends = (served, hands, over, silent)
 
 -- the same, by how the line was sent
-pub told_ends : (site : Site) (served : ℕ) (told : Result Unit SayFault) (end : ServingEnd) (before middle after : Scene)
+pub told_ends : (site : Site) (port served : ℕ) (told : Result Unit SayFault) (end : ServingEnd) (before middle after : Scene)
     → end ≡ line_end told → before ≡ middle → HandsLinks served middle after → IsServed site middle after
-    → SaysLine told (connections_line served) middle.output.sent after.output.sent → IsClosed after.door.state → EdgeEnds site end before after
-told_ends site served told end before middle after is same hands serves said closed =
-    subst (λ (e : ServingEnd). EdgeEnds site e before after) (sym is) (by_told told said)
+    → SaysLine told (connections_line served) middle.output.sent after.output.sent → IsClosedAt port after.door.state → EdgeEnds site port end before after
+told_ends site port served told end before middle after is same hands serves said closed =
+    subst (λ (e : ServingEnd). EdgeEnds site port e before after) (sym is) (by_told told said)
   where
     by_told : (told : Result Unit SayFault) → SaysLine told (connections_line served) middle.output.sent after.output.sent
-        → EdgeEnds site (line_end told) before after
-    by_told (Ok u) said = closed_ends site served before middle after same hands serves said closed
-    by_told (Err say.WriteFault) said = broken_ends site served before middle after same hands serves said closed
-    by_told (Err say.Memory) said = stopped_ends site served before middle after same hands (inr closed) said
+        → EdgeEnds site port (line_end told) before after
+    by_told (Ok u) said = closed_ends site port served before middle after same hands serves said closed
+    by_told (Err say.WriteFault) said = broken_ends site port served before middle after same hands serves said closed
+    by_told (Err say.Memory) said = stopped_ends site port served before middle after same hands (inr closed) said

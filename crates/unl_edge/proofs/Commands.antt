@@ -39,6 +39,7 @@ use Rattle.unl_upstream.specs.declared.command.Command.{Command}
 use Rattle.unl_upstream.specs.declared.reopening.ReopenFault.{ReopenFault}
 use Rattle.unl_upstream.specs.declared.reopening.ReopenFault.TheVariants.{BadRow, NoRow, Fault, Memory}
 use Rattle.unl_words.specs.Lists.{are_different, are_environments, has_count}
+use Rattle.unl_words.specs.declared.words.UpstreamWords.{UpstreamWords}
 use Rattle.unl_words.proofs.Known.{others_differ}
 
 -- ---- the links
@@ -73,11 +74,11 @@ nothing_sent old mid text none sends =
     sends ∙ ap (λ (t : List ℕ). option_map (λ sent. sent ++ t) old) none ∙ sym (Sends_nothing old)
 
 -- how an upstream ends whose lines were all taken, by what then stands
-pub after_lines : (opened kept last : KeptState) (desk : Shelf) (end : ServingEnd) (left left_after : Option (List ℕ)) (before after : Facing)
-    (sent : Option (List ℕ)) → HasKept kept.keeper → shelf_of kept ≡ desk → AnswersAll keeping (shelf_of opened) desk left left_after before.sent sent
-    → LinksEnd kept last end (record before { sent = sent }) after
-    → LinesEnd opened (Links end) last.keeper left left_after before after
-after_lines opened kept last desk end left left_after before after sent has is taken links = by_end end links
+pub after_lines : (opened kept : KeptState) (port : ℕ) (last : KeptState) (desk : Shelf) (end : ServingEnd) (left left_after : Option (List ℕ))
+    (before after : Facing) (sent : Option (List ℕ)) → HasKept kept.keeper → shelf_of kept ≡ desk → AnswersAll keeping (shelf_of opened) desk left left_after before.sent sent
+    → LinksEnd kept port end last (record before { sent = sent }) after
+    → LinesEnd opened port (Links end) last.keeper left left_after before after
+after_lines opened kept port last desk end left left_after before after sent has is taken links = by_end end links
   where
     same_sent : sent ≡ before.sent
     same_sent =
@@ -109,8 +110,8 @@ after_lines opened kept last desk end left left_after before after sent has is t
           (record { up = spelled.leads; count = spelled.counted }) (all.hosts.linked links returned told told_back);
     }
 
-    by_end : (end : ServingEnd) → LinksEnd kept last end (record before { sent = sent }) after
-        → LinesEnd opened (Links end) last.keeper left left_after before after
+    by_end : (end : ServingEnd) → LinksEnd kept port end last (record before { sent = sent }) after
+        → LinesEnd opened port (Links end) last.keeper left left_after before after
     by_end Closed links = (
       links.0,
       serves links.0 links.1,
@@ -123,21 +124,10 @@ after_lines opened kept last desk end left left_after before after sent has is t
       subst (λ (s : Option (List ℕ)). SendsFront s (connections_line links.0) after.sent) same_sent links.2,
       links.3,
     )
-    by_end DoorFault links = (links.0, serves links.0 links.1, links.2 ∙ same_sent)
+    by_end DoorFault links = (links.0, serves links.0 links.1, links.2, links.3 ∙ same_sent)
     by_end OutOfMemory links = (links.0, serves links.0 links.1, links.2 ∙ same_sent, links.3)
 
 -- ---- the keeper
-
--- how an upstream ends that was reopened
-pub after_reopening : (start opened : KeptState) (reopened : ℕ) (end : UpstreamEnd) (last : KeeperState) (left left_after : Option (List ℕ)) (before after : Facing)
-    → Opens start reopened opened → LinesEnd opened end last left left_after before after → KeeperEnd start end last left left_after before after
-after_reopening start opened reopened NoMemory last left left_after before after opens ends = absurd ends
-after_reopening start opened reopened KeeperFault last left left_after before after opens ends = ends
-after_reopening start opened reopened (Row told) last left left_after before after opens ends = absurd ends
-after_reopening start opened reopened (Lines fault) last left left_after before after opens ends =
-    record { reopened = reopened; opened = opened; opens = opens; ends = ends }
-after_reopening start opened reopened (Links end) last left left_after before after opens ends =
-    record { reopened = reopened; opened = opened; opens = opens; ends = ends }
 
 -- a row that is no command that is accepted, or isn't there
 pub bad_row : (start reached : KeptState) (place : ℕ) (text : List ℕ) (fault : ReopenFault) → fault ≡ BadRow place text
@@ -215,13 +205,13 @@ never_failed zero rose none = refl
 never_failed (suc n) rose none = absurd (none (rose (λ is. cc)))
 
 -- a keeper was made, and came back
-pub ends_kept : (start : UpstreamState) (end : UpstreamEnd) (made last : KeeperState) (before after : Scene) → IsMade before.keep.held made
-    → KeeperEnd (kept_state start made) end last before.input.left after.input.left (facing_of before) (facing_of after)
-    → ComesBack last before.keep after.keep → UpstreamEnds start end before after
-ends_kept start end made last before after is_made ends back = by_end end ends
+pub ends_kept : (start : UpstreamState) (port : ℕ) (end : UpstreamEnd) (made last : KeeperState) (before after : Scene) → IsMade before.keep.held made
+    → KeeperEnd (kept_state start made) port end last before.input.left after.input.left (facing_of before) (facing_of after)
+    → ComesBack last before.keep after.keep → UpstreamEnds start port end before after
+ends_kept start port end made last before after is_made ends back = by_end end ends
   where
-    kept : (end : UpstreamEnd) → KeeperEnd (kept_state start made) end last before.input.left after.input.left (facing_of before) (facing_of after)
-        → EndsKept start end before after
+    kept : (end : UpstreamEnd) → KeeperEnd (kept_state start made) port end last before.input.left after.input.left (facing_of before) (facing_of after)
+        → EndsKept start port end before after
     kept end ends = record {
       made = made;
       is_made = is_made;
@@ -234,8 +224,8 @@ ends_kept start end made last before after is_made ends back = by_end end ends
           (none_kept start opened before.keep.held (opens_plain start made before.keep.held is_made reopened opened opens)) back.held;
     }
 
-    by_end : (end : UpstreamEnd) → KeeperEnd (kept_state start made) end last before.input.left after.input.left (facing_of before) (facing_of after)
-        → UpstreamEnds start end before after
+    by_end : (end : UpstreamEnd) → KeeperEnd (kept_state start made) port end last before.input.left after.input.left (facing_of before) (facing_of after)
+        → UpstreamEnds start port end before after
     by_end NoMemory ends = ends
     by_end KeeperFault ends = ends
     by_end (Row told) ends = kept (Row told) ends
@@ -245,18 +235,17 @@ ends_kept start end made last before after is_made ends back = by_end end ends
 -- ---- the draw before
 
 -- how an upstream ends that took a draw first
-pub runs_so : (secret : List ℕ) (environments : List (List ℕ)) (book : List Token) (epoch : ℕ) (end : UpstreamEnd) (before after : Scene)
-    (start : UpstreamState) (coming : Coming) → Begins secret environments book epoch before.draws start coming
-    → UpstreamEnds start end (record before { draws = coming }) after
-    → UpstreamRuns secret environments book epoch end before after
-runs_so secret environments book epoch end before after start coming begins ends = by_end end ends
+pub runs_so : (words : UpstreamWords) (end : UpstreamEnd) (before after : Scene) (start : UpstreamState) (coming : Coming)
+    → Begins words before.draws start coming → UpstreamEnds start words.port end (record before { draws = coming }) after
+    → UpstreamRuns words end before after
+runs_so words end before after start coming begins ends = by_end end ends
   where
-    runs : (end : UpstreamEnd) → UpstreamEnds start end (record before { draws = coming }) after
-        → RunsUpstream secret environments book epoch end before after
+    runs : (end : UpstreamEnd) → UpstreamEnds start words.port end (record before { draws = coming }) after
+        → RunsUpstream words end before after
     runs end ends = record { start = start; coming = coming; begins = begins; ends = ends }
 
-    by_end : (end : UpstreamEnd) → UpstreamEnds start end (record before { draws = coming }) after
-        → UpstreamRuns secret environments book epoch end before after
+    by_end : (end : UpstreamEnd) → UpstreamEnds start words.port end (record before { draws = coming }) after
+        → UpstreamRuns words end before after
     by_end NoMemory ends = record { silent = ends.silent; shut = ends.shut }
     by_end KeeperFault ends = runs KeeperFault ends
     by_end (Row told) ends = runs (Row told) ends
@@ -366,44 +355,44 @@ by_row start made place held left is_made refuses = (inl (place, refuses, refl),
     by_held (Some rows) empty = absurd (no_row start made place empty refuses)
 
 -- the number of how an upstream ended that has a keeper
-kept_decided : {Read Write Door Keep : Type 0} (start : UpstreamState) (made last : KeeperState) (end : UpstreamEnd) (held : Option (List (List ℕ)))
-    (left left_after : Option (List ℕ)) (before after : Facing) → IsMade held made → KeeperEnd (kept_state start made) end last left left_after before after
+kept_decided : {Read Write Door Keep : Type 0} (start : UpstreamState) (port : ℕ) (made last : KeeperState) (end : UpstreamEnd) (held : Option (List (List ℕ)))
+    (left left_after : Option (List ℕ)) (before after : Facing) → IsMade held made → KeeperEnd (kept_state start made) port end last left left_after before after
     → Caused (upstream_status end) Read Write Door Keep → ¬ Read → ¬ Write → ¬ Door → ¬ Keep → code_of (upstream_status end) ≢ 6
     → IsDecidedFrom (kept_state start made) (code_of (upstream_status end)) left
     × IfSome held (λ _. IfSome left (λ bytes. code_of (upstream_status end) ≡ lines_code obeying start bytes))
-kept_decided start made last NoMemory held left left_after before after is_made ends caused read write door keep memory = absurd (memory refl)
-kept_decided start made last KeeperFault held left left_after before after is_made ends caused read write door keep memory = absurd (keep caused)
-kept_decided start made last (Row (Ok u)) held left left_after before after is_made ends caused read write door keep memory =
+kept_decided start port made last NoMemory held left left_after before after is_made ends caused read write door keep memory = absurd (memory refl)
+kept_decided start port made last KeeperFault held left left_after before after is_made ends caused read write door keep memory = absurd (keep caused)
+kept_decided start port made last (Row (Ok u)) held left left_after before after is_made ends caused read write door keep memory =
     by_row start made ends.0 held left is_made ends.1
-kept_decided start made last (Row (Err say.WriteFault)) held left left_after before after is_made ends caused read write door keep memory =
+kept_decided start port made last (Row (Err say.WriteFault)) held left left_after before after is_made ends caused read write door keep memory =
     absurd (write caused)
-kept_decided start made last (Row (Err say.Memory)) held left left_after before after is_made ends caused read write door keep memory =
+kept_decided start port made last (Row (Err say.Memory)) held left left_after before after is_made ends caused read write door keep memory =
     absurd (memory refl)
-kept_decided start made last (Lines line.Bad) held left left_after before after is_made ends caused read write door keep memory =
+kept_decided start port made last (Lines line.Bad) held left left_after before after is_made ends caused read write door keep memory =
     by_lines start made ends.reopened ends.opened 3 held left is_made ends.opens
     (refusing_decides (outcome_of keeping (shelf_of ends.opened)) left left_after before.sent after.sent ends.ends.0)
-kept_decided start made last (Lines line.ReadFault) held left left_after before after is_made ends caused read write door keep memory = absurd (read caused)
-kept_decided start made last (Lines line.WriteFault) held left left_after before after is_made ends caused read write door keep memory = absurd (write caused)
-kept_decided start made last (Lines line.Memory) held left left_after before after is_made ends caused read write door keep memory = absurd (memory refl)
-kept_decided start made last (Links Closed) held left left_after before after is_made ends caused read write door keep memory =
+kept_decided start port made last (Lines line.ReadFault) held left left_after before after is_made ends caused read write door keep memory = absurd (read caused)
+kept_decided start port made last (Lines line.WriteFault) held left left_after before after is_made ends caused read write door keep memory = absurd (write caused)
+kept_decided start port made last (Lines line.Memory) held left left_after before after is_made ends caused read write door keep memory = absurd (memory refl)
+kept_decided start port made last (Links Closed) held left left_after before after is_made ends caused read write door keep memory =
     by_lines start made ends.reopened ends.opened 0 held left is_made ends.opens
     (lines_decide ends.opened last left left_after before after ends.ends.0 ends.ends.1)
-kept_decided start made last (Links WriteFault) held left left_after before after is_made ends caused read write door keep memory = absurd (write caused)
-kept_decided start made last (Links DoorFault) held left left_after before after is_made ends caused read write door keep memory = absurd (door caused)
-kept_decided start made last (Links OutOfMemory) held left left_after before after is_made ends caused read write door keep memory = absurd (memory refl)
+kept_decided start port made last (Links WriteFault) held left left_after before after is_made ends caused read write door keep memory = absurd (write caused)
+kept_decided start port made last (Links DoorFault) held left left_after before after is_made ends caused read write door keep memory = absurd (door caused)
+kept_decided start port made last (Links OutOfMemory) held left left_after before after is_made ends caused read write door keep memory = absurd (memory refl)
 
 -- the lines decide how an upstream ends
-pub upstream_decided : {Read Write Door Keep : Type 0} (secret : List ℕ) (environments : List (List ℕ)) (book : List Token) (epoch : ℕ) (end : UpstreamEnd)
-    (before after : Scene) → UpstreamRuns secret environments book epoch end before after → Caused (upstream_status end) Read Write Door Keep
+pub upstream_decided : {Read Write Door Keep : Type 0} (words : UpstreamWords) (end : UpstreamEnd)
+    (before after : Scene) → UpstreamRuns words end before after → Caused (upstream_status end) Read Write Door Keep
     → ¬ Read → ¬ Write → ¬ Door → ¬ Keep → code_of (upstream_status end) ≢ 6
-    → IsDecidedByLines secret environments book epoch (code_of (upstream_status end)) before
-upstream_decided {Read} {Write} {Door} {Keep} secret environments book epoch end before after runs caused read write door keep memory = by_end end runs caused memory
+    → IsDecidedByLines words (code_of (upstream_status end)) before
+upstream_decided {Read} {Write} {Door} {Keep} words end before after runs caused read write door keep memory = by_end end runs caused memory
   where
-    decided : (end : UpstreamEnd) (start : UpstreamState) (coming : Coming) → Begins secret environments book epoch before.draws start coming
-        → EndsKept start end (record before { draws = coming }) after → Caused (upstream_status end) Read Write Door Keep
-        → code_of (upstream_status end) ≢ 6 → IsDecidedByLines secret environments book epoch (code_of (upstream_status end)) before
+    decided : (end : UpstreamEnd) (start : UpstreamState) (coming : Coming) → Begins words before.draws start coming
+        → EndsKept start words.port end (record before { draws = coming }) after → Caused (upstream_status end) Read Write Door Keep
+        → code_of (upstream_status end) ≢ 6 → IsDecidedByLines words (code_of (upstream_status end)) before
     decided end start coming begins ends caused memory =
-        let told = kept_decided start ends.made ends.last end before.keep.held before.input.left after.input.left
+        let told = kept_decided start words.port ends.made ends.last end before.keep.held before.input.left after.input.left
         (facing_of (record before { draws = coming })) (facing_of after) ends.is_made ends.ends caused read write door keep memory in record {
           start = start;
           coming = coming;
@@ -414,8 +403,8 @@ upstream_decided {Read} {Write} {Door} {Keep} secret environments book epoch end
           decided = told.1;
         }
 
-    by_end : (end : UpstreamEnd) → UpstreamRuns secret environments book epoch end before after → Caused (upstream_status end) Read Write Door Keep
-        → code_of (upstream_status end) ≢ 6 → IsDecidedByLines secret environments book epoch (code_of (upstream_status end)) before
+    by_end : (end : UpstreamEnd) → UpstreamRuns words end before after → Caused (upstream_status end) Read Write Door Keep
+        → code_of (upstream_status end) ≢ 6 → IsDecidedByLines words (code_of (upstream_status end)) before
     by_end NoMemory runs caused memory = absurd (memory refl)
     by_end KeeperFault runs caused memory = absurd (keep caused)
     by_end (Row told) runs caused memory = decided (Row told) runs.start runs.coming runs.begins runs.ends caused memory

@@ -34,7 +34,6 @@ use Rattle.unl_load.specs.declared.fault.LoadFault.TheVariants as load
 use Rattle.unl_replay.specs.Replay.{line_answer, opening, replay_of}
 use Rattle.unl_spec_runner.specs.Check.{accepted, report_of}
 use Rattle.unl_spec_runner.specs.Report.{Report}
-use Rattle.unl_words.specs.OwnBook.{own_book}
 use Rattle.unl_words.specs.Words.{WordsReading}
 use Rattle.unl_words.specs.declared.refusal.WordsRefusal.TheVariants.{Bad, Memory}
 use Rattle.unl_words.specs.declared.words.Words.TheVariants.{Replay, Check, Edge, Explain, Follow, Load, Upstream}
@@ -46,7 +45,7 @@ at_memory : (reading : WordsReading) (scene : Scene) → Ends reading OutOfMemor
 at_memory (Ok Replay) scene = record { end = Err lines.Memory; is = refl; ends = tt }
 at_memory (Ok (Check now word)) scene = record { end = check.OutOfMemory; is = refl; ends = refl }
 at_memory (Ok Explain) scene = record { end = Err explain.Memory; is = refl; ends = refl }
-at_memory (Ok (Edge edge)) scene = record { end = serving.OutOfMemory; is = refl; ends = stops_at_once scene scene scene refl refl refl refl }
+at_memory (Ok (Edge edge)) scene = record { end = serving.OutOfMemory; is = refl; ends = stops_at_once edge.port scene scene scene refl refl refl refl }
 at_memory (Ok (Upstream up)) scene = record { end = upstream.OutOfMemory; is = refl; ends = record { silent = refl; shut = refl } }
 at_memory (Ok (Follow replica)) scene = record {
   end = Err follow.Memory;
@@ -221,7 +220,7 @@ by_words {Read} {Write} {Door} (Ok (Edge edge)) status before after ended caused
     (λ cause some. edge_decided Read Write Door (FailsToKeep before after) ended.end cause write door some)
 by_words {Read} {Write} {Door} (Ok (Upstream up)) status before after ended caused read write door memory =
     of_end status Read Write Door (FailsToKeep before after) (λ code. IsDecided (Ok (Upstream up)) code before after) ended caused memory
-    (λ cause some quiet. upstream_decided up.secret up.environments (own_book up.client_tokens up.frontend_tokens) up.epoch ended.end before after
+    (λ cause some quiet. upstream_decided up ended.end before after
     ended.ends cause read write door (λ fails. quiet fails.0) some)
 by_words {Read} {Write} {Door} (Ok (Follow replica)) status before after ended caused read write door memory =
     of_end status Read Write Door (FailsToKeep before after) (λ code. IsDecided (Ok (Follow replica)) code before after) ended caused memory

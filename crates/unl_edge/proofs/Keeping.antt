@@ -1,9 +1,9 @@
 -- What keeping commands comes to, and the lines whose commands are kept.
-use Rattle.std.proofs.Common.{◌≡◌, ◌≢◌, ◌<◌, ◌≤◌, ◌+◌, ◌∙◌, ℕ, List, [], ◌∷◌, ◌++◌, Bool, true, false, cond, ltb, length, append-nil, Option, Some, None, Result, Ok, Err, refl, sym, ap, subst, arith}
+use Rattle.std.proofs.Common.{◌≡◌, ◌<◌, ◌≤◌, ◌+◌, ◌∙◌, ℕ, List, [], ◌∷◌, ◌++◌, Bool, true, false, cond, ltb, length, append-nil, Option, Some, None, Result, Ok, Err, refl, sym, ap, subst, arith}
 use Rattle.std.specs.Prelude.{codes, option_map}
 use Rattle.std.proofs.lemmas.Bool.Decides.{nat_tests}
 use Rattle.unl_documents.specs.Reading.{Reading}
-use Rattle.unl_edge.specs.Keeping.{KeepsIn, Shelf, SpellKept, kept_as, kept_by, kept_line, kept_one, keeping, refusal_name, shelf_of, with_command}
+use Rattle.unl_edge.specs.Keeping.{Shelf, SpellKept, kept_as, kept_by, kept_line, keeping, refusal_name, with_command}
 use Rattle.unl_edge.specs.Upstreams.{obeying}
 use Rattle.unl_lines.specs.Laws.{IsSilent}
 use Rattle.unl_lines.specs.Lines.{lines}
@@ -12,7 +12,7 @@ use Rattle.unl_lines.specs.Taken.{LineResult, Outcome, Taken, Taking, done, foll
 use Rattle.unl_lines.proofs.Silent.{prints_cause_alone}
 use Rattle.unl_upstream.specs.Command.{command_in}
 use Rattle.unl_upstream.specs.History.{accepted, after_commands, if_accepted, up_after}
-use Rattle.unl_upstream.specs.Kept.{Acknowledges, Carries, FailsToKeep, KeptState, Keeps, most_rows, with_room}
+use Rattle.unl_upstream.specs.Kept.{most_rows, with_room}
 use Rattle.unl_upstream.specs.Lines.{obeyed_as, obeyed_by, obeyed_line, refusal_name as plain_name}
 use Rattle.unl_upstream.specs.Upstream.{Obeyed, Obeying, UpstreamState, commanded, refused_as}
 use Rattle.unl_upstream.proofs.Carrying.{both_behind}
@@ -22,51 +22,9 @@ use Rattle.unl_upstream.specs.declared.refusal.CommandRefusal.{CommandRefusal}
 use Rattle.unl_upstream.specs.declared.refusal.CommandRefusal.TheVariants as plain
 use Rattle.unl_upstream.specs.declared.refusal.KeepCommandRefusal.{KeepCommandRefusal}
 use Rattle.unl_upstream.specs.declared.refusal.KeepCommandRefusal.TheVariants.{NoSuchEnvironment, NoSuchFeature}
-use Rattle.unl_upstream.specs.declared.refusal.KeepCommandRefusal.TheVariants.{NoSuchSegment, TooMany, KeeperFull, KeeperFault, Memory}
+use Rattle.unl_upstream.specs.declared.refusal.KeepCommandRefusal.TheVariants.{NoSuchSegment, TooMany, KeeperFull, Memory}
 
 -- ---- one command
-
--- a command was acknowledged
-pub kept_told : (command : Command) (before : KeptState) (number : ℕ) (after : KeptState) → Acknowledges command before number after
-    → Carries (record { command = command; result = Ok number } ∷ []) before after
-    → kept_one command (shelf_of before) ≡ Ok (record { text = []; desk = shelf_of after })
-kept_told command before number after told carries =
-    ap (kept_as command (shelf_of before)) told.obeyed
-    ∙ (λ i. Ok (record { text = []; desk = record { up = after.up; count = sym told.row.counted i; commands = sym carries.appended i } }))
-
--- a command was refused
-pub refused_told : (command : Command) (before after : KeptState) (refusal : KeepCommandRefusal) → Keeps command before (Err refusal) after
-    → KeepsIn command (shelf_of before) (Err refusal) (shelf_of after)
-refused_told command before after NoSuchEnvironment told = ap (kept_as command (shelf_of before)) told.cause
-refused_told command before after NoSuchFeature told = ap (kept_as command (shelf_of before)) told.cause
-refused_told command before after NoSuchSegment told = ap (kept_as command (shelf_of before)) told.cause
-refused_told command before after (TooMany n) told = ap (kept_as command (shelf_of before)) told.cause
-refused_told command before after (KeeperFull n) told = ap (kept_as command (shelf_of before)) told.cause
-refused_told command before after KeeperFault told = tt
-refused_told command before after Memory told = tt
-
-faults_same : (before after : KeptState) → after ≡ before → before.keeper.faults ≤ after.keeper.faults
-faults_same before after same = let faults : after.keeper.faults ≡ before.keeper.faults = ap (λ (s : KeptState). s.keeper.faults) same in omega (arith, faults)
-
--- a keeper's count of faults doesn't fall
-pub faults_later : (command : Command) (before : KeptState) (result : Result ℕ KeepCommandRefusal) (after : KeptState)
-    → Keeps command before result after → before.keeper.faults ≤ after.keeper.faults
-faults_later command before (Ok number) after keeps = let still = keeps.row.still in omega (arith, still)
-faults_later command before (Err NoSuchEnvironment) after keeps = faults_same before after keeps.same
-faults_later command before (Err NoSuchFeature) after keeps = faults_same before after keeps.same
-faults_later command before (Err NoSuchSegment) after keeps = faults_same before after keeps.same
-faults_later command before (Err (TooMany n)) after keeps = faults_same before after keeps.same
-faults_later command before (Err (KeeperFull n)) after keeps = faults_same before after keeps.same
-faults_later command before (Err KeeperFault) after keeps = keeps.row.later
-faults_later command before (Err Memory) after keeps = faults_same before after keeps
-
--- it isn't none where it was not before
-pub still_failed : (before after : ℕ) → before ≤ after → before ≢ 0 → after ≢ 0
-still_failed before after later some none = some (omega (arith, later, none))
-
--- it isn't none where the keeper failed
-pub has_failed : (command : Command) (before after : KeptState) → FailsToKeep command before after → after.keeper.faults ≢ 0
-has_failed command before after fails none = absurd (omega (arith, fails.row.rose, none))
 
 -- ---- lines that print nothing
 

@@ -1,16 +1,17 @@
 -- How an edge ends: it asks its upstream, and serves the links of its door.
 use Rattle.std.specs.Prelude.{◌≡◌, ◌⊎◌, ℕ, ◌+◌, ◌≤◌, List, Option, option_map, drop, length, IfSome, Result, Ok, Err}
-use Rattle.unl_base.specs.Doors.{DoorState, IsClosed}
+use Rattle.unl_base.specs.Doors.{CameAt, DoorState, IsClosed, IsClosedAt}
 use Rattle.unl_base.specs.Draws.{TakesDraw}
 use Rattle.unl_base.specs.Streams.{Sends, SendsFront}
 use Rattle.unl_base.specs.declared.draws.Draw.{Draw}
 use Rattle.unl_edge.specs.Scene.{Scene}
-use Rattle.unl_edge.specs.Sites.{ServesSite, Site}
+use Rattle.unl_edge.specs.Sites.{ServesSite, Site, site_of}
 use Rattle.unl_edge.specs.Upstreams.{connections_line}
 use Rattle.unl_edge.specs.declared.ends.ServingEnd.{ServingEnd}
 use Rattle.unl_edge.specs.declared.ends.ServingEnd.TheVariants.{Closed, WriteFault, DoorFault, OutOfMemory}
 use Rattle.unl_exchange.specs.Answering.{Coming}
 use Rattle.unl_upkeep.specs.Connects.{Connects}
+use Rattle.unl_words.specs.declared.words.EdgeWords.{EdgeWords}
 use Rattle.unl_workers.specs.Accepting.{HandsOut}
 use Rattle.unl_workers.specs.declared.serving.Beside.{Beside}
 use Rattle.unl_workers.specs.declared.serving.BesideFault.{BesideFault}
@@ -53,35 +54,35 @@ IsServed site before after = AsksPeer (length site.opening.places + 1) before af
     × ServesSite site before.peer.state.replies before.peer.faults after.peer.faults
 
 -- memory ran out before the first link was handed out, or for the last line, once the door was closed; and nothing was sent
-abbrev pub StopsForMemory : Scene → Scene → Type 0
-StopsForMemory before after =
-    (served : ℕ) × HandsLinks served before after × ((served ≡ 0) ⊎ IsClosed after.door.state)
+abbrev pub StopsForMemory : ℕ → Scene → Scene → Type 0
+StopsForMemory port before after =
+    (served : ℕ) × HandsLinks served before after × ((served ≡ 0) ⊎ IsClosedAt port after.door.state)
     × (after.output.sent ≡ before.output.sent)
 
--- How an edge ends: the door is closed, and the last line was sent, or its front; or the door failed or a thread could not be
--- started, or memory ran out, and nothing was sent. Before the door is closed, the upstream was asked for the book and for each
--- slot at least once, and links were served behind that.
-abbrev pub EdgeEnds : Site → ServingEnd → Scene → Scene → Type 0
-EdgeEnds site Closed before after =
+-- How an edge ends whose links come at this port: the door is closed, and the last line was sent, or its front; or the door failed or
+-- a thread could not be started, or memory ran out, and nothing was sent. Before the door is closed, the upstream was asked for the
+-- book and for each slot at least once, and links were served behind that.
+abbrev pub EdgeEnds : Site → ℕ → ServingEnd → Scene → Scene → Type 0
+EdgeEnds site port Closed before after =
     (served : ℕ) × HandsLinks served before after × IsServed site before after
-    × Sends before.output.sent (connections_line served) after.output.sent × IsClosed after.door.state
-EdgeEnds site WriteFault before after =
+    × Sends before.output.sent (connections_line served) after.output.sent × IsClosedAt port after.door.state
+EdgeEnds site port WriteFault before after =
     (served : ℕ) × HandsLinks served before after × IsServed site before after
-    × SendsFront before.output.sent (connections_line served) after.output.sent × IsClosed after.door.state
-EdgeEnds site DoorFault before after =
-    (served : ℕ) × HandsLinks served before after × (after.output.sent ≡ before.output.sent)
-EdgeEnds site OutOfMemory before after = StopsForMemory before after
+    × SendsFront before.output.sent (connections_line served) after.output.sent × IsClosedAt port after.door.state
+EdgeEnds site port DoorFault before after =
+    (served : ℕ) × HandsLinks served before after × CameAt port served after.door.state × (after.output.sent ≡ before.output.sent)
+EdgeEnds site port OutOfMemory before after = StopsForMemory port before after
 
--- an edge took a draw for its boot number, and ended so
-pub record RunsEdge (site : ℕ → Site) (end : ServingEnd) (before after : Scene) : Type 0 where
+-- an edge of these words took a draw for its boot number, and ended so
+pub record RunsEdge (words : EdgeWords) (end : ServingEnd) (before after : Scene) : Type 0 where
   pub draw : Draw
   pub coming : Coming
   pub taken : TakesDraw before.draws draw coming
-  pub ends : EdgeEnds (site draw.word) end (record before { draws = coming }) after
+  pub ends : EdgeEnds (site_of words draw.word) words.port end (record before { draws = coming }) after
 
--- how an edge ends, by what it serves by at a boot number
-abbrev pub EdgeRuns : (ℕ → Site) → ServingEnd → Scene → Scene → Type 0
-EdgeRuns site Closed before after = RunsEdge site Closed before after
-EdgeRuns site WriteFault before after = RunsEdge site WriteFault before after
-EdgeRuns site DoorFault before after = RunsEdge site DoorFault before after
-EdgeRuns site OutOfMemory before after = StopsForMemory before after
+-- how an edge of these words ends
+abbrev pub EdgeRuns : EdgeWords → ServingEnd → Scene → Scene → Type 0
+EdgeRuns words Closed before after = RunsEdge words Closed before after
+EdgeRuns words WriteFault before after = RunsEdge words WriteFault before after
+EdgeRuns words DoorFault before after = RunsEdge words DoorFault before after
+EdgeRuns words OutOfMemory before after = StopsForMemory words.port before after

@@ -6,7 +6,6 @@ use Rattle.unl_base.specs.declared.draws.Draw.{Draw}
 use Rattle.unl_edge.specs.Edges.{EdgeRuns}
 use Rattle.unl_edge.specs.Follows.{FollowEnds}
 use Rattle.unl_edge.specs.Scene.{Scene, ServingFailed}
-use Rattle.unl_edge.specs.Sites.{site_of}
 use Rattle.unl_edge.specs.Status.{FailsToKeep, check_status, code_of, ending_status, explain_status, follow_status}
 use Rattle.unl_edge.specs.Status.{lines_status, load_status}
 use Rattle.unl_edge.specs.Status.{serving_status, upstream_status, words_status}
@@ -28,7 +27,6 @@ use Rattle.unl_load.specs.declared.fault.LoadFault.TheVariants as load
 use Rattle.unl_replay.specs.Replay.{line_answer, opening, replay_of}
 use Rattle.unl_spec_runner.specs.Check.{accepted, report_of, text_of}
 use Rattle.unl_spec_runner.specs.Report.{Report}
-use Rattle.unl_words.specs.OwnBook.{own_book}
 use Rattle.unl_words.specs.Words.{WordsReading}
 use Rattle.unl_words.specs.declared.refusal.WordsRefusal.TheVariants.{Bad, Memory}
 use Rattle.unl_words.specs.declared.words.Words.TheVariants.{Replay, Check, Edge, Explain, Follow, Load, Upstream}
@@ -108,10 +106,9 @@ Ends (Ok Explain) status before after =
     Ended explain_status
     (λ end. Explains end before.input.left after.input.left before.output.sent after.output.sent) status
 Ends (Ok (Edge edge)) status before after =
-    Ended serving_status (λ end. EdgeRuns (site_of edge) end before after) status
+    Ended serving_status (λ end. EdgeRuns edge end before after) status
 Ends (Ok (Upstream up)) status before after =
-    Ended upstream_status
-    (λ end. UpstreamRuns up.secret up.environments (own_book up.client_tokens up.frontend_tokens) up.epoch end before after) status
+    Ended upstream_status (λ end. UpstreamRuns up end before after) status
 Ends (Ok (Follow replica)) status before after =
     Ended follow_status (λ end. FollowEnds replica end before after) status
 Ends (Ok (Load seed count)) status before after =
@@ -149,7 +146,7 @@ IsDecided (Ok Explain) code before after =
 IsDecided (Ok (Edge edge)) code before after = code ≡ 0
 IsDecided (Ok (Upstream up)) code before after =
     ¬ (Rose before.keep.faults after.keep.faults)
-    → IsDecidedByLines up.secret up.environments (own_book up.client_tokens up.frontend_tokens) up.epoch code before
+    → IsDecidedByLines up code before
 IsDecided (Ok (Follow replica)) code before after = code ≡ 0
 IsDecided (Ok (Load seed count)) code before after = code ≡ 0
 IsDecided (Err Bad) code before after = code ≡ 2

@@ -2,7 +2,7 @@
 -- door.
 use Rattle.std.specs.Prelude.{◌≡◌, ◌≢◌, ◌⊎◌, ℕ, false, List, [], ◌++◌, codes, decimal, Option, Some, IfSome, Result, Ok, Err}
 use Rattle.std.specs.Prelude.{option_and_then, option_map}
-use Rattle.unl_base.specs.Doors.{DoorState, IsClosed}
+use Rattle.unl_base.specs.Doors.{CameAt, DoorState, IsClosedAt}
 use Rattle.unl_base.specs.Draws.{TakesDraw}
 use Rattle.unl_base.specs.Faults.{Rose}
 use Rattle.unl_base.specs.Streams.{HasEnded, Sends, SendsFront, Takes}
@@ -21,7 +21,6 @@ use Rattle.unl_lines.specs.Lines.{lines}
 use Rattle.unl_lines.specs.Taken.{Taking, done, outcome_of}
 use Rattle.unl_lines.specs.Whole.{TakesLines}
 use Rattle.unl_lines.specs.declared.taking.LinesFault.TheVariants as line
-use Rattle.unl_tokens.specs.declared.token.Token.{Token}
 use Rattle.unl_exchange.specs.Answering.{Coming}
 use Rattle.unl_exchange.specs.Linked.{ServesLinks as ServesTold, linking}
 use Rattle.unl_upstream.specs.Kept.{HoldsOn, KeeperState, KeptState, acknowledged, commands_in, kept_commands, kept_rows, kept_state}
@@ -32,6 +31,8 @@ use Rattle.unl_upstream.specs.Upstream.{UpstreamState, opening}
 use Rattle.unl_upstream.specs.declared.command.Command.{Command}
 use Rattle.unl_upstream.specs.declared.reopening.ReopenFault.{ReopenFault}
 use Rattle.unl_upstream.specs.declared.reopening.ReopenFault.TheVariants.{BadRow, NoRow, Fault, Memory}
+use Rattle.unl_words.specs.OwnBook.{own_book}
+use Rattle.unl_words.specs.declared.words.UpstreamWords.{UpstreamWords}
 
 -- ---- what is printed
 
@@ -78,18 +79,19 @@ pub record ServesLinks (state last : KeptState) (before after : Facing) (served 
   pub hosts : Hosts (linking state before.coming before.door) (linking last after.coming after.door) served
   pub carries : HoldsOn state last
 
--- How the links of a door were served: until it was closed, and then the last line was sent, or its front, or nothing where memory
--- ran out; or until it failed.
-abbrev pub LinksEnd : KeptState → KeptState → ServingEnd → Facing → Facing → Type 0
-LinksEnd state last Closed before after =
-    (served : ℕ) × ServesLinks state last before after served × Sends before.sent (connections_line served) after.sent × IsClosed after.door
-LinksEnd state last WriteFault before after =
+-- How the links of a door were served that came at this port: until it was closed, and then the last line was sent, or its front, or
+-- nothing where memory ran out; or until it failed.
+abbrev pub LinksEnd : KeptState → ℕ → ServingEnd → KeptState → Facing → Facing → Type 0
+LinksEnd state port Closed last before after =
+    (served : ℕ) × ServesLinks state last before after served × Sends before.sent (connections_line served) after.sent
+    × IsClosedAt port after.door
+LinksEnd state port WriteFault last before after =
     (served : ℕ) × ServesLinks state last before after served × SendsFront before.sent (connections_line served) after.sent
-    × IsClosed after.door
-LinksEnd state last DoorFault before after =
-    (served : ℕ) × ServesLinks state last before after served × (after.sent ≡ before.sent)
-LinksEnd state last OutOfMemory before after =
-    (served : ℕ) × ServesLinks state last before after served × (after.sent ≡ before.sent) × IsClosed after.door
+    × IsClosedAt port after.door
+LinksEnd state port DoorFault last before after =
+    (served : ℕ) × ServesLinks state last before after served × CameAt port served after.door × (after.sent ≡ before.sent)
+LinksEnd state port OutOfMemory last before after =
+    (served : ℕ) × ServesLinks state last before after served × (after.sent ≡ before.sent) × IsClosedAt port after.door
 
 -- The links of a door that tells them, by commands and draws from the opening on. The first is served after those of the lines,
 -- and each adds the commands of its requests that were kept. So the keeper keeps all of them, behind those of the opening. Where
@@ -128,26 +130,27 @@ pub record ServesAfterLines
       → before.door.returned ≡ Some returned
       → NamesLinks opened spelled.commands kept (kept_state up last) before after served links returned
 
--- How an upstream ends that was reopened. Where a line is refused, or the input or the keeper fails, no link was handed out. It ends
--- so for want of memory only where the keeper has never failed.
-abbrev pub LinesEnd : KeptState → UpstreamEnd → KeeperState → Option (List ℕ) → Option (List ℕ) → Facing → Facing → Type 0
-LinesEnd opened NoMemory last left left_after before after = ⊥
-LinesEnd opened KeeperFault last left left_after before after = after.door ≡ before.door
-LinesEnd opened (Row told) last left left_after before after = ⊥
-LinesEnd opened (Lines fault) last left left_after before after =
+-- How an upstream ends that was reopened, and whose links come at this port. Where a line is refused, or the input or the keeper
+-- fails, no link was handed out. It ends so for want of memory only where the keeper has never failed.
+abbrev pub LinesEnd : KeptState → ℕ → UpstreamEnd → KeeperState → Option (List ℕ) → Option (List ℕ) → Facing → Facing → Type 0
+LinesEnd opened port NoMemory last left left_after before after = ⊥
+LinesEnd opened port KeeperFault last left left_after before after = after.door ≡ before.door
+LinesEnd opened port (Row told) last left left_after before after = ⊥
+LinesEnd opened port (Lines fault) last left left_after before after =
     TakesLines keeping (shelf_of opened) (Err fault) left left_after before.sent after.sent × (after.door ≡ before.door)
     × (fault ≡ line.Memory → last.faults ≡ 0)
-LinesEnd opened (Links Closed) last left left_after before after =
+LinesEnd opened port (Links Closed) last left left_after before after =
     (served : ℕ) × ServesAfterLines opened last left left_after before after served
-    × Sends before.sent (connections_line served) after.sent × IsClosed after.door
-LinesEnd opened (Links WriteFault) last left left_after before after =
+    × Sends before.sent (connections_line served) after.sent × IsClosedAt port after.door
+LinesEnd opened port (Links WriteFault) last left left_after before after =
     (served : ℕ) × ServesAfterLines opened last left left_after before after served
-    × SendsFront before.sent (connections_line served) after.sent × IsClosed after.door
-LinesEnd opened (Links DoorFault) last left left_after before after =
+    × SendsFront before.sent (connections_line served) after.sent × IsClosedAt port after.door
+LinesEnd opened port (Links DoorFault) last left left_after before after =
+    (served : ℕ) × ServesAfterLines opened last left left_after before after served × CameAt port served after.door
+    × (after.sent ≡ before.sent)
+LinesEnd opened port (Links OutOfMemory) last left left_after before after =
     (served : ℕ) × ServesAfterLines opened last left left_after before after served × (after.sent ≡ before.sent)
-LinesEnd opened (Links OutOfMemory) last left left_after before after =
-    (served : ℕ) × ServesAfterLines opened last left left_after before after served × (after.sent ≡ before.sent)
-    × IsClosed after.door
+    × IsClosedAt port after.door
 
 -- ---- the keeper
 
@@ -190,76 +193,70 @@ pub record RefusesRow (start : KeptState) (place : ℕ) : Type 0 where
 
 -- an upstream was reopened, and ended so
 pub record EndsReopened
-    (start : KeptState) (end : UpstreamEnd) (last : KeeperState) (left left_after : Option (List ℕ)) (before after : Facing) : Type 0 where
+    (start : KeptState) (port : ℕ) (end : UpstreamEnd) (last : KeeperState) (left left_after : Option (List ℕ))
+    (before after : Facing) : Type 0 where
   pub reopened : ℕ
   pub opened : KeptState
   pub opens : Opens start reopened opened
-  pub ends : LinesEnd opened end last left left_after before after
+  pub ends : LinesEnd opened port end last left left_after before after
 
 -- How an upstream ends, with a keeper that was made. Where a row is refused that was said, and no link was handed out. Where memory
 -- ran out before that, nothing was sent either.
-abbrev pub KeeperEnd : KeptState → UpstreamEnd → KeeperState → Option (List ℕ) → Option (List ℕ) → Facing → Facing → Type 0
-KeeperEnd start NoMemory last left left_after before after = IsUntouched before after
-KeeperEnd start KeeperFault last left left_after before after = after.door ≡ before.door
-KeeperEnd start (Row told) last left left_after before after =
+abbrev pub KeeperEnd : KeptState → ℕ → UpstreamEnd → KeeperState → Option (List ℕ) → Option (List ℕ) → Facing → Facing → Type 0
+KeeperEnd start port NoMemory last left left_after before after = IsUntouched before after
+KeeperEnd start port KeeperFault last left left_after before after = after.door ≡ before.door
+KeeperEnd start port (Row told) last left left_after before after =
     (place : ℕ) × RefusesRow start place × SaysLine told (row_line place) before.sent after.sent × (after.door ≡ before.door)
-KeeperEnd start (Lines fault) last left left_after before after = EndsReopened start (Lines fault) last left left_after before after
-KeeperEnd start (Links end) last left left_after before after = EndsReopened start (Links end) last left left_after before after
+KeeperEnd start port (Lines fault) last left left_after before after =
+    EndsReopened start port (Lines fault) last left left_after before after
+KeeperEnd start port (Links end) last left left_after before after = EndsReopened start port (Links end) last left left_after before after
 
 -- A keeper was made for an upstream, which ended so, and came back. Where its maker tells what comes back, to be reopened on it
 -- changes no upstream, and nothing is kept then: all that its maker holds in the end is what was kept behind that. So where links
 -- were served it holds the commands of the lines, and then those of the links.
-pub record EndsKept (start : UpstreamState) (end : UpstreamEnd) (before after : Scene) : Type 0 where
+pub record EndsKept (start : UpstreamState) (port : ℕ) (end : UpstreamEnd) (before after : Scene) : Type 0 where
   pub made : KeeperState
   pub is_made : IsMade before.keep.held made
   pub plain : (reopened : ℕ) (opened : KeptState) → Opens (kept_state start made) reopened opened
       → IfSome before.keep.held (λ _. shelf_of opened ≡ record { up = start; count = 0; commands = Some [] })
   pub last : KeeperState
-  pub ends : KeeperEnd (kept_state start made) end last before.input.left after.input.left (facing_of before) (facing_of after)
+  pub ends : KeeperEnd (kept_state start made) port end last before.input.left after.input.left (facing_of before) (facing_of after)
   pub back : ComesBack last before.keep after.keep
   pub holds : (reopened : ℕ) (opened : KeptState) (commands : List Command) → Opens (kept_state start made) reopened opened
       → kept_commands last ≡ option_map (λ kept. kept ++ commands) (kept_commands opened.keeper)
       → IfSome after.keep.held (λ texts. commands_in texts ≡ commands)
 
--- How an upstream ends, from what it begins with. Where no keeper could be made no link was handed out, and where memory ran out
--- nothing was sent either.
-abbrev pub UpstreamEnds : UpstreamState → UpstreamEnd → Scene → Scene → Type 0
-UpstreamEnds start NoMemory before after = IsUntouched (facing_of before) (facing_of after)
-UpstreamEnds start KeeperFault before after = after.door.state ≡ before.door.state
-UpstreamEnds start (Row told) before after = EndsKept start (Row told) before after
-UpstreamEnds start (Lines fault) before after = EndsKept start (Lines fault) before after
-UpstreamEnds start (Links end) before after = EndsKept start (Links end) before after
+-- How an upstream ends, from what it begins with, and whose links come at this port. Where no keeper could be made no link was handed
+-- out, and where memory ran out nothing was sent either.
+abbrev pub UpstreamEnds : UpstreamState → ℕ → UpstreamEnd → Scene → Scene → Type 0
+UpstreamEnds start port NoMemory before after = IsUntouched (facing_of before) (facing_of after)
+UpstreamEnds start port KeeperFault before after = after.door.state ≡ before.door.state
+UpstreamEnds start port (Row told) before after = EndsKept start port (Row told) before after
+UpstreamEnds start port (Lines fault) before after = EndsKept start port (Lines fault) before after
+UpstreamEnds start port (Links end) before after = EndsKept start port (Links end) before after
 
 -- ---- all of it
 
--- an upstream begins, and takes a draw for its boot number
-pub record Begins
-    (secret : List ℕ) (environments : List (List ℕ)) (book : List Token) (epoch : ℕ) (coming : Coming) (start : UpstreamState)
-    (coming_after : Coming) : Type 0 where
+-- an upstream of these words begins, and takes a draw for its boot number
+pub record Begins (words : UpstreamWords) (coming : Coming) (start : UpstreamState) (coming_after : Coming) : Type 0 where
   pub draw : Draw
   pub taken : TakesDraw coming draw coming_after
-  pub opens : start ≡ opening draw.word secret environments book epoch
+  pub opens : start ≡ opening draw.word words.secret words.environments (own_book words.client_tokens words.frontend_tokens) words.epoch
 
 -- an upstream of these words began, and ended so
-pub record RunsUpstream
-    (secret : List ℕ) (environments : List (List ℕ)) (book : List Token) (epoch : ℕ) (end : UpstreamEnd)
-    (before after : Scene) : Type 0 where
+pub record RunsUpstream (words : UpstreamWords) (end : UpstreamEnd) (before after : Scene) : Type 0 where
   pub start : UpstreamState
   pub coming : Coming
-  pub begins : Begins secret environments book epoch before.draws start coming
-  pub ends : UpstreamEnds start end (record before { draws = coming }) after
+  pub begins : Begins words before.draws start coming
+  pub ends : UpstreamEnds start words.port end (record before { draws = coming }) after
 
 -- how an upstream of these words ends; where memory ran out before it took lines nothing was sent, and no link was handed out
-abbrev pub UpstreamRuns : List ℕ → List (List ℕ) → List Token → ℕ → UpstreamEnd → Scene → Scene → Type 0
-UpstreamRuns secret environments book epoch NoMemory before after = IsUntouched (facing_of before) (facing_of after)
-UpstreamRuns secret environments book epoch KeeperFault before after =
-    RunsUpstream secret environments book epoch KeeperFault before after
-UpstreamRuns secret environments book epoch (Row told) before after =
-    RunsUpstream secret environments book epoch (Row told) before after
-UpstreamRuns secret environments book epoch (Lines fault) before after =
-    RunsUpstream secret environments book epoch (Lines fault) before after
-UpstreamRuns secret environments book epoch (Links end) before after =
-    RunsUpstream secret environments book epoch (Links end) before after
+abbrev pub UpstreamRuns : UpstreamWords → UpstreamEnd → Scene → Scene → Type 0
+UpstreamRuns words NoMemory before after = IsUntouched (facing_of before) (facing_of after)
+UpstreamRuns words KeeperFault before after = RunsUpstream words KeeperFault before after
+UpstreamRuns words (Row told) before after = RunsUpstream words (Row told) before after
+UpstreamRuns words (Lines fault) before after = RunsUpstream words (Lines fault) before after
+UpstreamRuns words (Links end) before after = RunsUpstream words (Links end) before after
 
 -- ---- what decides, where nothing fails and memory is found
 
@@ -276,11 +273,10 @@ IsDecidedFrom start code left =
 
 -- The number is that of how the lines end, from what an upstream of these words begins with and is reopened on. Where the
 -- maker of keepers tells what came back, it is that of how they end without a keeper.
-pub record IsDecidedByLines
-    (secret : List ℕ) (environments : List (List ℕ)) (book : List Token) (epoch : ℕ) (code : ℕ) (before : Scene) : Type 0 where
+pub record IsDecidedByLines (words : UpstreamWords) (code : ℕ) (before : Scene) : Type 0 where
   pub start : UpstreamState
   pub coming : Coming
-  pub begins : Begins secret environments book epoch before.draws start coming
+  pub begins : Begins words before.draws start coming
   pub made : KeeperState
   pub is_made : IsMade before.keep.held made
   pub reopened : IsDecidedFrom (kept_state start made) code before.input.left

@@ -4,7 +4,7 @@ ghost use Rattle.unl_base.specs.Faults.{Rose};
 ghost use Rattle.unl_core.specs.Board.{AreSlots};
 ghost use Rattle.unl_edge.specs.Edges.{EdgeEnds, EdgeRuns};
 ghost use Rattle.unl_edge.specs.Scene.{ServingFailed};
-ghost use Rattle.unl_edge.specs.Sites.{begun_board, opened, site_at, site_of};
+ghost use Rattle.unl_edge.specs.Sites.{begun_board, opened, site_at};
 ghost use Rattle.unl_edge.specs.Status.{Caused, serving_status};
 ghost use Rattle.unl_upkeep.specs.Feeding.{feedings};
 ghost use Rattle.unl_words.specs.Lists.{are_upstream_tokens, environment_of};
@@ -24,8 +24,8 @@ use unl_upkeep::Upkeep;
 use unl_words::{EdgeWords, token_environments};
 use unl_workers::BesideFault;
 
-/// Begins a board, whose boot number is the word of a draw, asks the upstream for what stands, and then serves the links of the
-/// door by so many workers, side by side. Beside them the upstream is asked again at a pace.
+/// Begins a board, whose boot number is the word of a draw, asks the upstream for what stands, and then serves the links that come
+/// to the port of its words by so many workers, side by side. Beside them the upstream is asked again at a pace.
 pub fn run_edge<I: Source, O: Sink, D: Door, P, R, T, S: Spawner, Q: KeepMaker, W: Wait + Sync>(
     alloc: Global,
     words: &EdgeWords,
@@ -37,7 +37,7 @@ where
     R: Draws + Drop + Send,
     T: Pace + Send,
     requires { IsEdge words.now }
-    ensures runs { EdgeRuns (site_of words.now) result world.old world.new }
+    ensures runs { EdgeRuns words.now result world.old world.new }
     ensures caused { Caused (serving_status result) ⊥ (Rose world.old.output.faults world.new.output.faults)
         (ServingFailed world.old world.new) ⊥ }
 {
@@ -95,7 +95,7 @@ fn board_of(
     Board::new(alloc, boot, host.as_str(), environments)
 }
 
-/// Listens, serves the links of the door until it is closed, and says how many these were.
+/// Listens at a port, serves the links of the door until it is closed, and says how many these were.
 fn serve_links<I: Source, O: Sink, D: Door, P, R, T, S: Spawner, Q: KeepMaker, W: Wait + Sync>(
     alloc: Global,
     port: u16,
@@ -112,7 +112,7 @@ where
     requires workers { (0 < workers) × (workers ≤ 16) }
     requires slots { AreSlots board.slots }
     requires feeders { upkeep.slots ≡ length (opened board).places }
-    ensures ends { EdgeEnds (site_at upkeep.known board upkeep.feeders workers) result world.old world.new }
+    ensures ends { EdgeEnds (site_at upkeep.known board upkeep.feeders workers) port result world.old world.new }
     ensures caused { Caused (serving_status result) ⊥ (Rose world.old.output.faults world.new.output.faults)
         (ServingFailed world.old world.new) ⊥ }
 {

@@ -1,7 +1,7 @@
 //! An upstream and its keeper, as they take the lines of an input.
 ghost use Rattle.std.specs.Prelude.{◌≡◌, true, IfOk};
 ghost use Rattle.unl_documents.specs.Reading.{Gives};
-ghost use Rattle.unl_edge.specs.Keeping.{KeepsIn, kept_one, refusal_name};
+ghost use Rattle.unl_edge.specs.Keeping.{kept_one, refusal_name};
 ghost use Rattle.unl_lines.specs.Taking.{TakesLine};
 ghost use Rattle.unl_upstream.specs.Command.{IsValidCommand, command_in};
 
@@ -73,7 +73,7 @@ fn read_line(alloc: Global, line: &[u8]) -> Result<Command, BadDocument>
     read_command(alloc, &value)
 }
 
-/// Keeps a command, and prints nothing.
+/// Keeps a command, and prints nothing. Notes whether the keeper failed.
 fn take_command<K: Keeper>(
     alloc: Global,
     kept: &mut KeptUpstream<K>,
@@ -82,33 +82,14 @@ fn take_command<K: Keeper>(
     requires { IsValidCommand command.now }
     ensures { TakesLine result kept.new (kept_one command.now kept.old) }
 {
-    match keep_noted(alloc, kept, command) {
-        Ok(()) => Ok(Vec::new(alloc)),
-        Err(KeepCommandRefusal::KeeperFault) => Err(LineRefusal::Memory),
-        Err(KeepCommandRefusal::Memory) => Err(LineRefusal::Memory),
-        Err(refusal) => Err(LineRefusal::Cause(Text::new(alloc, name_of(refusal))?)),
-    }
-}
-
-/// Keeps a command, and notes whether the keeper failed.
-///
-/// # Errors
-/// As [`keep`] says.
-fn keep_noted<K: Keeper>(
-    alloc: Global,
-    kept: &mut KeptUpstream<K>,
-    command: &Command,
-) -> Result<(), KeepCommandRefusal>
-    requires { IsValidCommand command.now }
-    ensures { KeepsIn command.now kept.old result kept.new }
-{
     match keep(alloc, &mut kept.up, &mut kept.keeper, command) {
-        Ok(_) => Ok(()),
+        Ok(_) => Ok(Vec::new(alloc)),
         Err(KeepCommandRefusal::KeeperFault) => {
             kept.failed = true;
-            Err(KeepCommandRefusal::KeeperFault)
+            Err(LineRefusal::Memory)
         }
-        Err(refusal) => Err(refusal),
+        Err(KeepCommandRefusal::Memory) => Err(LineRefusal::Memory),
+        Err(refusal) => Err(LineRefusal::Cause(Text::new(alloc, name_of(refusal))?)),
     }
 }
 

@@ -1,6 +1,7 @@
 //! Serving the links of a door side by side, over what a writer publishes beside that.
-ghost use Rattle.std.specs.Prelude.{◌≡◌, ◌<◌, ◌≤◌, ◌+◌, All, IfOk, OnOk, length, true};
+ghost use Rattle.std.specs.Prelude.{◌≡◌, ◌<◌, ◌≤◌, ◌+◌, All, IfOk, OnOk, length};
 ghost use Rattle.std.specs.List.{AllZip};
+ghost use Rattle.unl_base.specs.Doors.{IsListening};
 ghost use Rattle.unl_core.specs.Board.{AreSlots};
 ghost use Rattle.unl_edge.specs.Attending.{IsOfOrigin, ReadsOnAt, ServesAt};
 ghost use Rattle.unl_edge.specs.Edges.{HandsOver, links_of};
@@ -48,7 +49,7 @@ where
     P: Peer + Send,
     R: Draws + Drop + Send,
     T: Pace + Send,
-    requires listens { (D.state door.old).listening ≡ true }
+    requires listens { IsListening (D.state door.old) }
     requires workers { (0 < workers) × (workers ≤ 16) }
     requires slots { AreSlots board.slots }
     requires feeders { upkeep.slots ≡ length (opened board).places }
@@ -85,7 +86,7 @@ where
     P: Peer + Send,
     R: Draws + Drop + Send,
     T: Pace + Send,
-    requires listens { (D.state door.old).listening ≡ true }
+    requires listens { IsListening (D.state door.old) }
     requires opens { length writer.known.installs ≡ 0 }
     requires feeders { upkeep.slots ≡ length writer.places }
     requires few { length writer.places ≤ 8 }
@@ -147,7 +148,7 @@ where
     P: Peer + Send,
     R: Draws + Drop + Send,
     T: Pace + Send,
-    requires listens { (D.state door.old).listening ≡ true }
+    requires listens { IsListening (D.state door.old) }
     requires readers { All (IsOfOrigin writer.old.known) readers.items }
     ensures hands { HandsOver (λ links. links) result (D.state door.old) (D.state door.new) }
     ensures connects { OnOk result (Connects 0
@@ -192,7 +193,7 @@ where
     P: Peer + Send,
     R: Draws + Drop + Send,
     T: Pace + Send,
-    requires { (D.state door.old).listening ≡ true }
+    requires { IsListening (D.state door.old) }
     ensures hands { HandsOver (λ beside. beside.links) result (D.state door.old) (D.state door.new) }
     ensures posts { IfOk result (λ beside. AllZip (Attends ServesAt ReadsOnAt R.coming) posts.entry.items beside.posts.items) }
     ensures connects { OnOk result (Connects 0

@@ -26,7 +26,7 @@ use unl_upstream::{ReopenFault, Upstream, host_kept, reopen};
 use unl_words::{UpstreamWords, own_book};
 
 /// Begins an upstream, whose boot number is the word of a draw, reopens it on a keeper, takes the commands of the input's
-/// lines, and then serves the links of the door, one after the other.
+/// lines, and then serves the links that come to the port of its words, one after the other.
 pub fn run_upstream<
     I: Source,
     O: Sink,
@@ -39,8 +39,7 @@ pub fn run_upstream<
     W: Wait,
 >(alloc: Global, words: &UpstreamWords, world: &mut World<I, O, D, P, R, T, S, Q, W>) -> UpstreamEnd
     requires { IsUpstream words.now }
-    ensures runs { UpstreamRuns words.now.secret words.now.environments (own_book words.now.client_tokens words.now.frontend_tokens)
-        words.now.epoch result world.old world.new }
+    ensures runs { UpstreamRuns words.now result world.old world.new }
     ensures caused { IsCaused (upstream_status result) world.old world.new }
 {
     let boot = world.draws.draw().word;
@@ -113,7 +112,7 @@ fn run_kept<
     fresh: NewUpstream,
     world: &mut World<I, O, D, P, R, T, S, Q, W>,
 ) -> UpstreamEnd
-    ensures ends { UpstreamEnds fresh result world.old world.new }
+    ensures ends { UpstreamEnds fresh port result world.old world.new }
     ensures caused { IsCaused (upstream_status result) world.old world.new }
 {
     let up = fresh.into_upstream();
@@ -152,7 +151,7 @@ fn run_reopened<K: Keeper, I: Source, O: Sink, D: Door, R: Draws, W: Wait>(
 ) -> (UpstreamEnd, K)
     requires opens { IsOpening up }
     requires faultless { K.faults keeper ≡ 0 }
-    ensures ends { KeeperEnd (kept_state up (keeper_by K.opened K.faults K.count K.rows keeper)) result.0
+    ensures ends { KeeperEnd (kept_state up (keeper_by K.opened K.faults K.count K.rows keeper)) port result.0
         (keeper_by K.opened K.faults K.count K.rows result.1) (I.left input.old) (I.left input.new)
         (facing (O.sent output.old) (D.state door.old) (R.coming draws.old))
         (facing (O.sent output.new) (D.state door.new) (R.coming draws.new)) }
@@ -184,7 +183,7 @@ fn take_commands<K: Keeper, I: Source, O: Sink, D: Door, R: Draws, W: Wait>(
 ) -> (UpstreamEnd, K)
     requires opened { K.opened keeper ≡ true }
     requires faultless { K.faults keeper ≡ 0 }
-    ensures ends { LinesEnd (kept_state up (keeper_by K.opened K.faults K.count K.rows keeper)) result.0
+    ensures ends { LinesEnd (kept_state up (keeper_by K.opened K.faults K.count K.rows keeper)) port result.0
         (keeper_by K.opened K.faults K.count K.rows result.1) (I.left input.old) (I.left input.new)
         (facing (O.sent output.old) (D.state door.old) (R.coming draws.old))
         (facing (O.sent output.new) (D.state door.new) (R.coming draws.new)) }
@@ -212,7 +211,7 @@ fn take_commands<K: Keeper, I: Source, O: Sink, D: Door, R: Draws, W: Wait>(
     }
 }
 
-/// Listens, serves the links of the door until it is closed, and says how many these were.
+/// Listens at a port, serves the links of the door until it is closed, and says how many these were.
 fn serve_links<K: Keeper, O: Sink, D: Door, R: Draws, W: Wait>(
     rt: &W,
     alloc: Global,
@@ -224,8 +223,8 @@ fn serve_links<K: Keeper, O: Sink, D: Door, R: Draws, W: Wait>(
     draws: &mut R,
 ) -> ServingEnd
     requires { K.opened keeper.old ≡ true }
-    ensures ends { LinksEnd (kept_state up.old (keeper_by K.opened K.faults K.count K.rows keeper.old))
-        (kept_state up.new (keeper_by K.opened K.faults K.count K.rows keeper.new)) result
+    ensures ends { LinksEnd (kept_state up.old (keeper_by K.opened K.faults K.count K.rows keeper.old)) port result
+        (kept_state up.new (keeper_by K.opened K.faults K.count K.rows keeper.new))
         (facing (O.sent output.old) (D.state door.old) (R.coming draws.old))
         (facing (O.sent output.new) (D.state door.new) (R.coming draws.new)) }
     ensures caused { Caused (serving_status result) ⊥ (Rose (O.faults output.old) (O.faults output.new))

@@ -65,9 +65,6 @@ keeps_left old new before taken old_is new_is follows k board is =
 true_here : {A : Type 0} (p : Bool) (x : Option A) → p ≡ true → where_true p x ≡ x
 true_here p x is = ap (λ (z : Bool). where_true z x) is
 
-none_before : (k : ℕ) (other : Option BoardAt) → at_or [] k other ≡ other
-none_before k other = refl
-
 -- the board at a front of a reader that went on from nothing else
 pub boards_are : (known : Knowledge BoardAt Install) (opening : BoardAt) (k : ℕ) → known.opening ≡ Some opening → known.before ≡ [] → k ≤ length known.installs
     → board_of known k ≡ Some (board_after opening.board (take k known.installs))

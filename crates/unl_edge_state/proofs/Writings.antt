@@ -1,5 +1,5 @@
 -- The places of a writer beside what it published.
-use Rattle.std.proofs.Common.{◌≡◌, ℕ, ◌<◌, ◌+◌, List, [], ◌∷◌, ◌++◌, length, Bool, true, false, Some, Option, Result, Ok, Err, OnOk, OnErr, MatchResult, is_some, refl, sym, ap, ◌∙◌, subst, arith, length-append, get_or, map, All, unwrap_or}
+use Rattle.std.proofs.Common.{◌≡◌, ℕ, ◌<◌, ◌+◌, List, [], ◌∷◌, ◌++◌, length, Bool, true, false, Some, Option, Result, Ok, Err, OnOk, OnErr, is_some, refl, sym, ap, ◌∙◌, subst, arith, length-append, get_or, map, All, unwrap_or}
 use Rattle.std.proofs.Math.ListN.{set}
 use Rattle.std.specs.Prelude.{slice_set, slice_get}
 use Rattle.std.proofs.lemmas.Option.{slice_get-get_or}
@@ -53,16 +53,6 @@ writing_version known new places slot v kept held w is kept_is valid =
           subst (λ (b : Board). IsStanding b (set places slot (record { version = Some kept; held = held }))) (sym (known_more known (Env slot v) w.begun))
           (standing_taking (board_known known) places slot v (record { version = Some kept; held = held }) w.stands (ap Some kept_is) valid);
     })
-
--- nothing was published
-pub writing_same : (known new : Knowledge BoardAt Install) (places : List Place) → IsWriting known places → new ≡ known → IsWriting new places
-writing_same known new places w is = subst (λ (k : Knowledge BoardAt Install). IsWriting k places) (sym is) w
-
--- a book was published, or nothing was
-pub writing_told : {E : Type 0} (r : Result ℕ E) (F : ℕ → Type 0) (known new : Knowledge BoardAt Install) (places : List Place) (book : List Token) → IsWriting known places
-    → MatchResult r (λ front. (new ≡ with_installs (Tokens book ∷ []) known) × F front) (λ _. new ≡ known) → IsWriting new places
-writing_told (Ok front) F known new places book w told = writing_tokens known new places book w told.0
-writing_told (Err e) F known new places book w told = writing_same known new places w told
 
 -- a place is held
 pub writing_held : (known : Knowledge BoardAt Install) (places : List Place) (slot : ℕ) (place d : Place) → IsWriting known places → slot < length places
@@ -140,9 +130,6 @@ batch_orderly (Err e) w new slot batch stands applies published stays orderly = 
 -- a book, which goes on from any other
 pub book_orderly : (w new : Writing) (tokens : List Token) → new ≡ record (with_install (Tokens tokens) w) { closed = new.closed } → KnowsOrderly w.known → KnowsOrderly new.known
 book_orderly w new tokens published orderly = subst (λ (x : Writing). KnowsOrderly x.known) (sym published) (knows_more w.known (Tokens tokens) orderly tt)
-
-pub same_orderly : (w new : Writing) → Stays w new → KnowsOrderly w.known → KnowsOrderly new.known
-same_orderly w new stays orderly = subst (λ (x : Writing). KnowsOrderly x.known) (sym stays) orderly
 
 -- a writer with a book more
 abbrev pub book_told : Writing → List Token → Bool → Writing

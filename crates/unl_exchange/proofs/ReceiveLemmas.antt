@@ -1,9 +1,9 @@
 -- What was read piece by piece was read as a whole.
-use Rattle.std.proofs.Common.{◌≡◌, ℕ, List, [], ◌++◌, refl, sym, ap, ◌∙◌, subst, append_assoc, append-nil, Option, Some, None}
+use Rattle.std.proofs.Common.{◌≡◌, ℕ, List, [], ◌++◌, refl, sym, ap, ◌∙◌, subst, append_assoc, Option, Some, None}
 use Rattle.std.specs.Option.{option_map}
 use Rattle.unl_base.specs.Streams.{Takes}
 use Rattle.unl_exchange.specs.declared.receive.Received.{Received}
-use Rattle.unl_exchange.specs.Receive.{Stands, Receives, TakesPiece}
+use Rattle.unl_exchange.specs.Receive.{Stands, Receives}
 
 -- nothing was taken
 pub Takes_nothing : (left : Option (List ℕ)) → Takes left [] left
@@ -21,17 +21,6 @@ pub record Taking (held : List ℕ) (left : Option (List ℕ)) (held_now : List 
   pub read : List ℕ
   pub took : Takes left read left_now
   pub holds : held_now ≡ held ++ read
-
-pub Taking_begin : (held : List ℕ) (left : Option (List ℕ)) → Taking held left held left
-Taking_begin held left = record { read = []; took = Takes_nothing left; holds = sym (append-nil held) }
-
-pub Taking_more : (held held' held'' : List ℕ) (left left' left'' : Option (List ℕ)) → Taking held left held' left'
-    → TakesPiece held' left' held'' left'' → Taking held left held'' left''
-Taking_more held held' held'' left left' left'' taking piece = record {
-  read = taking.read ++ piece.piece;
-  took = Takes_more left left' left'' taking.read piece.piece taking.took piece.took;
-  holds = piece.added ∙ ap (λ (h : List ℕ). h ++ piece.piece) taking.holds ∙ append_assoc held taking.read piece.piece;
-}
 
 pub Taking_found : (held held' held'' : List ℕ) (left left' left'' : Option (List ℕ)) (found : Received)
     → Taking held left held' left' → Receives held' left' found held'' left'' → Receives held left found held'' left''

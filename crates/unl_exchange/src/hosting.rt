@@ -1,6 +1,6 @@
 //! Links that a door hands out, served one after another.
-ghost use Rattle.std.specs.Prelude.{◌≡◌, ◌<◌, IfOk, OnOk, true};
-ghost use Rattle.unl_base.specs.Doors.{IsClosed, taking_back};
+ghost use Rattle.std.specs.Prelude.{◌≡◌, ◌<◌, IfOk, OnOk};
+ghost use Rattle.unl_base.specs.Doors.{IsClosed, IsListening, taking_back};
 ghost use Rattle.unl_base.specs.Faults.{HasCause};
 ghost use Rattle.unl_exchange.specs.Answering.{Coming};
 ghost use Rattle.unl_exchange.specs.Hosting.{HostsAll, HostsNext, hosting};
@@ -56,13 +56,13 @@ pub fn host<S: Server, D: Door, R: Draws, W: Wait>(
     door: &mut D,
     draws: &mut R,
 ) -> Result<u64, Failed>
-    requires listens { (D.state door.old).listening ≡ true }
+    requires listens { IsListening (D.state door.old) }
     requires fits { S.fits server.old }
     ensures hosts { HostsAll S.serves result (hosting server.old (R.coming draws.old) (D.state door.old))
         (hosting server.new (R.coming draws.new) (D.state door.new)) }
     ensures fits { S.fits server.new }
     ensures keeps { S.keeps server.old server.new }
-    ensures listens { (D.state door.new).listening ≡ true }
+    ensures port { (D.state door.new).port ≡ (D.state door.old).port }
     ensures closed { OnOk result (IsClosed (D.state door.new)) }
     ensures cause { HasCause (D.faults door.old) (D.faults door.new) result }
 {
@@ -83,13 +83,13 @@ fn serve_next<S: Server, D: Door, R: Draws>(
     door: &mut D,
     draws: &mut R,
 ) -> Result<Hosted, Failed>
-    requires listens { (D.state door.old).listening ≡ true }
+    requires listens { IsListening (D.state door.old) }
     requires fits { S.fits server.old }
     ensures hosts { HostsNext S.serves result (hosting server.old (R.coming draws.old) (D.state door.old))
         (hosting server.new (R.coming draws.new) (D.state door.new)) }
     ensures fits { S.fits server.new }
     ensures keeps { S.keeps server.old server.new }
-    ensures listens { (D.state door.new).listening ≡ true }
+    ensures port { (D.state door.new).port ≡ (D.state door.old).port }
     ensures closed { IfOk result (λ next. next ≡ Hosted.Closed → IsClosed (D.state door.new)) }
     ensures cause { HasCause (D.faults door.old) (D.faults door.new) result }
 {

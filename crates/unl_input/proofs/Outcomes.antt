@@ -8,9 +8,8 @@ use Rattle.unl_documents.specs.declared.fault.BadDocument.{BadDocument}
 use Rattle.unl_documents.specs.Reading.{Reading}
 use Rattle.unl_input.specs.declared.answering.AnswerFault.TheVariants.{Refused, WriteFault}
 use Rattle.unl_input.specs.declared.reading.InputFault.TheVariants as input
-use Rattle.unl_input.specs.declared.refusal.InputRefusal.{InputRefusal}
 use Rattle.unl_input.specs.declared.refusal.InputRefusal.TheVariants.{BadInput, TooLarge}
-use Rattle.unl_input.specs.Answer.{Answers, ComesTo, IsRead, IsRefused, Outcome, Says, SaysFront, or_bad_input, outcome_of, said}
+use Rattle.unl_input.specs.Answer.{Answers, ComesTo, IsRead, Outcome, or_bad_input, outcome_of, said}
 use Rattle.unl_input.specs.Input.{HasRead, longest}
 
 not_longer : (n : ℕ) → n ≤ longest → ltb 16777216 n ≡ false
@@ -60,23 +59,6 @@ ends_broken answer reads says left left_after old new bytes read is sent = recor
 }
 
 -- ---- the refusal said
-
--- the line was sent that says why an input is refused
-pub refusal_said : {T : Type 0} (reads : List ℕ → Reading T) (says : T → List ℕ) (refusal : InputRefusal) (left left_after old mid new : Option (List ℕ))
-    → IsRefused reads refusal left left_after old mid → Sends mid (said says (Err refusal)) new → Says reads says (Err refusal) left left_after old new
-refusal_said reads says refusal left left_after old mid new refused sent = record {
-  comes = refused.comes;
-  sent = rw (← refused.silent) sent;
-}
-
--- a front of it was
-pub refusal_broken : {T : Type 0} (reads : List ℕ → Reading T) (says : T → List ℕ) (refusal : InputRefusal) (left left_after old mid new : Option (List ℕ))
-    → IsRefused reads refusal left left_after old mid → SendsFront mid (said says (Err refusal)) new
-    → SaysFront reads says (Err refusal) left left_after old new
-refusal_broken reads says refusal left left_after old mid new refused sent = record {
-  comes = refused.comes;
-  sent = rw (← refused.silent) sent;
-}
 
 -- ---- what all bytes to come decide
 

@@ -17,15 +17,6 @@ kept_more count text (Some list) has =
     let all : length (take count list ++ text ∷ []) ≡ length (take count list) + 1 = length-append (take count list) (text ∷ []) in
     ap Some (take_all (count + 1) (take count list ++ text ∷ []) (omega (arith, here, all)))
 
--- nothing stands past the row that a put wrote
-pub kept_all : (count : ℕ) (text : List ℕ) (rows : Option (List (List ℕ))) → HasKept count rows
-    → kept (count + 1) (with_row count text rows) ≡ with_row count text rows
-kept_all count text None has = refl
-kept_all count text (Some list) has =
-    let here : length (take count list) ≡ count = length-take-le count list has in
-    let all : length (take count list ++ text ∷ []) ≡ length (take count list) + 1 = length-append (take count list) (text ∷ []) in
-    ap Some (take_all (count + 1) (take count list ++ text ∷ []) (omega (arith, here, all)))
-
 -- what a failed put leaves past the kept rows leaves these alone
 pub kept_same : (count : ℕ) (text : List ℕ) (rows : Option (List (List ℕ))) → HasKept count rows
     → kept count (with_row count text rows) ≡ kept count rows

@@ -1,6 +1,6 @@
 -- How an upstream ends that is opened from its keeper, and then serves the links of its door.
-use Rattle.std.specs.Prelude.{◌≡◌, ◌⊎◌, ℕ, Result, Ok, Err}
-use Rattle.unl_base.specs.Doors.{DoorState, IsClosed}
+use Rattle.std.specs.Prelude.{◌≡◌, ◌⊎◌, ℕ, Result, Some, Ok, Err}
+use Rattle.unl_base.specs.Doors.{DoorState, IsClosedAt}
 use Rattle.unl_base.specs.declared.Failed.{Failed}
 use Rattle.unl_exchange.specs.Answering.{Coming}
 use Rattle.unl_exchange.specs.Linked.{linking}
@@ -34,19 +34,20 @@ facing door coming = record { door = door; coming = coming }
 abbrev pub ServesLinks : KeptState → KeptState → Facing → Facing → ℕ → Type 0
 ServesLinks opened last before after served = Hosts (linking opened before.coming before.door) (linking last after.coming after.door) served
 
--- How links were served: as many as are told, until the door was closed. Or the port could not be listened at, and all is as
--- before; or some, until the door failed.
-abbrev pub LinksEnd : KeptState → Result ℕ Failed → KeptState → Facing → Facing → Type 0
-LinksEnd opened (Ok served) last before after = ServesLinks opened last before after served × IsClosed after.door
-LinksEnd opened (Err failed) last before after =
-    ((last ≡ opened) × (after ≡ before)) ⊎ ((served : ℕ) × ServesLinks opened last before after served)
+-- How links were served that came at this port: as many as are told, until the door was closed. Or the port could not be listened
+-- at, and all is as before; or some, until the door failed.
+abbrev pub LinksEnd : KeptState → ℕ → Result ℕ Failed → KeptState → Facing → Facing → Type 0
+LinksEnd opened port (Ok served) last before after = ServesLinks opened last before after served × IsClosedAt port after.door
+LinksEnd opened port (Err failed) last before after =
+    ((last ≡ opened) × (after ≡ before)) ⊎ ((served : ℕ) × ServesLinks opened last before after served × (after.door.port ≡ Some port))
 
 -- the upstream was opened from its keeper's rows, and then links were served
-pub record OpensAndServes (start : KeptState) (links : Result ℕ Failed) (last : KeptState) (before after : Facing) : Type 0 where
+pub record OpensAndServes
+    (start : KeptState) (port : ℕ) (links : Result ℕ Failed) (last : KeptState) (before after : Facing) : Type 0 where
   pub reopened : ℕ
   pub opened : KeptState
   pub opens : Reopens start (Ok reopened) opened
-  pub serves : LinksEnd opened links last before after
+  pub serves : LinksEnd opened port links last before after
 
 -- the row in this place is refused, or isn't there
 abbrev pub IsOfRow : ℕ → ReopenFault → Type 0
@@ -62,12 +63,12 @@ pub record RefusesRow (start : KeptState) (place : ℕ) (last : KeptState) (befo
   pub reopens : Reopens start (Err fault) last
   pub same : after ≡ before
 
--- how it ends
-abbrev pub Ends : KeptState → Result ℕ KeepingFault → KeptState → Facing → Facing → Type 0
-Ends start (Ok served) last before after = OpensAndServes start (Ok served) last before after
-Ends start (Err BadWords) last before after = ⊥
-Ends start (Err (File error)) last before after = ⊥
-Ends start (Err (Row place)) last before after = RefusesRow start place last before after
-Ends start (Err Keeper) last before after = Reopens start (Err reopening.Fault) last × (after ≡ before)
-Ends start (Err Door) last before after = (failed : Failed) × OpensAndServes start (Err failed) last before after
-Ends start (Err Memory) last before after = Reopens start (Err reopening.Memory) last × (after ≡ before)
+-- how it ends whose links come at this port
+abbrev pub Ends : KeptState → ℕ → Result ℕ KeepingFault → KeptState → Facing → Facing → Type 0
+Ends start port (Ok served) last before after = OpensAndServes start port (Ok served) last before after
+Ends start port (Err BadWords) last before after = ⊥
+Ends start port (Err (File error)) last before after = ⊥
+Ends start port (Err (Row place)) last before after = RefusesRow start place last before after
+Ends start port (Err Keeper) last before after = Reopens start (Err reopening.Fault) last × (after ≡ before)
+Ends start port (Err Door) last before after = (failed : Failed) × OpensAndServes start port (Err failed) last before after
+Ends start port (Err Memory) last before after = Reopens start (Err reopening.Memory) last × (after ≡ before)

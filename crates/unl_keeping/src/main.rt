@@ -2,6 +2,8 @@
 #![tactic(auto)]
 
 ghost use Rattle.std.specs.Prelude.{IfOk};
+ghost use Rattle.unl_base.specs.Doors.{IsClosedAt};
+ghost use Rattle.unl_keeping.specs.Given.{port_of};
 ghost use Rattle.unl_words.specs.Ranges.{IsInRange};
 
 mod fault;
@@ -22,12 +24,12 @@ use unl_net::NetDoor;
 fn main(rt: HostRuntime) -> ExitCode {
     let ended = match open(&rt) {
         Ok((given, connection)) => match NetDoor::new(rt.alloc(), rt, given.bound(), 0) {
-            Ok(door) => serve_over(
+            Ok(mut door) => serve_over(
                 &rt,
                 rt.alloc(),
                 &given,
                 connection,
-                door,
+                &mut door,
                 RealDraws::new(&rt),
             ),
             Err(fault) => Err(KeepingFault::from(fault)),
@@ -56,23 +58,24 @@ fn open(rt: &HostRuntime) -> Result<(Given, Connection<FileStore<File>>), Keepin
     }
 }
 
-/// Serves an upstream over a database, until its door is closed, and answers how many links that were. What stands in the log is
-/// then in the file.
-fn serve_over<D: Door + Drop, R: Draws + Drop, W: Wait>(
+/// Serves an upstream over a database, until its door is closed, which listened at the port of the words, and answers how many links
+/// that were. What stands in the log is then in the file.
+fn serve_over<D: Door, R: Draws + Drop, W: Wait>(
     rt: &W,
     alloc: Global,
     given: &Given,
     connection: Connection<FileStore<File>>,
-    mut door: D,
+    door: &mut D,
     mut draws: R,
 ) -> Result<u64, KeepingFault>
     requires { IsInRange given.now.words }
+    ensures { IfOk result (λ served. IsClosedAt (port_of given.now.words) (D.state door.new)) }
 {
     let boot = draws.draw().word;
     let port = given.port();
     let mut up = begin(alloc, boot, &given.words)?;
     let mut keeper = SqliteKeeper::new(connection);
-    let served = serve_reopened(rt, alloc, port, &mut up, &mut keeper, &mut door, &mut draws)?;
+    let served = serve_reopened(rt, alloc, port, &mut up, &mut keeper, door, &mut draws)?;
     keeper.into_connection().0.close()?;
     Ok(served)
 }

@@ -61,7 +61,7 @@ pub fn serve_reopened<K: Keeper, D: Door, R: Draws, W: Wait>(
     draws: &mut R,
 ) -> Result<u64, KeepingFault>
     requires { IsOpening up.old }
-    ensures ends { Ends (kept_state up.old (keeper_by K.opened K.faults K.count K.rows keeper.old)) result
+    ensures ends { Ends (kept_state up.old (keeper_by K.opened K.faults K.count K.rows keeper.old)) port result
         (kept_state up.new (keeper_by K.opened K.faults K.count K.rows keeper.new))
         (facing (D.state door.old) (R.coming draws.old)) (facing (D.state door.new) (R.coming draws.new)) }
     ensures keeper { result ≡ Err keeper_fault → Rose (K.faults keeper.old) (K.faults keeper.new) }
@@ -93,7 +93,7 @@ fn serve_links<K: Keeper, D: Door, R: Draws, W: Wait>(
     draws: &mut R,
 ) -> Result<u64, Failed>
     requires { K.opened keeper.old ≡ true }
-    ensures ends { LinksEnd (kept_state up.old (keeper_by K.opened K.faults K.count K.rows keeper.old)) result
+    ensures ends { LinksEnd (kept_state up.old (keeper_by K.opened K.faults K.count K.rows keeper.old)) port result
         (kept_state up.new (keeper_by K.opened K.faults K.count K.rows keeper.new))
         (facing (D.state door.old) (R.coming draws.old)) (facing (D.state door.new) (R.coming draws.new)) }
     ensures cause { OnErr result (Rose (D.faults door.old) (D.faults door.new)) }

@@ -7,7 +7,7 @@ use Rattle.std.proofs.lemmas.Bool.{eqb-true}
 use Rattle.std.proofs.lemmas.List.Recursion.{is_count_by}
 use Rattle.std.proofs.lemmas.List.Sums.{sum_by-append, passes_at_first, prefix_len-le-length}
 use Rattle.std.proofs.lemmas.List.Folds.{list_any-append}
-use Rattle.unl_base.specs.Streams.{Takes, HasEnded, Sends, SendsFront}
+use Rattle.unl_base.specs.Streams.{Takes, Sends, SendsFront}
 use Rattle.unl_lines.specs.Lines.{is_end, has_end, lines, begun_with, ended_lines}
 use Rattle.unl_lines.specs.Reading.{Gets, IsAtEnd, IsLine, EndsLine, GrowsLine, BeginsLong, longest_line}
 
@@ -33,37 +33,6 @@ gets_trans h i j l m n a b one two = record {
       sym (append_assoc h one.read two.read) ∙ ap (λ xs. xs ++ two.read) one.split
       ∙ append_assoc a i two.read ∙ ap (λ xs. a ++ xs) two.split ∙ sym (append_assoc a b j);
 }
-
-pub gets_nothing : (h : List ℕ) (l : Option (List ℕ)) → Gets h l [] h l
-gets_nothing h l = record { read = []; took = takes_nothing l; split = append-nil h }
-
--- a byte that was held
-pub gets_held : (h i : List ℕ) (l : Option (List ℕ)) (b : ℕ) → h ≡ b ∷ i → Gets h l (b ∷ []) i l
-gets_held h i l b first = record { read = []; took = takes_nothing l; split = append-nil h ∙ first }
-
-no_bytes : (xs : List ℕ) → 0 ≡ length xs → xs ≡ []
-no_bytes [] none = refl
-no_bytes (x ∷ xs) none = absurd (omega (arith, none))
-
-ended_after : (l m : Option (List ℕ)) → Takes l [] m → HasEnded l → HasEnded m
-ended_after None None took end = tt
-ended_after None (Some y) took end = absurd (cc)
-ended_after (Some x) None took end = absurd (cc)
-ended_after (Some x) (Some y) took end = cc
-
--- the source gave nothing
-pub gets_end : (h i : List ℕ) (l m : Option (List ℕ)) → h ≡ [] → Takes l i m → 0 ≡ length i → HasEnded l → Gets h l [] i m × IsAtEnd i m
-gets_end h i l m none took empty end =
-    let nothing : i ≡ [] = no_bytes i empty in
-    let none_took : Takes l [] m = subst (λ xs. Takes l xs m) nothing took in (
-      record { read = i; took = took; split = ap (λ xs. xs ++ i) none },
-      (nothing, ended_after l m none_took end),
-    )
-
--- the source failed
-pub gets_broken : (h i : List ℕ) (l m : Option (List ℕ)) → h ≡ [] → i ≡ [] → m ≡ l → Gets h l [] i m × (i ≡ [])
-gets_broken h i l m none empty same =
-    (subst (λ (n : Option (List ℕ)). Gets h l [] i n) (sym same) (record { read = []; took = takes_nothing l; split = append-nil h ∙ none ∙ sym empty }), empty)
 
 -- where the bytes to come are told, they are those taken and those left
 unfoldable pub WholeSplit : List ℕ → List ℕ → List ℕ → Option (List ℕ) → Type 0
@@ -275,9 +244,6 @@ piece_grows line held most front k after rest looks room some all is =
 pub record IsWhole (bytes : List ℕ) : Type 0 where
   pub first : (rest : List ℕ) → lines (bytes ++ rest) ≡ lines bytes ++ lines rest
   pub ends : count_by is_end bytes ≡ length (lines bytes)
-
-pub whole_none : IsWhole []
-whole_none = record { first = λ rest. refl; ends = refl }
 
 count-append : (xs ys : List ℕ) → count_by is_end (xs ++ ys) ≡ count_by is_end xs + count_by is_end ys
 count-append xs ys = sum_by-append (λ b. cond (is_end b) 1 0) xs ys

@@ -8,7 +8,7 @@ use Rattle.unl_lines.specs.Lines.{lines, has_end}
 use Rattle.unl_lines.specs.Reading.{IsAtEnd, IsLine, BeginsLong, longest_line}
 use Rattle.unl_lines.specs.Taken.{LineResult, Outcome, Taking, done, followed, take_from, most_lines}
 use Rattle.unl_lines.specs.Whole.{TakesLines}
-use Rattle.unl_lines.specs.Turns.{Scene, Takes, Prints, Refuses, GoesOn, ComesToEnd, StopsReading, Turns}
+use Rattle.unl_lines.specs.Turns.{Scene, Takes, Prints, Refuses, ComesToEnd, StopsReading, Turns}
 use Rattle.unl_lines.proofs.Lines.{line_first, last_line, long_first, some_first, sends_nothing}
 use Rattle.unl_lines.proofs.Whole.{Heads, Sofar, ends_at, errs, within_limits, past_limit, past_last}
 
@@ -36,18 +36,6 @@ pub line_errs : {D : Type 0} (taking : Taking D) (fault : LinesFault) (k : ℕ) 
     → Prints (Err fault) k (taking k before.desk line) after.desk before.sent after.sent → Turns taking (Err fault) k before after
 line_errs taking fault k before after line few next prints =
     errs taking fault k before after (line ++ 10 ∷ []) (taking k before.desk line) after.desk prints next.1 (heads_line taking k before.desk line after few next.0)
-
-pub line_answered : {D : Type 0} (taking : Taking D) (k : ℕ) (before after : Scene D) (line : List ℕ) (u : Unit {0}) → k ≤ most_lines
-    → IsLine line × Takes before (line ++ 10 ∷ []) after
-    → Prints (Ok u) k (taking k before.desk line) after.desk before.sent after.sent → GoesOn taking k before after
-line_answered taking k before after line u few next prints = record {
-  line = line;
-  unbroken = next.0.unbroken;
-  text = prints.0;
-  got = next.1;
-  is = within_limits taking k before.desk line few next.0.short ∙ prints.1;
-  sent = prints.2;
-}
 
 -- ---- the last line, without its end
 

@@ -11,8 +11,8 @@ use Rattle.unl_lines.specs.Lines.{lines, ended_lines}
 use Rattle.unl_lines.specs.Reading.{Gets, longest_line}
 use Rattle.unl_lines.specs.Taken.{LineResult, Outcome, Taking, done, refused, IsRefused, ending_text, whole_text, printed, refused_text, begun_by, followed, take_line, take_from, outcome_of, outcome_of_ended, most_lines}
 use Rattle.unl_lines.specs.Turns.{Scene, Takes, MayFollow, Prints, GoesOn, ComesToEnd, IsRefusedAt, BreaksOff, BeginsWith, StopsReading, Turns}
-use Rattle.unl_lines.specs.Whole.{IsAnswered, IsRefusing, AnswersRead, AnswersAll, StandsOfRead, TakesLines}
-use Rattle.unl_lines.proofs.Lines.{gets_trans, gets_nothing, sends_nothing, sends_trans, sends_then_front, front_of_longer, IsWhole, whole_none, whole_more, ended_whole, line_first}
+use Rattle.unl_lines.specs.Whole.{IsRefusing, AnswersRead, AnswersAll, StandsOfRead, TakesLines}
+use Rattle.unl_lines.proofs.Lines.{gets_trans, sends_nothing, sends_trans, sends_then_front, front_of_longer, IsWhole, whole_more, ended_whole, line_first}
 
 -- ---- one line
 
@@ -92,17 +92,6 @@ pub record Sofar {D : Type 0} (taking : Taking D) (first : D) (start sent : Opti
   pub leads : (rest : List ℕ) → take_from taking 1 first (lines (taken ++ rest)) ≡ begun_by text (take_from taking k scene.desk (lines rest))
   pub sends : Sends sent text scene.sent
 
-pub begins : {D : Type 0} (taking : Taking D) (first : D) (start sent : Option (List ℕ)) (scene : Scene D)
-    → scene.desk ≡ first → scene.held ≡ [] → scene.left ≡ start → scene.sent ≡ sent → Sofar taking first start sent 1 scene
-begins taking first start sent scene desk held left same = record {
-  taken = [];
-  text = [];
-  got = subst (λ (h : List ℕ). Gets [] start [] h scene.left) (sym held) (subst (λ (l : Option (List ℕ)). Gets [] start [] [] l) (sym left) (gets_nothing [] start));
-  whole = whole_none;
-  leads = λ rest. ap (λ d. take_from taking 1 d (lines rest)) (sym desk);
-  sends = subst (λ (s : Option (List ℕ)). Sends sent [] s) (sym same) (sends_nothing sent);
-}
-
 begun_twice : {D : Type 0} (text more : List ℕ) (outcome : Outcome D) → begun_by text (begun_by more outcome) ≡ begun_by (text ++ more) outcome
 begun_twice {D = D} text more outcome =
     ap (λ t. let x : Outcome D = record { text = t; ending = outcome.ending; desk = outcome.desk } in x) (sym (append_assoc text more outcome.text))
@@ -147,25 +136,6 @@ ends_all {D = D} taking first start sent k before after sofar now =
       };
       leaves = ap (λ r. r.desk) is;
     }
-
--- where the bytes to come are told, they were read
-read_all : (x read : List ℕ) (left : Option (List ℕ)) → stream.Takes (Some x) read left → HasEnded left → read ≡ x
-read_all x read None took end = absurd (cc took)
-read_all x read (Some y) took end =
-    let parts : x ≡ read ++ y = let t = took in cc in
-    sym (parts ∙ ap (λ ys. read ++ ys) end ∙ append-nil read)
-
-pub ends_over : {D : Type 0} (taking : Taking D) (first last : D) (start left sent after : Option (List ℕ))
-    → AnswersAll taking first last start left sent after → IfSome start (λ bytes. IsAnswered (outcome_of taking first bytes) sent after)
-ends_over taking first last None left sent after all = tt
-ends_over taking first last (Some x) left sent after all =
-    subst (λ bytes. IsAnswered (outcome_of taking first bytes) sent after) (read_all x all.read left all.took all.end) all.answered
-
-pub ends_leaving : {D : Type 0} (taking : Taking D) (first last : D) (start left sent after : Option (List ℕ))
-    → AnswersAll taking first last start left sent after → IfSome start (λ bytes. (outcome_of taking first bytes).desk ≡ last)
-ends_leaving taking first last None left sent after all = tt
-ends_leaving taking first last (Some x) left sent after all =
-    subst (λ bytes. (outcome_of taking first bytes).desk ≡ last) (read_all x all.read left all.took all.end) all.leaves
 
 -- what comes of the bytes that were read and of what may follow, from what comes of those taken last
 read_of : {D : Type 0} (taking : Taking D) (first : D) (start sent : Option (List ℕ)) (k : ℕ) (before after : Scene D) (out rest : List ℕ)

@@ -12,17 +12,6 @@ pub record Counts (state : State) (words : Lcg) (count asked on : ℕ) (left : L
   pub all : on + count_by (is_on state) (asks (count - asked) left) ≡ count_by (is_on state) (asks count words)
   pub most : on ≤ asked
 
-front : (n : ℕ) → 0 + n ≡ n
-front n = omega arith
-
-pub counts_none : (state : State) (words : Lcg) (count : ℕ) → Counts state words count 0 0 words
-counts_none state words count =
-    let none : count - 0 ≡ count = omega arith in
-    record {
-      all = front (count_by (is_on state) (asks (count - 0) words)) ∙ ap (λ n. count_by (is_on state) (asks n words)) none;
-      most = omega arith;
-    }
-
 unfold_asks : (n : ℕ) (words : Lcg) → asks (suc n) words ≡ ask_by words ∷ asks n (next (next words))
 unfolding asks
 unfold_asks n words = refl

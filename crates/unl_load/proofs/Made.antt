@@ -136,9 +136,6 @@ pub record Makes (words : Lcg) (place : ℕ) (made : List Feature) (left : Lcg) 
   pub all : made ++ features_from place (1000 - place) left ≡ features_from 0 1000 words
   pub taken : behind (1000 - place) left ≡ behind 1000 words
 
-pub makes_none : (words : Lcg) → Makes words 0 [] words
-makes_none words = record { all = refl; taken = refl }
-
 left_is : (place : ℕ) → place < 1000 → 1000 - place ≡ suc (1000 - (place + 1))
 left_is place inside = omega (arith, inside)
 

@@ -113,10 +113,6 @@ run_goes environment e (f ∷ es) (suc count) here above sorted =
       | false ↦ λ at. let none : min 0 (suc count) ≡ 0 = grind arith in rw none (ap (λ (b : Book). f ∷ b) (sym (kept environment e f es (suc count) here at low below)))
     ] refl
 
-not_true : (b : Bool) → not b ≡ true → b ≡ false
-not_true true e = absurd (subst T (sym e) tt)
-not_true false e = refl
-
 -- the place of the first key of the environment
 abbrev pub start_of : List ℕ → Book → ℕ
 start_of environment book = prefix_len (λ e. not (is_of environment e.0)) book

@@ -6,7 +6,6 @@ use Rattle.std.specs.Cmp.{IsTotalOrder}
 use Rattle.std.specs.FinMap.Entries.{put, find, is_sorted, below_all, by_order}
 use Rattle.std.proofs.Math.ListN.{get_or-map}
 use Rattle.std.proofs.lemmas.List.{length-map}
-use Rattle.std.proofs.lemmas.List.Sums.{prefix_len-le-length}
 use Rattle.std.specs.List.{prefix_len}
 use Rattle.std.specs.List.Sorted.{IsPartitionedBy, IsPartitionPoint}
 use Rattle.std.specs.Ordering.{is_lt, is_eq, ordering_reverse}
@@ -138,9 +137,6 @@ pub stands_within : {Y : Type 0} (test : Y → Bool) (ys : List Y) (n : ℕ) →
 stands_within test [] n h = absurd (subst T (sym h) tt)
 stands_within test (y ∷ ys) zero h = omega arith
 stands_within test (y ∷ ys) (suc n) h = omega (arith, stands_within test ys n h)
-
-pub place_within : {K X : Type 0} (R : K → K → Ordering) (k : K) (es : List (K × X)) → place R k es ≤ length es
-place_within R k es = prefix_len-le-length (λ e. is_lt (R e.0 k)) es
 
 -- ---- the same of items that stand for entries
 

@@ -17,7 +17,7 @@ use Rattle.unl_documents.specs.Parameters.{AreRising}
 use Rattle.unl_documents.specs.Reading.{Reading, ◌>>=◌}
 use Rattle.unl_metrics.specs.declared.report.VariantCount.{VariantCount}
 use Rattle.unl_metrics.specs.declared.report.Report.{Report}
-use Rattle.unl_metrics.specs.Readable.{IsNamed, AreVariants, IsReadable, AreReadable}
+use Rattle.unl_metrics.specs.Readable.{IsNamed, AreVariants, AreReadable}
 use Rattle.unl_metrics.specs.Reports.{each_member, IsReport}
 
 -- what was read before, and what is still read
@@ -83,9 +83,6 @@ none_rise = tt
 
 pub no_variants : AreVariants []
 no_variants = record { rising = none_rise; names = (omega arith, All-nil IsNamed) }
-
-pub no_entries : AreReadable []
-no_entries = (omega arith, All-nil IsReadable)
 
 pub are_entries : (report : Report) → AreReadable report.entries → IsReport report
 are_entries report valid = λ k d lt. let e = valid.1 k d lt in record { hour = omega (arith, e.hour); variants = e.variants.rising }

@@ -1,5 +1,5 @@
 -- What is told of a request.
-use Rattle.std.proofs.Common.{◌≡◌, ◌∙◌, ◌≤◌, ◌<◌, ◌+◌, ◌-◌, ℕ, zero, suc, Bool, true, false, not, ◌&&◌, ◌||◌, List, [], ◌∷◌, ◌++◌, All, length, take, drop}
+use Rattle.std.proofs.Common.{◌≡◌, ◌∙◌, ◌≤◌, ◌<◌, ◌+◌, ◌-◌, ℕ, zero, suc, Bool, true, false, not, ◌&&◌, List, [], ◌∷◌, ◌++◌, All, length, take, drop}
 use Rattle.std.proofs.Common.{get_or, min, nat_eq, nat_le, nat_lt, filter, if◌then◌else◌, refl, sym, ap, arith, rules}
 use Rattle.std.proofs.Math.Seq.{take-suc}
 use Rattle.std.proofs.lemmas.Bool.{false≢true}
@@ -56,20 +56,6 @@ one_more front at has_method inside told spaces =
     by true true false count told is = search arith
     by true false space count told is = search arith
     by false seen space count told is = search arith
-
--- whether there is a space among one byte more
-pub one_space : (front : List ℕ) (at : ℕ) (has_method : Bool) → at < length front → has_method ≡ nat_lt 0 (spaces_in (take at front))
-    → (has_method || nat_eq (get_or front at 0) 32) ≡ nat_lt 0 (spaces_in (take (at + 1) front))
-one_space front at has_method inside is =
-    let next : at + 1 ≡ suc at = search arith in
-    by (nat_eq (get_or front at 0) 32) (spaces_in (take at front)) is
-    ∙ ap (λ n. nat_lt 0 (spaces_in (take at front) + n)) (sym (spaces_of_one (get_or front at 0)))
-    ∙ ap (nat_lt 0) (sym (spaces_of_both (take at front) (get_or front at 0 ∷ [])))
-    ∙ ap (λ bytes. nat_lt 0 (spaces_in bytes)) (sym (take-suc front at 0 inside)) ∙ ap (λ n. nat_lt 0 (spaces_in (take n front))) (sym next)
-  where
-    by : (space : Bool) (count : ℕ) → has_method ≡ nat_lt 0 count → (has_method || space) ≡ nat_lt 0 (count + (if space then 1 else 0))
-    by true count is = search arith
-    by false count is = search arith
 
 -- a longest front that is all of them
 whole : (n : ℕ) (bytes : List ℕ) → may_be_told (take n bytes) ≡ true → longest_front n bytes ≡ n

@@ -11,14 +11,14 @@ use std::io;
 use std::io::ErrorKind;
 use std::net::{Ipv4Addr, Ipv6Addr, Net, OpenListener, TcpListener};
 use std::time::Clock;
-use unl_base::{Door, Failed};
+use unl_base::{Door, Failed, Listening};
 
 /// A door over the network. It listens on each IPv6 and each IPv4 address of this machine where one socket can do both, and else
 /// on each IPv4 address.
 #[derive(Drop)]
 pub struct NetDoor<N: Net + Clock + Eprint + Copy + Drop> {
     net: N,
-    listener: Option<N::Listener>,
+    listening: Option<Listening<N::Listener>>,
     crowd: Crowd,
     told: Told,
     bound: u64,
@@ -37,13 +37,13 @@ impl<N: Net + Clock + Eprint + Copy + Drop> NetDoor<N> {
     /// # Errors
     /// Want of memory.
     pub fn new(alloc: Global, net: N, bound: Option<u64>, workers: u32) -> Result<Self, AllocError>
-        ensures new { IfOk result (λ door. (door.listener ≡ None) × (door.given ≡ 0) × (door.back ≡ 0) × (door.faults ≡ 0)) }
+        ensures new { IfOk result (λ door. (door.listening ≡ None) × (door.given ≡ 0) × (door.back ≡ 0) × (door.faults ≡ 0)) }
         ensures bound { IfOk result (λ door. door.bound ≡ unwrap_or bound (2 ^ 64 - 1)) }
         ensures workers { IfOk result (λ door. arc_value door.crowd.workers ≡ workers) }
     {
         Ok(NetDoor {
             net,
-            listener: None,
+            listening: None,
             crowd: Crowd::new(alloc, workers)?,
             told: Told::new(),
             bound: bound.unwrap_or(u64::MAX),
@@ -57,14 +57,14 @@ impl<N: Net + Clock + Eprint + Copy + Drop> NetDoor<N> {
 /// Waits for the next link.
 fn next_link<N: Net + Clock + Eprint + Copy + Drop>(
     net: N,
-    listener: &Option<N::Listener>,
+    listening: &Option<Listening<N::Listener>>,
     crowd: &Crowd,
     told: &mut Told,
 ) -> io::Result<NetLink<N::Stream, N>>
     ensures { IfOk result (λ link. link.faults ≡ 0) }
 {
-    match listener {
-        Some(listener) => accept_link(net, listener, crowd, told),
+    match listening {
+        Some(listening) => accept_link(net, &listening.listener, crowd, told),
         None => Err(io::Error::from(ErrorKind::NotConnected)),
     }
 }
@@ -93,12 +93,12 @@ fn tell_listening<N: Net + Eprint>(net: &N, listener: &N::Listener) {
 }
 
 impl<N: Net + Clock + Eprint + Copy + Drop> Door for NetDoor<N> {
-    ghost use Rattle.std.specs.Prelude.{is_some, nat_le};
+    ghost use Rattle.std.specs.Prelude.{nat_le, option_map};
 
     type L = NetLink<N::Stream, N>;
 
     ghost state = { λ door. record {
-      listening = is_some door.listener;
+      port = option_map (λ listening. listening.port) door.listening;
       closed = nat_le door.bound door.given;
       given = door.given;
       back = door.back;
@@ -112,7 +112,7 @@ impl<N: Net + Clock + Eprint + Copy + Drop> Door for NetDoor<N> {
         match bind_all(&self.net, port) {
             Ok(listener) => {
                 tell_listening(&self.net, &listener);
-                self.listener = Some(listener);
+                self.listening = Some(Listening { port, listener });
                 Ok(())
             }
             Err(fault) => {
@@ -130,7 +130,7 @@ impl<N: Net + Clock + Eprint + Copy + Drop> Door for NetDoor<N> {
         if self.bound <= self.given {
             return Ok(None);
         }
-        match next_link(self.net, &self.listener, &self.crowd, &mut self.told) {
+        match next_link(self.net, &self.listening, &self.crowd, &mut self.told) {
             Ok(link) => {
                 self.given += 1;
                 Ok(Some(link))

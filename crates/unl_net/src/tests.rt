@@ -1,5 +1,5 @@
 //! What links, doors and peers do over a network that gives what a script says, and what is told of it.
-ghost use Rattle.std.specs.Prelude.{◌≡◌, ◌≤◌, true};
+ghost use Rattle.unl_base.specs.Doors.{IsListening};
 
 use crate::crowd::Crowd;
 use crate::link::NetLink;
@@ -316,8 +316,8 @@ fn a_slow_request_and_a_long_turn_end(rt: HostRuntime) -> Result<(), Fail> {
 
 /// Accepts a link and hands it back.
 fn accept_one<D: Door>(door: &mut D) -> Result<bool, Failed>
-    requires { (D.state door.old).listening ≡ true }
-    ensures { (D.state door.new).listening ≡ true }
+    requires { IsListening (D.state door.old) }
+    ensures { IsListening (D.state door.new) }
 {
     let Some(link) = door.accept()? else {
         return Ok(false);

@@ -1,5 +1,5 @@
 -- Rows that were applied, one after another.
-use Rattle.std.proofs.Common.{◌≡◌, ◌≢◌, ◌≤◌, ◌<◌, ◌+◌, ℕ, zero, suc, List, [], ◌∷◌, ◌++◌, take, drop, length, length-append, slice_get, Option, Some, None, Result, Ok, Err, IsOk, true, option_map, IfSome, refl, sym, ap, ◌∙◌, subst, arith, append-nil, take-append-drop}
+use Rattle.std.proofs.Common.{◌≡◌, ◌≢◌, ◌+◌, ℕ, zero, suc, List, [], ◌∷◌, ◌++◌, take, drop, length, length-append, slice_get, Option, Some, None, Result, Ok, Err, IsOk, true, option_map, IfSome, refl, sym, ap, ◌∙◌, subst, arith, append-nil, take-append-drop}
 use Rattle.std.proofs.lemmas.List.{take_all, drop_all}
 use Rattle.unl_keeper.specs.Rows.{kept}
 use Rattle.unl_upstream.specs.declared.command.Command.{Command}
@@ -7,7 +7,7 @@ use Rattle.unl_upstream.specs.declared.refusal.CommandRefusal.{CommandRefusal}
 use Rattle.unl_upstream.specs.declared.reopening.ReopenFault.{ReopenFault}
 use Rattle.unl_upstream.specs.declared.reopening.ReopenFault.TheVariants.{BadRow, NoRow, Fault, Memory}
 use Rattle.unl_upstream.specs.Kept.{AreLeft, KeeperState, KeptState, LeadTo, commands_in, kept_rows, kept_state}
-use Rattle.unl_upstream.specs.Reopening.{Applies, Bars, GivesBack, IsAtMostOne, Reopened, ReopeningGivesBack, Reopens, TakesRow, rows_after}
+use Rattle.unl_upstream.specs.Reopening.{Applies, GivesBack, IsAtMostOne, Reopened, ReopeningGivesBack, Reopens, TakesRow, rows_after}
 use Rattle.unl_upstream.specs.Upstream.{Obeyed, UpstreamState, commanded}
 use Rattle.unl_upstream.proofs.Elsewhere.{Leads, Obeys, obeys, rows_lead_there}
 use Rattle.unl_upstream.proofs.Leading.{command_one, commands_both, lead_rows, no_stop, rows_lead, rows_more, takes}
@@ -24,14 +24,6 @@ one_longer : (list : List (List ℕ)) (count : ℕ) (text : List ℕ) → slice_
 one_longer [] count text is = none_is_some is
 one_longer (row ∷ rows) zero text is = ap (λ row. row ∷ []) (same_some is)
 one_longer (row ∷ rows) (suc count) text is = ap (λ others. row ∷ others) (one_longer rows count text is)
-
--- no row was applied
-first_none : (rows : Option (List (List ℕ))) → IfSome rows (λ list. [] ≡ take 0 list)
-first_none None = tt
-first_none (Some list) = refl
-
-pub applies_none : (opening : UpstreamState) (rows : Option (List (List ℕ))) → Applies opening rows 0 opening
-applies_none opening rows = record { texts = []; counted = refl; first = first_none rows; leads = refl }
 
 -- one more was
 first_more : (rows : Option (List (List ℕ))) (count : ℕ) (texts : List (List ℕ)) (text : List ℕ) → IfSome rows (λ list. texts ≡ take count list)
@@ -52,15 +44,6 @@ applies_more opening rows count up after applies takes =
     }
 
 -- ---- how reopening ends
-
--- the rows before one were applied
-pub stopped : (before after : KeptState) (count : ℕ) (fault : ReopenFault) (faults : ℕ) → Applies before.up after.keeper.rows count after.up
-    → count < after.keeper.count → before.keeper.faults ≤ faults → Bars count after.keeper.rows faults after.keeper.faults after.up fault
-    → Reopens before (Err fault) after
-stopped before after count (BadRow place text) faults applies there later bars = (count, bars.0, omega (arith, there, bars.0), applies, (bars.1, bars.2))
-stopped before after count (NoRow place) faults applies there later bars = (count, bars.0, omega (arith, there, bars.0), applies, bars.1)
-stopped before after count Fault faults applies there later bars = (omega (arith, later, bars), count, applies)
-stopped before after count Memory faults applies there later bars = (count, applies)
 
 -- all rows were applied
 all_kept : (opening up : UpstreamState) (count : ℕ) (rows : Option (List (List ℕ))) → Applies opening rows count up → IfSome rows (λ list. count ≡ length list)

@@ -1,6 +1,6 @@
 //! Links that a door hands out, served one after another.
-ghost use Rattle.std.specs.Prelude.{◌≡◌, true, OnOk};
-ghost use Rattle.unl_base.specs.Doors.{IsClosed};
+ghost use Rattle.std.specs.Prelude.{◌≡◌, OnOk};
+ghost use Rattle.unl_base.specs.Doors.{IsClosed, IsListening};
 ghost use Rattle.unl_base.specs.Faults.{HasCause};
 ghost use Rattle.unl_exchange.specs.Linked.{linking};
 ghost use Rattle.unl_upstream.specs.Hosting.{HostsAll};
@@ -24,11 +24,11 @@ impl Upstream {
         door: &mut D,
         draws: &mut R,
     ) -> Result<u64, Failed>
-        requires { (D.state door.old).listening ≡ true }
+        requires { IsListening (D.state door.old) }
         ensures hosts { HostsAll result (linking self.old (R.coming draws.old) (D.state door.old))
             (linking self.new (R.coming draws.new) (D.state door.new)) }
         ensures closed { OnOk result (IsClosed (D.state door.new)) }
-        ensures listens { (D.state door.new).listening ≡ true }
+        ensures port { (D.state door.new).port ≡ (D.state door.old).port }
         ensures cause { HasCause (D.faults door.old) (D.faults door.new) result }
     {
         host(rt, alloc, self, door, draws)

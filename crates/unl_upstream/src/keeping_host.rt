@@ -1,6 +1,6 @@
 //! Links that a door hands out, served one after another by an upstream that keeps its commands.
 ghost use Rattle.std.specs.Prelude.{◌≡◌, true, OnOk};
-ghost use Rattle.unl_base.specs.Doors.{IsClosed};
+ghost use Rattle.unl_base.specs.Doors.{IsClosed, IsListening};
 ghost use Rattle.unl_base.specs.Faults.{HasCause};
 ghost use Rattle.unl_exchange.specs.Linked.{linking};
 ghost use Rattle.unl_upstream.specs.Kept.{HoldsOn, keeper_by, kept_state};
@@ -57,7 +57,7 @@ pub fn host_kept<K: Keeper, D: Door, R: Draws, W: Wait>(
     door: &mut D,
     draws: &mut R,
 ) -> Result<u64, Failed>
-    requires listening { (D.state door.old).listening ≡ true }
+    requires listening { IsListening (D.state door.old) }
     requires opened { K.opened keeper.old ≡ true }
     ensures stays { K.opened keeper.new ≡ true }
     ensures hosts { HostsAll result
@@ -68,7 +68,7 @@ pub fn host_kept<K: Keeper, D: Door, R: Draws, W: Wait>(
     ensures carries { HoldsOn (kept_state up.old (keeper_by K.opened K.faults K.count K.rows keeper.old))
         (kept_state up.new (keeper_by K.opened K.faults K.count K.rows keeper.new)) }
     ensures closed { OnOk result (IsClosed (D.state door.new)) }
-    ensures listens { (D.state door.new).listening ≡ true }
+    ensures port { (D.state door.new).port ≡ (D.state door.old).port }
     ensures cause { HasCause (D.faults door.old) (D.faults door.new) result }
 {
     let mut kept = KeptUpstream { up, keeper };

@@ -95,10 +95,3 @@ token_is may_be_open text is =
     let rest = both (is_line text) (is_named may_be_open (scope_of text)) parts.1 in
     let few : length text ≤ 512 = grind (arith, nat_tests) in
     named_is may_be_open text (scope_of text) refl rest.1 few
-
--- tokens' texts
-pub tokens_are : (may_be_open : Bool) (texts : List Text) → list_all (is_token may_be_open) texts ≡ true → All IsTokenText texts
-tokens_are may_be_open [] are = All-nil IsTokenText
-tokens_are may_be_open (text ∷ texts) are =
-    let parts = both (is_token may_be_open text) (list_all (is_token may_be_open) texts) are in
-    All-cons IsTokenText text texts (token_is may_be_open text parts.0) (tokens_are may_be_open texts parts.1)

@@ -1,6 +1,6 @@
 //! What accepts links.
-ghost use Rattle.std.specs.Prelude.{◌≡◌, true};
-ghost use Rattle.unl_base.specs.Doors.{Accepts, DoorState};
+ghost use Rattle.std.specs.Prelude.{◌≡◌};
+ghost use Rattle.unl_base.specs.Doors.{Accepts, DoorState, IsListening};
 ghost use Rattle.unl_base.specs.Faults.{HasCause};
 ghost use Rattle.unl_workers.specs.Accepting.{AcceptsAll};
 
@@ -16,13 +16,13 @@ pub(crate) struct Acceptor<'a, D: Door, W> {
     pub rt: &'a W,
     /// How many links were put there, or that the door failed.
     pub outcome: Result<u64, Failed>,
-    ghost listens: { (D.state door.now).listening ≡ true },
+    ghost listens: { IsListening (D.state door.now) },
 }
 
 impl<'a, D: Door, W> Acceptor<'a, D, W> {
     /// What has accepted no link yet.
     pub fn new(rt: &'a W, queue: &'a LinkQueue<D::L>, door: &'a mut D) -> Self
-        requires { (D.state door.old).listening ≡ true }
+        requires { IsListening (D.state door.old) }
         ensures same { result.door.ghost_name ≡ door.entry.ghost_name }
         ensures door { result.door.now ≡ door.old }
     {
@@ -61,10 +61,10 @@ fn accept_all<D: Door, W: Wait>(
     queue: &LinkQueue<D::L>,
     door: &mut D,
 ) -> Result<u64, Failed>
-    requires { (D.state door.old).listening ≡ true }
+    requires { IsListening (D.state door.old) }
     ensures accepts { AcceptsAll result (D.state door.old) (D.state door.new) }
     ensures cause { HasCause (D.faults door.old) (D.faults door.new) result }
-    ensures listens { (D.state door.new).listening ≡ true }
+    ensures listens { IsListening (D.state door.new) }
 {
     for count in 0..u64::MAX {
         match door.accept() {

@@ -1,6 +1,7 @@
 //! The links of a door, served side by side.
-ghost use Rattle.std.specs.Prelude.{◌≡◌, IfOk, IsErrOf, true};
+ghost use Rattle.std.specs.Prelude.{◌≡◌, IfOk, IsErrOf};
 ghost use Rattle.std.specs.List.{AllZip};
+ghost use Rattle.unl_base.specs.Doors.{IsListening};
 ghost use Rattle.unl_workers.specs.Beside.{Accepted, HasCauses};
 ghost use Rattle.unl_workers.specs.Serving.{Attends};
 ghost use Rattle.unl_workers.specs.Turning.{MakesTurns};
@@ -61,7 +62,7 @@ where
     D::L: Drop + Send,
     N: Turn + Send,
     T: Pace + Send,
-    requires { (D.state door.old).listening ≡ true }
+    requires { IsListening (D.state door.old) }
     ensures accepts { Accepted result (D.state door.old) (D.state door.new) }
     ensures posts { IfOk result (λ done. AllZip (Attends S.serves S.keeps R.coming) posts.items done.posts.items) }
     ensures turns { IfOk result (λ done. MakesTurns N.turned N.keeps done.turns turn.old turn.new (T.turns pace.old) (T.turns pace.new)) }

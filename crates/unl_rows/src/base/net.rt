@@ -1,4 +1,4 @@
-ghost use Rattle.std.specs.Prelude.{◌≡◌, true};
+ghost use Rattle.unl_base.specs.Doors.{IsListening};
 
 use crate::base::{read_of, write_to};
 use std::io::{self, ErrorKind, Read, Write};
@@ -100,8 +100,8 @@ impl Net for Town {
 
 /// Answers the next link with what it gives, and hands it back. Tells how much that was.
 fn echo<D: Door>(door: &mut D) -> Result<Option<usize>, Failed>
-    requires { (D.state door.old).listening ≡ true }
-    ensures { (D.state door.new).listening ≡ true }
+    requires { IsListening (D.state door.old) }
+    ensures { IsListening (D.state door.new) }
 {
     let Some(mut link) = door.accept()? else {
         return Ok(None);

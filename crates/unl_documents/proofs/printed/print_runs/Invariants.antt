@@ -1,4 +1,4 @@
-use Rattle.std.proofs.Common.{◌≡◌, ◌++◌, drop, take}
+use Rattle.std.proofs.Common.{take}
 use Rattle.std.specs.Prelude.{map}
 use Rattle.unl_documents.specs.Series.{joined}
 use Rattle.unl_documents.specs.Tokens.{Wrote, all_tokens}

@@ -1,6 +1,5 @@
-use Rattle.std.proofs.Common.{◌≡◌, ◌≤◌, ◌<◌, ◌∙◌, ap, length, rules}
+use Rattle.std.proofs.Common.{◌≡◌, ◌≤◌, ◌<◌, ◌∙◌, ap, length}
 use Rattle.std.specs.Prelude.{slice_get}
-use Rattle.unl_documents.specs.Series.{joined}
 use Rattle.unl_documents.proofs.Joined.{stands_here, stands_later}
 use Rattle.unl_documents.proofs.series.item_at.Goals as goal
 

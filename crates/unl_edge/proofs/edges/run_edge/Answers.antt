@@ -8,4 +8,4 @@ returns-in-Ok-clause-runs g c =
     (sym c.world.view_is) c.draw-boot.ensures.drawn c.serve_links.ensures.ends
 
 pub returns-in-Err-clause-runs : goal.returns-in-Err-clause-runs
-returns-in-Err-clause-runs g c = stops_at_once _ _ _ (sym c.world.view_is) refl refl refl
+returns-in-Err-clause-runs g c = stops_at_once _ _ _ _ (sym c.world.view_is) refl refl refl

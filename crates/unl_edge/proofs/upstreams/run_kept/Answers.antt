@@ -13,7 +13,7 @@ returns-in-Ok-clause-ends g c =
     λ some. rose_before (g.Q.KeepMaker.faults c.world.inside.keep) (g.Q.KeepMaker.faults c.make.new.self) (g.Q.KeepMaker.faults c.back.new.self)
     c.in-Ok.ensures.cause.later (c.back.ensures.faults.rose some) in
     rw (← c.world.view_is, ← c.into_upstream-up.ensures.same)
-    (ends_kept c.into_upstream-up.result c.run_reopened-end.result.0
+    (ends_kept c.into_upstream-up.result c.args.port c.run_reopened-end.result.0
     (keeper_by g.Q.K.Keeper.opened g.Q.K.Keeper.faults g.Q.K.Keeper.count g.Q.K.Keeper.rows c.in-Ok.keeper)
     (keeper_by g.Q.K.Keeper.opened g.Q.K.Keeper.faults g.Q.K.Keeper.count g.Q.K.Keeper.rows last) _ _
     (record { unopened = c.in-Ok.ensures.unopened; faultless = c.in-Ok.ensures.faultless; empty = c.in-Ok.ensures.empty })

@@ -1,12 +1,10 @@
 use Rattle.unl_edge.proofs.Commands.{runs_so}
-use Rattle.unl_words.specs.OwnBook.{own_book}
 use Rattle.unl_edge.proofs.upstreams.run_upstream.Goals as goal
 
 pub returns-in-Ok-clause-runs : goal.returns-in-Ok-clause-runs
 returns-in-Ok-clause-runs g c =
     rw (← c.world.view_is)
-    (runs_so c.args.words.now.secret c.args.words.now.environments (own_book c.args.words.now.client_tokens c.args.words.now.frontend_tokens)
-    c.args.words.now.epoch c.run_kept.result _
+    (runs_so c.args.words.now c.run_kept.result _
     c.run_kept.new.world c.in-Ok.fresh (g.R.Draws.coming c.draw-boot.new.self)
     (record { draw = c.draw-boot.result; taken = c.draw-boot.ensures.drawn; opens = c.in-Ok.ensures })
     c.run_kept.ensures.ends)

@@ -1,4 +1,4 @@
-use Rattle.std.proofs.Common.{ap, refl, rules}
+use Rattle.std.proofs.Common.{ap, inl, refl, rules}
 use Rattle.unl_base.specs.Doors.{DoorState}
 use Rattle.unl_edge.specs.Upstreams.{facing}
 use Rattle.unl_upstream.specs.Kept.{HasKept, keeper_by, kept_state}
@@ -16,5 +16,6 @@ returns-then-is_err-clause-ends g c =
           (facing (g.O.Sink.sent c.args.output.now) (g.D.Door.state c.listen.new.self) (g.R.Draws.coming c.args.draws.now)) has refl
           (ap (λ (s : DoorState). s.given) listens) (ap (λ (s : DoorState). s.back) listens)
           (ap (λ (s : DoorState). s.links) listens) (ap (λ (s : DoorState). s.returned) listens),
+      inl refl,
       refl,
     )

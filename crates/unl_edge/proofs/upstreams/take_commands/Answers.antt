@@ -9,7 +9,7 @@ returns-in-Ok-clause-ends g c =
     let has : HasKept (keeper_by g.K.Keeper.opened g.K.Keeper.faults g.K.Keeper.count g.K.Keeper.rows c.kept.inside.keeper) = search rules in
     after_lines
     (kept_state c.args.up (keeper_by g.K.Keeper.opened g.K.Keeper.faults g.K.Keeper.count g.K.Keeper.rows c.args.keeper))
-    (kept_state c.kept.inside.up (keeper_by g.K.Keeper.opened g.K.Keeper.faults g.K.Keeper.count g.K.Keeper.rows c.kept.inside.keeper))
+    (kept_state c.kept.inside.up (keeper_by g.K.Keeper.opened g.K.Keeper.faults g.K.Keeper.count g.K.Keeper.rows c.kept.inside.keeper)) c.args.port
     (kept_state c.serve_links-end.new.up
     (keeper_by g.K.Keeper.opened g.K.Keeper.faults g.K.Keeper.count g.K.Keeper.rows c.serve_links-end.new.keeper))
     c.take_lines-taken.new.desk c.serve_links-end.result (g.I.Source.left c.args.input.now) (g.I.Source.left c.take_lines-taken.new.source)

@@ -1,10 +1,12 @@
-use Rattle.std.proofs.Common.{arith, refl}
+use Rattle.std.proofs.Common.{◌∙◌, ap, arith, refl}
+use Rattle.std.specs.Prelude.{is_some}
 use Rattle.unl_exchange.proofs.HostingLemmas.{hosts_more, hosts_still}
 use Rattle.unl_exchange.proofs.hosting.host.Goals as goal
 
 pub loop-served-init : goal.loop-served-init
 loop-served-init g c = record {
   listens = c.requires.listens;
+  port = refl;
   fits = c.requires.fits;
   keeps = g.met.S.Server.keeps_itself _;
   hosts = refl;
@@ -13,7 +15,8 @@ loop-served-init g c = record {
 
 pub loop-served-preserved : goal.loop-served-preserved
 loop-served-preserved g c = record {
-  listens = c.in-Ok-Served.ensures.listens;
+  listens = ap is_some c.in-Ok-Served.ensures.port ∙ c.loop-served.invariant.listens;
+  port = c.in-Ok-Served.ensures.port ∙ c.loop-served.invariant.port;
   fits = c.in-Ok-Served.ensures.fits;
   keeps = g.met.S.Server.keeps_on _ _ _ c.loop-served.invariant.keeps c.in-Ok-Served.ensures.keeps;
   hosts = hosts_more g.S.Server.serves c.loop-served.served _ _ _ c.loop-served.invariant.hosts (rw (c.in-Ok-Served.field-0-is) at c.in-Ok-Served.ensures.hosts);
@@ -37,8 +40,8 @@ returns-clause-fits g c = absurd c.wait_for_ever.ensures
 pub returns-clause-keeps : goal.returns-clause-keeps
 returns-clause-keeps g c = absurd c.wait_for_ever.ensures
 
-pub returns-clause-listens : goal.returns-clause-listens
-returns-clause-listens g c = absurd c.wait_for_ever.ensures
+pub returns-clause-port : goal.returns-clause-port
+returns-clause-port g c = absurd c.wait_for_ever.ensures
 
 pub returns-clause-closed : goal.returns-clause-closed
 returns-clause-closed g c = absurd c.wait_for_ever.ensures

@@ -1,11 +1,13 @@
-use Rattle.std.proofs.Common.{◌≡◌, ◌≤◌, true}
+use Rattle.std.proofs.Common.{◌≡◌, ◌≤◌}
+use Rattle.unl_base.specs.Doors.{IsListening}
 use Rattle.unl_exchange.specs.Hosting.{Hosts, hosting}
 use Rattle.unl_exchange.proofs.hosting.host.Given as goal
 
 -- so many links were served
 abbrev pub invariant-loop-served : goal.invariant-loop-served
 invariant-loop-served g l = record {
-  listens : (g.D.Door.state l.door).listening ≡ true;
+  listens : IsListening (g.D.Door.state l.door);
+  port : (g.D.Door.state l.door).port ≡ (g.D.Door.state l.initial.door).port;
   fits : g.S.Server.fits l.server;
   keeps : g.S.Server.keeps l.initial.server l.server;
   hosts : Hosts g.S.Server.serves l.served (hosting l.initial.server (g.R.Draws.coming l.initial.draws) (g.D.Door.state l.initial.door))

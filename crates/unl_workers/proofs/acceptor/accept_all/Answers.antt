@@ -1,4 +1,5 @@
 use Rattle.std.proofs.Common.{arith, ap, ◌∙◌}
+use Rattle.std.specs.Prelude.{is_some}
 use Rattle.unl_base.specs.Doors.{DoorState}
 use Rattle.unl_workers.proofs.Handing.{hands_more, hands_none}
 use Rattle.unl_workers.proofs.acceptor.accept_all.Goals as goal
@@ -11,6 +12,6 @@ loop-count-preserved g c =
     let accepted = rw (c.in-Ok-Some.field-0-is) at c.in-Ok-Some.ensures.accepts in
     record {
       hands = hands_more c.loop-count.count _ _ _ c.loop-count.invariant.hands accepted.0 accepted.1;
-      listens = ap (λ (door : DoorState). door.listening) accepted.1 ∙ c.loop-count.invariant.listens;
+      listens = ap (λ (door : DoorState). is_some door.port) accepted.1 ∙ c.loop-count.invariant.listens;
       later = omega (arith, c.loop-count.invariant.later, c.in-Ok-Some.ensures.cause.later);
     }

@@ -1,4 +1,5 @@
-use Rattle.std.proofs.Common.{◌≡◌, ◌≤◌, true}
+use Rattle.std.proofs.Common.{◌≤◌}
+use Rattle.unl_base.specs.Doors.{IsListening}
 use Rattle.unl_workers.specs.Accepting.{HandsOut}
 use Rattle.unl_workers.proofs.acceptor.accept_all.Given as goal
 
@@ -6,6 +7,6 @@ use Rattle.unl_workers.proofs.acceptor.accept_all.Given as goal
 abbrev pub invariant-loop-count : goal.invariant-loop-count
 invariant-loop-count g l = record {
   hands : HandsOut l.count (g.D.Door.state l.initial.door) (g.D.Door.state l.door);
-  listens : (g.D.Door.state l.door).listening ≡ true;
+  listens : IsListening (g.D.Door.state l.door);
   later : g.D.Door.faults l.initial.door ≤ g.D.Door.faults l.door;
 }
