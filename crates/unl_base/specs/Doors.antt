@@ -35,12 +35,12 @@ pub record IsClosed (door : DoorState) : Type 0 where
   pub closed : door.closed ≡ true
   pub none_left : IfSome door.links (λ links. links ≡ [])
 
--- no link comes any more at this port
+-- no link comes any more, and the port is this one
 pub record IsClosedAt (port : ℕ) (door : DoorState) : Type 0 where
   pub closed : IsClosed door
   pub at : door.port ≡ Some port
 
--- of so many links each came at this port
+-- the port is this one, unless no link was handed out
 abbrev pub CameAt : ℕ → ℕ → DoorState → Type 0
 CameAt port served door = (served ≡ 0) ⊎ (door.port ≡ Some port)
 

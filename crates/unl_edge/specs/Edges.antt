@@ -59,9 +59,9 @@ StopsForMemory port before after =
     (served : ℕ) × HandsLinks served before after × ((served ≡ 0) ⊎ IsClosedAt port after.door.state)
     × (after.output.sent ≡ before.output.sent)
 
--- How an edge ends whose links come at this port: the door is closed, and the last line was sent, or its front; or the door failed or
--- a thread could not be started, or memory ran out, and nothing was sent. Before the door is closed, the upstream was asked for the
--- book and for each slot at least once, and links were served behind that.
+-- How an edge ends whose door was to listen at this port: the door is closed there, and the last line was sent, or its front; or the
+-- door failed or a thread could not be started, or memory ran out, and nothing was sent. Before the door is closed, the upstream was
+-- asked for the book and for each slot at least once, and links were served behind that.
 abbrev pub EdgeEnds : Site → ℕ → ServingEnd → Scene → Scene → Type 0
 EdgeEnds site port Closed before after =
     (served : ℕ) × HandsLinks served before after × IsServed site before after

@@ -79,8 +79,8 @@ pub record ServesLinks (state last : KeptState) (before after : Facing) (served 
   pub hosts : Hosts (linking state before.coming before.door) (linking last after.coming after.door) served
   pub carries : HoldsOn state last
 
--- How the links of a door were served that came at this port: until it was closed, and then the last line was sent, or its front, or
--- nothing where memory ran out; or until it failed.
+-- How the links of a door were served that was to listen at this port: until it was closed, and then the last line was sent, or its
+-- front, or nothing where memory ran out; or until it failed.
 abbrev pub LinksEnd : KeptState → ℕ → ServingEnd → KeptState → Facing → Facing → Type 0
 LinksEnd state port Closed last before after =
     (served : ℕ) × ServesLinks state last before after served × Sends before.sent (connections_line served) after.sent
@@ -130,8 +130,8 @@ pub record ServesAfterLines
       → before.door.returned ≡ Some returned
       → NamesLinks opened spelled.commands kept (kept_state up last) before after served links returned
 
--- How an upstream ends that was reopened, and whose links come at this port. Where a line is refused, or the input or the keeper
--- fails, no link was handed out. It ends so for want of memory only where the keeper has never failed.
+-- How an upstream ends that was reopened, and whose door was to listen at this port. Where a line is refused, or the input or the
+-- keeper fails, no link was handed out. It ends so for want of memory only where the keeper has never failed.
 abbrev pub LinesEnd : KeptState → ℕ → UpstreamEnd → KeeperState → Option (List ℕ) → Option (List ℕ) → Facing → Facing → Type 0
 LinesEnd opened port NoMemory last left left_after before after = ⊥
 LinesEnd opened port KeeperFault last left left_after before after = after.door ≡ before.door
@@ -226,8 +226,8 @@ pub record EndsKept (start : UpstreamState) (port : ℕ) (end : UpstreamEnd) (be
       → kept_commands last ≡ option_map (λ kept. kept ++ commands) (kept_commands opened.keeper)
       → IfSome after.keep.held (λ texts. commands_in texts ≡ commands)
 
--- How an upstream ends, from what it begins with, and whose links come at this port. Where no keeper could be made no link was handed
--- out, and where memory ran out nothing was sent either.
+-- How an upstream ends, from what it begins with, whose door was to listen at this port. Where no keeper could be made no link was
+-- handed out, and where memory ran out nothing was sent either.
 abbrev pub UpstreamEnds : UpstreamState → ℕ → UpstreamEnd → Scene → Scene → Type 0
 UpstreamEnds start port NoMemory before after = IsUntouched (facing_of before) (facing_of after)
 UpstreamEnds start port KeeperFault before after = after.door.state ≡ before.door.state

@@ -34,8 +34,8 @@ facing door coming = record { door = door; coming = coming }
 abbrev pub ServesLinks : KeptState → KeptState → Facing → Facing → ℕ → Type 0
 ServesLinks opened last before after served = Hosts (linking opened before.coming before.door) (linking last after.coming after.door) served
 
--- How links were served that came at this port: as many as are told, until the door was closed. Or the port could not be listened
--- at, and all is as before; or some, until the door failed.
+-- How links were served by a door that was to listen at this port: as many as are told, until it was closed. Or the port could not be
+-- listened at, and all is as before; or some, until the door failed.
 abbrev pub LinksEnd : KeptState → ℕ → Result ℕ Failed → KeptState → Facing → Facing → Type 0
 LinksEnd opened port (Ok served) last before after = ServesLinks opened last before after served × IsClosedAt port after.door
 LinksEnd opened port (Err failed) last before after =
@@ -63,7 +63,7 @@ pub record RefusesRow (start : KeptState) (place : ℕ) (last : KeptState) (befo
   pub reopens : Reopens start (Err fault) last
   pub same : after ≡ before
 
--- how it ends whose links come at this port
+-- how it ends, whose door was to listen at this port
 abbrev pub Ends : KeptState → ℕ → Result ℕ KeepingFault → KeptState → Facing → Facing → Type 0
 Ends start port (Ok served) last before after = OpensAndServes start port (Ok served) last before after
 Ends start port (Err BadWords) last before after = ⊥
