@@ -1,0 +1,23 @@
+#!/bin/sh
+# Tries the wrong bodies under wrong/: each is a small change of a crate's code that its contracts must refuse.
+#
+#     scripts/wrong.sh [CRATE..]
+#
+# With no crate it tries all of them, which takes an hour or more; the gate does not run it. The crates are copied, the edits of
+# each are put where `rt must-fail` looks for them, and the copy is removed. One line for each edit says whether it was refused;
+# the status is 0 where all were.
+set -u
+cd "$(dirname "$0")/.."
+command -v rt >/dev/null 2>&1 || { echo "wrong: rt is not installed"; exit 0; }
+
+[ $# -gt 0 ] || set -- $(ls wrong)
+copy=$(mktemp -d)
+trap 'rm -rf "$copy"' EXIT INT TERM
+cp -R crates crates.txt HANDLES "$copy/"
+rm -rf "$copy"/crates/*/must-fail
+for crate; do
+    ls "wrong/$crate"/*.edit >/dev/null 2>&1 || { echo "wrong: wrong/$crate has no edits"; exit 2; }
+    mkdir -p "$copy/crates/$crate/must-fail"
+    cp "wrong/$crate"/*.edit "$copy/crates/$crate/must-fail/"
+done
+cd "$copy" && rt must-fail "$@"
