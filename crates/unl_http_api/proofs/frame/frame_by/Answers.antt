@@ -1,0 +1,10 @@
+use Rattle.std.proofs.Common.{subst}
+use Rattle.unl_http_api.specs.Heads.{IsSeen}
+use Rattle.unl_http_api.proofs.FindLemmas.{parts_at}
+use Rattle.unl_http_api.proofs.frame.frame_by.Goals as goal
+
+pub framed-requires : goal.framed-requires
+framed-requires c =
+    let seen = subst (IsSeen c.window-front.result.now c.see.new.spans) c.in-Head.is c.in-Some.ensures.seen in
+    parts_at c.args.bytes.now _ _ c.in-Head.head c.new.result c.window-front.ensures.value c.window-front.ensures.fits
+    seen.0 seen.1 c.new.ensures
