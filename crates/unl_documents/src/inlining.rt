@@ -132,18 +132,8 @@ fn feature_anew(
 ) -> Result<Feature, Memory>
     ensures { IfOk result (λ f. f ≡ feature_inlined segments.now feature.now) }
 {
-    Ok(Feature {
-        name: feature.name.copy(alloc)?,
-        project: feature.project.copy(alloc)?,
-        kind: feature.kind.copy(alloc)?,
-        description: feature.description.copy(alloc)?,
-        enabled: feature.enabled,
-        stale: feature.stale,
-        impression: feature.impression,
-        strategies: inlined_strategies(alloc, feature.strategies.as_slice(), segments)?,
-        variants: feature.variants.copy(alloc)?,
-        dependencies: feature.dependencies.copy(alloc)?,
-    })
+    let strategies = inlined_strategies(alloc, feature.strategies.as_slice(), segments)?;
+    feature.with_strategies(alloc, strategies)
 }
 
 fn inlined_strategies(
