@@ -1,10 +1,12 @@
 //! How faults of documents are printed.
-ghost use Rattle.std.specs.Prelude.{◌≡◌, IfOk, string_bytes};
+ghost use Rattle.std.specs.Prelude.{◌≡◌, ◌++◌, IfOk, string_bytes, codes, decimal};
 ghost use Rattle.serde_json.specs.Data.{string};
 ghost use Rattle.serde_json.specs.Written.{compact_text};
 ghost use Rattle.unl_documents.specs.FaultText.{fault_text};
+ghost use Rattle.unl_documents.specs.Key.{key_of};
 
 use crate::fault::BadDocument;
+use crate::field::Field;
 use crate::memory::Memory;
 use crate::text::Text;
 use serde_json::Value;
@@ -17,18 +19,34 @@ pub fn fault_text(alloc: Global, fault: &BadDocument) -> Result<String, Memory>
 {
     match fault {
         BadDocument::NotJson => Ok(String::from_str(alloc, "NotJson")?),
-        BadDocument::Missing(field) => Ok(format!(in alloc; "Missing {}", field.key())?),
-        BadDocument::WrongKind(field) => Ok(format!(in alloc; "WrongKind {}", field.key())?),
-        BadDocument::TooLarge(field, n) => {
-            Ok(format!(in alloc; "TooLarge {} {}", field.key(), n)?)
-        }
-        BadDocument::DuplicateName(field, name) => {
-            let name = json_text(alloc, name)?;
-            Ok(format!(in alloc; "DuplicateName {} {}", field.key(), name)?)
-        }
-        BadDocument::NotWhole(field) => Ok(format!(in alloc; "NotWhole {}", field.key())?),
+        BadDocument::Missing(field) => at_key(alloc, "Missing ", *field),
+        BadDocument::WrongKind(field) => at_key(alloc, "WrongKind ", *field),
+        BadDocument::TooLarge(field, n) => too_large(alloc, *field, *n),
+        BadDocument::DuplicateName(field, name) => duplicate(alloc, *field, name),
+        BadDocument::NotWhole(field) => at_key(alloc, "NotWhole ", *field),
         BadDocument::Memory => Ok(String::new(alloc)),
     }
+}
+
+/// The name of a fault, followed by the key.
+fn at_key(alloc: Global, name: &str, field: Field) -> Result<String, Memory>
+    ensures { IfOk result (λ s. string_bytes s ≡ name.now ++ key_of field) }
+{
+    Ok(format!(in alloc; "{}{}", name, field.key())?)
+}
+
+fn too_large(alloc: Global, field: Field, n: u64) -> Result<String, Memory>
+    ensures { IfOk result (λ s. string_bytes s ≡ codes "TooLarge " ++ (key_of field ++ (codes " " ++ decimal n))) }
+{
+    Ok(format!(in alloc; "TooLarge {} {}", field.key(), n)?)
+}
+
+fn duplicate(alloc: Global, field: Field, name: &Text) -> Result<String, Memory>
+    ensures { IfOk result (λ s. string_bytes s
+        ≡ codes "DuplicateName " ++ (key_of field ++ (codes " " ++ compact_text (string name.now)))) }
+{
+    let name = json_text(alloc, name)?;
+    Ok(format!(in alloc; "DuplicateName {} {}", field.key(), name)?)
 }
 
 /// A text as a JSON string.

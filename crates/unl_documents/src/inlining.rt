@@ -158,13 +158,8 @@ fn inlined_strategy(
 ) -> Result<Strategy, Memory>
     ensures { IfOk result (λ s. s ≡ strategy_inlined segments.now strategy.now) }
 {
-    Ok(Strategy {
-        name: strategy.name.copy(alloc)?,
-        parameters: strategy.parameters.copy(alloc)?,
-        constraints: all_constraints(alloc, strategy, segments)?,
-        segments: List::new(alloc),
-        variants: strategy.variants.copy(alloc)?,
-    })
+    let constraints = all_constraints(alloc, strategy, segments)?;
+    strategy.with_constraints(alloc, constraints, List::new(alloc))
 }
 
 #[tactic(auto, unfolding(crate::specs::Inline::all_constraints))]
