@@ -1,5 +1,5 @@
 -- Joined lists: where an item stands, and what becomes of each.
-use Rattle.std.proofs.Common.{◌≡◌, ℕ, zero, suc, ◌+◌, ◌-◌, ◌<◌, ◌≤◌, List, [], ◌∷◌, ◌++◌, length, get_or, drop, take, map, refl, sym, ap, subst, ◌∙◌, arith, append-nil}
+use Rattle.std.proofs.Common.{◌≡◌, ℕ, zero, suc, ◌+◌, ◌-◌, ◌<◌, ◌≤◌, List, [], ◌∷◌, ◌++◌, length, get_or, drop, take, map, refl, sym, ap, subst, ◌∙◌, arith, append-nil, append_assoc}
 use Rattle.std.specs.Prelude.{All, Option, slice_get, flat_map}
 use Rattle.std.proofs.lemmas.Grind.{flat_map-append}
 use Rattle.std.proofs.lemmas.List.{drop_more, take_more, map-append, length-map}
@@ -42,6 +42,16 @@ flat_map_joined f (list ∷ lists) = flat_map-append f list (joined lists) ∙ a
 -- one more list
 pub joined-push : {T : Type 0} (lists : List (List T)) (list : List T) → joined (lists ++ list ∷ []) ≡ joined lists ++ list
 joined-push lists list = flat_map-append (λ l. l) lists (list ∷ []) ∙ ap (λ l. joined lists ++ l) (append-nil list)
+
+-- one list more, of the first of the items that are left
+pub part_more : {T : Type 0} (lists made : List (List T)) (list part left rest total : List T) → made ≡ lists ++ list ∷ [] → list ≡ part → rest ≡ part ++ left → joined lists ++ rest ≡ total → joined made ++ left ≡ total
+part_more lists made list part left rest total is same parts so_far =
+    ap (λ l. joined l ++ left) is ∙ ap (λ l. l ++ left) (joined-push lists list) ∙ append_assoc (joined lists) list left
+    ∙ ap (λ l. joined lists ++ l) (ap (λ l. l ++ left) same ∙ sym parts) ∙ so_far
+
+-- one list more, which has an item
+pub full_more : {T : Type 0} (lists made : List (List T)) (list part : List T) → made ≡ lists ++ list ∷ [] → list ≡ part → 1 ≤ length part → NoneIsEmpty lists → NoneIsEmpty made
+full_more lists made list part is same inside full = rw is (All-push (λ l. 1 ≤ length l) lists list full (rw same inside))
 
 -- what comes of each item, in as many lists of as many items: the next list
 pub maps_next : {T U : Type 0} (f : T → U) (lists : List (List T)) (i : ℕ) (here : List T) (made : List (List U)) (next : List U) → i < length lists → here ≡ get_or lists i here → NoneIsEmpty lists → next ≡ map f here
