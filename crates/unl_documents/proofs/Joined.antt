@@ -53,17 +53,21 @@ part_more lists made list part left rest total is same parts so_far =
 pub full_more : {T : Type 0} (lists made : List (List T)) (list part : List T) → made ≡ lists ++ list ∷ [] → list ≡ part → 1 ≤ length part → NoneIsEmpty lists → NoneIsEmpty made
 full_more lists made list part is same inside full = rw is (All-push (λ l. 1 ≤ length l) lists list full (rw same inside))
 
+-- what becomes of each item of the first lists: those of the next list too
+pub map_more : {T U : Type 0} (f : T → U) (lists : List (List T)) (i : ℕ) (here : List T) (before after : List U) → i < length lists → here ≡ get_or lists i here
+    → before ≡ map f (joined (take i lists)) → after ≡ before ++ map f here → after ≡ map f (joined (take (i + 1) lists))
+map_more f lists i here before after lt is so_far next =
+    let taken : take (i + 1) lists ≡ take i lists ++ here ∷ [] = take_more lists i here lt ∙ ap (λ l. take i lists ++ l ∷ []) (sym is) in
+    next ∙ ap (λ l. l ++ map f here) so_far ∙ sym (ap (λ l. map f (joined l)) taken ∙ ap (map f) (joined-push (take i lists) here) ∙ map-append f (joined (take i lists)) here)
+
 -- what comes of each item, in as many lists of as many items: the next list
 pub maps_next : {T U : Type 0} (f : T → U) (lists : List (List T)) (i : ℕ) (here : List T) (made : List (List U)) (next : List U) → i < length lists → here ≡ get_or lists i here → NoneIsEmpty lists → next ≡ map f here
     → (joined made ≡ map f (joined (take i lists))) × NoneIsEmpty made → (joined (made ++ next ∷ []) ≡ map f (joined (take (i + 1) lists))) × NoneIsEmpty (made ++ next ∷ [])
 maps_next f lists i here made next lt is full same so_far =
-    let taken : take (i + 1) lists ≡ take i lists ++ here ∷ [] = take_more lists i here lt ∙ ap (λ l. take i lists ++ l ∷ []) (sym is) in
-    let left : joined (made ++ next ∷ []) ≡ map f (joined (take i lists)) ++ map f here = joined-push made next ∙ ap (λ l. l ++ next) so_far.0 ∙ ap (λ l. map f (joined (take i lists)) ++ l) same in
-    let right : map f (joined (take (i + 1) lists)) ≡ map f (joined (take i lists)) ++ map f here =
-    ap (λ l. map f (joined l)) taken ∙ ap (map f) (joined-push (take i lists) here) ∙ map-append f (joined (take i lists)) here in
+    let all : joined (made ++ next ∷ []) ≡ map f (joined (take i lists)) ++ map f here = joined-push made next ∙ ap (λ l. l ++ next) so_far.0 ∙ ap (λ l. map f (joined (take i lists)) ++ l) same in
     let inside : 1 ≤ length here = subst (λ l. 1 ≤ length l) (sym is) (All-get_or (λ l. 1 ≤ length l) lists i here lt full) in
     let long : length next ≡ length here = ap length same ∙ length-map here f in
-    (left ∙ sym right, All-push (λ l. 1 ≤ length l) made next so_far.1 (rw long inside))
+    (map_more f lists i here _ _ lt is refl all, All-push (λ l. 1 ≤ length l) made next so_far.1 (rw long inside))
 
 -- what holds of each item holds of those of one list
 pub each_in_list : {T : Type 0} (P : T → Type 0) (lists : List (List T)) (i : ℕ) (here : List T) → i < length lists → here ≡ get_or lists i here → All P (joined lists) → All P here
