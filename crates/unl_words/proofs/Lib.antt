@@ -5,5 +5,6 @@ pub mod Known
 mod LastSplit
 mod Named
 mod Numbers
+mod Options
 mod OwnTokens
 mod Simple

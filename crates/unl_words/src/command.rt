@@ -1,8 +1,9 @@
 //! The commands, as clap takes them: one table of options a command.
 ghost use Rattle.std.specs.Prelude.{◌≡◌, ◌≢◌, true, false, map, IfOk, IfErr, Ok, Err, string_bytes};
-ghost use Rattle.clap.specs.Words.{app_of, found_of, is_simple_and_free, matches_of, rows_of, rule_of, takes};
+ghost use Rattle.std.specs.List.{fold};
+ghost use Rattle.clap.specs.Words.{app_of, found_of, is_simple_and_free, matches_of, rows_of, rule_of, takes, with_rule};
 ghost use Rattle.unl_words.specs.Words.{check_app, edge_app, explain_app, follow_app, load_app, matched, option_named};
-ghost use Rattle.unl_words.specs.Words.{replay_app, upstream_app, with_option, with_required};
+ghost use Rattle.unl_words.specs.Words.{replay_app, upstream_app};
 ghost use Rattle.unl_words.specs.declared.refusal.WordsRefusal.TheVariants.{Memory};
 
 use crate::WordsRefusal;
@@ -22,8 +23,7 @@ pub(crate) fn replay<'a>(alloc: Global) -> Command<'a>
 pub(crate) fn check<'a>(alloc: Global) -> Result<Command<'a>, AllocError>
     ensures { IfOk result (λ command. app_of command ≡ check_app) }
 {
-    let command = with_option(alloc, Command::new(alloc, "check"), "now")?;
-    with_option(alloc, command, "word")
+    with_options(alloc, Command::new(alloc, "check"), &["now", "word"], false)
 }
 
 /// `edge` must be told its upstream and the tokens.
@@ -31,15 +31,11 @@ pub(crate) fn check<'a>(alloc: Global) -> Result<Command<'a>, AllocError>
 pub(crate) fn edge<'a>(alloc: Global) -> Result<Command<'a>, AllocError>
     ensures { IfOk result (λ command. app_of command ≡ edge_app) }
 {
-    let command = with_option(alloc, Command::new(alloc, "edge"), "port")?;
-    let command = with_required(alloc, command, "upstream")?;
-    let command = with_required(alloc, command, "upstream-tokens")?;
-    let command = with_required(alloc, command, "tokens")?;
-    let command = with_option(alloc, command, "host")?;
-    let command = with_option(alloc, command, "workers")?;
-    let command = with_option(alloc, command, "interval")?;
-    let command = with_option(alloc, command, "connections")?;
-    with_option(alloc, command, "mode")
+    let required = ["upstream", "upstream-tokens", "tokens"];
+    let others = ["host", "workers", "interval", "connections", "mode"];
+    let command = with_option(alloc, Command::new(alloc, "edge"), "port", false)?;
+    let command = with_options(alloc, command, &required, true)?;
+    with_options(alloc, command, &others, false)
 }
 
 /// `upstream` must be told its secret and its environments.
@@ -47,14 +43,11 @@ pub(crate) fn edge<'a>(alloc: Global) -> Result<Command<'a>, AllocError>
 pub(crate) fn upstream<'a>(alloc: Global) -> Result<Command<'a>, AllocError>
     ensures { IfOk result (λ command. app_of command ≡ upstream_app) }
 {
-    let command = with_option(alloc, Command::new(alloc, "upstream"), "port")?;
-    let command = with_required(alloc, command, "secret")?;
-    let command = with_required(alloc, command, "environments")?;
-    let command = with_option(alloc, command, "client-tokens")?;
-    let command = with_option(alloc, command, "frontend-tokens")?;
-    let command = with_option(alloc, command, "connections")?;
-    let command = with_option(alloc, command, "epoch")?;
-    with_option(alloc, command, "keep")
+    let required = ["secret", "environments"];
+    let others = ["client-tokens", "frontend-tokens", "connections", "epoch", "keep"];
+    let command = with_option(alloc, Command::new(alloc, "upstream"), "port", false)?;
+    let command = with_options(alloc, command, &required, true)?;
+    with_options(alloc, command, &others, false)
 }
 
 /// `follow` must be told its upstream, its token and its feature.
@@ -62,13 +55,10 @@ pub(crate) fn upstream<'a>(alloc: Global) -> Result<Command<'a>, AllocError>
 pub(crate) fn follow<'a>(alloc: Global) -> Result<Command<'a>, AllocError>
     ensures { IfOk result (λ command. app_of command ≡ follow_app) }
 {
-    let command = with_required(alloc, Command::new(alloc, "follow"), "upstream")?;
-    let command = with_required(alloc, command, "token")?;
-    let command = with_required(alloc, command, "feature")?;
-    let command = with_option(alloc, command, "context")?;
-    let command = with_option(alloc, command, "mode")?;
-    let command = with_option(alloc, command, "turns")?;
-    with_option(alloc, command, "interval")
+    let required = ["upstream", "token", "feature"];
+    let others = ["context", "mode", "turns", "interval"];
+    let command = with_options(alloc, Command::new(alloc, "follow"), &required, true)?;
+    with_options(alloc, command, &others, false)
 }
 
 /// `explain` has no options.
@@ -84,8 +74,24 @@ pub(crate) fn explain<'a>(alloc: Global) -> Command<'a>
 pub(crate) fn load<'a>(alloc: Global) -> Result<Command<'a>, AllocError>
     ensures { IfOk result (λ command. app_of command ≡ load_app) }
 {
-    let command = with_required(alloc, Command::new(alloc, "load"), "seed")?;
-    with_required(alloc, command, "count")
+    with_options(alloc, Command::new(alloc, "load"), &["seed", "count"], true)
+}
+
+/// The command with one more option for each name.
+fn with_options<'a>(
+    alloc: Global,
+    command: Command<'a>,
+    names: &[&'a str],
+    required: bool,
+) -> Result<Command<'a>, AllocError>
+    ensures { IfOk result (λ more. app_of more ≡ fold with_rule (app_of command.entry)
+        (map (λ name. record (option_named name.now) { required = required }) names.entry.now)) }
+{
+    let mut command = command;
+    for name in names {
+        command = with_option(alloc, command, *name, required)?;
+    }
+    Ok(command)
 }
 
 /// The command with one more option, which takes one value behind its long name.
@@ -93,29 +99,22 @@ fn with_option<'a>(
     alloc: Global,
     command: Command<'a>,
     name: &'a str,
+    required: bool,
 ) -> Result<Command<'a>, AllocError>
-    ensures { IfOk result (λ more. app_of more ≡ with_option (app_of command.entry) name.entry.now) }
+    ensures { IfOk result (λ more. app_of more ≡ with_rule (app_of command.entry) (record (option_named name.entry.now) { required = required })) }
 {
-    command.arg(option_named(alloc, name))
-}
-
-/// The command with one more option, which must be given.
-fn with_required<'a>(
-    alloc: Global,
-    command: Command<'a>,
-    name: &'a str,
-) -> Result<Command<'a>, AllocError>
-    ensures { IfOk result (λ more. app_of more ≡ with_required (app_of command.entry) name.entry.now) }
-{
-    command.arg(option_named(alloc, name).required(true))
+    command.arg(option_named(alloc, name, required))
 }
 
 /// An option that takes one value behind its long name.
-fn option_named<'a>(alloc: Global, name: &'a str) -> Arg<'a>
-    ensures rule { rule_of result ≡ option_named name.entry.now }
+fn option_named<'a>(alloc: Global, name: &'a str, required: bool) -> Arg<'a>
+    ensures rule { rule_of result ≡ record (option_named name.entry.now) { required = required } }
     ensures local { result.global ≡ false }
 {
-    Arg::new(alloc, name).long(name).action(ArgAction::Set)
+    Arg::new(alloc, name)
+        .long(name)
+        .action(ArgAction::Set)
+        .required(required)
 }
 
 /// What clap finds in the words behind the first.
