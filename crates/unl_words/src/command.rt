@@ -44,7 +44,13 @@ pub(crate) fn upstream<'a>(alloc: Global) -> Result<Command<'a>, AllocError>
     ensures { IfOk result (λ command. app_of command ≡ upstream_app) }
 {
     let required = ["secret", "environments"];
-    let others = ["client-tokens", "frontend-tokens", "connections", "epoch", "keep"];
+    let others = [
+        "client-tokens",
+        "frontend-tokens",
+        "connections",
+        "epoch",
+        "keep",
+    ];
     let command = with_option(alloc, Command::new(alloc, "upstream"), "port", false)?;
     let command = with_options(alloc, command, &required, true)?;
     with_options(alloc, command, &others, false)
