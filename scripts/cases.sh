@@ -34,11 +34,11 @@ set -f
 count=0
 while test -f "$split/$((count + 1)).words"; do
     count=$((count + 1))
-    timeout 60 "$program" $(cat "$split/$count.words") <"$split/$count.in" >"$split/printed"
+    timeout 60 "$program" $(cat "$split/$count.words") <"$split/$count.in" >"$split/printed" 2>"$split/told"
     status=$?
     cmp -s "$split/printed" "$split/$count.out" && test "$status" = "$(cat "$split/$count.status")" || {
         echo "cases: case $count ended with $status, on"
-        cat "$split/$count.words" "$split/$count.in" "$split/printed"
+        cat "$split/$count.words" "$split/$count.in" "$split/printed" "$split/told"
         exit 1
     }
 done

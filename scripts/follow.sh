@@ -12,7 +12,7 @@ upstream_port=${UPSTREAM_PORT:-14252}
 edge_port=${EDGE_PORT:-13073}
 
 start "$program" upstream --port "$upstream_port" --secret s --environments dev --client-tokens '*:dev.client,a:dev.client' \
-    <examples/commands.jsonl >/dev/null
+    <examples/upstream-commands.jsonl >/dev/null
 wait_for "$upstream_port" "the upstream"
 start "$program" edge --port "$edge_port" --upstream "127.0.0.1:$upstream_port" --upstream-tokens '*:dev.client' \
     --tokens '*:dev.client,a:dev.client' --interval 1 >/dev/null

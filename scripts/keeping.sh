@@ -23,7 +23,7 @@ sent=0
 
 # starts the upstream by itself, so that a kill ends it and nothing else
 begin() {
-    "$keeping" "$file" --port "$port" --secret s --environments dev --client-tokens '*:dev.client' "$@" </dev/null >"$work/printed" &
+    "$keeping" "$file" --port "$port" --secret s --environments dev --client-tokens '*:dev.client' "$@" </dev/null >"$work/printed" 2>>"$work/log" &
     server=$!
     started=$server
 }
@@ -108,7 +108,7 @@ opened() {
     over "$work/made.db"
 }
 over() {
-    timeout 20 "$keeping" "$1" --port "$port" --secret s --environments dev --client-tokens '*:dev.client' --connections 1 </dev/null
+    timeout 20 "$keeping" "$1" --port "$port" --secret s --environments dev --client-tokens '*:dev.client' --connections 1 </dev/null 2>>"$work/log"
     echo "status $?"
 }
 

@@ -21,7 +21,7 @@ toggle() {
 
 # ---- an upstream alone, whose door closes after nine links; one command is taken from the input
 start "$program" upstream --port "$upstream_port" --secret s --environments dev \
-    --client-tokens '*:dev.client' --frontend-tokens '*:dev.front' --connections 9 <examples/commands.jsonl >"$work/printed"
+    --client-tokens '*:dev.client' --frontend-tokens '*:dev.front' --connections 9 <examples/upstream-commands.jsonl >"$work/printed"
 upstream=$last
 wait_for "$upstream_port" "the upstream"
 
@@ -52,7 +52,7 @@ same "what is printed" "connections 9" "$(cat "$work/printed")"
 
 # ---- an upstream that keeps its commands in a database, and an edge
 start "$program" upstream --port "$upstream_port" --secret s --environments dev --keep sqlite \
-    --client-tokens '*:dev.client' --frontend-tokens '*:dev.front' <examples/commands.jsonl >/dev/null
+    --client-tokens '*:dev.client' --frontend-tokens '*:dev.front' <examples/upstream-commands.jsonl >/dev/null
 upstream=$last
 wait_for "$upstream_port" "the second upstream"
 start "$program" edge --port "$edge_port" --upstream "127.0.0.1:$upstream_port" --upstream-tokens '*:dev.client' \
@@ -107,7 +107,7 @@ begin_again() {
     kill "$upstream"
     wait "$upstream" 2>/dev/null
     start "$program" upstream --port "$upstream_port" --secret s --environments dev \
-        --client-tokens '*:dev.client' --frontend-tokens '*:dev.front' "$@" <examples/commands.jsonl >/dev/null
+        --client-tokens '*:dev.client' --frontend-tokens '*:dev.front' "$@" <examples/upstream-commands.jsonl >/dev/null
     upstream=$last
     wait_for "$upstream_port" "the upstream that began again"
 }

@@ -1,6 +1,6 @@
 #!/bin/sh
-# A test with nginx before an edge, by examples/nginx.conf at other ports: over TLS a browser is told what it may send, gets its
-# features, and isn't sent again what it knows. Run after `rt ci` or `rt run`. Skipped where nginx, openssl or curl is not there.
+# A test with nginx before two edges, by deploy/nginx.conf at other ports: over TLS a browser is told what it may send, gets its
+# features, and isn't sent again what it knows, since each token stays with one edge. Run after `rt ci` or `rt run`. Skipped where nginx, openssl or curl is not there.
 set -u
 cd "$(dirname "$0")/.."
 
@@ -19,15 +19,19 @@ edge_port=${EDGE_PORT:-13263}
 tls_port=${TLS_PORT:-13643}
 
 start "$program" upstream --port "$upstream_port" --secret s --environments dev \
-    --client-tokens '*:dev.client' --frontend-tokens '*:dev.front' <examples/shop.jsonl >/dev/null
+    --client-tokens '*:dev.client' --frontend-tokens '*:dev.front' <examples/upstream-shop.jsonl >/dev/null
 wait_for "$upstream_port" "the upstream"
 start "$program" edge --port "$edge_port" --upstream "127.0.0.1:$upstream_port" --upstream-tokens '*:dev.client' \
     --tokens '*:dev.client,*:dev.front' </dev/null >/dev/null
 wait_for "$edge_port" "the edge"
+second_port=$((edge_port + 1))
+start "$program" edge --port "$second_port" --upstream "127.0.0.1:$upstream_port" --upstream-tokens '*:dev.client' \
+    --tokens '*:dev.client,*:dev.front' </dev/null >/dev/null
+wait_for "$second_port" "the second edge"
 
 openssl req -x509 -newkey rsa:2048 -nodes -days 1 -subj /CN=localhost -addext subjectAltName=IP:127.0.0.1 \
     -keyout "$work/key.pem" -out "$work/certificate.pem" 2>/dev/null || fail "openssl made no certificate"
-sed -e "s/3443/127.0.0.1:$tls_port/" -e "s/3063/$edge_port/" examples/nginx.conf >"$work/nginx.conf"
+sed -e "s/3443/127.0.0.1:$tls_port/" -e "s/3063/$edge_port/" -e "s/# server 127.0.0.1:3064/server 127.0.0.1:$second_port/" deploy/nginx.conf >"$work/nginx.conf"
 start nginx -p "$work" -c "$work/nginx.conf" -e "$work/errors" -g "daemon off; pid $work/nginx.pid;" </dev/null
 
 # asks through nginx: the token, the path, and then what else curl takes
@@ -54,7 +58,9 @@ header() {
 same "what a browser asks first" 204 "$(through - /api/frontend --request OPTIONS --header 'Origin: https://shop.example' \
     --header 'Access-Control-Request-Method: GET' --dump-header "$work/head" --output /dev/null --write-out '%{http_code}')"
 same "who may ask" '*' "$(header Access-Control-Allow-Origin)"
-header Access-Control-Allow-Headers | grep -q authorization || fail "a browser may not send its token"
+for name in authorization content-type if-none-match unleash-appname unleash-sdk unleash-connection-id; do
+    header Access-Control-Allow-Headers | grep -q "$name" || fail "a browser may not send $name"
+done
 
 for query in userId=7 userId=9 ''; do
     same "the features for $query" "$(ask "$edge_port" '*:dev.front' "/api/frontend?$query")" "$(through '*:dev.front' "/api/frontend?$query")"
@@ -75,5 +81,8 @@ done
 through '*:dev.client' /api/client/features --dump-header "$work/head" --output /dev/null
 tag=$(header ETag)
 test -n "$tag" || fail "the feed has no tag"
-same "a feed that is known" 304 "$(through '*:dev.client' /api/client/features --header "If-None-Match: $tag" --output /dev/null --write-out '%{http_code}')"
+for poll in 1 2 3 4 5 6; do
+    same "a feed that is known, poll $poll" 304 \
+        "$(through '*:dev.client' /api/client/features --header "If-None-Match: $tag" --output /dev/null --write-out '%{http_code}')"
+done
 echo "${0##*/}: passed"

@@ -18,7 +18,7 @@ relay_port=${RELAY_PORT:-14343}
 edge_port=${EDGE_PORT:-13163}
 
 start "$program" upstream --port "$upstream_port" --secret s --environments dev \
-    --client-tokens '*:dev.client' --frontend-tokens '*:dev.front' <examples/shop.jsonl >/dev/null
+    --client-tokens '*:dev.client' --frontend-tokens '*:dev.front' <examples/upstream-shop.jsonl >/dev/null
 wait_for "$upstream_port" "the upstream"
 start ruby scripts/ruby/relay.rb "$relay_port" "$upstream_port" >"$work/relayed" </dev/null
 wait_for "$relay_port" "the relay"

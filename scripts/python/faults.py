@@ -209,15 +209,15 @@ def main():
     swept('replay', lambda **calls: ran(['replay'], 'examples/first.jsonl', **calls), of_input)
     swept('check', lambda **calls: ran(['check'], 'examples/check.json', **calls), of_input)
     upstream = ['upstream', '--secret', 's', '--environments', 'dev', '--client-tokens', '*:dev.client', '--frontend-tokens', '*:dev.front']
-    swept('a connection', served(upstream, [UPSTREAM_PORT], 'examples/commands.jsonl'), of_server)
+    swept('a connection', served(upstream, [UPSTREAM_PORT], 'examples/upstream-commands.jsonl'), of_server)
     upstream_of(UPSTREAM_PORT + 1)
     edge = ['edge', '--upstream', f'127.0.0.1:{UPSTREAM_PORT + 1}', '--upstream-tokens', '*:dev.client', '--tokens', '*:dev.client,*:dev.front',
             '--workers', '2', '--interval', '1']
     swept('a turn of an edge', served(edge, range(EDGE_PORT, EDGE_PORT + AT_ONCE)), of_edge, AT_ONCE)
     link = [*upstream, '--port', str(UPSTREAM_PORT)]
     at_once = [*edge, '--port', str(UPSTREAM_PORT)]
-    whole = served(upstream, [UPSTREAM_PORT], 'examples/commands.jsonl')()[0][0]
-    tried('an upstream without a second link', (whole, b'', DOOR_FAULT), without_link(link, 'examples/commands.jsonl'))
+    whole = served(upstream, [UPSTREAM_PORT], 'examples/upstream-commands.jsonl')()[0][0]
+    tried('an upstream without a second link', (whole, b'', DOOR_FAULT), without_link(link, 'examples/upstream-commands.jsonl'))
     whole = served(edge, [EDGE_PORT])()[0][0]
     tried('an edge without a second link', (whole, b'', DOOR_FAULT), without_link(at_once))
     for number in (1, 2, 3):

@@ -1,14 +1,12 @@
 //! The words of the program: a path, and then the options of an upstream.
-ghost use Rattle.std.specs.Prelude.{◌≡◌, ℕ, List, IfOk, drop, map, string_bytes};
-ghost use Rattle.std.specs.Vec.Iter.{into_iter_items};
+ghost use Rattle.std.specs.Prelude.{◌≡◌, ℕ, List, IfOk, map, string_bytes};
 ghost use Rattle.unl_keeping.specs.Given.{IsReading, bound_of, port_of};
 ghost use Rattle.unl_words.specs.Ranges.{IsInRange};
 
 use crate::fault::KeepingFault;
-use std::alloc::{AllocError, Global};
-use std::env::Args;
-use std::io::ErrorKind;
-use std::{env, mem};
+use std::alloc::Global;
+use std::mem;
+use unl_usage::{ArgumentsFault, read_arguments};
 use unl_words::{Words, WordsRefusal, read_words};
 
 /// Where the database stands, and what is asked of the upstream.
@@ -25,6 +23,14 @@ impl Given {
     {
         match &self.words {
             Words::Upstream(upstream) => upstream.port,
+            _ => 0,
+        }
+    }
+
+    /// The epoch in which the upstream begins.
+    pub fn epoch(&self) -> u64 {
+        match &self.words {
+            Words::Upstream(upstream) => upstream.epoch,
             _ => 0,
         }
     }
@@ -49,20 +55,11 @@ pub fn read_given(rt: &HostRuntime) -> Result<Given, KeepingFault>
     ensures reads { (words : List (List ℕ)) × IsReading words result }
     ensures valid { IfOk result (λ given. IsInRange given.words) }
 {
-    let args = match env::args(rt) {
-        Ok(args) => args,
-        Err(fault) if fault.kind() == ErrorKind::OutOfMemory => return Err(KeepingFault::Memory),
-        Err(_) => return Err(KeepingFault::BadWords),
-    };
-    let words = behind_name(rt.alloc(), args)?;
-    read_path_first(rt.alloc(), words)
-}
-
-/// The words behind the program's own name.
-fn behind_name(alloc: Global, args: Args) -> Result<Vec<String>, AllocError>
-    ensures { IfOk result (λ words. words.items ≡ drop 1 (into_iter_items args)) }
-{
-    args.skip(1).collect(alloc)
+    match read_arguments(rt) {
+        Ok(words) => read_path_first(rt.alloc(), words),
+        Err(ArgumentsFault::Bad) => Err(KeepingFault::BadWords),
+        Err(ArgumentsFault::Memory) => Err(KeepingFault::Memory),
+    }
 }
 
 /// Takes the first word for the path, in whose place then stands the name of the command.

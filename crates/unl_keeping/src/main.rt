@@ -20,6 +20,7 @@ use std::sync::Wait;
 use unl_base::{Door, Draws, RealDraws};
 use unl_keeper::SqliteKeeper;
 use unl_net::NetDoor;
+use unl_usage::{Program, report_refusal, report_unopened, warn_of_epoch};
 
 fn main(rt: HostRuntime) -> ExitCode {
     let ended = match open(&rt) {
@@ -36,6 +37,9 @@ fn main(rt: HostRuntime) -> ExitCode {
         },
         Err(fault) => Err(fault),
     };
+    if let Err(KeepingFault::BadWords) = &ended {
+        report_refusal(&rt, Program::DurableUpstream);
+    }
     let told = match &ended {
         Ok(served) => println!(rt; "connections {served}"),
         Err(fault) => println!(rt; "{fault}"),
@@ -52,15 +56,19 @@ fn open(rt: &HostRuntime) -> Result<(Given, Connection<FileStore<File>>), Keepin
     ensures { IfOk result (λ opened. IsInRange opened.0.words) }
 {
     let given = read_given(rt)?;
+    warn_of_epoch(rt, rt.alloc(), given.path.as_str(), given.epoch());
     match Connection::open(rt, given.path.as_str()) {
         Ok(connection) => Ok((given, connection)),
-        Err(error) => Err(KeepingFault::from(error)),
+        Err(error) => {
+            report_unopened(rt, given.path.as_str(), &error);
+            Err(KeepingFault::from(error))
+        }
     }
 }
 
 /// Serves an upstream over a database, until its door is closed, which listened at the port of the words, and answers how many links
 /// that were. What stands in the log is then in the file.
-fn serve_over<D: Door, R: Draws + Drop, W: Wait>(
+fn serve_over<D: Door, R: Draws + Drop, W: Wait + Eprint>(
     rt: &W,
     alloc: Global,
     given: &Given,
@@ -73,9 +81,32 @@ fn serve_over<D: Door, R: Draws + Drop, W: Wait>(
 {
     let boot = draws.draw().word;
     let port = given.port();
+    let epoch = given.epoch();
     let mut up = begin(alloc, boot, &given.words)?;
     let mut keeper = SqliteKeeper::new(connection);
-    let served = serve_reopened(rt, alloc, port, &mut up, &mut keeper, door, &mut draws)?;
-    keeper.into_connection().0.close()?;
-    Ok(served)
+    match serve_reopened(
+        rt,
+        alloc,
+        port,
+        epoch,
+        &mut up,
+        &mut keeper,
+        door,
+        &mut draws,
+    ) {
+        Ok(served) => {
+            keeper.into_connection().0.close()?;
+            Ok(served)
+        }
+        Err(fault) => {
+            if let KeepingFault::Keeper = &fault {
+                report_unopened(
+                    rt,
+                    given.path.as_str(),
+                    &"its table of commands can't be read",
+                );
+            }
+            Err(fault)
+        }
+    }
 }

@@ -15,6 +15,7 @@ use unl_base::{Door, Draws, Failed};
 use unl_documents::Memory;
 use unl_keeper::Keeper;
 use unl_upstream::{ReopenFault, Upstream, host_kept, reopen};
+use unl_usage::report_commands;
 use unl_words::{UpstreamWords, Words, own_book};
 
 /// An upstream of these words, which was given no command.
@@ -44,17 +45,19 @@ fn new_upstream(alloc: Global, boot: u64, words: &UpstreamWords) -> Result<Upstr
     Ok(up)
 }
 
-/// Opens an upstream from the rows of its keeper, listens at a port, and serves the links of the door, one after the other,
-/// until it is closed; each command is kept before it is acknowledged. It answers how many links were served.
+/// Opens an upstream from the rows of its keeper, reports how many these are and the epoch, listens at a port, and serves the links
+/// of the door, one after the other, until it is closed; each command is kept before it is acknowledged. It answers how many links
+/// were served.
 ///
 /// # Errors
 /// `Row` where a row of the keeper is no command that is accepted, or isn't there; `Keeper` where the keeper failed as it was
 /// opened; `Memory` where memory ran out as it was opened; `Door` where the port can't be listened at, or no link could be had. A
 /// keeper that fails while links are served ends nothing.
-pub fn serve_reopened<K: Keeper, D: Door, R: Draws, W: Wait>(
+pub fn serve_reopened<K: Keeper, D: Door, R: Draws, W: Wait + Eprint>(
     rt: &W,
     alloc: Global,
     port: u16,
+    epoch: u64,
     up: &mut Upstream,
     keeper: &mut K,
     door: &mut D,
@@ -68,10 +71,13 @@ pub fn serve_reopened<K: Keeper, D: Door, R: Draws, W: Wait>(
     ensures door { result ≡ Err door_fault → Rose (D.faults door.old) (D.faults door.new) }
 {
     match reopen(alloc, up, keeper) {
-        Ok(_) => match serve_links(rt, alloc, port, up, keeper, door, draws) {
-            Ok(served) => Ok(served),
-            Err(_) => Err(KeepingFault::Door),
-        },
+        Ok(count) => {
+            report_commands(rt, count, epoch);
+            match serve_links(rt, alloc, port, up, keeper, door, draws) {
+                Ok(served) => Ok(served),
+                Err(_) => Err(KeepingFault::Door),
+            }
+        }
         Err(ReopenFault::BadRow(place, _)) => Err(KeepingFault::Row(place)),
         Err(ReopenFault::NoRow(place)) => Err(KeepingFault::Row(place)),
         Err(ReopenFault::Fault) => Err(KeepingFault::Keeper),

@@ -1,0 +1,50 @@
+//! What the upstream over a database file reports of that file.
+use std::alloc::{AllocError, Global};
+use std::fmt::Display;
+use std::fs;
+use std::rt::Files;
+use std::time::UNIX_EPOCH;
+
+/// Warns where a database file or the log beside it was changed after the moment that the epoch says in seconds: then the epoch
+/// may have been in use already. A file that isn't there, or whose time can't be read, is no cause.
+pub fn warn_of_epoch<R: Files + Eprint>(rt: &R, alloc: Global, path: &str, epoch: u64) {
+    let Ok(log) = log_of(alloc, path) else {
+        return;
+    };
+    let changed = changed_at(rt, path).max(changed_at(rt, log.as_str()));
+    if changed > epoch {
+        let _ = rt.eprintln(format_args!(
+            "{path}: warning: changed at {changed}, after the epoch {epoch}: edges may keep what no upstream had; \
+             start with --epoch \"$(date +%s)\""
+        ));
+    }
+}
+
+/// Reports how many commands a database has, and the epoch in which they are served.
+pub fn report_commands<R: Eprint>(rt: &R, count: u64, epoch: u64) {
+    let _ = rt.eprintln(format_args!("{count} commands, epoch {epoch}"));
+}
+
+/// Reports why a database can't be opened or read.
+pub fn report_unopened<R: Eprint, F: Display>(rt: &R, path: &str, fault: &F) {
+    let _ = rt.eprintln(format_args!("{path}: {fault}"));
+}
+
+/// The path of the log beside a database.
+fn log_of(alloc: Global, path: &str) -> Result<String, AllocError> {
+    format!(in alloc; "{path}-wal")
+}
+
+/// When a file was last changed, in seconds since 1970: 0 where that can't be read.
+fn changed_at<R: Files>(rt: &R, path: &str) -> u64 {
+    let Ok(metadata) = fs::metadata(rt, path) else {
+        return 0;
+    };
+    let Ok(moment) = metadata.modified() else {
+        return 0;
+    };
+    match moment.duration_since(UNIX_EPOCH) {
+        Ok(since) => since.as_secs(),
+        Err(_) => 0,
+    }
+}

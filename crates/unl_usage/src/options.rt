@@ -1,0 +1,308 @@
+//! The options of each command, as its usage lists them.
+
+/// What the value of an option is.
+#[derive(Clone, Copy, Debug, PartialEq, Eq)]
+pub(crate) enum Kind {
+    /// Decimal digits.
+    Number,
+    /// Items with commas between them.
+    List,
+    /// Any other text.
+    Other,
+}
+
+/// An option of a command, which takes one value.
+#[derive(Clone, Copy, Debug)]
+pub(crate) struct CommandOption {
+    /// Its name, without the hyphens before it.
+    pub name: &'static str,
+    /// What its value is.
+    pub kind: Kind,
+    /// How a usage spells its value.
+    pub value: &'static str,
+    /// What its value is where it isn't given. None where it must be given.
+    pub absent: Option<&'static str>,
+    /// What its value may be.
+    pub range: &'static str,
+    /// What it is for.
+    pub purpose: &'static str,
+}
+
+/// The commands and what they do, in the order in which a usage lists them.
+pub(crate) const COMMANDS: [(&str, &str); 7] = [
+    (
+        "edge",
+        "serves the features of an upstream, which it asks again and again",
+    ),
+    (
+        "upstream",
+        "takes commands that change features, and serves them",
+    ),
+    (
+        "follow",
+        "asks an upstream or an edge turn by turn, and prints whether a feature is on",
+    ),
+    (
+        "replay",
+        "prints what an edge answers to the lines of its input",
+    ),
+    ("check", "runs the state test file of its input"),
+    (
+        "explain",
+        "prints why the feature of its input is on or off",
+    ),
+    (
+        "load",
+        "evaluates features that it makes from a seed, and counts what is on",
+    ),
+];
+
+const TEXT: &str = "no line break or NUL in it";
+
+const TOKEN: &str = "PROJECT:ENVIRONMENT.SECRET of at most 512 bytes";
+
+const WORD: &str = "0 to 18446744073709551615";
+
+const PORT: CommandOption = CommandOption {
+    name: "port",
+    kind: Kind::Number,
+    value: "N",
+    absent: Some("3063"),
+    range: "1 to 65535",
+    purpose: "the port to listen at",
+};
+
+const CONNECTIONS: CommandOption = CommandOption {
+    name: "connections",
+    kind: Kind::Number,
+    value: "N",
+    absent: Some("0"),
+    range: WORD,
+    purpose: "after how many links it ends, never at 0",
+};
+
+const UPSTREAM_ADDRESS: CommandOption = CommandOption {
+    name: "upstream",
+    kind: Kind::Other,
+    value: "HOST:PORT",
+    absent: None,
+    range: "a host, a colon, and a port of 1 to 65535",
+    purpose: "the server that is asked",
+};
+
+const INTERVAL: CommandOption = CommandOption {
+    name: "interval",
+    kind: Kind::Number,
+    value: "N",
+    absent: Some("15"),
+    range: "1 to 3600",
+    purpose: "how many seconds lie between two turns",
+};
+
+const MODE: CommandOption = CommandOption {
+    name: "mode",
+    kind: Kind::Other,
+    value: "MODE",
+    absent: Some("delta"),
+    range: "delta or feed",
+    purpose: "whether it asks for changes or for whole feeds",
+};
+
+static CHECK: [CommandOption; 2] = [
+    CommandOption {
+        name: "now",
+        kind: Kind::Number,
+        value: "N",
+        absent: Some("0"),
+        range: "0 to 100000000000000",
+        purpose: "the moment of the evaluations, in milliseconds since 1970",
+    },
+    CommandOption {
+        name: "word",
+        kind: Kind::Number,
+        value: "N",
+        absent: Some("0"),
+        range: WORD,
+        purpose: "the random word of the evaluations",
+    },
+];
+
+static EDGE: [CommandOption; 9] = [
+    UPSTREAM_ADDRESS,
+    CommandOption {
+        name: "upstream-tokens",
+        kind: Kind::List,
+        value: "LIST",
+        absent: None,
+        range: "1 to 8 tokens of different environments",
+        purpose: "what it shows to its upstream, one for each environment",
+    },
+    CommandOption {
+        name: "tokens",
+        kind: Kind::List,
+        value: "LIST",
+        absent: None,
+        range: "1 to 1024 tokens",
+        purpose: "what clients may show, if the upstream knows it",
+    },
+    PORT,
+    CommandOption {
+        name: "workers",
+        kind: Kind::Number,
+        value: "N",
+        absent: Some("4"),
+        range: "1 to 16",
+        purpose: "how many links it serves at once",
+    },
+    INTERVAL,
+    MODE,
+    CommandOption {
+        name: "host",
+        kind: Kind::Other,
+        value: "TEXT",
+        absent: Some("empty"),
+        range: TEXT,
+        purpose: "its host name, for the strategy applicationHostname",
+    },
+    CONNECTIONS,
+];
+
+static UPSTREAM: [CommandOption; 8] = [
+    CommandOption {
+        name: "secret",
+        kind: Kind::Other,
+        value: "TEXT",
+        absent: None,
+        range: "not empty, no line break or NUL in it",
+        purpose: "what a command must show",
+    },
+    CommandOption {
+        name: "environments",
+        kind: Kind::List,
+        value: "LIST",
+        absent: None,
+        range: "1 to 8 different names of at most 255 bytes",
+        purpose: "the environments that it has",
+    },
+    CommandOption {
+        name: "client-tokens",
+        kind: Kind::List,
+        value: "LIST",
+        absent: Some("empty"),
+        range: "tokens that name one project or *",
+        purpose: "what edges and backends may show",
+    },
+    CommandOption {
+        name: "frontend-tokens",
+        kind: Kind::List,
+        value: "LIST",
+        absent: Some("empty"),
+        range: "tokens that name one project or *",
+        purpose: "what browsers may show",
+    },
+    CommandOption {
+        absent: Some("4242"),
+        ..PORT
+    },
+    CommandOption {
+        name: "epoch",
+        kind: Kind::Number,
+        value: "N",
+        absent: Some("0"),
+        range: WORD,
+        purpose: "a number above that of each start before, as the seconds of the clock",
+    },
+    CommandOption {
+        name: "keep",
+        kind: Kind::Other,
+        value: "WHERE",
+        absent: Some("memory"),
+        range: "memory or sqlite",
+        purpose: "what it holds its commands in, both lost at its end",
+    },
+    CONNECTIONS,
+];
+
+static FOLLOW: [CommandOption; 7] = [
+    UPSTREAM_ADDRESS,
+    CommandOption {
+        name: "token",
+        kind: Kind::Other,
+        value: "TOKEN",
+        absent: None,
+        range: TOKEN,
+        purpose: "what it shows to the server",
+    },
+    CommandOption {
+        name: "feature",
+        kind: Kind::Other,
+        value: "NAME",
+        absent: None,
+        range: "1 to 255 bytes",
+        purpose: "the feature that it prints",
+    },
+    CommandOption {
+        name: "context",
+        kind: Kind::Other,
+        value: "QUERY",
+        absent: Some("empty"),
+        range: "a query as userId=7&plan=gold, within the limits of a context",
+        purpose: "who asks",
+    },
+    MODE,
+    CommandOption {
+        name: "turns",
+        kind: Kind::Number,
+        value: "N",
+        absent: Some("1"),
+        range: "1 to 1000000",
+        purpose: "how many turns it makes",
+    },
+    INTERVAL,
+];
+
+static LOAD: [CommandOption; 2] = [
+    CommandOption {
+        name: "seed",
+        kind: Kind::Number,
+        value: "N",
+        absent: None,
+        range: WORD,
+        purpose: "what its features are made from",
+    },
+    CommandOption {
+        name: "count",
+        kind: Kind::Number,
+        value: "N",
+        absent: None,
+        range: "1 to 1000000",
+        purpose: "how often it evaluates one",
+    },
+];
+
+/// The options of a command, those that must be given first. None where no command has this name.
+pub(crate) fn options_of(command: &str) -> Option<&'static [CommandOption]> {
+    match command {
+        "replay" => Some(&[]),
+        "explain" => Some(&[]),
+        "check" => Some(&CHECK),
+        "edge" => Some(&EDGE),
+        "upstream" => Some(&UPSTREAM),
+        "follow" => Some(&FOLLOW),
+        "load" => Some(&LOAD),
+        _ => None,
+    }
+}
+
+/// A value that every command takes at this option, which must be given.
+pub(crate) fn sample_of(option: &str) -> &'static str {
+    match option {
+        "upstream" => "h:1",
+        "upstream-tokens" => "*:e.s",
+        "tokens" => "*:e.s",
+        "token" => "*:e.s",
+        "seed" => "0",
+        "count" => "1",
+        _ => "x",
+    }
+}

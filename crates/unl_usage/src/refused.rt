@@ -1,0 +1,191 @@
+//! Why arguments are refused, and the usage behind it.
+use crate::arguments::{Cause, FILE_VARIABLE, arguments};
+use crate::options::{CommandOption, options_of};
+use crate::program::Program;
+use crate::scan::{Given, Slip, scan};
+use crate::usage::{push_commands, push_usage, push_version};
+use crate::value_fault::{ValueFault, fault_of};
+use std::alloc::{AllocError, Global};
+use std::fmt::Display;
+use std::rt::{Env, Files};
+
+/// Writes on the error stream why a program refuses its arguments, which are read again, and its usage. It writes nothing where
+/// memory runs out.
+pub fn report_refusal<R: Env + Files + AllocGlobal + Eprint>(rt: &R, program: Program) {
+    match arguments(rt) {
+        Ok(words) => {
+            if let Ok(text) = refusal_text(rt.alloc(), program, &words) {
+                report(rt, text.as_str());
+            }
+        }
+        Err(Cause::NotText(what)) => report(rt, format_args!("{what} isn't UTF-8")),
+        Err(Cause::File(path, fault)) => report(
+            rt,
+            format_args!("{FILE_VARIABLE}: {path}: {fault}"),
+        ),
+        Err(Cause::Memory) => {}
+    }
+}
+
+/// Writes a line on the error stream.
+fn report<E: Eprint, D: Display + Drop>(rt: &E, line: D) {
+    let _ = rt.eprintln(line);
+}
+
+/// Why a program refuses its arguments, and its usage, as lines. No value that was given is among them, since it may be secret.
+///
+/// # Errors
+/// Out of memory.
+pub fn refusal_text(
+    alloc: Global,
+    program: Program,
+    words: &[String],
+) -> Result<String, AllocError> {
+    let mut text = String::new(alloc);
+    let first = match words.first() {
+        Some(first) => first.as_str(),
+        None => "",
+    };
+    match program {
+        _ if first == "--version" || first == "-V" => push_version(&mut text, program)?,
+        Program::Edge => push_edge(alloc, &mut text, first, words)?,
+        Program::DurableUpstream => push_durable(alloc, &mut text, first, words)?,
+    }
+    Ok(text)
+}
+
+/// Adds why `unl_edge` refuses its arguments.
+fn push_edge(
+    alloc: Global,
+    text: &mut String,
+    first: &str,
+    words: &[String],
+) -> Result<(), AllocError> {
+    let Some(options) = options_of(first) else {
+        push_no_command(text, first)?;
+        return push_commands(text);
+    };
+    push_fault(alloc, text, Program::Edge, first, options, words)?;
+    push_usage(text, Program::Edge, first, options)
+}
+
+/// Adds why the first argument names no command, but for one that asks for help.
+fn push_no_command(text: &mut String, first: &str) -> Result<(), AllocError> {
+    match first {
+        "--help" | "-h" | "help" => Ok(()),
+        "" => text.push_str("unl_edge: no command is given\n"),
+        _ => text.push_str("unl_edge: the first argument names no command\n"),
+    }
+}
+
+/// Adds why `unl_keeping` refuses its arguments.
+fn push_durable(
+    alloc: Global,
+    text: &mut String,
+    first: &str,
+    words: &[String],
+) -> Result<(), AllocError> {
+    let program = Program::DurableUpstream;
+    let command = "upstream";
+    let options = options_of(command).unwrap_or(&[]);
+    if first.is_empty() || first.starts_with('-') {
+        if first != "--help" && first != "-h" {
+            text.push_str("unl_keeping: the first argument is to be the path of the database\n")?;
+        }
+    } else {
+        push_fault(alloc, text, program, command, options, words)?;
+    }
+    push_usage(text, program, command, options)
+}
+
+/// Adds why the options of a command are refused, which stand behind the first argument.
+fn push_fault(
+    alloc: Global,
+    text: &mut String,
+    program: Program,
+    command: &str,
+    options: &[CommandOption],
+    words: &[String],
+) -> Result<(), AllocError> {
+    let behind = words.get(1..).unwrap_or(&[]);
+    match scan(alloc, options, behind)? {
+        Err(Slip::Help) => Ok(()),
+        Err(slip) => {
+            push_place(text, program, command)?;
+            push_slip(text, &slip)
+        }
+        Ok(found) => {
+            push_place(text, program, command)?;
+            push_values(alloc, text, command, options, &found)
+        }
+    }
+}
+
+/// Adds of which program and command it speaks.
+fn push_place(text: &mut String, program: Program, command: &str) -> Result<(), AllocError> {
+    match program {
+        Program::Edge => write!(text, "unl_edge {command}: "),
+        Program::DurableUpstream => text.push_str("unl_keeping: "),
+    }
+}
+
+/// Adds why the arguments are no options with their values.
+fn push_slip(text: &mut String, slip: &Slip<'_>) -> Result<(), AllocError> {
+    match *slip {
+        Slip::Help => Ok(()),
+        Slip::Stray(place) => writeln!(text, "argument {place} is no option"),
+        Slip::Unknown(name) => writeln!(text, "--{name} is no option of it"),
+        Slip::NoValue(option) => {
+            let name = option.name;
+            write!(text, "--{name} has no value behind it; ")?;
+            text.push_str("one that begins with a hyphen is written --OPTION=VALUE\n")
+        }
+        Slip::Twice(option) => {
+            let name = option.name;
+            writeln!(text, "--{name} is given twice")
+        }
+        Slip::Missing(option) => {
+            let name = option.name;
+            writeln!(text, "--{name} is missing")
+        }
+    }
+}
+
+/// Adds which option's value is the first that is refused.
+fn push_values(
+    alloc: Global,
+    text: &mut String,
+    command: &str,
+    options: &[CommandOption],
+    found: &[Given<'_>],
+) -> Result<(), AllocError> {
+    for given in found {
+        if let Some(fault) = fault_of(alloc, command, options, given)? {
+            return push_value(text, &given.option, fault);
+        }
+    }
+    text.push_str(
+        "--client-tokens and --frontend-tokens have a token in common, or more than 1024\n",
+    )
+}
+
+/// Adds why the value of an option is refused.
+fn push_value(
+    text: &mut String,
+    option: &CommandOption,
+    fault: ValueFault,
+) -> Result<(), AllocError> {
+    let name = option.name;
+    let range = option.range;
+    match fault {
+        ValueFault::NoNumber => writeln!(text, "--{name} is no number: {range}"),
+        ValueFault::OutOfRange => writeln!(text, "--{name} is out of range: {range}"),
+        ValueFault::EmptyList => writeln!(text, "--{name} is an empty list: {range}"),
+        ValueFault::BadItem(place) => writeln!(text, "--{name} has a bad item {place}: {range}"),
+        ValueFault::BadItems => writeln!(
+            text,
+            "--{name} has too many items, or two alike: {range}"
+        ),
+        ValueFault::BadText => writeln!(text, "--{name} has a bad value: {range}"),
+    }
+}

@@ -1,0 +1,124 @@
+//! The options that arguments give, or the first argument that is none.
+use crate::options::CommandOption;
+use std::alloc::{AllocError, Global};
+
+/// An option and the value that is given for it.
+#[derive(Clone, Copy, Debug)]
+pub(crate) struct Given<'a> {
+    pub option: CommandOption,
+    pub value: &'a str,
+}
+
+/// Why arguments are no options with their values.
+#[derive(Clone, Copy, Debug)]
+pub(crate) enum Slip<'a> {
+    /// The usage is asked for.
+    Help,
+    /// The argument in this place, from 1, is neither an option nor the value of one.
+    Stray(usize),
+    /// The command has no option of this name.
+    Unknown(&'a str),
+    /// The option has no value.
+    NoValue(CommandOption),
+    /// The option is given twice.
+    Twice(CommandOption),
+    /// The option must be given.
+    Missing(CommandOption),
+}
+
+/// What arguments give, or why they give nothing.
+pub(crate) type Scanned<'a> = Result<Vec<Given<'a>>, Slip<'a>>;
+
+/// What an argument is where an option may begin.
+enum Word<'a> {
+    Whole(Given<'a>),
+    Begun(CommandOption),
+    None(Slip<'a>),
+}
+
+/// Reads the arguments behind a command as its options: `--name value` or `--name=value`, each at most once.
+pub(crate) fn scan<'a>(
+    alloc: Global,
+    options: &[CommandOption],
+    words: &'a [String],
+) -> Result<Scanned<'a>, AllocError> {
+    let mut found = Vec::new(alloc);
+    let mut begun: Option<CommandOption> = None;
+    for (place, word) in words.iter().enumerate() {
+        let word = word.as_str();
+        let given = match begun {
+            Some(option) if is_value(word) => Given {
+                option,
+                value: word,
+            },
+            Some(option) => return Ok(Err(Slip::NoValue(option))),
+            None => match read_word(options, word, place) {
+                Word::Whole(given) => given,
+                Word::Begun(option) => {
+                    begun = Some(option);
+                    continue;
+                }
+                Word::None(slip) => return Ok(Err(slip)),
+            },
+        };
+        begun = None;
+        if value_of(&found, given.option.name).is_some() {
+            return Ok(Err(Slip::Twice(given.option)));
+        }
+        found.push(given)?;
+    }
+    match begun {
+        Some(option) => Ok(Err(Slip::NoValue(option))),
+        None => Ok(with_required(options, found)),
+    }
+}
+
+/// What an argument is that is no option's value: it is in this place behind the command.
+fn read_word<'a>(options: &[CommandOption], word: &'a str, place: usize) -> Word<'a> {
+    if word == "--help" || word == "-h" {
+        return Word::None(Slip::Help);
+    }
+    let Some(rest) = word.strip_prefix("--") else {
+        return Word::None(Slip::Stray(place.saturating_add(2)));
+    };
+    match rest.split_once('=') {
+        Some((name, value)) => match option_named(options, name) {
+            Some(option) => Word::Whole(Given { option, value }),
+            None => Word::None(Slip::Unknown(name)),
+        },
+        None => match option_named(options, rest) {
+            Some(option) => Word::Begun(option),
+            None => Word::None(Slip::Unknown(rest)),
+        },
+    }
+}
+
+/// Whether an argument can be the value of the option before it.
+fn is_value(word: &str) -> bool {
+    word == "-" || !word.starts_with('-')
+}
+
+/// The options that are given, where each that must be is among them.
+fn with_required<'a>(options: &[CommandOption], found: Vec<Given<'a>>) -> Scanned<'a> {
+    for option in options {
+        if option.absent.is_none() && value_of(&found, option.name).is_none() {
+            return Err(Slip::Missing(*option));
+        }
+    }
+    Ok(found)
+}
+
+/// The option of this name.
+fn option_named(options: &[CommandOption], name: &str) -> Option<CommandOption> {
+    options.iter().find(|option| option.name == name).copied()
+}
+
+/// The value that is given for the option of this name.
+pub(crate) fn value_of<'a>(found: &[Given<'a>], name: &str) -> Option<&'a str> {
+    for given in found {
+        if given.option.name == name {
+            return Some(given.value);
+        }
+    }
+    None
+}

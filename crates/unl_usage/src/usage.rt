@@ -1,0 +1,74 @@
+//! The usage of the programs and of their commands.
+use crate::options::{COMMANDS, CommandOption};
+use crate::program::Program;
+use std::alloc::AllocError;
+
+/// The version of the programs, and the kit that they were last proved with.
+const VERSION: &str = "1.0.0, proved with rattle-kit-13f of the logic dac8208d650f15bf";
+
+/// The variable that names a file with further arguments.
+const FILE_NOTE: &str =
+    "Where UNL_EDGE_WORDS_FILE names a file, its lines are further arguments, one a line.";
+
+/// Adds the version.
+pub(crate) fn push_version(text: &mut String, program: Program) -> Result<(), AllocError> {
+    let name = program.name();
+    write!(text, "{name} {VERSION}")
+}
+
+/// Adds the list of the commands.
+pub(crate) fn push_commands(text: &mut String) -> Result<(), AllocError> {
+    text.push_str("usage: unl_edge COMMAND [--OPTION VALUE ..]")?;
+    for (name, purpose) in &COMMANDS {
+        write!(text, "\n  {name:<10}{purpose}")?;
+    }
+    text.push_str(
+        "\nunl_edge COMMAND --help lists the options of a command, unl_edge --version the version.\n",
+    )?;
+    text.push_str(FILE_NOTE)
+}
+
+/// Adds the usage of a command.
+pub(crate) fn push_usage(
+    text: &mut String,
+    program: Program,
+    command: &str,
+    options: &[CommandOption],
+) -> Result<(), AllocError> {
+    match program {
+        Program::Edge => write!(text, "usage: unl_edge {command}")?,
+        Program::DurableUpstream => text.push_str("usage: unl_keeping FILE")?,
+    }
+    for option in options {
+        push_named(text, option)?;
+    }
+    for option in options {
+        push_option(text, option)?;
+    }
+    text.push_str("\n")?;
+    text.push_str(FILE_NOTE)
+}
+
+/// Adds an option that must be given to the first line.
+fn push_named(text: &mut String, option: &CommandOption) -> Result<(), AllocError> {
+    if option.absent.is_some() {
+        return Ok(());
+    }
+    let name = option.name;
+    let value = option.value;
+    write!(text, " --{name} {value}")
+}
+
+/// Adds the line of an option.
+fn push_option(text: &mut String, option: &CommandOption) -> Result<(), AllocError> {
+    let name = option.name;
+    let value = option.value;
+    let purpose = option.purpose;
+    let range = option.range;
+    write!(text, "\n  --{name} {value}")?;
+    match option.absent {
+        Some(absent) => write!(text, " ({absent})")?,
+        None => text.push_str(" (required)")?,
+    }
+    write!(text, ": {purpose}; {range}")
+}

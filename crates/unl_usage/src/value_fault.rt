@@ -1,0 +1,99 @@
+//! Which value of an option is refused. Whether one is, is asked of `read_words` itself: each value alone, beside values that
+//! every command takes.
+use crate::options::{CommandOption, Kind, sample_of};
+use crate::scan::Given;
+use std::alloc::{AllocError, Global};
+use unl_words::{WordsRefusal, read_words};
+
+/// Why the value of an option is refused.
+#[derive(Clone, Copy, Debug)]
+pub(crate) enum ValueFault {
+    /// It is no number.
+    NoNumber,
+    /// It is a number outside the range.
+    OutOfRange,
+    /// It is a list with no item in it.
+    EmptyList,
+    /// The item in this place of the list, from 1, is refused alone.
+    BadItem(usize),
+    /// The items are too many, or two are alike that must not be.
+    BadItems,
+    /// It is another text than the option takes.
+    BadText,
+}
+
+/// Why the value of an option of this command is refused, where it is.
+pub(crate) fn fault_of(
+    alloc: Global,
+    command: &str,
+    options: &[CommandOption],
+    given: &Given<'_>,
+) -> Result<Option<ValueFault>, AllocError> {
+    if takes(alloc, command, options, given.option.name, given.value)? {
+        return Ok(None);
+    }
+    let fault = match given.option.kind {
+        Kind::Number if is_number(given.value) => ValueFault::OutOfRange,
+        Kind::Number => ValueFault::NoNumber,
+        Kind::List => list_fault(alloc, command, options, given)?,
+        Kind::Other => ValueFault::BadText,
+    };
+    Ok(Some(fault))
+}
+
+/// Why a list is refused.
+fn list_fault(
+    alloc: Global,
+    command: &str,
+    options: &[CommandOption],
+    given: &Given<'_>,
+) -> Result<ValueFault, AllocError> {
+    let mut count = 0usize;
+    for item in given.value.split(',') {
+        if item.trim_ascii().is_empty() {
+            continue;
+        }
+        count = count.saturating_add(1);
+        if !takes(alloc, command, options, given.option.name, item)? {
+            return Ok(ValueFault::BadItem(count));
+        }
+    }
+    if count == 0 {
+        Ok(ValueFault::EmptyList)
+    } else {
+        Ok(ValueFault::BadItems)
+    }
+}
+
+/// Whether a command takes this value of an option.
+fn takes(
+    alloc: Global,
+    command: &str,
+    options: &[CommandOption],
+    name: &str,
+    value: &str,
+) -> Result<bool, AllocError> {
+    let mut words = Vec::new(alloc);
+    words.push(String::from_str(alloc, command)?)?;
+    for option in options {
+        if option.absent.is_none() && option.name != name {
+            words.push(word_of(alloc, option.name, sample_of(option.name))?)?;
+        }
+    }
+    words.push(word_of(alloc, name, value)?)?;
+    match read_words(alloc, &words) {
+        Ok(_) => Ok(true),
+        Err(WordsRefusal::Bad) => Ok(false),
+        Err(WordsRefusal::Memory) => Err(AllocError),
+    }
+}
+
+/// An option and its value as one argument.
+fn word_of(alloc: Global, name: &str, value: &str) -> Result<String, AllocError> {
+    format!(in alloc; "--{name}={value}")
+}
+
+/// Whether a text is a number, perhaps a large one.
+fn is_number(text: &str) -> bool {
+    !text.is_empty() && text.bytes().all(|byte| byte.is_ascii_digit())
+}
