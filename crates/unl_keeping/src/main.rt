@@ -17,9 +17,9 @@ use sqlite::{Connection, File, FileStore};
 use std::alloc::Global;
 use std::process::ExitCode;
 use std::sync::Wait;
-use unl_base::{Door, Draws, RealDraws};
+use unl_base::{Door, Draws};
 use unl_keeper::SqliteKeeper;
-use unl_net::NetDoor;
+use unl_net::{NetDoor, NetDraws};
 use unl_usage::{Program, report_refusal, report_unopened, warn_of_epoch};
 
 fn main(rt: HostRuntime) -> ExitCode {
@@ -31,7 +31,7 @@ fn main(rt: HostRuntime) -> ExitCode {
                 &given,
                 connection,
                 &mut door,
-                RealDraws::new(&rt),
+                NetDraws::new(&rt),
             ),
             Err(fault) => Err(KeepingFault::from(fault)),
         },

@@ -1,2 +1,3 @@
+mod Moving
 mod Telling
 mod Trying

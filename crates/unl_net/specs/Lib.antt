@@ -1,4 +1,7 @@
-pub mod Streams
+pub mod Buffers
+pub mod Doors
+pub mod Exchanges
+pub mod Moments
+pub mod Phases
 pub mod Telling
-pub mod Turns
 pub mod Watching

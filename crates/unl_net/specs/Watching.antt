@@ -2,15 +2,15 @@
 use Rattle.std.specs.Prelude.{Bool, ℕ, ◌&&◌, ◌-◌, ◌+◌, ◌*◌, List, Option, Some, None, nat_le, nat_eq}
 use Rattle.std.specs.Prelude.{if◌then◌else◌, codes, length, slice_index_or, take}
 use Rattle.std.specs.Prelude.{◌≡◌, ◌||◌, false, not, position, slice_set, unwrap_or}
-use Rattle.std.specs.Option.{option_map_or}
+use Rattle.std.specs.Option.{option_and_then, option_map_or}
 use Rattle.std.specs.Fmt.{decimal}
 use Rattle.std.specs.List.{starts_with}
 use Rattle.unl_net.specs.Telling.{told_text}
-use Rattle.unl_net.specs.declared.watch.Answer.{Answer}
-use Rattle.unl_net.specs.declared.watch.Known.{Known}
-use Rattle.unl_net.specs.declared.watch.Stage.{Stage}
-use Rattle.unl_net.specs.declared.watch.Stage.TheVariants.{Fresh, Asked, Answered}
-use Rattle.unl_net.specs.declared.watch.Watch.{Watch}
+use Rattle.unl_net.specs.declared.status_log.Answer.{Answer}
+use Rattle.unl_net.specs.declared.status_log.Known.{Known}
+use Rattle.unl_net.specs.declared.status_log.Stage.{Stage}
+use Rattle.unl_net.specs.declared.status_log.Stage.TheVariants.{Fresh, Asked, Answered}
+use Rattle.unl_net.specs.declared.status_log.StatusLog.{StatusLog}
 
 -- by how far the exchange on a connection has come
 abbrev pub match_stage : Stage → Type 0 → Type 0 → Type 0 → Type 0
@@ -36,20 +36,13 @@ status_of reply =
     then digits_of (slice_index_or reply 9 0) (slice_index_or reply 10 0) (slice_index_or reply 11 0)
     else None
 
--- what was written told which kind of request was asked, if it came first on its connection
-abbrev pub NotesWritten : Watch → List ℕ → Watch → Type 0
-NotesWritten old piece new = match_stage old.stage
-    ((new.stage ≡ Asked) × (take new.kind.len new.kind.text ≡ told_text piece) × (new.known ≡ old.known))
-    (new ≡ old)
-    (new ≡ old)
-
--- what is told of a status: all those of the classes 2 and 3 are well, which is 0
+-- what is told of a status: all those of the class 2 and 304 are well, which is 0
 abbrev pub class_of : ℕ → ℕ
-class_of status = if nat_le 200 status && nat_le status 399 then 0 else status
+class_of status = if (nat_le 200 status && nat_le status 299) || nat_eq status 304 then 0 else status
 
 -- an entry that is free: no kind has the number 0, and all is well at first, which is not told
 abbrev pub nothing_known : Known
-nothing_known = record { key = 0; told = record { last = 0 } }
+nothing_known = record { key = 0; told = record { last = 0 }; fed = false }
 
 -- where the answers to a kind are noted: at the first entry that is its own or free
 abbrev pub place_of : ℕ → List Known → Option ℕ
@@ -59,31 +52,74 @@ place_of key known = position (λ entry. nat_eq entry.key key || nat_eq entry.ke
 abbrev pub last_at : List Known → ℕ → ℕ
 last_at known at = (slice_index_or known at nothing_known).told.last
 
+-- whether its last answer was a feed
+abbrev pub fed_at : List Known → ℕ → Bool
+fed_at known at = (slice_index_or known at nothing_known).fed
+
+-- a feed that was not taken is answered well again once its next request shows that, and not before
+abbrev pub next_class : ℕ → ℕ → Bool → ℕ
+next_class last class fed = if fed && nat_eq last 1000 then last else class
+
 -- how a kind was answered is known at its place
-abbrev pub after_answer : ℕ → ℕ → List Known → List Known
-after_answer key class known =
-    option_map_or (λ at. slice_set known at (record { key = key; told = record { last = class } })) (place_of key known) known
+abbrev pub after_answer : ℕ → ℕ → Bool → List Known → List Known
+after_answer key class fed known = option_map_or
+    (λ at. slice_set known at (record { key = key; told = record { last = next_class (last_at known at) class fed }; fed = fed }))
+    (place_of key known) known
 
 -- that a kind is answered so is to be told where something else was last told of it
-abbrev pub is_news : ℕ → ℕ → List Known → Bool
-is_news key class known = option_map_or (λ at. not (nat_eq class (last_at known at))) (place_of key known) false
+abbrev pub is_news : ℕ → ℕ → Bool → List Known → Bool
+is_news key class fed known =
+    option_map_or (λ at. not (nat_eq (next_class (last_at known at) class fed) (last_at known at))) (place_of key known) false
+
+-- what is told of a feed that was taken, or not
+abbrev pub taken_class : Bool → ℕ
+taken_class taken = if taken then 0 else 1000
+
+-- and the status that is told then
+abbrev pub taken_status : Bool → ℕ
+taken_status taken = if taken then 200 else 1000
+
+-- a request behind a feed shows by its tag whether that was taken
+abbrev pub after_request : ℕ → Bool → List Known → List Known
+after_request key has_tag known = option_map_or
+    (λ at. if fed_at known at then slice_set known at (record { key = key; told = record { last = taken_class has_tag }; fed = false }) else known)
+    (place_of key known) known
+
+-- where that is to be told
+abbrev pub told_request : ℕ → Bool → List Known → Option Answer
+told_request key has_tag known = option_and_then
+    (λ at. if fed_at known at && not (nat_eq (taken_class has_tag) (last_at known at)) then Some (record { status = taken_status has_tag }) else None)
+    (place_of key known)
+
+-- what was written told which kind of request was asked, if it came first on its connection, and what became of the answer before it
+abbrev pub NotesWritten : StatusLog → List ℕ → Option Answer → StatusLog → Type 0
+NotesWritten old piece result new = match_stage old.stage
+    ((new.stage ≡ Asked) × (take new.kind.len new.kind.text ≡ told_text piece)
+    × (new.known ≡ after_request new.kind.key new.kind.has_tag old.known) × (result ≡ told_request new.kind.key new.kind.has_tag old.known))
+    ((new ≡ old) × (result ≡ None))
+    ((new ≡ old) × (result ≡ None))
 
 -- the status of an answer that begins so, and 1 where there is none
 abbrev pub answer_status : List ℕ → ℕ
 answer_status reply = unwrap_or (status_of reply) 1
 
+-- it is a feed that may be taken
+abbrev pub is_fed : StatusLog → List ℕ → Bool
+is_fed log reply = log.kind.is_feed && nat_eq (answer_status reply) 200
+
 -- an answer with this status to a kind, where it is to be told
-abbrev pub told_answer : ℕ → ℕ → List Known → Option Answer
-told_answer key status known = if is_news key (class_of status) known then Some (record { status = status }) else None
+abbrev pub told_answer : ℕ → ℕ → Bool → List Known → Option Answer
+told_answer key status fed known = if is_news key (class_of status) fed known then Some (record { status = status }) else None
 
 -- what came answers the request that was asked, if it came first behind it: how its kind is answered is known, and told where it is news
-abbrev pub NotesRead : Watch → List ℕ → Option Answer → Watch → Type 0
+abbrev pub NotesRead : StatusLog → List ℕ → Option Answer → StatusLog → Type 0
 NotesRead old bytes result new = match_stage old.stage
     ((new ≡ old) × (result ≡ None))
-    ((new ≡ record old { stage = Answered; known = after_answer old.kind.key (class_of (answer_status bytes)) old.known })
-    × (result ≡ told_answer old.kind.key (answer_status bytes) old.known))
+    ((new ≡ record old { stage = Answered; known = after_answer old.kind.key (class_of (answer_status bytes)) (is_fed old bytes) old.known })
+    × (result ≡ told_answer old.kind.key (answer_status bytes) (is_fed old bytes) old.known))
     ((new ≡ old) × (result ≡ None))
 
--- what is told of an answer: its status, and 1 is that of none
+-- what is told of an answer: its status; 1 is that of none, and 1000 that of a feed that was not taken
 abbrev pub answer_text : ℕ → List ℕ
-answer_text status = if nat_eq status 1 then codes "no answer" else decimal status
+answer_text status =
+    if nat_eq status 1 then codes "no answer" else if nat_eq status 1000 then codes "200, but not taken" else decimal status

@@ -1,52 +1,96 @@
 //! A door over the network.
-ghost use Rattle.std.specs.Arc.{arc_value};
-ghost use Rattle.std.specs.Prelude.{◌≡◌, ◌≤◌, ◌-◌, ◌^◌, IfOk, None, unwrap_or};
+ghost use Rattle.std.specs.Prelude.{◌≡◌, ◌≤◌, ◌-◌, ◌^◌, IfOk, IfSome, None, OnErr, OnOk, true, unwrap_or};
+ghost use Rattle.unl_base.specs.Doors.{Accepts, IsFresh};
+ghost use Rattle.unl_base.specs.Faults.{HasCause};
+ghost use Rattle.unl_net.specs.Doors.{IsLast};
 
-use crate::accepting::accept_link;
-use crate::crowd::Crowd;
+use crate::cuts::EachMinute;
+use crate::limits::most_connections;
 use crate::link::NetLink;
-use crate::log::{Told, tell};
+use crate::listener::{Accepting, accept_some, open_at};
+use crate::moment::moment;
+use crate::reactor::Reactor;
 use std::alloc::{AllocError, Global};
 use std::io;
-use std::io::ErrorKind;
-use std::net::{Ipv4Addr, Ipv6Addr, Net, OpenListener, TcpListener};
+use std::io::{ErrorKind, Read, Write};
+use std::net::{Net, OpenListener, OpenStream};
+use std::os::fd::AsRawFd;
+use std::sync::{Arc, Wait};
 use std::time::Clock;
 use unl_base::{Door, Failed, Listening};
 
+/// How many links are handed out before it is looked whether others wait.
+const MOST_IN_A_ROW: u64 = 32;
+
+/// How long a wait takes at most, in milliseconds.
+const SECOND: u64 = 1_000;
+
+/// The same where a connection waits that can't be accepted yet.
+const MOMENT: u64 = 10;
+
 /// A door over the network. It listens on each IPv6 and each IPv4 address of this machine where one socket can do both, and else
-/// on each IPv4 address.
+/// on each IPv4 address. It holds the connections that wait for their clients, and hands one out as a link once a whole request of
+/// it came. A connection may be several links, one after another.
 #[derive(Drop)]
-pub struct NetDoor<N: Net + Clock + Eprint + Copy + Drop> {
+pub struct NetDoor<N: Net + Clock + Eprint + Wait + Copy + Drop> {
     net: N,
+    alloc: Global,
     listening: Option<Listening<N::Listener>>,
-    crowd: Crowd,
-    told: Told,
-    bound: u64,
+    reactor: Option<Reactor<N::Stream>>,
+    workers: u32,
+    accepting: Accepting,
+    reports: Reports,
+    closed: bool,
     given: u64,
     back: u64,
     faults: u64,
     ghost in_order: { back ≤ given },
 }
 
-impl<N: Net + Clock + Eprint + Copy + Drop> NetDoor<N> {
-    /// A door that doesn't listen yet and has counted no error. It closes after `bound` links; without a bound, after more links
-    /// than can ever come. `workers` links are served at once, each by another thread than the one that accepts, so that a link
-    /// waits while more live; none where the one that accepts serves them, so that it can't be seen whether a link waits, and one
-    /// is taken to.
+/// What is logged once a minute at most.
+#[derive(Clone, Copy)]
+struct Reports {
+    cuts: EachMinute,
+    faults: EachMinute,
+    /// How many answers had a status of 500 or more since that was last logged.
+    failed: u64,
+    /// How many links were handed out since it was last looked whether others wait.
+    in_a_row: u64,
+}
+
+impl Reports {
+    /// Nothing was logged.
+    fn new() -> Self {
+        Reports {
+            cuts: EachMinute::new(),
+            faults: EachMinute::new(),
+            failed: 0,
+            in_a_row: 0,
+        }
+    }
+}
+
+impl<N: Net + Clock + Eprint + Wait + Copy + Drop> NetDoor<N> {
+    /// A door that doesn't listen yet and has counted no error. It accepts `bound` connections, and closes with the last link of
+    /// these; without a bound, it accepts more than can ever come. `workers` links are served at once, each by another thread than
+    /// the one that accepts; none where the one that accepts serves them.
     ///
     /// # Errors
-    /// Want of memory.
+    /// Out of memory.
     pub fn new(alloc: Global, net: N, bound: Option<u64>, workers: u32) -> Result<Self, AllocError>
         ensures new { IfOk result (λ door. (door.listening ≡ None) × (door.given ≡ 0) × (door.back ≡ 0) × (door.faults ≡ 0)) }
-        ensures bound { IfOk result (λ door. door.bound ≡ unwrap_or bound (2 ^ 64 - 1)) }
-        ensures workers { IfOk result (λ door. arc_value door.crowd.workers ≡ workers) }
+        ensures bound { IfOk result (λ door. door.accepting.bound ≡ unwrap_or bound (2 ^ 64 - 1)) }
+        ensures workers { IfOk result (λ door. door.workers ≡ workers) }
     {
         Ok(NetDoor {
             net,
+            alloc,
             listening: None,
-            crowd: Crowd::new(alloc, workers)?,
-            told: Told::new(),
-            bound: bound.unwrap_or(u64::MAX),
+            reactor: None,
+            workers,
+            accepting: Accepting::new(bound.unwrap_or(u64::MAX)),
+            reports: Reports::new(),
+            closed: bound == Some(0),
             given: 0,
             back: 0,
             faults: 0,
@@ -54,52 +98,127 @@ impl<N: Net + Clock + Eprint + Copy + Drop> NetDoor<N> {
     }
 }
 
-/// Waits for the next link.
-fn next_link<N: Net + Clock + Eprint + Copy + Drop>(
+/// Waits for the next link, and returns whether it is the last one.
+fn next_link<N: Net + Clock + Eprint + Wait + Copy + Drop>(
+    alloc: Global,
     net: N,
     listening: &Option<Listening<N::Listener>>,
-    crowd: &Crowd,
-    told: &mut Told,
-) -> io::Result<NetLink<N::Stream, N>>
-    ensures { IfOk result (λ link. link.faults ≡ 0) }
+    reactor: &mut Option<Reactor<N::Stream>>,
+    accepting: &mut Accepting,
+    reports: &mut Reports,
+) -> io::Result<(NetLink<N::Stream, N>, bool)>
+    ensures faultless { IfOk result (λ next. next.0.faults ≡ 0) }
+    ensures last { IfOk result (λ next. next.1 ≡ true → IfSome reactor.new (λ reactor. IsLast accepting.new reactor.waiting reactor.ready.items)) }
 {
-    match listening {
-        Some(listening) => accept_link(net, &listening.listener, crowd, told),
-        None => Err(io::Error::from(ErrorKind::NotConnected)),
+    match (listening, reactor) {
+        (Some(listening), Some(reactor)) => next_of(
+            alloc,
+            net,
+            &listening.listener,
+            reactor,
+            accepting,
+            reports,
+        ),
+        _ => Err(io::Error::from(ErrorKind::NotConnected)),
     }
 }
 
-/// Listens at a port: on IPv6 and IPv4 alike where the first socket takes both, which shows by the port being taken then.
-fn bind_all<N: Net>(net: &N, port: u16) -> io::Result<N::Listener> {
-    let Ok(both) = TcpListener::bind(net, (Ipv6Addr::UNSPECIFIED, port)) else {
-        return bind_four(net, port);
+/// Waits for the next link of a reactor.
+fn next_of<N: Net + Clock + Eprint + Wait + Copy + Drop>(
+    alloc: Global,
+    net: N,
+    listener: &N::Listener,
+    reactor: &mut Reactor<N::Stream>,
+    accepting: &mut Accepting,
+    reports: &mut Reports,
+) -> io::Result<(NetLink<N::Stream, N>, bool)>
+    ensures faultless { IfOk result (λ next. next.0.faults ≡ 0) }
+    ensures last { IfOk result (λ next. next.1 ≡ true → IsLast accepting.new reactor.new.waiting reactor.new.ready.items) }
+{
+    for _ in 0..u64::MAX {
+        reactor.take_back(&net);
+        if reports.in_a_row < MOST_IN_A_ROW {
+            if let Some(next) = hand_out(alloc, net, reactor, accepting)? {
+                reports.in_a_row = reports.in_a_row.saturating_add(1);
+                return Ok(next);
+            }
+        }
+        reports.in_a_row = 0;
+        if accepting.is_done() && reactor.is_empty() && reactor.has_no_links() {
+            break;
+        }
+        accept_some(alloc, net, listener, reactor, accepting)?;
+        reactor.wait(&net, wait_of(reactor, accepting))?;
+        look_after(net, reactor, accepting, reports);
+    }
+    Err(io::Error::from(ErrorKind::NotConnected))
+}
+
+/// How long is waited for something to happen, in milliseconds.
+fn wait_of<S: Read + Write + OpenStream + AsRawFd + Drop>(
+    reactor: &Reactor<S>,
+    accepting: &Accepting,
+) -> u64 {
+    if reactor.has_ready() {
+        0
+    } else if !reactor.may_accept || accepting.is_done() {
+        SECOND
+    } else if reactor.is_full() {
+        MOMENT
+    } else {
+        0
+    }
+}
+
+/// Hands out a connection that is ready, if there is one, and returns whether it is the last link.
+fn hand_out<N: Net + Clock + Eprint + Wait + Copy + Drop>(
+    alloc: Global,
+    net: N,
+    reactor: &mut Reactor<N::Stream>,
+    accepting: &Accepting,
+) -> io::Result<Option<(NetLink<N::Stream, N>, bool)>>
+    ensures faultless { IfOk result (λ next. IfSome next (λ next. next.0.faults ≡ 0)) }
+    ensures last { IfOk result (λ next. IfSome next (λ next. next.1 ≡ true → IsLast accepting.now reactor.new.waiting reactor.new.ready.items)) }
+{
+    let Some(connection) = reactor.next_ready() else {
+        return Ok(None);
     };
-    match bind_four(net, port) {
-        Ok(four) => Ok(four),
-        Err(_) => Ok(both),
+    let is_alone = reactor.is_empty();
+    let is_last = is_alone && accepting.is_done();
+    let shared = Arc::try_clone(&reactor.shared)?;
+    let link = NetLink::new(alloc, net, shared, connection, is_alone);
+    Ok(Some((link, is_last)))
+}
+
+/// Ends the connections whose time is over, and logs what was cut off.
+fn look_after<N: Net + Clock + Eprint + Wait + Copy + Drop>(
+    net: N,
+    reactor: &mut Reactor<N::Stream>,
+    accepting: &mut Accepting,
+    reports: &mut Reports,
+) {
+    let now = moment(&net);
+    reactor.sweep(now);
+    if let Some(cuts) = reports.cuts.due_cuts(now, &mut reactor.cuts) {
+        accepting.log.line(&net, cuts);
+    }
+    reports.failed = reports.failed.saturating_add(reactor.shared.take_faults());
+    let failed = reports.failed;
+    if reports.faults.is_count_due(now, failed) {
+        reports.failed = 0;
+        let line = format_args!("answers with a status of 500 or more: {failed}");
+        accepting.log.line(&net, line);
     }
 }
 
-/// Listens at a port on IPv4.
-fn bind_four<N: Net>(net: &N, port: u16) -> io::Result<N::Listener> {
-    TcpListener::bind(net, (Ipv4Addr::UNSPECIFIED, port))
-}
-
-/// Tells where a listener listens.
-fn tell_listening<N: Net + Eprint>(net: &N, listener: &N::Listener) {
-    if let Ok(address) = listener.local_addr() {
-        tell(net, format_args!("listening at {address}"));
-    }
-}
-
-impl<N: Net + Clock + Eprint + Copy + Drop> Door for NetDoor<N> {
-    ghost use Rattle.std.specs.Prelude.{nat_le, option_map};
+impl<N: Net + Clock + Eprint + Wait + Copy + Drop> Door for NetDoor<N> {
+    ghost use Rattle.std.specs.Prelude.{◌||◌, nat_eq, option_map};
 
     type L = NetLink<N::Stream, N>;
 
     ghost state = { λ door. record {
       port = option_map (λ listening. listening.port) door.listening;
-      closed = nat_le door.bound door.given;
+      closed = door.closed || nat_eq door.given (2 ^ 64 - 1);
       given = door.given;
       back = door.back;
       links = None;
@@ -109,34 +228,62 @@ impl<N: Net + Clock + Eprint + Copy + Drop> Door for NetDoor<N> {
     ghost faults = { λ door. door.faults };
 
     fn listen(&mut self, port: u16) -> Result<(), Failed> {
-        match bind_all(&self.net, port) {
-            Ok(listener) => {
-                tell_listening(&self.net, &listener);
+        match open_at(
+            self.alloc,
+            &self.net,
+            port,
+            self.workers,
+            most_connections(),
+        ) {
+            Ok((listener, reactor)) => {
+                if let Ok(address) = listener.local_addr() {
+                    let line = format_args!("listening at {address}");
+                    self.accepting.log.line(&self.net, line);
+                }
                 self.listening = Some(Listening { port, listener });
+                self.reactor = Some(reactor);
                 Ok(())
             }
             Err(fault) => {
-                tell(
-                    &self.net,
-                    format_args!("cannot listen at port {port}: {fault}"),
-                );
+                let line = format_args!("cannot listen at port {port}: {fault}");
+                self.accepting.log.line(&self.net, line);
                 self.faults = self.faults.saturating_add(1);
                 Err(Failed)
             }
         }
     }
 
-    fn accept(&mut self) -> Result<Option<Self::L>, Failed> {
-        if self.bound <= self.given {
+    /// Hands out a connection of which a whole request came. The door closes only with the last one of those that it may accept.
+    fn accept(&mut self) -> Result<Option<Self::L>, Failed>
+        ensures accepts { IfOk result (λ link. Accepts link (state self.old) (state self.new)) }
+        ensures fresh { IfOk result (λ link. IfSome link (λ l.
+            IsFresh (state self.old) (Self.L.Source.left l) (Self.L.Sink.sent l) (Self.L.Source.faults l))) }
+        ensures kept { OnErr result (state self.new ≡ state self.old) }
+        ensures cause { HasCause self.old.faults self.new.faults result }
+        ensures still { OnOk result (self.new.faults ≡ self.old.faults) }
+        ensures closes { IfOk result (λ link. IfSome link (λ _. self.new.closed ≡ true
+            → IfSome self.new.reactor (λ reactor. IsLast self.new.accepting reactor.waiting reactor.ready.items))) }
+    {
+        if self.closed || self.given == u64::MAX {
             return Ok(None);
         }
-        match next_link(self.net, &self.listening, &self.crowd, &mut self.told) {
-            Ok(link) => {
+        let next = next_link(
+            self.alloc,
+            self.net,
+            &self.listening,
+            &mut self.reactor,
+            &mut self.accepting,
+            &mut self.reports,
+        );
+        match next {
+            Ok((link, is_last)) => {
                 self.given += 1;
+                self.closed = is_last;
                 Ok(Some(link))
             }
             Err(fault) => {
-                tell(&self.net, format_args!("cannot accept: {fault}"));
+                let line = format_args!("cannot accept: {fault}");
+                self.accepting.log.line(&self.net, line);
                 self.faults = self.faults.saturating_add(1);
                 Err(Failed)
             }

@@ -1,22 +1,30 @@
-//! The adapters over the real network: a door ([`NetDoor`]), its links ([`NetLink`]) and a peer ([`NetPeer`]). Links that
-//! clients keep open give way to those that wait, an error that passes by itself counts as no fault, and what changed is told on
-//! the error stream, a line each.
+//! The adapters over the real network: a door ([`NetDoor`]), its links ([`NetLink`]) and a peer ([`NetPeer`]). The door waits for
+//! all connections at once and hands one out as a link once a whole request of it came, so that nobody who serves links waits for a
+//! slow client. An error that passes by itself counts as no fault, and what changed is logged on the error stream, a line each.
+//! Beside them are moments and random words of the system ([`NetDraws`]).
 #![tactic(auto)]
 
-mod accepting;
-mod crowd;
+mod buffers;
+mod connection;
+mod cuts;
 mod door;
-mod kind;
+mod draws;
+mod exchange;
+mod limits;
 mod link;
+mod listener;
 mod log;
+mod moment;
 mod peer;
-mod pulse;
+mod phase;
+mod reactor;
+mod request_kind;
 mod retrying;
-#[cfg(test)]
-mod tests;
-mod watch;
-mod wire;
+mod served;
+mod shared;
+mod status_log;
 
 pub use crate::door::NetDoor;
+pub use crate::draws::NetDraws;
 pub use crate::link::NetLink;
 pub use crate::peer::NetPeer;

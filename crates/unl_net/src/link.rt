@@ -1,58 +1,63 @@
-//! A link over the network that gives way to others.
+//! A link over a connection.
 ghost use Rattle.std.specs.Prelude.{◌≡◌, ◌<◌, ◌≤◌, length, IfOk, None};
 ghost use Rattle.std.specs.Io.KnownBytes.{WriteAppends};
 ghost use Rattle.unl_base.specs.Faults.{HasExactCause};
 ghost use Rattle.unl_base.specs.Peers.{nothing_beside};
-ghost use Rattle.unl_net.specs.Streams.{Gives};
+ghost use Rattle.unl_net.specs.Buffers.{Gives, coming, going};
 
-use crate::crowd::Crowd;
-use crate::wire::Wire;
-use std::io;
+use crate::connection::Connection;
+use crate::served::Served;
+use crate::shared::Shared;
+use std::alloc::Global;
 use std::io::{Read, Write};
 use std::net::OpenStream;
+use std::sync::{Arc, Wait};
 use std::time::Clock;
 use unl_base::{Failed, Link, Sink, Source};
 
-/// A link over a stream. A read fails that gives no byte for thirty seconds. While more links live than are served at once, one
-/// that was answered is taken as ended once no byte came for a moment or it was served for three seconds, and one whose request
-/// comes too slowly at once: a read then gives nothing, as at the end of what comes.
+/// A link over a connection. It gives whole requests alone, and ends behind their answers where no more is there: its connection
+/// then goes back to the door, which hands it out again as another link.
 #[derive(Drop)]
-pub struct NetLink<S: Read + Write + OpenStream + Drop, C: Clock + Drop> {
-    wire: Wire<S, C>,
+pub struct NetLink<S: Read + Write + OpenStream + Drop, C: Clock + Wait + Drop> {
+    served: Served<S, C>,
     faults: u64,
 }
 
-impl<S: Read + Write + OpenStream + Drop, C: Clock + Drop> NetLink<S, C> {
-    /// A link that has counted no error yet, and is one of a crowd.
-    ///
-    /// # Errors
-    /// The stream's limits of time can't be set.
-    pub(crate) fn new(stream: S, clock: C, crowd: Crowd) -> io::Result<Self>
-        ensures faults { IfOk result (λ link. link.faults ≡ 0) }
-        ensures ends { IfOk result (λ link. (link.wire.stream ≡ stream) × (link.wire.clock ≡ clock) × (link.wire.crowd ≡ crowd)) }
+impl<S: Read + Write + OpenStream + Drop, C: Clock + Wait + Drop> NetLink<S, C> {
+    /// A link that has counted no error yet. `alone`: the door has no other connection.
+    pub(crate) fn new(
+        alloc: Global,
+        clock: C,
+        shared: Arc<Shared<S>>,
+        connection: Connection<S>,
+        alone: bool,
+    ) -> Self
+        ensures { result.faults ≡ 0 }
     {
-        Ok(NetLink {
-            wire: Wire::new(stream, clock, crowd)?,
+        NetLink {
+            served: Served::new(alloc, clock, shared, connection, alone),
             faults: 0,
-        })
+        }
     }
 }
 
-impl<S: Read + Write + OpenStream + Drop, C: Clock + Drop> Source for NetLink<S, C> {
+impl<S: Read + Write + OpenStream + Drop, C: Clock + Wait + Drop> Source for NetLink<S, C> {
     ghost left = { λ _. None };
 
     ghost faults = { λ link. link.faults };
 
     ghost beside = { λ _. nothing_beside };
 
-    /// Hands on what the stream gives, or nothing where the link gives way.
+    /// Gives the bytes of whole requests, and none where the link has ended.
     fn read(&mut self, room: &mut [u8]) -> Result<usize, Failed>
         requires { 0 < length room.old }
         ensures fits { IfOk result (λ n. n ≤ length room.new) }
-        ensures hands_on { Gives (S.remaining self.old.wire.stream) (S.remaining self.new.wire.stream) result room.new }
+        ensures hands_on { Gives
+            (coming self.old.served.connection.received (S.remaining self.old.served.connection.stream))
+            (coming self.new.served.connection.received (S.remaining self.new.served.connection.stream)) result room.new }
         ensures cause { HasExactCause self.old.faults self.new.faults result }
     {
-        match self.wire.read(room) {
+        match self.served.read(room) {
             Ok(count) => Ok(count),
             Err(_) => {
                 self.faults = self.faults.saturating_add(1);
@@ -62,22 +67,24 @@ impl<S: Read + Write + OpenStream + Drop, C: Clock + Drop> Source for NetLink<S,
     }
 }
 
-impl<S: Read + Write + OpenStream + Drop, C: Clock + Drop> Sink for NetLink<S, C> {
+impl<S: Read + Write + OpenStream + Drop, C: Clock + Wait + Drop> Sink for NetLink<S, C> {
     ghost sent = { λ _. None };
 
     ghost faults = { λ link. link.faults };
 
     ghost beside = { λ _. nothing_beside };
 
-    /// Hands the piece on to the stream, and tells how much that took.
+    /// Sends the piece, and holds for the client what it doesn't take yet.
     fn write(&mut self, piece: &[u8]) -> Result<usize, Failed>
         requires { 0 < length piece.now }
         ensures some { IfOk result (λ n. 0 < n) }
         ensures fits { IfOk result (λ n. n ≤ length piece.now) }
-        ensures hands_on { WriteAppends (S.contents self.old.wire.stream) (S.contents self.new.wire.stream) result piece.now }
+        ensures hands_on { WriteAppends
+            (going (S.contents self.old.served.connection.stream) self.old.served.connection.to_send)
+            (going (S.contents self.new.served.connection.stream) self.new.served.connection.to_send) result piece.now }
         ensures cause { HasExactCause self.old.faults self.new.faults result }
     {
-        match self.wire.write(piece) {
+        match self.served.write(piece) {
             Ok(count) if count > 0 => Ok(count),
             _ => {
                 self.faults = self.faults.saturating_add(1);
@@ -87,7 +94,7 @@ impl<S: Read + Write + OpenStream + Drop, C: Clock + Drop> Sink for NetLink<S, C
     }
 }
 
-impl<S: Read + Write + OpenStream + Drop, C: Clock + Drop> Link for NetLink<S, C> {
+impl<S: Read + Write + OpenStream + Drop, C: Clock + Wait + Drop> Link for NetLink<S, C> {
     ghost use Rattle.std.proofs.Common.{refl};
 
     ghost one_count = { λ link. refl };

@@ -1,27 +1,32 @@
-//! What is told on the error stream: a line for what changed. None has a token or a secret, and where a line can't be written
-//! nothing else changes.
+//! The log on the error stream: a line for what changed. None has a token or a secret. A line that can't be written at once is
+//! dropped, so that nothing waits for whoever reads the log.
 ghost use Rattle.std.specs.Prelude.{◌≡◌, ◌==◌, not};
 
+use libc::net::{POLLOUT, poll};
+use libc::types::pollfd;
 use std::fmt::Display;
 
 /// That all is well.
 pub(crate) const WELL: u16 = 0;
 
-/// How something is, as it was last told: all is well at first, and that is not told.
-#[derive(Clone, Copy, Debug)]
-pub(crate) struct Told {
+/// The descriptor of the error stream.
+const ERRORS: i32 = 2;
+
+/// How something is, as it was last logged: all is well at first, and that is not logged.
+#[derive(Clone, Copy)]
+pub(crate) struct Logged {
     pub last: u16,
 }
 
-impl Told {
+impl Logged {
     /// All is well.
     pub fn new() -> Self
         ensures { result.last ≡ WELL }
     {
-        Told { last: WELL }
+        Logged { last: WELL }
     }
 
-    /// Notes how it is now, and answers whether that is to be told.
+    /// Notes how it is now, and returns whether that is to be logged.
     pub fn is_news(&mut self, now: u16) -> bool
         ensures news { result ≡ not (now == self.old.last) }
         ensures noted { self.new.last ≡ now }
@@ -32,7 +37,39 @@ impl Told {
     }
 }
 
-/// Tells a line.
-pub(crate) fn tell<E: Eprint, D: Display + Drop>(to: &E, line: D) {
-    let _ = to.eprintln(line);
+/// Whether the error stream takes a line without a wait. Of a pipe that is so while a page of it is free, which is more than a line.
+fn takes_line() -> bool {
+    let mut asked = [pollfd {
+        fd: ERRORS,
+        events: POLLOUT,
+        revents: 0,
+    }];
+    poll(&mut asked, 0) != 0
+}
+
+/// The log, which counts the lines that were dropped.
+#[derive(Clone, Copy)]
+pub(crate) struct Log {
+    dropped: u64,
+}
+
+impl Log {
+    /// No line was dropped.
+    pub fn new() -> Self {
+        Log { dropped: 0 }
+    }
+
+    /// Writes a line, or drops it where the error stream would have it wait.
+    pub fn line<E: Eprint, D: Display + Drop>(&mut self, to: &E, line: D) {
+        if self.dropped > 0 && takes_line() {
+            let dropped = self.dropped;
+            self.dropped = 0;
+            let _ = to.eprintln(format_args!("lines dropped: {dropped}"));
+        }
+        if takes_line() {
+            let _ = to.eprintln(line);
+        } else {
+            self.dropped = self.dropped.saturating_add(1);
+        }
+    }
 }

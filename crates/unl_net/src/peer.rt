@@ -1,36 +1,43 @@
 //! A peer over the network.
 ghost use Rattle.std.specs.Prelude.{◌≡◌, ◌<◌, ◌≤◌, length, IfOk, None};
+ghost use Rattle.std.specs.Io.{ReadsAtMost, WritesAtMost};
+ghost use Rattle.std.specs.Io.KnownBytes.{ReadConsumes, WriteAppends};
 ghost use Rattle.unl_base.specs.Faults.{HasExactCause};
 ghost use Rattle.unl_base.specs.Peers.{ReadsConnection, WritesConnection};
 
-use crate::log::{Told, WELL, tell};
+use crate::exchange::Exchange;
+use crate::log::{Log, Logged, WELL};
+use crate::moment::moment;
 use crate::retrying::{read_once, write_once};
-use crate::watch::Watch;
+use crate::status_log::{Answer, StatusLog};
 use std::fmt::Display;
 use std::io;
 use std::io::{ErrorKind, Read, Write};
 use std::net::{Net, OpenStream, TcpStream, ToSocketAddrs};
-use std::time::Duration;
+use std::time::{Clock, Duration};
 use unl_base::{Failed, Link, Peer, Sink, Source};
-
-/// How long a connect to an address, a read or a write may take, in seconds. How long the system looks a name up is its own.
-const TIME_LIMIT: u64 = 30;
 
 /// That a peer can't be reached.
 const UNREACHABLE: u16 = 1;
 
-/// A peer over the network, to which each connect connects anew: to the first of its addresses that answers in thirty seconds.
+/// A peer over the network, to which each connect connects anew: to the first of its addresses that answers. All of an exchange,
+/// from the connect to the last byte, takes thirty seconds at most. Behind one that took all of that, connects fail at once for
+/// five seconds, so that a server that hangs is waited for once by those who ask it in turn.
 #[derive(Drop)]
-pub struct NetPeer<N: Net + Eprint + Drop, A: ToSocketAddrs + Display> {
+pub struct NetPeer<N: Net + Clock + Eprint + Drop, A: ToSocketAddrs + Display> {
     net: N,
     address: A,
     stream: Option<N::Stream>,
-    told: Told,
-    watch: Watch,
+    exchange: Exchange,
+    /// The limit of time that the stream's calls have, in seconds.
+    limit: u64,
+    logged: Logged,
+    log: Log,
+    statuses: StatusLog,
     faults: u64,
 }
 
-impl<N: Net + Eprint + Drop, A: ToSocketAddrs + Display> NetPeer<N, A> {
+impl<N: Net + Clock + Eprint + Drop, A: ToSocketAddrs + Display> NetPeer<N, A> {
     /// A peer at an address, as `HOST:PORT`, that isn't connected yet and has counted no error.
     pub fn new(net: N, address: A) -> Self
         ensures { (result.stream ≡ None) × (result.faults ≡ 0) }
@@ -39,66 +46,120 @@ impl<N: Net + Eprint + Drop, A: ToSocketAddrs + Display> NetPeer<N, A> {
             net,
             address,
             stream: None,
-            told: Told::new(),
-            watch: Watch::new(),
+            exchange: Exchange::new(),
+            limit: 0,
+            logged: Logged::new(),
+            log: Log::new(),
+            statuses: StatusLog::new(),
             faults: 0,
         }
     }
 }
 
-/// The stream with its limits of time.
-fn limited<S: OpenStream + Drop>(stream: S) -> io::Result<S> {
-    let limit = Some(Duration::from_secs(TIME_LIMIT));
-    stream.set_read_timeout(limit)?;
-    stream.set_write_timeout(limit)?;
-    // A request is written as a whole: none of its bytes is to wait for others.
-    let _ = stream.set_nodelay(true);
-    Ok(stream)
+/// Gives the calls of a stream as many seconds as are left, where they have another limit. They fail where none is left.
+fn set_limit<S: OpenStream>(stream: &S, left: u64, limit: &mut u64) -> io::Result<()> {
+    if left == 0 {
+        return Err(io::Error::from(ErrorKind::TimedOut));
+    }
+    if left != *limit {
+        let time = Some(Duration::from_secs(left));
+        stream.set_read_timeout(time)?;
+        stream.set_write_timeout(time)?;
+        *limit = left;
+    }
+    Ok(())
 }
 
-/// Connects to the first of an address's addresses that answers.
-fn connected<N: Net, A: ToSocketAddrs>(net: &N, address: &A) -> io::Result<N::Stream> {
+/// Connects to the first of an address's addresses that answers, in the time of the exchange.
+fn connected<N: Net + Clock, A: ToSocketAddrs>(
+    net: &N,
+    address: &A,
+    exchange: &Exchange,
+) -> io::Result<N::Stream> {
     let mut last = io::Error::from(ErrorKind::NotFound);
     for address in address.to_socket_addrs(net)? {
-        match TcpStream::connect_timeout(net, &address, Duration::from_secs(TIME_LIMIT)) {
-            Ok(stream) => return limited(stream),
+        let left = exchange.left(moment(net));
+        if left == 0 {
+            return Err(io::Error::from(ErrorKind::TimedOut));
+        }
+        match TcpStream::connect_timeout(net, &address, Duration::from_secs(left)) {
+            Ok(stream) => {
+                // A request is written as a whole: none of its bytes is to wait for others.
+                let _ = stream.set_nodelay(true);
+                return Ok(stream);
+            }
             Err(fault) => last = fault,
         }
     }
     Err(last)
 }
 
-/// Tells that the peer is reachable again, if it was not.
-fn tell_reached<N: Eprint, A: Display>(net: &N, address: &A, told: &mut Told) {
-    if told.is_news(WELL) {
-        tell(net, format_args!("upstream {address}: reachable again"));
+/// Reads once, in the time of the exchange.
+fn read_in_time<N: Clock, S: Read + OpenStream>(
+    clock: &N,
+    stream: &mut S,
+    exchange: &Exchange,
+    limit: &mut u64,
+    room: &mut [u8],
+) -> io::Result<usize>
+    ensures bound { ReadsAtMost result room.new }
+    ensures bytes { ReadConsumes (S.remaining stream.old) (S.remaining stream.new) result room.new }
+{
+    set_limit(stream, exchange.left(moment(clock)), limit)?;
+    read_once(stream, room)
+}
+
+/// Writes once, in the time of the exchange.
+fn write_in_time<N: Clock, S: Write + OpenStream>(
+    clock: &N,
+    stream: &mut S,
+    exchange: &Exchange,
+    limit: &mut u64,
+    piece: &[u8],
+) -> io::Result<usize>
+    ensures bound { WritesAtMost result piece.now }
+    ensures bytes { WriteAppends (S.contents stream.old) (S.contents stream.new) result piece.now }
+{
+    set_limit(stream, exchange.left(moment(clock)), limit)?;
+    write_once(stream, piece)
+}
+
+/// Logs that the peer is reachable again, if it was not.
+fn log_reached<N: Eprint, A: Display>(net: &N, address: &A, logged: &mut Logged, log: &mut Log) {
+    if logged.is_news(WELL) {
+        log.line(net, format_args!("upstream {address}: reachable again"));
     }
 }
 
-/// Tells why the peer can't be reached, once.
-fn tell_unreachable<N: Eprint, A: Display>(
+/// Logs why the peer can't be reached, once.
+fn log_unreachable<N: Eprint, A: Display>(
     net: &N,
     address: &A,
-    told: &mut Told,
+    logged: &mut Logged,
+    log: &mut Log,
     fault: &io::Error,
 ) {
-    if told.is_news(UNREACHABLE) {
-        tell(
-            net,
-            format_args!("upstream {address}: unreachable: {fault}"),
-        );
+    if logged.is_news(UNREACHABLE) {
+        let line = format_args!("upstream {address}: unreachable: {fault}");
+        log.line(net, line);
     }
 }
 
-/// Notes what came, none where nothing will, and tells the status where it is news.
-fn note_read<N: Eprint, A: Display>(net: &N, address: &A, watch: &mut Watch, bytes: &[u8]) {
-    if let Some(answer) = watch.note_read(bytes) {
-        let kind = watch.kind();
-        tell(net, format_args!("upstream {address}: {kind}: {answer}"));
+/// Logs how a kind of request is answered.
+fn log_answer<N: Eprint, A: Display>(
+    net: &N,
+    address: &A,
+    statuses: &StatusLog,
+    log: &mut Log,
+    answer: Option<Answer>,
+) {
+    if let Some(answer) = answer {
+        let kind = statuses.kind();
+        log.line(net, format_args!("upstream {address}: {kind}: {answer}"));
     }
 }
 
-impl<N: Net + Eprint + Drop, A: ToSocketAddrs + Display> Source for NetPeer<N, A> {
+impl<N: Net + Clock + Eprint + Drop, A: ToSocketAddrs + Display> Source for NetPeer<N, A> {
     ghost use Rattle.std.specs.Prelude.{is_some};
     ghost use Rattle.unl_base.specs.Peers.{nothing_beside};
 
@@ -119,13 +180,28 @@ impl<N: Net + Eprint + Drop, A: ToSocketAddrs + Display> Source for NetPeer<N, A
         let Some(stream) = &mut self.stream else {
             return Ok(0);
         };
-        match read_once(stream, room) {
+        match read_in_time(&self.net, stream, &self.exchange, &mut self.limit, room) {
             Ok(count) => {
-                note_read(&self.net, &self.address, &mut self.watch, &room[..count]);
+                let answer = self.statuses.note_read(&room[..count]);
+                log_answer(
+                    &self.net,
+                    &self.address,
+                    &self.statuses,
+                    &mut self.log,
+                    answer,
+                );
                 Ok(count)
             }
             Err(_) => {
-                note_read(&self.net, &self.address, &mut self.watch, b"");
+                self.exchange.note_fault(moment(&self.net));
+                let answer = self.statuses.note_read(b"");
+                log_answer(
+                    &self.net,
+                    &self.address,
+                    &self.statuses,
+                    &mut self.log,
+                    answer,
+                );
                 self.faults = self.faults.saturating_add(1);
                 Err(Failed)
             }
@@ -133,7 +209,7 @@ impl<N: Net + Eprint + Drop, A: ToSocketAddrs + Display> Source for NetPeer<N, A
     }
 }
 
-impl<N: Net + Eprint + Drop, A: ToSocketAddrs + Display> Sink for NetPeer<N, A> {
+impl<N: Net + Clock + Eprint + Drop, A: ToSocketAddrs + Display> Sink for NetPeer<N, A> {
     ghost use Rattle.std.specs.Prelude.{is_some};
     ghost use Rattle.unl_base.specs.Peers.{nothing_beside};
 
@@ -155,11 +231,26 @@ impl<N: Net + Eprint + Drop, A: ToSocketAddrs + Display> Sink for NetPeer<N, A> 
         let Some(stream) = &mut self.stream else {
             return Ok(piece.len());
         };
-        self.watch.note_written(piece);
-        match write_once(stream, piece) {
+        let answer = self.statuses.note_written(piece);
+        log_answer(
+            &self.net,
+            &self.address,
+            &self.statuses,
+            &mut self.log,
+            answer,
+        );
+        match write_in_time(&self.net, stream, &self.exchange, &mut self.limit, piece) {
             Ok(count) if count > 0 => Ok(count),
             _ => {
-                note_read(&self.net, &self.address, &mut self.watch, b"");
+                self.exchange.note_fault(moment(&self.net));
+                let answer = self.statuses.note_read(b"");
+                log_answer(
+                    &self.net,
+                    &self.address,
+                    &self.statuses,
+                    &mut self.log,
+                    answer,
+                );
                 self.faults = self.faults.saturating_add(1);
                 Err(Failed)
             }
@@ -167,7 +258,7 @@ impl<N: Net + Eprint + Drop, A: ToSocketAddrs + Display> Sink for NetPeer<N, A> 
     }
 }
 
-impl<N: Net + Eprint + Drop, A: ToSocketAddrs + Display> Link for NetPeer<N, A> {
+impl<N: Net + Clock + Eprint + Drop, A: ToSocketAddrs + Display> Link for NetPeer<N, A> {
     ghost use Rattle.std.proofs.Common.{refl};
 
     ghost one_count = { λ peer. refl };
@@ -177,7 +268,7 @@ impl<N: Net + Eprint + Drop, A: ToSocketAddrs + Display> Link for NetPeer<N, A> 
     ghost writes_beside = { λ peer. refl };
 }
 
-impl<N: Net + Eprint + Drop, A: ToSocketAddrs + Display> Peer for NetPeer<N, A> {
+impl<N: Net + Clock + Eprint + Drop, A: ToSocketAddrs + Display> Peer for NetPeer<N, A> {
     ghost use Rattle.std.specs.Prelude.{is_some};
     ghost use Rattle.std.proofs.Common.{refl};
     ghost use Rattle.unl_base.specs.Peers.{nothing_beside};
@@ -186,15 +277,29 @@ impl<N: Net + Eprint + Drop, A: ToSocketAddrs + Display> Peer for NetPeer<N, A> 
 
     fn connect(&mut self) -> Result<(), Failed> {
         self.stream = None;
-        self.watch.note_connection();
-        match connected(&self.net, &self.address) {
+        self.statuses.note_connection();
+        let now = moment(&self.net);
+        if self.exchange.rests(now) {
+            self.faults = self.faults.saturating_add(1);
+            return Err(Failed);
+        }
+        self.exchange.begin(now);
+        self.limit = 0;
+        match connected(&self.net, &self.address, &self.exchange) {
             Ok(stream) => {
-                tell_reached(&self.net, &self.address, &mut self.told);
+                log_reached(&self.net, &self.address, &mut self.logged, &mut self.log);
                 self.stream = Some(stream);
                 Ok(())
             }
             Err(fault) => {
-                tell_unreachable(&self.net, &self.address, &mut self.told, &fault);
+                self.exchange.note_fault(moment(&self.net));
+                log_unreachable(
+                    &self.net,
+                    &self.address,
+                    &mut self.logged,
+                    &mut self.log,
+                    &fault,
+                );
                 self.faults = self.faults.saturating_add(1);
                 Err(Failed)
             }

@@ -1,0 +1,101 @@
+-- Bytes that move from a stream into a buffer, or out of one.
+use Rattle.std.proofs.Common.{◌≡◌, ◌∙◌, ◌≤◌, ℕ, List, [], ◌++◌, Option, None, Some, Result, Ok, Err, length, min, take, drop, sym, ap, refl}
+use Rattle.std.proofs.Common.{append_assoc, append-nil, arith, take-append-drop}
+use Rattle.std.proofs.KnownBytes.{Appends-trans, Keeps-trans}
+use Rattle.std.proofs.lemmas.List.{take-take}
+use Rattle.std.specs.Io.KnownBytes.{Appends, Consumes, Keeps, WriteAppends, append_known, prepend_known}
+use Rattle.unl_net.proofs.Trying.{appended_then, consumed_then, stays}
+use Rattle.unl_net.specs.Buffers.{Gives}
+
+-- what came is read behind what was received
+pub received_keeps : (a b : Option (List ℕ)) (held bytes : List ℕ) → Consumes a b bytes → Keeps (prepend_known held a) (prepend_known (held ++ bytes) b)
+received_keeps None b held bytes read = tt
+received_keeps (Some x) None held bytes read = absurd read
+received_keeps (Some x) (Some y) held bytes read = append_assoc held bytes y ∙ ap (λ (l : List ℕ). held ++ l) (sym read)
+
+-- nothing came
+pub waited_keeps : (a b : Option (List ℕ)) (held : List ℕ) → Keeps a b → Keeps (prepend_known held a) (prepend_known held b)
+waited_keeps None b held kept = tt
+waited_keeps (Some x) None held kept = absurd kept
+waited_keeps (Some x) (Some y) held kept = ap (λ (l : List ℕ). held ++ l) kept
+
+-- what is to be sent goes to the stream
+pub sent_keeps : (a b : Option (List ℕ)) (held : List ℕ) (n : ℕ) → Appends a b (take n held) → Keeps (append_known a held) (append_known b (drop n held))
+sent_keeps None b held n sent = tt
+sent_keeps (Some x) None held n sent = absurd sent
+sent_keeps (Some x) (Some y) held n sent =
+    ap (λ (l : List ℕ). l ++ drop n held) sent ∙ append_assoc x (take n held) (drop n held) ∙ ap (λ (l : List ℕ). x ++ l) (take-append-drop n held)
+
+-- bytes of the buffer are handed out
+pub handed_out : (a : Option (List ℕ)) (old new bytes : List ℕ) → old ≡ bytes ++ new → Consumes (prepend_known old a) (prepend_known new a) bytes
+handed_out None old new bytes same = tt
+handed_out (Some x) old new bytes same = ap (λ (l : List ℕ). l ++ x) same ∙ append_assoc bytes new x
+
+-- nothing was read
+pub none_read : (a : Option (List ℕ)) → Consumes a a []
+none_read None = tt
+none_read (Some x) = refl
+
+-- a read behind what kept the bytes to come
+pub gives_then : {E : Type 0} (a b c : Option (List ℕ)) (r : Result ℕ E) (room : List ℕ) → Keeps a b → Gives b c r room → Gives a c r room
+gives_then a b c (Ok n) room kept given = consumed_then a b c (take n room) kept given
+gives_then a b c (Err e) room kept given = Keeps-trans a b c kept given
+
+-- a read of the stream, where nothing that was received is left
+pub read_behind : {E : Type 0} (a b : Option (List ℕ)) (held : List ℕ) (r : Result ℕ E) (room : List ℕ) → held ≡ [] → Gives a b r room
+    → Gives (prepend_known held a) (prepend_known held b) r room
+read_behind a b held (Ok n) room none given = by a b given
+  where
+    by : (a b : Option (List ℕ)) → Consumes a b (take n room) → Consumes (prepend_known held a) (prepend_known held b) (take n room)
+    by None b read = tt
+    by (Some x) None read = absurd read
+    by (Some x) (Some y) read = ap (λ (l : List ℕ). l ++ x) none ∙ read ∙ ap (λ (l : List ℕ). take n room ++ (l ++ y)) (sym none)
+read_behind a b held (Err e) room none given = waited_keeps a b held given
+
+-- nothing was written
+pub none_written : (a : Option (List ℕ)) → Appends a a []
+none_written None = tt
+none_written (Some x) = sym (append-nil x)
+
+-- what was kept grew by nothing
+pub kept_appends : (a b : Option (List ℕ)) → Keeps a b → Appends a b []
+kept_appends None b kept = tt
+kept_appends (Some x) None kept = absurd kept
+kept_appends (Some x) (Some y) kept = kept ∙ sym (append-nil x)
+
+-- what grew by nothing was kept
+pub appends_kept : (a b : Option (List ℕ)) → Appends a b [] → Keeps a b
+appends_kept None b grew = tt
+appends_kept (Some x) None grew = absurd grew
+appends_kept (Some x) (Some y) grew = grew ∙ append-nil x
+
+-- a write to the stream, where nothing is to be sent before it
+pub write_first : {E : Type 0} (a b : Option (List ℕ)) (held : List ℕ) (r : Result ℕ E) (piece : List ℕ) → held ≡ [] → WriteAppends a b r piece
+    → WriteAppends (append_known a held) (append_known b held) r piece
+write_first a b held (Ok n) piece none wrote = by a b wrote
+  where
+    by : (a b : Option (List ℕ)) → Appends a b (take n piece) → Appends (append_known a held) (append_known b held) (take n piece)
+    by None b grew = tt
+    by (Some x) None grew = absurd grew
+    by (Some x) (Some y) grew =
+        ap (λ (l : List ℕ). y ++ l) none ∙ append-nil y ∙ grew ∙ ap (λ (l : List ℕ). l ++ take n piece) (sym (append-nil x) ∙ ap (λ (l : List ℕ). x ++ l) (sym none))
+write_first a b held (Err e) piece none wrote = by a b wrote
+  where
+    by : (a b : Option (List ℕ)) → Keeps a b → Keeps (append_known a held) (append_known b held)
+    by None b kept = tt
+    by (Some x) None kept = absurd kept
+    by (Some x) (Some y) kept = ap (λ (l : List ℕ). l ++ held) kept
+
+-- bytes are held behind those that are to be sent
+pub held_behind : (a : Option (List ℕ)) (old new bytes : List ℕ) → new ≡ old ++ bytes → Appends (append_known a old) (append_known a new) bytes
+held_behind None old new bytes same = tt
+held_behind (Some x) old new bytes same = ap (λ (l : List ℕ). x ++ l) same ∙ sym (append_assoc x old bytes)
+
+-- the rest of a piece, of which the first bytes were written
+pub rest_then : (a b c : Option (List ℕ)) (piece : List ℕ) (sent n : ℕ) → sent ≤ n → Appends a b (take sent piece)
+    → Appends b c (drop sent (take n piece)) → Appends a c (take n piece)
+rest_then a b c piece sent n within first rest =
+    subst (λ (bytes : List ℕ). Appends a c bytes) whole (Appends-trans a b c (take sent piece) (drop sent (take n piece)) first rest)
+  where
+    whole : take sent piece ++ drop sent (take n piece) ≡ take n piece
+    whole = ap (λ (l : List ℕ). l ++ drop sent (take n piece)) (sym (take-take sent n piece within)) ∙ take-append-drop sent (take n piece)

@@ -1,7 +1,0 @@
--- What may be told is text.
-use Rattle.std.proofs.Common.{rules, take}
-use Rattle.unl_net.proofs.Telling.{is_text}
-use Rattle.unl_net.proofs.kind.Kind.as_str.Goals as goal
-
-pub returns-in-Err : goal.returns-in-Err
-returns-in-Err c = absurd (c.in-Err.ensures.cases.0 (is_text (take c.args.self.now.len c.args.self.now.text) (search rules)))

@@ -1,0 +1,238 @@
+//! Bytes that came and are not read yet, and bytes that are not sent yet.
+ghost use Rattle.std.specs.Prelude.{◌≡◌, ◌≢◌, ◌+◌, ◌-◌, ◌==◌, ◌<◌, ◌≤◌, ◌++◌, [], OnErr, OnOk, length, drop, take, vec_capacity, vec_len};
+
+use std::alloc::{AllocError, Global};
+use unl_http_api::{Frame, request_frame};
+
+/// Bytes that came.
+#[derive(Drop)]
+pub(crate) struct ReceiveBuffer {
+    bytes: Vec<u8>,
+    /// How many at the front are read.
+    taken: usize,
+    /// How many behind these may be read: those of one request.
+    opened: usize,
+    ghost within: { taken + opened ≤ vec_len bytes },
+}
+
+impl ReceiveBuffer {
+    ghost use Rattle.unl_http_api.specs.Frames.{IsFrame};
+    ghost use Rattle.unl_http_api.specs.declared.frame.Frame as frame;
+    ghost use Rattle.unl_net.specs.Buffers.{opened_len, unread};
+
+    /// No bytes.
+    pub fn new(alloc: Global) -> Self
+        ensures { unread result ≡ [] }
+    {
+        ReceiveBuffer {
+            bytes: Vec::new(alloc),
+            taken: 0,
+            opened: 0,
+        }
+    }
+
+    /// How many bytes are not read.
+    pub fn len(&self) -> usize
+        ensures { result ≡ length (unread self.now) }
+    {
+        self.bytes.len() - self.taken
+    }
+
+    /// Whether all was read.
+    pub fn is_empty(&self) -> bool
+        ensures { result ≡ (length (unread self.now) == 0) }
+    {
+        self.len() == 0
+    }
+
+    /// How many bytes of a request may be read.
+    pub fn opened_len(&self) -> usize
+        ensures { result ≡ self.now.opened }
+    {
+        self.opened
+    }
+
+    /// Makes room for more bytes.
+    ///
+    /// # Errors
+    /// Out of memory.
+    pub fn reserve(&mut self, more: usize) -> Result<(), AllocError>
+        ensures same { unread self.new ≡ unread self.old }
+        ensures room { OnOk result (vec_len self.new.bytes + more ≤ vec_capacity self.new.bytes) }
+    {
+        drop_front(&mut self.bytes, self.taken);
+        self.taken = 0;
+        self.bytes.reserve(more)
+    }
+
+    /// Adds bytes that came, for which there is room.
+    pub fn add(&mut self, bytes: &[u8])
+        requires { vec_len self.old.bytes + length bytes.now ≤ vec_capacity self.old.bytes }
+        ensures { unread self.new ≡ unread self.old ++ bytes.now }
+    {
+        self.bytes.extend_from_slice(bytes).unwrap();
+    }
+
+    /// What the bytes that are not read begin with. Where memory runs out, which is so with very long heads alone, more bytes are
+    /// waited for.
+    fn front(&self, alloc: Global) -> Frame
+        ensures { result ≢ Frame.More → IsFrame (unread self.now) result }
+    {
+        match request_frame(alloc, self.waiting()) {
+            Ok(frame) => frame,
+            Err(_) => Frame::More,
+        }
+    }
+
+    /// Opens the request at the front, if one is whole there, or bytes that are refused. Returns what is there.
+    pub fn open(&mut self, alloc: Global) -> Frame
+        ensures same { unread self.new ≡ unread self.old }
+        ensures frame { result ≢ Frame.More → IsFrame (unread self.new) result }
+        ensures opened { self.new.opened ≡ opened_len result (unread self.new) }
+    {
+        let front = self.front(alloc);
+        self.opened = match front {
+            Frame::Whole(count) => count,
+            Frame::Bad(_) => self.len(),
+            Frame::More => 0,
+        };
+        front
+    }
+
+    /// Opens all that came.
+    pub fn open_all(&mut self)
+        ensures same { unread self.new ≡ unread self.old }
+        ensures opened { self.new.opened ≡ length (unread self.new) }
+    {
+        self.opened = self.len();
+    }
+
+    /// Hands out bytes of the request that is open.
+    pub fn give(&mut self, room: &mut [u8]) -> usize
+        ensures fits { result ≤ length room.new }
+        ensures some { 0 < length room.old → 0 < self.old.opened → 0 < result }
+        ensures bytes { unread self.old ≡ take result room.new ++ unread self.new }
+    {
+        let count = self.opened.min(room.len());
+        copy_front(self.waiting(), room, count);
+        self.opened -= count;
+        self.taken += count;
+        count
+    }
+
+    /// The bytes that are not read.
+    fn waiting(&self) -> &[u8]
+        ensures { result.now ≡ unread self.now }
+    {
+        &self.bytes[self.taken..]
+    }
+
+    /// Frees the room, where no bytes are held.
+    pub fn shrink(&mut self, alloc: Global)
+        ensures { unread self.new ≡ unread self.old }
+    {
+        if self.is_empty() {
+            *self = ReceiveBuffer::new(alloc);
+        }
+    }
+
+    /// Drops what was received.
+    pub fn clear(&mut self, alloc: Global)
+        ensures { unread self.new ≡ [] }
+    {
+        *self = ReceiveBuffer::new(alloc);
+    }
+}
+
+/// Takes bytes away from the front.
+fn drop_front(bytes: &mut Vec<u8>, count: usize)
+    requires { count ≤ vec_len bytes.old }
+    ensures { bytes.new.items ≡ drop count bytes.old.items }
+{
+    if count == bytes.len() {
+        bytes.truncate(0);
+    } else {
+        bytes.drain(..count);
+    }
+}
+
+/// Copies the first bytes to the front of a room.
+fn copy_front(bytes: &[u8], room: &mut [u8], count: usize)
+    requires held { count ≤ length bytes.now }
+    requires fits { count ≤ length room.old }
+    ensures front { take count room.new ≡ take count bytes.now }
+    ensures same { length room.new ≡ length room.old }
+{
+    room[..count].copy_from_slice(&bytes[..count]);
+}
+
+/// Bytes that are to be sent.
+#[derive(Drop)]
+pub(crate) struct SendBuffer {
+    bytes: Vec<u8>,
+    /// How many at the front are sent.
+    sent: usize,
+    ghost within: { sent ≤ vec_len bytes },
+}
+
+impl SendBuffer {
+    ghost use Rattle.unl_net.specs.Buffers.{unsent};
+
+    /// No bytes.
+    pub fn new(alloc: Global) -> Self
+        ensures { unsent result ≡ [] }
+    {
+        SendBuffer {
+            bytes: Vec::new(alloc),
+            sent: 0,
+        }
+    }
+
+    /// How many bytes are to be sent.
+    pub fn len(&self) -> usize
+        ensures { result ≡ length (unsent self.now) }
+    {
+        self.bytes.len() - self.sent
+    }
+
+    /// Whether nothing is to be sent.
+    pub fn is_empty(&self) -> bool
+        ensures { result ≡ (length (unsent self.now) == 0) }
+    {
+        self.len() == 0
+    }
+
+    /// The bytes that are to be sent.
+    pub fn rest(&self) -> &[u8]
+        ensures { result.now ≡ unsent self.now }
+    {
+        &self.bytes[self.sent..]
+    }
+
+    /// Adds bytes. It takes no more memory than these bytes need.
+    ///
+    /// # Errors
+    /// Out of memory: nothing was added.
+    pub fn add(&mut self, bytes: &[u8]) -> Result<(), AllocError>
+        ensures ok { OnOk result (unsent self.new ≡ unsent self.old ++ bytes.now) }
+        ensures err { OnErr result (unsent self.new ≡ unsent self.old) }
+    {
+        self.bytes.reserve_exact(bytes.len())?;
+        self.bytes.extend_from_slice(bytes)
+    }
+
+    /// Notes that the first `count` bytes were sent.
+    pub fn note_sent(&mut self, count: usize)
+        requires { count ≤ length (unsent self.old) }
+        ensures { unsent self.new ≡ drop count (unsent self.old) }
+    {
+        self.sent += count;
+    }
+
+    /// Drops what was to be sent, and frees the room.
+    pub fn clear(&mut self, alloc: Global)
+        ensures { unsent self.new ≡ [] }
+    {
+        *self = SendBuffer::new(alloc);
+    }
+}

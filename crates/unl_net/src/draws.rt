@@ -1,0 +1,68 @@
+//! Draws of the system: the moments of its clock, and words of a generator that it seeds.
+ghost use Rattle.rand_core.specs.Stream.{next_u64};
+ghost use Rattle.std.specs.Prelude.{◌≡◌, None};
+ghost use Rattle.unl_base.specs.Draws.{IsInLimit};
+
+use rand_pcg::Lcg64Xsh32;
+use rand_pcg::rand_core::Rng;
+use std::io;
+use std::random::RandomSource;
+use std::time::Clock;
+use unl_base::{Draw, Draws, RealDraws};
+
+/// Draws whose moments a clock tells. The words come from a small generator, which is none for secrets, and which random bytes of
+/// the system seed, so that programs that start in one millisecond draw different words. Where the system gives none, the clock
+/// seeds it.
+#[derive(Drop)]
+pub struct NetDraws<C: Clock + Copy + Drop> {
+    moments: RealDraws<C>,
+    words: Lcg64Xsh32,
+}
+
+impl<C: Clock + RandomSource + Copy + Drop> NetDraws<C> {
+    /// Draws by this clock and these random bytes.
+    pub fn new(system: C) -> Self {
+        let mut moments = RealDraws::new(system);
+        let words = match seeds_of(&system) {
+            Ok((state, stream)) => Lcg64Xsh32::new(state, stream),
+            Err(_) => Lcg64Xsh32::new(moments.draw().now, 0),
+        };
+        NetDraws { moments, words }
+    }
+}
+
+/// Two random numbers of the system.
+fn seeds_of<R: RandomSource>(system: &R) -> io::Result<(u64, u64)> {
+    let mut state = [0; 8];
+    let mut stream = [0; 8];
+    system.fill_bytes(&mut state)?;
+    system.fill_bytes(&mut stream)?;
+    Ok((u64::from_le_bytes(state), u64::from_le_bytes(stream)))
+}
+
+impl<C: Clock + Copy + Drop> Draws for NetDraws<C> {
+    ghost coming = { λ _. None };
+
+    /// The moment of the clock, and the generator's next word.
+    fn draw(&mut self) -> Draw
+        ensures limit { IsInLimit result }
+        ensures word { (result.word, ⟦<Lcg64Xsh32 as Rng>⟧.stream self.new.words)
+            ≡ next_u64 (⟦<Lcg64Xsh32 as Rng>⟧.stream self.old.words) }
+    {
+        let moment = self.moments.draw();
+        Draw {
+            now: moment.now,
+            word: self.words.next_u64(),
+        }
+    }
+
+    /// Draws by the same clock, whose words are others.
+    fn split(&mut self) -> Self {
+        let state = self.words.next_u64();
+        let stream = self.words.next_u64();
+        NetDraws {
+            moments: self.moments.split(),
+            words: Lcg64Xsh32::new(state, stream),
+        }
+    }
+}

@@ -1,0 +1,59 @@
+//! The time that an exchange with a server may take, from the connect to the last byte.
+ghost use Rattle.std.specs.Prelude.{◌≡◌, ◌==◌, if◌then◌else◌};
+ghost use Rattle.unl_net.specs.Exchanges.{rests, seconds_left};
+
+use crate::moment::seconds_between;
+use std::time::Instant;
+
+/// How long an exchange may take, in seconds. How long the system looks a name up is its own.
+pub(crate) const MOST: u64 = 30;
+
+/// How long a server is not asked that took all of this time, in seconds.
+const REST: u64 = 5;
+
+/// When an exchange began, and when one took all of its time. Where the clock can't be read no time counts as passed.
+#[derive(Clone, Copy)]
+pub(crate) struct Exchange {
+    begun: Option<Instant>,
+    over: Option<Instant>,
+}
+
+impl Exchange {
+    /// No exchange.
+    pub fn new() -> Self {
+        Exchange {
+            begun: None,
+            over: None,
+        }
+    }
+
+    /// Begins an exchange.
+    pub fn begin(&mut self, now: Option<Instant>)
+        ensures { self.new ≡ record self.old { begun = now } }
+    {
+        self.begun = now;
+    }
+
+    /// How many seconds are left of it.
+    pub fn left(&self, now: Option<Instant>) -> u64
+        ensures { result ≡ seconds_left self.now now }
+    {
+        MOST.saturating_sub(seconds_between(self.begun, now))
+    }
+
+    /// Notes that a call failed: where no time is left, the server took all of it.
+    pub fn note_fault(&mut self, now: Option<Instant>)
+        ensures { self.new ≡ record self.old { over = if seconds_left self.old now == 0 then now else self.old.over } }
+    {
+        if self.left(now) == 0 {
+            self.over = now;
+        }
+    }
+
+    /// Whether the server is not asked now.
+    pub fn rests(&self, now: Option<Instant>) -> bool
+        ensures { result ≡ rests self.now now }
+    {
+        self.over.is_some() && seconds_between(self.over, now) < REST
+    }
+}

@@ -1,0 +1,20 @@
+//! Moments, and the time between them. A moment is none where the clock can't be read: no time counts as passed then.
+ghost use Rattle.std.specs.Prelude.{◌≡◌};
+ghost use Rattle.unl_net.specs.Moments.{seconds_between};
+
+use std::time::{Clock, Instant};
+
+/// The moment.
+pub(crate) fn moment<C: Clock>(clock: &C) -> Option<Instant> {
+    Instant::now(clock).ok()
+}
+
+/// How many whole seconds lie between two moments.
+pub(crate) fn seconds_between(begun: Option<Instant>, now: Option<Instant>) -> u64
+    ensures { result ≡ seconds_between begun now }
+{
+    match (begun, now) {
+        (Some(begun), Some(now)) => now.duration_since(begun).as_secs(),
+        _ => 0,
+    }
+}

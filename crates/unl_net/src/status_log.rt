@@ -1,0 +1,251 @@
+//! What a server answers to each kind of request, and when that changes.
+ghost use Rattle.std.specs.Prelude.{◌≡◌, ◌<◌, All, IfSome, replicate, take, true};
+ghost use Rattle.unl_net.specs.Telling.{is_told};
+ghost use Rattle.unl_net.specs.declared.status_log.Stage.TheVariants.{Fresh};
+ghost use Rattle.unl_net.specs.Watching.{NotesRead, NotesWritten, after_answer, after_request, class_of, digits_of, is_digit, is_news};
+ghost use Rattle.unl_net.specs.Watching.{next_class, nothing_known, place_of, status_of, taken_class, taken_status, told_request};
+
+use crate::log::{Logged, WELL};
+use crate::request_kind::RequestKind;
+use std::fmt;
+use std::fmt::Display;
+
+/// How many kinds of requests are told apart: more than a server is asked, one for the book and two for each of eight tokens.
+const MOST_KINDS: usize = 32;
+
+/// That no status came.
+const NO_ANSWER: u16 = 1;
+
+/// That a feed was answered 200, and the answer was not taken: the next request for it brings no tag.
+const NOT_TAKEN: u16 = 1_000;
+
+/// Whether a byte is a digit.
+fn is_digit(byte: u8) -> bool
+    ensures { result ≡ is_digit byte }
+{
+    byte >= b'0' && byte <= b'9'
+}
+
+/// The number of three digits.
+fn digits_of(first: u8, second: u8, third: u8) -> Option<u16>
+    ensures { result ≡ digits_of first second third }
+{
+    if !is_digit(first) || !is_digit(second) || !is_digit(third) {
+        return None;
+    }
+    let hundreds = u16::from(first - b'0');
+    let tens = u16::from(second - b'0');
+    Some(hundreds * 100 + tens * 10 + u16::from(third - b'0'))
+}
+
+/// The status of a reply, of which these are the first bytes (RFC 9112, section 4).
+fn status_of(reply: &[u8]) -> Option<u16>
+    ensures { result ≡ status_of reply.now }
+{
+    if reply.len() < 12 || !reply.starts_with(b"HTTP/1.") {
+        return None;
+    }
+    digits_of(reply[9], reply[10], reply[11])
+}
+
+/// What is logged of a status: the class 2 and 304 are all well.
+fn class_of(status: u16) -> u16
+    ensures { result ≡ class_of status }
+{
+    if (status >= 200 && status <= 299) || status == 304 {
+        WELL
+    } else {
+        status
+    }
+}
+
+/// What a server answered.
+#[derive(Clone, Copy)]
+pub(crate) struct Answer {
+    status: u16,
+}
+
+impl Display for Answer {
+    ghost use Rattle.std.specs.Prelude.{Some};
+    ghost use Rattle.unl_net.specs.Watching.{answer_text};
+
+    ghost output = { λ answer. Some (answer_text answer.status) };
+
+    fn fmt<W: fmt::Write>(&self, f: &mut fmt::Formatter<W>) -> fmt::Result {
+        let status = self.status;
+        if status == NO_ANSWER {
+            f.write_str("no answer")
+        } else if status == NOT_TAKEN {
+            f.write_str("200, but not taken")
+        } else {
+            write!(f, "{status}")
+        }
+    }
+}
+
+/// A kind that was asked, by its number, and what was last logged of its answers. The number 0 is of none.
+#[derive(Clone, Copy)]
+struct Known {
+    key: u64,
+    told: Logged,
+    /// Whether its last answer was a feed with the status 200: the next request shows whether it was taken.
+    fed: bool,
+}
+
+/// How far the exchange on a connection has come.
+#[derive(Clone, Copy, PartialEq)]
+enum Stage {
+    /// Nothing was written.
+    Fresh,
+    /// A request was written, and nothing came.
+    Asked,
+    /// Something came.
+    Answered,
+}
+
+/// What a peer was asked on its connection, and how it answered each kind of request before.
+#[derive(Clone, Copy)]
+pub(crate) struct StatusLog {
+    stage: Stage,
+    kind: RequestKind,
+    known: [Known; MOST_KINDS],
+}
+
+impl StatusLog {
+    /// Nothing was asked.
+    pub fn new() -> Self
+        ensures stage { result.stage ≡ Fresh }
+        ensures known { result.known ≡ replicate 32 nothing_known }
+    {
+        let none = Known {
+            key: 0,
+            told: Logged::new(),
+            fed: false,
+        };
+        StatusLog {
+            stage: Stage::Fresh,
+            kind: RequestKind::of(b""),
+            known: [none; MOST_KINDS],
+        }
+    }
+
+    /// Notes that there is a new connection.
+    pub fn note_connection(&mut self)
+        ensures { self.new ≡ record self.old { stage = Fresh } }
+    {
+        self.stage = Stage::Fresh;
+    }
+
+    /// Notes what was written: what comes first on a connection has the request's first line, its token and its tag. Returns what
+    /// that shows of the answer before it, where it is news.
+    pub fn note_written(&mut self, piece: &[u8]) -> Option<Answer>
+        ensures { NotesWritten self.old piece.now result self.new }
+    {
+        if self.stage != Stage::Fresh {
+            return None;
+        }
+        self.kind = RequestKind::of(piece);
+        self.stage = Stage::Asked;
+        note_tag(&mut self.known, self.kind.key, self.kind.has_tag)
+    }
+
+    /// Notes what came, none where nothing will: what comes first has the status. Answers that, where it is news.
+    pub fn note_read(&mut self, bytes: &[u8]) -> Option<Answer>
+        ensures { NotesRead self.old bytes.now result self.new }
+    {
+        if self.stage != Stage::Asked {
+            return None;
+        }
+        self.stage = Stage::Answered;
+        let status = status_of(bytes).unwrap_or(NO_ANSWER);
+        let fed = self.kind.is_feed && status == 200;
+        if is_news(&mut self.known, self.kind.key, class_of(status), fed) {
+            Some(Answer { status })
+        } else {
+            None
+        }
+    }
+
+    /// What is told of the request.
+    pub fn kind(&self) -> &str
+        ensures exact { result.now ≡ take self.now.kind.len self.now.kind.text }
+        ensures told { All (λ byte. is_told byte ≡ true) result.now }
+    {
+        self.kind.as_str()
+    }
+}
+
+/// Where the answers to a kind are noted: at the first entry that is its own or free, and nowhere once others have taken all.
+fn place_of(known: &[Known; MOST_KINDS], key: u64) -> Option<usize>
+    ensures place { result ≡ place_of key known.now }
+    ensures inside { IfSome result (λ at. at < 32) }
+{
+    known
+        .iter()
+        .position(|entry| entry.key == key || entry.key == 0)
+}
+
+/// Notes how a kind is answered, and returns whether that is to be logged. Where more kinds are asked than have room the others are
+/// not logged.
+fn is_news(known: &mut [Known; MOST_KINDS], key: u64, now: u16, fed: bool) -> bool
+    ensures noted { known.new ≡ after_answer key now fed known.old }
+    ensures news { result ≡ is_news key now fed known.old }
+{
+    match place_of(known, key) {
+        Some(at) => {
+            let mut told = known[at].told;
+            let last = told.last;
+            let is_news = told.is_news(next_class(last, now, fed));
+            known[at] = Known { key, told, fed };
+            is_news
+        }
+        None => false,
+    }
+}
+
+/// How a kind is answered, where it was answered so before: that a feed is taken again is known behind the next request alone.
+fn next_class(last: u16, now: u16, fed: bool) -> u16
+    ensures { result ≡ next_class last now fed }
+{
+    if fed && last == NOT_TAKEN { last } else { now }
+}
+
+/// Notes a request that has a tag or none: where the last answer was a feed, the tag shows that it was taken. Returns that, where
+/// it is news.
+fn note_tag(known: &mut [Known; MOST_KINDS], key: u64, has_tag: bool) -> Option<Answer>
+    ensures noted { known.new ≡ after_request key has_tag known.old }
+    ensures news { result ≡ told_request key has_tag known.old }
+{
+    let at = place_of(known, key)?;
+    if !known[at].fed {
+        return None;
+    }
+    let mut told = known[at].told;
+    let is_news = told.is_news(taken_class(has_tag));
+    known[at] = Known {
+        key,
+        told,
+        fed: false,
+    };
+    if is_news {
+        Some(Answer {
+            status: taken_status(has_tag),
+        })
+    } else {
+        None
+    }
+}
+
+/// What is logged of a feed that was taken or not.
+fn taken_class(is_taken: bool) -> u16
+    ensures { result ≡ taken_class is_taken }
+{
+    if is_taken { WELL } else { NOT_TAKEN }
+}
+
+/// The status that is logged of it.
+fn taken_status(is_taken: bool) -> u16
+    ensures { result ≡ taken_status is_taken }
+{
+    if is_taken { 200 } else { NOT_TAKEN }
+}

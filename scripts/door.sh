@@ -1,0 +1,30 @@
+#!/bin/sh
+# A test of what slow clients do to others, at an upstream and at an edge with 4 workers: slow heads, slow bodies, slow readers, many
+# idle connections, requests cut at each byte, sessions at 40 ms, an upstream that trickles, a server that is stopped for a moment,
+# and a log that nobody reads. A client that asks and reads as it should waits at most 2 seconds, and no request of a session fails.
+# It takes about a minute. Run after `rt ci` or `rt run`. Skipped where python3 or curl is not there.
+set -u
+cd "$(dirname "$0")/.."
+
+. scripts/servers.sh
+need curl
+need python3
+
+lifetime=150
+ulimit -n 8192 2>/dev/null || ulimit -n "$(ulimit -H -n)"
+upstream_port=${UPSTREAM_PORT:-15142}
+edge_port=${EDGE_PORT:-13963}
+
+start "$program" upstream --port "$upstream_port" --secret s --environments dev \
+    --client-tokens '*:dev.client' --frontend-tokens '*:dev.front' <examples/shop.jsonl >/dev/null
+upstream=$last
+wait_for "$upstream_port" "the upstream"
+start "$program" edge --port "$edge_port" --upstream "127.0.0.1:$upstream_port" --upstream-tokens '*:dev.client' \
+    --tokens '*:dev.client,*:dev.front' --workers 4 --interval 1 </dev/null >/dev/null
+edge=$last
+wait_for "$edge_port" "the edge"
+
+python3 scripts/python/door.py "$upstream_port" "$upstream" "$edge_port" "$edge" "$program" >"$work/found" 2>&1
+tail -n 1 "$work/found"
+same "slow clients" "" "$(sed '$d' "$work/found")"
+echo "${0##*/}: passed"

@@ -1,0 +1,272 @@
+"""What slow clients do to others: a client that asks and reads as it should waits at most 2 seconds, whatever else is connected.
+
+Its words: the port of an upstream and the process that started it, those of an edge behind it with 4 workers, and the program. It
+prints what goes wrong, and on its last line how long the slowest answer took. The tokens are `*:dev.client` and `*:dev.front`.
+"""
+import asyncio
+import http.client
+import os
+import signal
+import socket
+import subprocess
+import sys
+import threading
+import time
+
+from wire import HEALTH, answered, connect, reply_of, request, started_by, within
+
+# how long an answer may take, in seconds
+SOON = 2.0
+# how long each kind of slow client is there, in seconds
+EACH = 5.0
+IDLE = 2_000
+SESSIONS, REQUESTS, ONE_WAY = 25, 200, 0.02
+FEED = request(b"/api/client/features", b"*:dev.client")
+REPORT = request(b"/edge/validate", body=b'{"tokens":["*:dev.client"]}')
+notes, waits = [], [0.0]
+
+
+def poll(port, until):
+    """Asks on links of their own, and again and again on one that is kept, and notes each answer that is late or isn't there."""
+    kept = connect(port)
+    while time.monotonic() < until:
+        begun = time.monotonic()
+        try:
+            kept.sendall(HEALTH)
+            found = [reply_of(kept)[0], *answered(port, HEALTH)]
+        except OSError as fault:
+            found = [fault]
+            kept = connect(port)
+        took = time.monotonic() - begun
+        waits.append(took)
+        if found != [200, 200] or took > SOON:
+            notes.append(f"port {port}: {found} after {took:.2f} s")
+        time.sleep(0.05)
+    kept.close()
+
+
+def polled(name, port, links, step):
+    """Polls while each of the links takes its steps, all in turn."""
+    before = len(notes)
+    until = time.monotonic() + EACH
+    polling = threading.Thread(target=poll, args=(port, until))
+    polling.start()
+    while time.monotonic() < until:
+        begun = time.monotonic()
+        for link in links:
+            try:
+                step(link)
+            except OSError:
+                pass
+        time.sleep(max(0.0, 0.2 - (time.monotonic() - begun)))
+    polling.join()
+    notes[before:] = [f"{name}: {note}" for note in notes[before:]]
+    for link in links:
+        link.close()
+
+
+def opened(port, count, text):
+    links = [connect(port) for _ in range(count)]
+    for link in links:
+        link.sendall(text)
+    return links
+
+
+def slow_reader(port, text):
+    link = socket.socket()
+    link.setsockopt(socket.SOL_SOCKET, socket.SO_RCVBUF, 4_096)
+    link.connect(("127.0.0.1", port))
+    link.setblocking(False)
+    try:
+        link.send(text)
+    except BlockingIOError:
+        pass
+    return link
+
+
+def silent(link):
+    """Nothing is sent."""
+
+
+def slow_clients(port):
+    body = REPORT.replace(b"Content-Length: 27", b"Content-Length: 9000")
+    polled("slow heads", port, opened(port, 48, b"GET / HTTP/1.1\r\nHost: h\r\nX: "), lambda link: link.send(b"y" * 8))
+    polled("slow bodies", port, opened(port, 48, body), lambda link: link.send(b" " * 8))
+    polled("slow readers", port, [slow_reader(port, FEED * 900) for _ in range(16)], lambda link: link.recv(64))
+    polled("idle links", port, opened(port, IDLE // 2, HEALTH), silent)
+
+
+def cut_at(port, at, text):
+    """The requests in two pieces, far enough apart that the connection goes back to the door in between."""
+    found = answered(port, text[:at], text[at:], pause=0.04)
+    if found != [200, 200, 200]:
+        notes.append(f"port {port}: requests cut at {at}: {found}")
+
+
+def cut_everywhere(port):
+    text = HEALTH + REPORT + HEALTH
+    for first in range(1, len(text), 16):
+        cuts = [threading.Thread(target=cut_at, args=(port, at, text)) for at in range(first, min(first + 16, len(text)))]
+        for cut in cuts:
+            cut.start()
+        for cut in cuts:
+            cut.join()
+
+
+class Delay:
+    """A proxy to a port, through which each byte takes its time."""
+
+    def __init__(self, port):
+        self.port = port
+        self.loop = asyncio.new_event_loop()
+        self.at = asyncio.run_coroutine_threadsafe
+        threading.Thread(target=self.loop.run_forever, daemon=True).start()
+        server = self.at(asyncio.start_server(self.serve, "127.0.0.1", 0), self.loop).result()
+        self.here = server.sockets[0].getsockname()[1]
+
+    async def serve(self, reader, writer):
+        there, back = await asyncio.open_connection("127.0.0.1", self.port)
+        await asyncio.gather(self.pass_on(reader, back), self.pass_on(there, writer))
+
+    async def pass_on(self, reader, writer):
+        try:
+            while piece := await reader.read(65_536):
+                self.loop.call_later(ONE_WAY, writer.write, piece)
+        except ConnectionError:
+            pass
+        self.loop.call_later(ONE_WAY, writer.close)
+
+
+def session(port, method, path, body, headers):
+    """Requests of one kept connection, which is opened once."""
+    link = http.client.HTTPConnection("127.0.0.1", port, timeout=10)
+    link.connect()
+    link.auto_open = 0
+    for number in range(REQUESTS):
+        try:
+            link.request(method, path, body, headers)
+            reply = link.getresponse()
+            reply.read()
+            if reply.status != 200:
+                notes.append(f"session at {path}: {reply.status}")
+        except (OSError, http.client.HTTPException) as fault:
+            notes.append(f"session at {path}: request {number}: {fault!r}")
+            return
+    link.close()
+
+
+def sessions(port, method, path, body, headers):
+    """Sessions at 40 ms, many more than there are workers: no request fails."""
+    proxy = Delay(port)
+    running = [threading.Thread(target=session, args=(proxy.here, method, path, body, headers)) for _ in range(SESSIONS)]
+    for one in running:
+        one.start()
+    for one in running:
+        one.join()
+
+
+def full_log(program, port):
+    """An edge whose error stream is a full pipe that nobody reads."""
+    reading, writing = os.pipe()
+    os.set_blocking(writing, False)
+    try:
+        while True:
+            os.write(writing, b"x" * 4_096)
+    except BlockingIOError:
+        os.set_blocking(writing, True)
+    words = ["edge", "--port", str(port), "--upstream", "127.0.0.1:1", "--upstream-tokens", "*:dev.c", "--tokens", "*:dev.c"]
+    edge = subprocess.Popen([program, *words], stdin=subprocess.DEVNULL, stdout=subprocess.DEVNULL, stderr=writing)
+    if within(lambda: answered(port, HEALTH), seconds=SOON) != [200]:
+        notes.append("an edge with a full log doesn't answer")
+    edge.kill()
+    edge.wait()
+    os.close(reading)
+    os.close(writing)
+
+
+class Trickling(threading.Thread):
+    """An upstream that gives each request a byte each second, without an end; it notes how long it was waited for."""
+
+    def __init__(self):
+        super().__init__(daemon=True)
+        self.listener = socket.create_server(("127.0.0.1", 0))
+        self.port = self.listener.getsockname()[1]
+        self.waited = []
+
+    def run(self):
+        while True:
+            threading.Thread(target=self.give, args=self.listener.accept()[:1], daemon=True).start()
+
+    def give(self, link):
+        begun = time.monotonic()
+        try:
+            link.recv(65_536)
+            link.sendall(b"HTTP/1.1 200 OK\r\nContent-Length: 100000\r\n\r\n")
+            while True:
+                link.sendall(b" ")
+                time.sleep(0.5)
+        except OSError:
+            self.waited.append(time.monotonic() - begun)
+
+
+def trickled(program, port):
+    """An edge behind such an upstream: it gives up after 30 seconds, asks nothing more at once, and then serves."""
+    upstream = Trickling()
+    upstream.start()
+    words = ["edge", "--port", str(port), "--upstream", f"127.0.0.1:{upstream.port}", "--upstream-tokens", "*:dev.c,*:prod.c", "--tokens", "*:dev.c"]
+    edge = subprocess.Popen([program, *words], stdin=subprocess.DEVNULL, stdout=subprocess.DEVNULL, stderr=subprocess.DEVNULL)
+    within(lambda: upstream.waited, seconds=40)
+    if not upstream.waited or not 29 < upstream.waited[0] < 33:
+        notes.append(f"an upstream that trickles: {upstream.waited}")
+    if within(lambda: answered(port, HEALTH), seconds=SOON) != [200]:
+        notes.append("an edge behind an upstream that trickles doesn't answer")
+    edge.kill()
+    edge.wait()
+
+
+def stopped(port, process):
+    """A server that was stopped for a moment and goes on."""
+    os.kill(process, signal.SIGSTOP)
+    time.sleep(0.2)
+    os.kill(process, signal.SIGCONT)
+    if answered(port, HEALTH) != [200]:
+        notes.append(f"port {port}: no answer behind a stop")
+
+
+def pipelined(port):
+    """More requests at once than a session has, while other clients do the same: each is answered."""
+    def play():
+        found = answered(port, HEALTH * 1_001)
+        if found not in ([200] * 1_000, [200] * 1_001):
+            notes.append(f"port {port}: {len(found)} answers to 1,001 requests at once")
+
+    clients = [threading.Thread(target=play) for _ in range(12)]
+    for client in clients:
+        client.start()
+    for client in clients:
+        client.join()
+
+
+def main(words):
+    upstream, edge, program = int(words[0]), int(words[2]), words[4]
+    trickling = threading.Thread(target=trickled, args=(program, edge + 1))
+    trickling.start()
+    full_log(program, edge + 2)
+    for port, process in [(upstream, words[1]), (edge, words[3])]:
+        stopped(port, started_by(int(process)))
+        pipelined(port)
+        cut_everywhere(port)
+    sides = [threading.Thread(target=slow_clients, args=(port,)) for port in (upstream, edge)]
+    for side in sides:
+        side.start()
+    for side in sides:
+        side.join()
+    sessions(edge, "GET", "/api/frontend", None, {"Authorization": "*:dev.front"})
+    sessions(upstream, "POST", "/edge/validate", '{"tokens":[]}', {"Content-Type": "application/json"})
+    trickling.join()
+    for note in notes[:20]:
+        print(note)
+    print(f"the slowest answer took {max(waits):.2f} s")
+
+
+main(sys.argv[1:])
