@@ -1,9 +1,10 @@
 #!/bin/sh
 # A test over real sockets: commands to an upstream that keeps them in a database file, which is killed ten times at a random moment
 # and started again. Each command that was answered 200 is there with its number, the numbers are unbroken, and no more is there
-# than what was under way as it was killed. Files that others made are opened, or their rows are refused. Run after `rt ci`, or
-# after `rt run` in crates/unl_keeping. Skipped where curl is not there; what needs another reader or writer of such files is skipped
-# where neither sqlite3 nor python3's module of that name is. It ends what it started, and takes a minute at most.
+# than what was under way as it was killed. Files that others made are opened, or their rows are refused, and a file that may grow no
+# more keeps what was acknowledged. Run after `rt ci`, or after `rt run` in crates/unl_keeping. Skipped where curl is not there; what
+# needs another reader or writer of such files is skipped where neither sqlite3 nor python3's module of that name is. It ends what it
+# started, and takes a minute at most.
 set -u
 cd "$(dirname "$0")/.."
 
@@ -122,6 +123,7 @@ refused() { printf 'refused: row %s\nstatus 3' "$1"; }
 same "no first row" "$(refused 1)" "$(opened "$table; INSERT INTO kept VALUES (2, '$put')")"
 same "a row that is no command" "$(refused 1)" "$(opened "$table; INSERT INTO kept VALUES (1, '{}')")"
 same "a command that is refused" "$(refused 1)" "$(opened "$table; INSERT INTO kept VALUES (1, '$remove')")"
+same "a row that is missing" "$(refused 2)" "$(opened "$table; INSERT INTO kept VALUES (1, '$put'), (3, '$put')")"
 same "a second row that is none" "$(refused 2)" "$(opened "$table; INSERT INTO kept VALUES (1, '$put'), (2, '{}')")"
 same "a place below all" "$failed" "$(opened "$table; INSERT INTO kept VALUES (0, '$put')")"
 same "a row of bytes" "$failed" "$(opened "$table; INSERT INTO kept VALUES (1, x'61')")"
@@ -130,10 +132,48 @@ echo "no database" >"$work/text.db"
 over "$work/text.db" >"$work/printed"
 same "a file that is no database" "status 8" "$(tail -n 1 "$work/printed")"
 
-# a file that others made of a good row
+# a file that others made of a good row, and the rows of commands behind it
 file=$work/good.db
 sql "$file" "$table; INSERT INTO kept VALUES (1, '$put')" || fail "the file can't be made"
-begin
+begin --connections 5
 wait_for "$port" "the upstream of a good row"
 ask "$port" '*:dev.client' /api/client/features | grep -q '"name":"a"' || fail "a good row isn't shown"
+for command in '{"command":"remove-feature","environment":"dev","name":"a"}' \
+    '{"command":"put-segment","environment":"dev","segment":{"constraints":[],"id":4}}' "$remove"; do
+    put="$put
+$command"
+    ask "$port" s /commands --data "$command" | grep -q number || fail "it takes no command behind a good row"
+done
+wait "$server"
+same "the rows of commands" "$put" "$(sql "$file" "SELECT text FROM kept ORDER BY place")"
+
+# a file that may grow no more: a command is refused, and what was acknowledged is there again
+file=$work/full.db
+(
+    trap '' XFSZ
+    ulimit -f 800
+    exec "$keeping" "$file" --port "$port" --secret s --environments dev --client-tokens '*:dev.client'
+) </dev/null >"$work/printed" &
+server=$!
+started=$server
+wait_for "$port" "the upstream of a file that may not grow"
+count=0
+put_next() {
+    ask "$port" s /commands --data "{\"command\":\"put-feature\",\"environment\":\"dev\",\"feature\":{\"name\":\"f$count\",\"enabled\":true}}"
+}
+while reply=$(put_next) && test "$reply" = "{\"number\":$((count + 1))}"; do
+    count=$((count + 1))
+done
+same "a command that can't be kept" '{"error":"KeeperFault"}' "$reply"
+test "$count" -gt 0 || fail "no command was kept"
+features() {
+    ask "$port" '*:dev.client' /api/client/features | grep -o '"name":"f[0-9]*"' | wc -l | tr -d ' '
+}
+same "what is shown then" "$count" "$(features)"
+kill -KILL "$server"
+wait "$server" 2>/dev/null
+begin
+wait_for "$port" "the upstream of a file that may grow again"
+more_shown=$(($(features) - count))
+test "$more_shown" -eq 0 || test "$more_shown" -eq 1 || fail "$more_shown features more than were acknowledged"
 echo "keeping: passed ($(wc -l <"$work/acknowledged" | tr -d ' ') commands acknowledged, $more more kept, $kills kills)"

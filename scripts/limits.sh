@@ -1,6 +1,7 @@
 #!/bin/sh
-# Limits that only long inputs reach: features and segments of an environment, keys of a book of metrics, the bytes and the lines of an input. Run after `rt ci` or `rt run`,
-# which build the program; PROGRAM names another one.
+# Limits that only long inputs reach: features and segments of an environment, the events that it keeps, keys of a book of metrics and
+# of a bulk report, the bytes and the lines of an input. Run after `rt ci` or `rt run`, which build the program; PROGRAM names another
+# one.
 set -u
 cd "$(dirname "$0")/.."
 
@@ -41,7 +42,41 @@ segments() {
 same "segments" 'refused: line 1002: TooMany
 status 3' "$(segments)"
 
-# Reports of 10,000 features, of another one, of one of the first again, of the other one again, and of a feature too many.
+# Batches of more events than are kept, and what is answered to one who has the number 0, and the number 1: how many events, and how
+# many of them are hydrations. In the second environment two events have the number 1, and both are dropped; in the third one as many
+# come as are kept.
+window() {
+    awk '
+        function batch(environment, count, twice) {
+            printf "{\"op\":\"batch\",\"environment\":\"%s\",\"batch\":{\"events\":[", environment
+            print "{\"type\":\"hydration\",\"eventId\":0}]}}"
+            printf "{\"op\":\"batch\",\"environment\":\"%s\",\"batch\":{\"after\":0,\"events\":[", environment
+            for (event = 1; event <= count; event++) {
+                number = event == 1 ? 1 : event - twice
+                printf "%s{\"type\":\"segment-removed\",\"eventId\":%d,\"segmentId\":1}", (event == 1 ? "" : ","), number
+            }
+            print "]}}"
+        }
+        function ask(place, environment, since) {
+            printf "{\"op\":\"ask\",\"token\":\"*:%s.c\",\"target\":\"/api/client/delta\",", environment
+            printf "\"tag\":\"\\\"0000000000000000-1-%d-%d\\\"\"}\n", place, since
+        }
+        BEGIN {
+            printf "{\"op\":\"tokens\",\"tokens\":[{\"token\":\"*:a.c\",\"type\":\"client\"},"
+            print "{\"token\":\"*:b.c\",\"type\":\"client\"},{\"token\":\"*:c.c\",\"type\":\"client\"}]}"
+            batch("a", 1001, 0); batch("b", 1001, 1); batch("c", 1000, 0)
+            for (place = 0; place < 3; place++) for (since = 0; since < 2; since++) ask(place, substr("abc", place + 1, 1), since)
+        }' | "$program" replay | awk '/ status / { print $5, gsub(/"eventId"/, "&"), gsub(/"hydration"/, "&") }'
+}
+same "events that are kept" '200 1 1
+200 1000 0
+200 1 1
+200 999 0
+200 1000 0
+200 999 0' "$(window)"
+
+# Reports of 10,000 features, of another one, of one of the first again, of the other one again, and of a feature too many. Then what
+# is sent: as many keys as 1,048,576 bytes have room for, which leave room for the other feature, and the rest.
 report() {
     awk '
         function report(letter, count) {
@@ -50,11 +85,12 @@ report() {
             for (number = 0; number < count; number++) printf "%s\\\"%s%d\\\":{}", number ? "," : "", letter, number
             print "}}}\"}"
         }
+        function sent() { print "{\"op\":\"metrics\",\"environment\":\"dev\"}" }
         BEGIN {
             print "{\"op\":\"tokens\",\"tokens\":[{\"token\":\"*:dev.c\",\"type\":\"client\"}]}"
             report("f", 10000); report("g", 1); report("f", 1); report("g", 1); report("f", 10001)
-        }' | "$program" replay
-    echo "status $?"
+            sent(); report("g", 1); sent(); sent()
+        }' | "$program" replay | awk '{ keys = gsub(/"appName"/, "&") } / metrics \{/ { $0 = $1 " sent " keys } { print }'
 }
 same "keys" '1: tokens generation 1 front 1
 2: front 1 status 202 tag - body 
@@ -62,7 +98,11 @@ same "keys" '1: tokens generation 1 front 1
 4: front 1 status 202 tag - body 
 5: front 1 status 503 tag - body {"error":"MetricsFull"}
 6: front 1 status 400 tag - body {"error":"BadReport"}
-status 0' "$(report)"
+7: sent 8395
+8: front 1 status 202 tag - body 
+9: sent 1606
+10: metrics -' "$(report)"
+
 # A document of so many bytes, none of which stands in JSON.
 long() {
     head -c "$2" /dev/zero | tr '\0' '\377' | "$program" "$1"

@@ -320,32 +320,33 @@ def hydration(number, features, fields=b""):
 
 
 BOOK = reply(b'{"tokens":[{"token":"*:dev.f","type":"frontend","projects":["*"]}]}')
+CLIENT_BOOK = reply(b'{"tokens":[{"token":"*:dev.c","type":"client","projects":["*"]}]}')
 ON = b'{"name":"a","enabled":true}'
 OFF = b'{"name":"a","enabled":false}'
 FEED = reply(b'{"features":[%s],"meta":{"revisionId":5}}' % ON)
 TAKEN = reply(b"", b"202 Accepted", b"Content-Length: 0\r\n")
 
 
-def of_edge(*more):
-    return ["edge", "--port", str(PORT), "--upstream", UPSTREAM, "--upstream-tokens", "*:dev.c", "--tokens", "*:dev.f",
+def of_edge(*more, tokens="*:dev.f"):
+    return ["edge", "--port", str(PORT), "--upstream", UPSTREAM, "--upstream-tokens", "*:dev.c", "--tokens", tokens,
             "--interval", "1", *more]
 
 
 BUSY = reply(b"", b"503 Service Unavailable")
 
 
-def replies_by_path(states):
-    """An upstream's replies: the book, the states one after the other, of which the last one stays, and that what was counted is
-    taken."""
-    coming = iter(states)
+def replies_by_path(states, books=(), bulks=()):
+    """An upstream's replies: the books and the states one after the other, of which the last state stays, and that what was counted
+    is taken, once the replies to that are used up."""
+    coming, of_books, of_bulks = iter(states), iter(books), iter(bulks)
     last = None
 
     def reply_to(asked_for):
         nonlocal last
         if asked_for.startswith(b"POST /edge/validate "):
-            return BOOK
+            return next(of_books, BOOK)
         if asked_for.startswith(b"POST /api/client/metrics/bulk "):
-            return TAKEN
+            return next(of_bulks, TAKEN)
         last = next(coming, last)
         return last
     return reply_to
@@ -373,6 +374,46 @@ def play_edges():
         check("an edge at a taken port", (b"", DOOR_FAULT), ran(of_edge(), whole(b"")))
 
 
+# the hosts that features are on for, as their strategies name them; the third one's names none
+HOSTS = {b"a": "db.local, WEB.LOCAL", b"b": "db.local,web.local.org", b"c": None, b"d": "", b"e": "db.local,, Web.Local"}
+ON_HOSTS = [("Web.local", [b"a", b"e"]), ("wEB.local", [b"a", b"e"]), ("web.local.org", [b"b"]), ("web.loca", []), (None, [])]
+
+
+def play_hosts():
+    def of_host(name, hosts):
+        parameters = {} if hosts is None else {"hostNames": hosts}
+        strategies = [{"name": "applicationHostname", "parameters": parameters}]
+        return json.dumps({"name": name.decode(), "enabled": True, "strategies": strategies}).encode()
+
+    state = hydration(5, b",".join(of_host(*feature) for feature in HOSTS.items()))
+    for host, on in ON_HOSTS:
+        with Upstream(UPSTREAM_PORT, replies_by_path([state])):
+            replies, *_ = served(of_edge(*(["--host", host] if host else [])), whole(b""))
+        check(f"the host {host}", [on] * 2, [re.findall(rb'"name":"([a-e])"', reply) for reply in replies])
+
+
+# what an SDK sends beside its token and its tag
+OF_SDK = (b"User-Agent: shop\r\nUNLEASH-APPNAME: shop\r\nUNLEASH-INSTANCEID: i-1\r\nUnleash-Client-Spec: 5.1.0\r\n"
+          b"Accept-Encoding: gzip, deflate\r\nConnection: keep-alive\r\n")
+
+
+def play_polls():
+    """Polls of a state that has not changed, in pieces."""
+    with Upstream(UPSTREAM_PORT, replies_by_path([hydration(5, ON)], [CLIENT_BOOK])):
+        run = Run(of_edge("--connections", "1", tokens="*:dev.c"), whole(b""))
+        with within(lambda: connect(PORT), run.lives) as link:
+            link.sendall(request(b"/api/client/features", CLIENT))
+            head, _ = message_of(link)
+            tag = re.search(rb"ETag: (.*)\r\n", head)[1]
+            poll = request(b"/api/client/features", CLIENT, fields=OF_SDK + b"If-None-Match: %s\r\n" % tag)
+            for most in [1, 64, 4_096]:
+                for at in range(0, len(poll), most):
+                    link.sendall(poll[at : at + most])
+                unchanged = b"HTTP/1.1 304 Not Modified\r\nETag: %s\r\n\r\n" % tag
+                check(f"a poll, {most} bytes at once", unchanged, message_of(link)[0])
+        check("an edge of polls", (b"connections 1\n", DONE), run.ended())
+
+
 def play_waiting():
     """Links that wait for one another, for the upstream and for turns."""
     run = Run(of_edge("--connections", "2", "--workers", "2"), whole(b""))
@@ -394,8 +435,10 @@ REPORT_OF_A = (b'{"appName":"shop","bucket":{"start":"2024-01-01T10:05:00Z","tog
 
 
 def play_turns():
-    """A link is kept over a turn that turns the feature on, and another one reports, of which the upstream is told in a turn."""
-    with Upstream(UPSTREAM_PORT, replies_by_path([hydration(5, OFF), hydration(6, ON)])) as upstream:
+    """A link is kept over turns, of which the second one gets no book and turns the feature on, and the third one gets a book that
+    can't be read. Another link reports, of which the upstream is told in a turn, and again in the next one, since it refuses first."""
+    replies = replies_by_path([hydration(5, OFF), hydration(6, ON)], [BOOK, BUSY, reply(b"[]")], [BUSY])
+    with Upstream(UPSTREAM_PORT, replies) as upstream:
         run = Run(of_edge("--connections", "3", "--workers", "2"), whole(b""))
         with within(lambda: connect(PORT), run.lives) as kept:
             kept.sendall(TOGGLES)
@@ -403,12 +446,14 @@ def play_turns():
             check("the same link, after the turn", True, within(lambda: shows(kept, A_IS_ON), run.lives))
             report = request(b"/api/frontend/client/metrics", b"*:dev.f", REPORT_OF_A, b"Content-Type: application/json\r\n")
             check("a report", 202, asked(run, report)[0])
-            told = within(lambda: told_of(upstream), run.lives) or b""
-            check("what the upstream is told", True, b'"featureName":"a","no":1,' in told and b'"yes":2' in told)
+            told = within(lambda: told_of(upstream, 2), run.lives) or [b""]
+            check("what the upstream is told", True, b'"featureName":"a","no":1,' in told[0] and b'"yes":2' in told[0])
+            check("what it is told again", [told[0]] * 2, told)
         check("a link after the turns", 200, asked(run, HEALTH)[0])
         # the kept connection is a link more each time that it was without a request for a moment
         printed, status = run.ended()
         check("an edge over turns", (True, DONE), (int(printed.removeprefix(b"connections ")) >= 3, status))
+        check("what it isn't told again", None, told_of(upstream, 3))
 
 
 def shows(link, toggles):
@@ -417,9 +462,10 @@ def shows(link, toggles):
     return reply_of(link) == (200, toggles) or None
 
 
-def told_of(upstream):
-    """The report that an upstream was sent, none where it wasn't."""
-    return next((text for text in upstream.asked if text.startswith(b"POST /api/client/metrics/bulk ")), None)
+def told_of(upstream, count):
+    """The reports that an upstream was sent, none where they aren't so many."""
+    told = [text for text in upstream.asked if text.startswith(b"POST /api/client/metrics/bulk ")]
+    return told if len(told) >= count else None
 
 
 # ---- a follower, behind an upstream that gives replies
@@ -433,6 +479,7 @@ OFF_AT_6 = reply(b'{"after":5,"events":[{"type":"feature-updated","eventId":6,"f
 FROM_8 = reply(b'{"after":8,"events":[{"type":"segment-removed","eventId":9,"segmentId":1}]}')
 EPOCH_2 = reply(b'{"epoch":2,"events":[{"type":"hydration","eventId":1,"features":[%s]}]}' % ON)
 BAD = reply(b"{}")
+SHORT = reply(b'{"events":[', fields=b"Content-Length: 46\r\n")
 
 # more words, the replies (none is a link that is cut off), and what is printed
 TURNS = [
@@ -471,6 +518,9 @@ def play_turns_of_follow():
     second = first + b'If-None-Match: "t"\r\n'
     close = b"Connection: close\r\n\r\n"
     check("what a follower asks", [first + close, second + close, second + close], texts)
+    for reply_to_second in [None, SHORT]:
+        _, texts = followed(of_follow(3), [ON_AT_5, reply_to_second, SAME])
+        check("what it asks after a fault", [first + close, second + close, first + close], texts)
     printed = b"turn 1 published number 5 on true\n"
     for room in [0, len(printed) - 1]:
         found, _ = followed(of_follow(1), [ON_AT_5], room)
@@ -564,6 +614,10 @@ def play_replies():
     for text, told in REPLIES_READ:
         for most in [7, 100_000] if len(text) < 300 else [100_000]:
             check(f"{text[:99]}, {most} at once", (b"turn 1 %s\n" % told, DONE), turn_of(text, most))
+    # each front of a reply
+    text = OK + LENGTH + b"\r\n" + BATCH
+    for count in range(1, len(text)):
+        check(f"{count} bytes of a reply", (b"turn 1 %s\n" % NOT_READ, DONE), turn_of(text[:count], count))
     for text, told in LONG_REPLIES:
         check(f"{text[:99]}", (b"turn 1 %s\n" % told, DONE), turn_of(text, len(text)))
 
@@ -576,6 +630,8 @@ def main():
     play_commands()
     play_most_segments()
     play_edges()
+    play_hosts()
+    play_polls()
     play_waiting()
     play_turns()
     play_turns_of_follow()

@@ -1,12 +1,12 @@
-//! Rows of keepers and of commands that are kept, in memory and in a database: what an upstream that is opened again has of
-//! them, wherever a call fails or the machine stops.
+//! Rows of keepers and of commands that are kept, for what no run of the program shows: rows that are read from memory, and what
+//! an upstream has that is opened again after its machine stopped at a disk call.
 #![tactic(auto)]
 
 #[cfg(test)]
-mod commands;
-#[cfg(test)]
-mod failing;
-#[cfg(test)]
 mod keepers;
+#[cfg(test)]
+mod machine;
+#[cfg(test)]
+mod stops;
 #[cfg(test)]
 mod upstreams;

@@ -9,14 +9,6 @@ use unl_keeper::Keeper;
 use unl_tokens::Book;
 use unl_upstream::{KeepCommandRefusal, ReopenFault, Upstream, keep, read_command, reopen};
 
-pub(crate) const PUT_A: &str =
-    r#"{"command":"put-feature","environment":"dev","feature":{"name":"a","enabled":true}}"#;
-
-pub(crate) const PUT_B: &str =
-    r#"{"command":"put-feature","environment":"dev","feature":{"name":"b","enabled":true}}"#;
-
-pub(crate) const REMOVE_Z: &str = r#"{"command":"remove-feature","environment":"dev","name":"z"}"#;
-
 /// An upstream of the environment `dev` that was given no command.
 fn fresh(alloc: Global) -> Result<Upstream, Memory>
     ensures { IfOk result IsOpening }

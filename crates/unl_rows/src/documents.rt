@@ -1,10 +1,9 @@
+//! Feeds as a value, where commands print them as they are written, and documents by themselves.
 ghost use Rattle.unl_documents.specs.States.{IsValidState};
 
 use serde_json::Value;
 use std::alloc::Global;
-use std::test::Fail;
 use unl_documents::laws::order_is_the_sorting;
-use unl_documents::texts::comma_items;
 use unl_documents::{
     BadDocument, Copied, FeedHead, List, Segment, State, Text, read_feature, read_feed, read_state,
     write_feed,
@@ -36,11 +35,6 @@ fn written_feed(alloc: Global, text: &str) -> Result<(String, Option<u64>), BadD
     Ok((written, copy.number))
 }
 
-const FEATURE: &str = concat!(
-    r#"{"dependencies":[],"enabled":false,"impressionData":false,"name":"a","project":"default","#,
-    r#""stale":false,"strategies":[],"type":"release","variants":[]}"#,
-);
-
 const FEED: &str = concat!(
     r#"{"features":[{"dependencies":[],"enabled":false,"impressionData":false,"name":"a","project":"default","#,
     r#""stale":false,"strategies":[],"type":"release","variants":[]}],"meta":{"epoch":3,"etag":"t","#,
@@ -48,43 +42,38 @@ const FEED: &str = concat!(
     r#""version":2}"#,
 );
 
-/// Replies that are no feeds.
-const NO_FEEDS: [&str; 3] = ["{", "[]", "\"\\ud800\""];
+/// Whether a feed is written as it is read.
+fn is_written_so(alloc: Global) -> Result<bool, BadDocument> {
+    let (written, number) = written_feed(alloc, FEED)?;
+    Ok(written.as_str() == FEED && number == Some(9))
+}
 
 #[test]
-fn feeds_of_bytes_come_back(rt: HostRuntime) -> Result<(), Fail> {
-    let alloc = rt.alloc();
+fn a_feed_is_written_as_it_is_read(rt: HostRuntime) {
     order_is_the_sorting::<Segment>();
-    assert!(rt;
-        written_feed(alloc, FEED).is_ok_and(|feed| feed.0.as_str() == FEED && feed.1 == Some(9))
+    assert!(rt; is_written_so(rt.alloc()) == Ok(true));
+}
+
+/// Whether a feature is on, where a document is one.
+fn is_on(alloc: Global, text: &str) -> Option<bool> {
+    let value = Value::from_str(alloc, text).ok()?;
+    Some(read_feature(alloc, &value).ok()?.enabled)
+}
+
+/// How many segments a state has, where a document is one.
+fn segments_of(alloc: Global, text: &str) -> Option<usize> {
+    let value = Value::from_str(alloc, text).ok()?;
+    let state = read_state(alloc, &value).ok()?;
+    Some(state.segments.len())
+}
+
+#[test]
+fn documents_are_read_alone(rt: HostRuntime) {
+    let alloc = rt.alloc();
+    let read = (
+        is_on(alloc, r#"{"name":"a","enabled":true}"#),
+        segments_of(alloc, r#"{"segments":[{"id":1}]}"#),
+        segments_of(alloc, "7"),
     );
-    for text in NO_FEEDS {
-        assert!(rt;
-            written_feed(alloc, text).err() == Some(BadDocument::NotJson),
-            "{text}"
-        );
-    }
-    Ok(())
-}
-
-#[test]
-fn documents_are_read_alone(rt: HostRuntime) -> Result<(), Fail> {
-    let alloc = rt.alloc();
-    let feature = read_feature(alloc, &Value::from_str(alloc, FEATURE)?)?;
-    assert!(rt; feature.name.as_str() == "a" && !feature.enabled);
-    let none = Value::from_str(alloc, "7")?;
-    assert!(rt; read_state(alloc, &none).err() == Some(BadDocument::NotJson));
-    Ok(())
-}
-
-#[test]
-fn texts_are_cut(rt: HostRuntime) -> Result<(), Fail> {
-    let alloc = rt.alloc();
-    let items = comma_items(alloc, " a,, b c ,\t,d").expect(&rt, "there is memory");
-    let wanted = ["a", "b c", "d"];
-    assert_eq!(rt; items.len(), wanted.len());
-    for (place, text) in wanted.iter().enumerate() {
-        assert!(rt; items.get(place).is_some_and(|item| item.as_str() == *text));
-    }
-    Ok(())
+    assert!(rt; read == (Some(true), Some(1), None));
 }

@@ -6,8 +6,6 @@ mod base;
 #[cfg(test)]
 mod compiled;
 #[cfg(test)]
-mod constraints;
-#[cfg(test)]
 mod context;
 #[cfg(test)]
 mod delta;
@@ -18,10 +16,6 @@ mod metrics;
 #[cfg(test)]
 mod murmur;
 #[cfg(test)]
-mod strategies;
-#[cfg(test)]
 mod tokens;
-#[cfg(test)]
-mod variants;
 #[cfg(test)]
 mod words;

@@ -1,4 +1,4 @@
-//! Tests of what serves links: queues of them, workers that serve them side by side, single connections, and the network.
+//! Tests of what serves links: single connections, queues of links, workers that serve them side by side, and the network.
 #![tactic(auto)]
 
 #[cfg(test)]
@@ -7,7 +7,5 @@ mod connections;
 mod links;
 #[cfg(test)]
 mod network;
-#[cfg(test)]
-mod poll;
 #[cfg(test)]
 mod workers;

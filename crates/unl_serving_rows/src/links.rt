@@ -1,40 +1,7 @@
-ghost use Rattle.std.specs.Prelude.{◌≡◌};
-
 use std::sync::Wait;
 use std::test::Fail;
 use unl_base::{Job, RealSpawner, Spawner};
-use unl_links::{LinkQueue, LinkState, Popped};
-
-/// The number that was taken, or what there is in its place.
-fn taken(state: &mut LinkState<u64>) -> u64 {
-    match state.pop() {
-        Popped::Taken(link) => link,
-        Popped::Closed => 1_000,
-        Popped::Empty => 2_000,
-    }
-}
-
-#[test]
-fn a_state_holds_64_links(rt: HostRuntime) -> Result<(), Fail> {
-    let mut state = LinkState::new(rt.alloc()).expect(&rt, "room");
-    assert_eq!(rt; taken(&mut state), 2_000);
-    for link in 0..64u64 {
-        assert_eq!(rt; state.push(link), None);
-    }
-    assert!(rt; state.is_full());
-    assert_eq!(rt; state.push(64), Some(64));
-    assert_eq!(rt; taken(&mut state), 0);
-    state.close();
-    assert!(rt; state.closed());
-    assert_eq!(rt; state.push(65), None);
-    for link in 1..64u64 {
-        assert_eq!(rt; taken(&mut state), link);
-    }
-    assert_eq!(rt; taken(&mut state), 65);
-    assert_eq!(rt; taken(&mut state), 1_000);
-    assert!(rt; !state.is_waiting());
-    Ok(())
-}
+use unl_links::LinkQueue;
 
 /// Puts so many links, and then closes the queue.
 #[derive(Drop)]
@@ -91,7 +58,7 @@ impl<W: Wait> Job for Taker<'_, W> {
     fn cancel(&mut self) {}
 }
 
-// Both threads wait for each other: no more than 64 links stand.
+// Both threads wait for each other: the queue has room for 64 links.
 #[test]
 fn a_queue_hands_links_on(rt: HostRuntime) -> Result<(), Fail> {
     let alloc = rt.alloc();

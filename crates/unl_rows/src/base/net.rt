@@ -1,15 +1,12 @@
+//! Doors and peers over a network, of which no program has one.
 ghost use Rattle.unl_base.specs.Doors.{IsListening};
 
-use crate::base::{read_of, write_to};
+use crate::base::ask;
 use std::io::{self, ErrorKind, Read, Write};
 use std::net::{Net, OpenListener, OpenStream, SocketAddr};
 use std::os::fd::{AsRawFd, RawFd};
-use std::test::Fail;
 use std::time::Duration;
-use unl_base::{
-    Door, Failed, Link, MemoryDoor, MemoryLink, MemoryPeer, Peer, RealDoor, RealPeer, Sink, Source,
-    write_all,
-};
+use unl_base::{Door, Failed, Peer, RealDoor, RealPeer, Source, write_all};
 
 /// A stream that gives one read of `abc` and takes whatever is written.
 #[derive(Drop)]
@@ -98,7 +95,7 @@ impl Net for Town {
     }
 }
 
-/// Answers the next link with what it gives, and hands it back. Tells how much that was.
+/// Writes what the next link gives back to it, hands the link back, and returns how much that was.
 fn echo<D: Door>(door: &mut D) -> Result<Option<usize>, Failed>
     requires { IsListening (D.state door.old) }
     ensures { IsListening (D.state door.new) }
@@ -115,94 +112,26 @@ fn echo<D: Door>(door: &mut D) -> Result<Option<usize>, Failed>
     Ok(Some(read?))
 }
 
-/// How much a link gave, or none of a closed door.
-type Echo = Result<Option<usize>, Failed>;
-
-/// What four links give, one after another, once the door listens.
-fn echoed<D: Door>(door: &mut D) -> Result<(Echo, Echo, Echo, Echo), Failed> {
+/// How much the next link gives and the one after it, or none of a closed door, once the door listens.
+fn echoed<D: Door>(door: &mut D) -> Result<[Option<usize>; 2], Failed> {
     if door.listen(7).is_err() {
         return Err(Failed);
     }
-    let first = echo(door);
-    let second = echo(door);
-    let third = echo(door);
-    let fourth = echo(door);
-    Ok((first, second, third, fourth))
+    Ok([echo(door)?, echo(door)?])
 }
 
 #[test]
-fn a_door_hands_out_links(rt: HostRuntime) -> Result<(), Fail> {
-    let alloc = rt.alloc();
-    let link = MemoryLink::new(alloc, b"ab".to_vec(alloc)?, 8, 8, Vec::new(alloc))?;
-    let links = vec![in alloc; Some(link)]?;
-    let mut door = MemoryDoor::new(links, vec![in alloc; 0u64, 3]?);
-    assert_eq!(rt; door.listen(7), Err(Failed));
-    assert!(rt; echoed(&mut door) == Ok((Ok(Some(2)), Err(Failed), Ok(None), Ok(None))));
-    for (place, sent) in [(0, Some(b"ab".as_slice())), (1, None)] {
-        assert!(rt; door.sent(place) == sent);
-    }
-    Ok(())
+fn a_real_door_closes_after_its_bound(rt: HostRuntime) {
+    let mut door = RealDoor::new(&Town, Some(1));
+    let refused = door.listen(1);
+    let given = echoed(&mut door);
+    assert!(rt; refused == Err(Failed) && given == Ok([Some(3), None]));
 }
 
 #[test]
-fn a_real_door_closes_after_its_bound(rt: HostRuntime) -> Result<(), Fail> {
-    let mut door = RealDoor::new(&Town, Some(2));
-    assert_eq!(rt; door.listen(1), Err(Failed));
-    assert!(rt; echoed(&mut door) == Ok((Ok(Some(3)), Ok(Some(3)), Ok(None), Ok(None))));
-    let mut open = RealDoor::new(&Town, None);
-    assert!(rt; echoed(&mut open) == Ok((Ok(Some(3)), Ok(Some(3)), Ok(Some(3)), Ok(Some(3)))));
-    Ok(())
-}
-
-/// What a read and a write give before a connect.
-fn unconnected<P: Peer>(peer: &mut P) -> (Result<usize, Failed>, Result<usize, Failed>) {
-    let mut room = [0u8; 8];
-    let read = read_of(peer, &mut room);
-    let written = write_to(peer, b"!");
-    (read, written)
-}
-
-#[test]
-fn peers_before_a_connect(rt: HostRuntime) -> Result<(), Fail> {
-    let alloc = rt.alloc();
-    let mut peer = MemoryPeer::new(alloc, Vec::new(alloc), 1, Vec::new(alloc))?;
-    assert!(rt; unconnected(&mut peer) == (Ok(0), Ok(1)));
-    let mut real = RealPeer::new(&Town, "127.0.0.1:7");
-    assert!(rt; unconnected(&mut real) == (Ok(0), Ok(1)));
-    Ok(())
-}
-
-/// Connects to a peer, asks it in one byte, and tells how much it answers.
-fn ask<P: Peer>(peer: &mut P, room: &mut [u8; 8]) -> Result<usize, Failed> {
-    peer.connect()?;
-    write_to(peer, b"?")?;
-    peer.read(room)
-}
-
-#[test]
-fn a_peer_gives_its_replies(rt: HostRuntime) -> Result<(), Fail> {
-    let alloc = rt.alloc();
-    let replies = vec![in alloc; b"ab".to_vec(alloc)?, b"cde".to_vec(alloc)?]?;
-    let mut peer = MemoryPeer::new(alloc, replies, 1, vec![in alloc; 3u64, 4, 8]?)?;
-    let mut room = [0u8; 8];
-    for expected in [Ok(2), Err(Failed), Err(Failed), Ok(3), Err(Failed), Ok(0)] {
-        assert!(rt; ask(&mut peer, &mut room) == expected);
-    }
-    assert_eq!(rt; &room[..3], b"cde".as_slice());
-    assert_eq!(rt; peer.sent(), b"?".as_slice());
-    assert_eq!(rt; write_to(&mut peer, b"?"), Err(Failed));
-    Ok(())
-}
-
-#[test]
-fn a_real_peer_connects_anew(rt: HostRuntime) -> Result<(), Fail> {
-    let mut room = [0u8; 8];
+fn a_real_peer_connects_anew(rt: HostRuntime) {
     let mut peer = RealPeer::new(&Town, "127.0.0.1:7");
-    for _ in 0..2 {
-        assert!(rt; ask(&mut peer, &mut room) == Ok(3));
-    }
-    assert_eq!(rt; read_of(&mut peer, &mut room), Ok(0));
-    let mut none = RealPeer::new(&Town, "127.0.0.1:1");
-    assert_eq!(rt; none.connect(), Err(Failed));
-    Ok(())
+    let given = (ask(&mut peer), ask(&mut peer));
+    let refused = RealPeer::new(&Town, "127.0.0.1:1").connect();
+    assert!(rt; given == (Ok(3), Ok(3)) && refused == Err(Failed));
 }

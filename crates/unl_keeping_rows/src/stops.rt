@@ -1,7 +1,7 @@
 //! The machine stops at each of its disk calls in turn, while commands are kept.
 ghost use Rattle.std.specs.Prelude.{◌≡◌, true};
 
-use super::machine::Machine;
+use crate::machine::Machine;
 use crate::upstreams::{give, opened, stands};
 use sqlite::{Connection, FileStore, Files, Options};
 use sqlite_disk::{Crash, Disk, Memory};
