@@ -98,7 +98,10 @@ def slow_clients(port):
 
 def cut_at(port, at, text):
     """The requests in two pieces, far enough apart that the connection goes back to the door in between."""
-    found = answered(port, text[:at], text[at:], pause=0.04)
+    try:
+        found = answered(port, text[:at], text[at:], pause=0.04)
+    except OSError as fault:
+        found = fault
     if found != [200, 200, 200]:
         notes.append(f"port {port}: requests cut at {at}: {found}")
 
@@ -165,6 +168,19 @@ def sessions(port, method, path, body, headers):
         one.join()
 
 
+def serves(port):
+    """Whether a server answers soon."""
+    until = time.monotonic() + SOON
+    while time.monotonic() < until:
+        try:
+            return answered(port, HEALTH, timeout=SOON) == [200]
+        except ConnectionRefusedError:
+            time.sleep(0.01)
+        except OSError:
+            break
+    return False
+
+
 def full_log(program, port):
     """An edge whose error stream is a full pipe that nobody reads."""
     reading, writing = os.pipe()
@@ -176,7 +192,7 @@ def full_log(program, port):
         os.set_blocking(writing, True)
     words = ["edge", "--port", str(port), "--upstream", "127.0.0.1:1", "--upstream-tokens", "*:dev.c", "--tokens", "*:dev.c"]
     edge = subprocess.Popen([program, *words], stdin=subprocess.DEVNULL, stdout=subprocess.DEVNULL, stderr=writing)
-    if within(lambda: answered(port, HEALTH), seconds=SOON) != [200]:
+    if not serves(port):
         notes.append("an edge with a full log doesn't answer")
     edge.kill()
     edge.wait()
@@ -218,7 +234,7 @@ def trickled(program, port):
     within(lambda: upstream.waited, seconds=40)
     if not upstream.waited or not 29 < upstream.waited[0] < 33:
         notes.append(f"an upstream that trickles: {upstream.waited}")
-    if within(lambda: answered(port, HEALTH), seconds=SOON) != [200]:
+    if not serves(port):
         notes.append("an edge behind an upstream that trickles doesn't answer")
     edge.kill()
     edge.wait()
@@ -229,14 +245,17 @@ def stopped(port, process):
     os.kill(process, signal.SIGSTOP)
     time.sleep(0.2)
     os.kill(process, signal.SIGCONT)
-    if answered(port, HEALTH) != [200]:
+    if not serves(port):
         notes.append(f"port {port}: no answer behind a stop")
 
 
 def pipelined(port):
     """More requests at once than a session has, while other clients do the same: each is answered."""
     def play():
-        found = answered(port, HEALTH * 1_001)
+        try:
+            found = answered(port, HEALTH * 1_001)
+        except OSError as fault:
+            found = [fault]
         if found not in ([200] * 1_000, [200] * 1_001):
             notes.append(f"port {port}: {len(found)} answers to 1,001 requests at once")
 

@@ -1,6 +1,6 @@
 -- Bytes that move from a stream into a buffer, or out of one.
-use Rattle.std.proofs.Common.{◌≡◌, ◌∙◌, ◌≤◌, ℕ, List, [], ◌++◌, Option, None, Some, Result, Ok, Err, length, min, take, drop, sym, ap, refl}
-use Rattle.std.proofs.Common.{append_assoc, append-nil, arith, take-append-drop}
+use Rattle.std.proofs.Common.{◌≡◌, ◌∙◌, ◌≤◌, ℕ, List, [], ◌++◌, Option, None, Some, Result, Ok, Err, IfOk, OnErr, MatchResult, take, drop, sym, ap, refl, subst}
+use Rattle.std.proofs.Common.{append_assoc, append-nil, take-append-drop}
 use Rattle.std.proofs.KnownBytes.{Appends-trans, Keeps-trans}
 use Rattle.std.proofs.lemmas.List.{take-take}
 use Rattle.std.specs.Io.KnownBytes.{Appends, Consumes, Keeps, WriteAppends, append_known, prepend_known}
@@ -99,3 +99,11 @@ rest_then a b c piece sent n within first rest =
   where
     whole : take sent piece ++ drop sent (take n piece) ≡ take n piece
     whole = ap (λ (l : List ℕ). l ++ drop sent (take n piece)) (sym (take-take sent n piece within)) ∙ take-append-drop sent (take n piece)
+
+-- the same, of a write of the rest that may have failed, which it does only where nothing was written before it
+pub rest_after : {E : Type 0} (a b c : Option (List ℕ)) (r : Result ℕ E) (piece : List ℕ) (sent : ℕ)
+    → IfOk r (λ n. sent ≤ n) → OnErr r (sent ≡ 0) → Appends a b (take sent piece)
+    → MatchResult r (λ n. Appends b c (drop sent (take n piece))) (λ _. Keeps b c) → WriteAppends a c r piece
+rest_after a b c (Ok n) piece sent more failed first rest = rest_then a b c piece sent n more first rest
+rest_after a b c (Err e) piece sent more failed first rest =
+    Keeps-trans a b c (appends_kept a b (subst (λ (k : ℕ). Appends a b (take k piece)) failed first)) rest

@@ -1,7 +1,20 @@
--- When a door over the network closes.
-use Rattle.std.specs.Prelude.{◌≡◌, ◌≤◌, List, []}
+-- What is known of a door over the network, and when it closes.
+use Rattle.std.specs.Prelude.{◌≡◌, ◌≤◌, ◌-◌, ◌^◌, ◌||◌, ℕ, List, [], Option, None, nat_eq}
 use Rattle.slab.specs.Slab.{Slab, slab_len}
+use Rattle.unl_base.specs.Doors.{DoorState}
+use Rattle.unl_net.specs.declared.counts.Counts.{Counts}
 use Rattle.unl_net.specs.declared.listener.Accepting.{Accepting}
+
+-- it is closed where its last link was handed out, or as many as can be counted; what its links give and send is not told
+abbrev pub door_state : Option ℕ → Counts → DoorState
+door_state port counts = record {
+  port = port;
+  closed = counts.closed || nat_eq counts.given (2 ^ 64 - 1);
+  given = counts.given;
+  back = counts.back;
+  links = None;
+  returned = None;
+}
 
 -- as many connections were accepted as may be, and none of them waits or is ready
 pub record IsLast {A : Type 0} (accepting : Accepting) (waiting : Slab A) (ready : List A) : Type 0 where

@@ -1,5 +1,5 @@
 //! A connection, whoever holds it.
-ghost use Rattle.std.specs.Prelude.{◌≡◌, ◌≤◌, [], false, IfOk, IfSome, OnOk};
+ghost use Rattle.std.specs.Prelude.{◌≡◌, ◌≤◌, [], false, length, IfOk, IfSome, OnOk};
 ghost use Rattle.std.specs.Io.KnownBytes.{Keeps, WriteAppends};
 ghost use Rattle.unl_net.specs.Buffers.{GivesIfAny, coming, facts_of, going, unread, unsent};
 ghost use Rattle.unl_net.specs.Phases.{phase_of};

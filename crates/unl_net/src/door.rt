@@ -1,9 +1,10 @@
 //! A door over the network.
-ghost use Rattle.std.specs.Prelude.{◌≡◌, ◌≤◌, ◌-◌, ◌^◌, IfOk, IfSome, None, OnErr, OnOk, true, unwrap_or};
+ghost use Rattle.std.specs.Prelude.{◌≡◌, ◌≤◌, ◌-◌, ◌^◌, IfOk, IfSome, None, OnErr, OnOk, option_map, true, unwrap_or};
 ghost use Rattle.unl_base.specs.Doors.{Accepts, IsFresh};
 ghost use Rattle.unl_base.specs.Faults.{HasCause};
-ghost use Rattle.unl_net.specs.Doors.{IsLast};
+ghost use Rattle.unl_net.specs.Doors.{IsLast, door_state};
 
+use crate::counts::Counts;
 use crate::cuts::EachMinute;
 use crate::limits::most_connections;
 use crate::link::NetLink;
@@ -40,11 +41,8 @@ pub struct NetDoor<N: Net + Clock + Eprint + Wait + Copy + Drop> {
     workers: u32,
     accepting: Accepting,
     reports: Reports,
-    closed: bool,
-    given: u64,
-    back: u64,
+    counts: Counts,
     faults: u64,
-    ghost in_order: { back ≤ given },
 }
 
 /// What is logged once a minute at most.
@@ -78,7 +76,7 @@ impl<N: Net + Clock + Eprint + Wait + Copy + Drop> NetDoor<N> {
     /// # Errors
     /// Out of memory.
     pub fn new(alloc: Global, net: N, bound: Option<u64>, workers: u32) -> Result<Self, AllocError>
-        ensures new { IfOk result (λ door. (door.listening ≡ None) × (door.given ≡ 0) × (door.back ≡ 0) × (door.faults ≡ 0)) }
+        ensures new { IfOk result (λ door. (door.listening ≡ None) × (door.counts.given ≡ 0) × (door.counts.back ≡ 0) × (door.faults ≡ 0)) }
         ensures bound { IfOk result (λ door. door.accepting.bound ≡ unwrap_or bound (2 ^ 64 - 1)) }
         ensures workers { IfOk result (λ door. door.workers ≡ workers) }
     {
@@ -90,9 +88,11 @@ impl<N: Net + Clock + Eprint + Wait + Copy + Drop> NetDoor<N> {
             workers,
             accepting: Accepting::new(bound.unwrap_or(u64::MAX)),
             reports: Reports::new(),
-            closed: bound == Some(0),
-            given: 0,
-            back: 0,
+            counts: Counts {
+                closed: bound == Some(0),
+                given: 0,
+                back: 0,
+            },
             faults: 0,
         })
     }
@@ -212,18 +212,9 @@ fn look_after<N: Net + Clock + Eprint + Wait + Copy + Drop>(
 }
 
 impl<N: Net + Clock + Eprint + Wait + Copy + Drop> Door for NetDoor<N> {
-    ghost use Rattle.std.specs.Prelude.{◌||◌, nat_eq, option_map};
-
     type L = NetLink<N::Stream, N>;
 
-    ghost state = { λ door. record {
-      port = option_map (λ listening. listening.port) door.listening;
-      closed = door.closed || nat_eq door.given (2 ^ 64 - 1);
-      given = door.given;
-      back = door.back;
-      links = None;
-      returned = None;
-    } };
+    ghost state = { λ door. door_state (option_map (λ one. one.port) door.listening) door.counts };
 
     ghost faults = { λ door. door.faults };
 
@@ -255,16 +246,18 @@ impl<N: Net + Clock + Eprint + Wait + Copy + Drop> Door for NetDoor<N> {
 
     /// Hands out a connection of which a whole request came. The door closes only with the last one of those that it may accept.
     fn accept(&mut self) -> Result<Option<Self::L>, Failed>
-        ensures accepts { IfOk result (λ link. Accepts link (state self.old) (state self.new)) }
+        ensures accepts { IfOk result (λ link. Accepts link (door_state (option_map (λ one. one.port) self.old.listening) self.old.counts)
+            (door_state (option_map (λ one. one.port) self.new.listening) self.new.counts)) }
         ensures fresh { IfOk result (λ link. IfSome link (λ l.
-            IsFresh (state self.old) (Self.L.Source.left l) (Self.L.Sink.sent l) (Self.L.Source.faults l))) }
-        ensures kept { OnErr result (state self.new ≡ state self.old) }
+            IsFresh (door_state (option_map (λ one. one.port) self.old.listening) self.old.counts) None None l.faults)) }
+        ensures kept { OnErr result (door_state (option_map (λ one. one.port) self.new.listening) self.new.counts
+            ≡ door_state (option_map (λ one. one.port) self.old.listening) self.old.counts) }
         ensures cause { HasCause self.old.faults self.new.faults result }
         ensures still { OnOk result (self.new.faults ≡ self.old.faults) }
-        ensures closes { IfOk result (λ link. IfSome link (λ _. self.new.closed ≡ true
+        ensures closes { IfOk result (λ link. IfSome link (λ _. self.new.counts.closed ≡ true
             → IfSome self.new.reactor (λ reactor. IsLast self.new.accepting reactor.waiting reactor.ready.items))) }
     {
-        if self.closed || self.given == u64::MAX {
+        if self.counts.closed || self.counts.given == u64::MAX {
             return Ok(None);
         }
         let next = next_link(
@@ -277,8 +270,8 @@ impl<N: Net + Clock + Eprint + Wait + Copy + Drop> Door for NetDoor<N> {
         );
         match next {
             Ok((link, is_last)) => {
-                self.given += 1;
-                self.closed = is_last;
+                self.counts.given += 1;
+                self.counts.closed = is_last;
                 Ok(Some(link))
             }
             Err(fault) => {
@@ -291,8 +284,11 @@ impl<N: Net + Clock + Eprint + Wait + Copy + Drop> Door for NetDoor<N> {
     }
 
     fn give_back(&mut self, _link: Self::L) {
-        self.back += 1;
+        let given = self.counts.given;
+        if self.counts.back < given {
+            self.counts.back += 1;
+        }
     }
 
-    ghost within = { λ door. door.in_order };
+    ghost within = { λ door. door.counts.in_order };
 }

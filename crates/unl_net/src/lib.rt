@@ -6,6 +6,7 @@
 
 mod buffers;
 mod connection;
+mod counts;
 mod cuts;
 mod door;
 mod draws;

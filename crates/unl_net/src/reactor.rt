@@ -176,6 +176,7 @@ impl<S: Read + Write + OpenStream + AsRawFd + Drop> Reactor<S> {
     fn place_back<C: Clock>(&mut self, clock: &C, connection: Connection<S>) {
         let mut connection = connection;
         connection.open(self.alloc);
+        connection.received.shrink(self.alloc);
         match connection.phase() {
             Phase::Draining => self.go_on(clock, connection),
             phase => self.place(connection, phase),

@@ -1,5 +1,5 @@
 //! A connection while a link serves it.
-ghost use Rattle.std.specs.Prelude.{◌≡◌, ◌≤◌, ◌++◌, drop, false, length, take, true, IfOk, MatchResult};
+ghost use Rattle.std.specs.Prelude.{◌≡◌, ◌≤◌, ◌++◌, drop, false, length, take, true, IfOk, MatchResult, OnErr};
 ghost use Rattle.std.specs.Io.KnownBytes.{Appends, Keeps, WriteAppends};
 ghost use Rattle.unl_net.specs.Buffers.{Gives, coming, going, unsent};
 
@@ -263,7 +263,7 @@ impl<S: Read + Write + OpenStream + Drop, C: Clock + Wait + Drop> Served<S, C> {
     }
 
     /// Sends a piece, or holds it for the client.
-    #[tactic(auto, using(crate::proofs::Moving::rest_then))]
+    #[tactic(auto, using(crate::proofs::Moving::rest_after))]
     fn write_some(&mut self, piece: &[u8]) -> io::Result<usize>
         ensures fits { IfOk result (λ n. n ≤ length piece.now) }
         ensures appends { WriteAppends (going (S.contents self.old.connection.stream) self.old.connection.to_send)
@@ -309,6 +309,7 @@ impl<S: Read + Write + OpenStream + Drop, C: Clock + Wait + Drop> Served<S, C> {
         requires { sent ≤ length piece.now }
         ensures fits { IfOk result (λ n. n ≤ length piece.now) }
         ensures more { IfOk result (λ n. sent ≤ n) }
+        ensures failed { OnErr result (sent ≡ 0) }
         ensures appends { MatchResult result
             (λ n. Appends (going (S.contents self.old.connection.stream) self.old.connection.to_send)
             (going (S.contents self.new.connection.stream) self.new.connection.to_send) (drop sent (take n piece.now)))

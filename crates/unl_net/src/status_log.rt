@@ -1,5 +1,5 @@
 //! What a server answers to each kind of request, and when that changes.
-ghost use Rattle.std.specs.Prelude.{◌≡◌, ◌<◌, All, IfSome, replicate, take, true};
+ghost use Rattle.std.specs.Prelude.{◌≡◌, ◌<◌, ◌&&◌, All, IfSome, nat_eq, replicate, take, true};
 ghost use Rattle.unl_net.specs.Telling.{is_told};
 ghost use Rattle.unl_net.specs.declared.status_log.Stage.TheVariants.{Fresh};
 ghost use Rattle.unl_net.specs.Watching.{NotesRead, NotesWritten, after_answer, after_request, class_of, digits_of, is_digit, is_news};
@@ -158,7 +158,7 @@ impl StatusLog {
         }
         self.stage = Stage::Answered;
         let status = status_of(bytes).unwrap_or(NO_ANSWER);
-        let fed = self.kind.is_feed && status == 200;
+        let fed = is_fed(self.kind.is_feed, status);
         if is_news(&mut self.known, self.kind.key, class_of(status), fed) {
             Some(Answer { status })
         } else {
@@ -201,6 +201,13 @@ fn is_news(known: &mut [Known; MOST_KINDS], key: u64, now: u16, fed: bool) -> bo
         }
         None => false,
     }
+}
+
+/// Whether an answer with this status is a feed, which may be taken.
+fn is_fed(is_feed: bool, status: u16) -> bool
+    ensures { result ≡ (is_feed && nat_eq status 200) }
+{
+    is_feed && status == 200
 }
 
 /// How a kind is answered, where it was answered so before: that a feed is taken again is known behind the next request alone.

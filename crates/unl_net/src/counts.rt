@@ -1,0 +1,11 @@
+//! The links of a door, counted.
+ghost use Rattle.std.specs.Prelude.{◌≤◌};
+
+/// How many links were handed out and came back, and whether the last one was handed out.
+#[derive(Clone, Copy)]
+pub(crate) struct Counts {
+    pub closed: bool,
+    pub given: u64,
+    pub back: u64,
+    ghost in_order: { back ≤ given },
+}
