@@ -25,14 +25,18 @@ use unl_usage::{Program, report_refusal, report_unopened, warn_of_epoch};
 fn main(rt: HostRuntime) -> ExitCode {
     let ended = match open(&rt) {
         Ok((given, connection)) => match NetDoor::new(rt.alloc(), rt, given.bound(), 0) {
-            Ok(mut door) => serve_over(
-                &rt,
-                rt.alloc(),
-                &given,
-                connection,
-                &mut door,
-                NetDraws::new(&rt),
-            ),
+            Ok(mut door) => {
+                let served = serve_over(
+                    &rt,
+                    rt.alloc(),
+                    &given,
+                    connection,
+                    &mut door,
+                    NetDraws::new(&rt),
+                );
+                report_keeper(&rt, given.path.as_str(), &served);
+                served
+            }
             Err(fault) => Err(KeepingFault::from(fault)),
         },
         Err(fault) => Err(fault),
@@ -48,6 +52,13 @@ fn main(rt: HostRuntime) -> ExitCode {
         (Err(fault), _) => ExitCode::from(fault.code()),
         (Ok(_), Err(_)) => ExitCode::from(5),
         (Ok(_), Ok(())) => ExitCode::from(0),
+    }
+}
+
+/// Reports the path of a file whose commands can't be read.
+fn report_keeper(rt: &HostRuntime, path: &str, ended: &Result<u64, KeepingFault>) {
+    if let Err(KeepingFault::Keeper) = ended {
+        report_unopened(rt, path, &"its table of commands can't be read");
     }
 }
 
@@ -84,7 +95,7 @@ fn serve_over<D: Door, R: Draws + Drop, W: Wait + Eprint>(
     let epoch = given.epoch();
     let mut up = begin(alloc, boot, &given.words)?;
     let mut keeper = SqliteKeeper::new(connection);
-    match serve_reopened(
+    let served = serve_reopened(
         rt,
         alloc,
         port,
@@ -93,20 +104,7 @@ fn serve_over<D: Door, R: Draws + Drop, W: Wait + Eprint>(
         &mut keeper,
         door,
         &mut draws,
-    ) {
-        Ok(served) => {
-            keeper.into_connection().0.close()?;
-            Ok(served)
-        }
-        Err(fault) => {
-            if let KeepingFault::Keeper = &fault {
-                report_unopened(
-                    rt,
-                    given.path.as_str(),
-                    &"its table of commands can't be read",
-                );
-            }
-            Err(fault)
-        }
-    }
+    )?;
+    keeper.into_connection().0.close()?;
+    Ok(served)
 }

@@ -75,6 +75,12 @@ impl OpenStream for Voice {
 #[derive(Drop)]
 struct Gate;
 
+impl AsRawFd for Gate {
+    fn as_raw_fd(&self) -> RawFd {
+        0
+    }
+}
+
 impl OpenListener for Gate {
     type Stream = Voice;
 
