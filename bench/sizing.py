@@ -1,8 +1,8 @@
 """Measures what an edge and its upstream take, and prints the tables of docs/OPERATING.md: python3 bench/sizing.py [PROGRAM]
 
-Memory is what stays resident after the first turn and a hundred answers of each kind, and the most that it was once a later epoch was
-taken; processor time is that of user and system, a mean of many. The features are those of bench/generate.py. Both programs listen on loopback, at ports that EDGE_PORT and
-UPSTREAM_PORT name. A minute on a machine that does nothing else.
+Memory is what stays resident after the first turn and a hundred answers of each kind, and the most that it was once a later epoch
+was taken; processor time is that of user and system, a mean of many. The features are those of bench/generate.py. Both programs
+listen on loopback, at ports that EDGE_PORT and UPSTREAM_PORT name. Two minutes on a machine that does nothing else.
 """
 import http.client
 import json
