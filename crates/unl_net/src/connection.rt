@@ -1,4 +1,4 @@
-//! A connection, whoever holds it.
+//! A connection, as the door and its links hold it.
 ghost use Rattle.std.specs.Prelude.{◌≡◌, ◌≤◌, [], false, length, IfOk, IfSome, OnOk};
 ghost use Rattle.std.specs.Io.KnownBytes.{Keeps, WriteAppends};
 ghost use Rattle.unl_net.specs.Buffers.{GivesIfAny, coming, facts_of, going, unread, unsent};
@@ -156,7 +156,8 @@ impl<S: Read + Write + OpenStream + Drop> Connection<S> {
     /// That of the stream, or out of memory.
     #[tactic(auto, using(crate::proofs::Moving::received_keeps))]
     pub fn receive(&mut self, room: &mut [u8; PIECE]) -> io::Result<bool>
-        ensures kept { Keeps (coming self.old.received (S.remaining self.old.stream)) (coming self.new.received (S.remaining self.new.stream)) }
+        ensures kept { Keeps (coming self.old.received (S.remaining self.old.stream))
+            (coming self.new.received (S.remaining self.new.stream)) }
         ensures others { (self.new.to_send ≡ self.old.to_send) × (self.new.closing ≡ self.old.closing) }
     {
         self.received.reserve(PIECE)?;
@@ -195,7 +196,8 @@ impl<S: Read + Write + OpenStream + Drop> Connection<S> {
     #[tactic(auto, using(crate::proofs::Moving::sent_keeps))]
     pub fn flush(&mut self) -> io::Result<usize>
         ensures kept { Keeps (going (S.contents self.old.stream) self.old.to_send) (going (S.contents self.new.stream) self.new.to_send) }
-        ensures others { (self.new.received ≡ self.old.received) × (self.new.closing ≡ self.old.closing) × (self.new.ended ≡ self.old.ended) }
+        ensures others { (self.new.received ≡ self.old.received) × (self.new.closing ≡ self.old.closing)
+            × (self.new.ended ≡ self.old.ended) }
     {
         match write_once(&mut self.stream, self.to_send.rest()) {
             Ok(count) => {
@@ -217,7 +219,8 @@ impl<S: Read + Write + OpenStream + Drop> Connection<S> {
         clock: &C,
         room: &mut [u8; PIECE],
     ) -> io::Result<Phase>
-        ensures phase { IfOk result (λ phase. phase ≡ phase_of (facts_of self.new.received self.new.to_send self.new.closing self.new.ended)) }
+        ensures phase { IfOk result (λ phase. phase
+            ≡ phase_of (facts_of self.new.received self.new.to_send self.new.closing self.new.ended)) }
         ensures closing { self.new.closing ≡ self.old.closing }
         ensures received { self.old.closing ≡ false → unsent self.old.to_send ≡ []
             → Keeps (coming self.old.received (S.remaining self.old.stream)) (coming self.new.received (S.remaining self.new.stream)) }
@@ -269,9 +272,11 @@ impl<S: Read + Write + OpenStream + Drop> Connection<S> {
         clock: &C,
         room: &mut [u8; PIECE],
     ) -> io::Result<Phase>
-        ensures phase { IfOk result (λ phase. phase ≡ phase_of (facts_of self.new.received self.new.to_send self.new.closing self.new.ended)) }
+        ensures phase { IfOk result (λ phase. phase
+            ≡ phase_of (facts_of self.new.received self.new.to_send self.new.closing self.new.ended)) }
         ensures closing { self.new.closing ≡ self.old.closing }
-        ensures kept { Keeps (coming self.old.received (S.remaining self.old.stream)) (coming self.new.received (S.remaining self.new.stream)) }
+        ensures kept { Keeps (coming self.old.received (S.remaining self.old.stream))
+            (coming self.new.received (S.remaining self.new.stream)) }
     {
         let was_empty = self.received.is_empty();
         'pieces: for _piece in 0..MOST_PIECES {
@@ -297,7 +302,8 @@ impl<S: Read + Write + OpenStream + Drop> Connection<S> {
         clock: &C,
         room: &mut [u8; PIECE],
     ) -> io::Result<Phase>
-        ensures phase { IfOk result (λ phase. phase ≡ phase_of (facts_of self.new.received self.new.to_send self.new.closing self.new.ended)) }
+        ensures phase { IfOk result (λ phase. phase
+            ≡ phase_of (facts_of self.new.received self.new.to_send self.new.closing self.new.ended)) }
         ensures closing { self.new.closing ≡ self.old.closing }
     {
         if !self.is_shut {

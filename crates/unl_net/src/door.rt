@@ -108,7 +108,8 @@ fn next_link<N: Net + Clock + Eprint + Wait + Copy + Drop>(
     reports: &mut Reports,
 ) -> io::Result<(NetLink<N::Stream, N>, bool)>
     ensures faultless { IfOk result (λ next. next.0.faults ≡ 0) }
-    ensures last { IfOk result (λ next. next.1 ≡ true → IfSome reactor.new (λ reactor. IsLast accepting.new reactor.waiting reactor.ready.items)) }
+    ensures last { IfOk result (λ next. next.1 ≡ true
+        → IfSome reactor.new (λ reactor. IsLast accepting.new reactor.waiting reactor.ready.items)) }
 {
     match (listening, reactor) {
         (Some(listening), Some(reactor)) => next_of(
@@ -178,7 +179,8 @@ fn hand_out<N: Net + Clock + Eprint + Wait + Copy + Drop>(
     accepting: &Accepting,
 ) -> io::Result<Option<(NetLink<N::Stream, N>, bool)>>
     ensures faultless { IfOk result (λ next. IfSome next (λ next. next.0.faults ≡ 0)) }
-    ensures last { IfOk result (λ next. IfSome next (λ next. next.1 ≡ true → IsLast accepting.now reactor.new.waiting reactor.new.ready.items)) }
+    ensures last { IfOk result (λ next. IfSome next (λ next. next.1 ≡ true
+        → IsLast accepting.now reactor.new.waiting reactor.new.ready.items)) }
 {
     let Some(connection) = reactor.next_ready() else {
         return Ok(None);

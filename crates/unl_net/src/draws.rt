@@ -10,7 +10,7 @@ use std::random::RandomSource;
 use std::time::Clock;
 use unl_base::{Draw, Draws, RealDraws};
 
-/// Draws whose moments a clock tells. The words come from a small generator, which is none for secrets, and which random bytes of
+/// Draws with the moments of a clock. The words come from a small generator, which is none for secrets, and which random bytes of
 /// the system seed, so that programs that start in one millisecond draw different words. Where the system gives none, the clock
 /// seeds it.
 #[derive(Drop)]

@@ -24,6 +24,17 @@ const FAILS: u16 = 1;
 /// Linux's numbers of the errors that do not pass: the descriptor is none, or none of a socket that listens.
 const LASTING: [i32; 5] = [9, 14, 22, 88, 95];
 
+/// Linux's numbers of the errors that say that the process or the system has no more descriptors, or no memory for one.
+const SHORTAGES: [i32; 4] = [12, 23, 24, 105];
+
+/// Whether an error says that the system gives no more descriptors.
+fn is_shortage(fault: &io::Error) -> bool {
+    match fault.raw_os_error() {
+        Some(code) => SHORTAGES.contains(&code),
+        None => false,
+    }
+}
+
 /// Whether an error passes by itself.
 fn passes(fault: &io::Error) -> bool {
     match fault.raw_os_error() {
@@ -115,7 +126,7 @@ pub(crate) fn accept_some<N: Net + Clock + Eprint + Wait + Copy + Drop>(
             }
             Err(fault) if fault.kind() == ErrorKind::WouldBlock => reactor.may_accept = false,
             Err(fault) if passes(&fault) => {
-                if !reactor.note_shortage() {
+                if !(is_shortage(&fault) && reactor.note_shortage()) {
                     accepting.note_fault(&net, &fault);
                     return Ok(());
                 }

@@ -1,5 +1,5 @@
 //! The log on the error stream: a line for what changed. None has a token or a secret. A line that can't be written at once is
-//! dropped, so that nothing waits for whoever reads the log.
+//! dropped, so that nothing waits for the reader of the log.
 ghost use Rattle.std.specs.Prelude.{◌≡◌, ◌==◌, not};
 
 use libc::net::{POLLOUT, poll};

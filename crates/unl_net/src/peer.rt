@@ -20,7 +20,7 @@ use unl_base::{Failed, Link, Peer, Sink, Source};
 /// That a peer can't be reached.
 const UNREACHABLE: u16 = 1;
 
-/// A peer over the network, to which each connect connects anew: to the first of its addresses that answers. All of an exchange,
+/// A peer over the network. Each connect makes a new connection, to the first of its addresses that answers. All of an exchange,
 /// from the connect to the last byte, takes thirty seconds at most. Behind one that took all of that, connects fail at once for
 /// five seconds, so that a server that hangs is waited for once by those who ask it in turn.
 #[derive(Drop)]
@@ -169,7 +169,7 @@ impl<N: Net + Clock + Eprint + Drop, A: ToSocketAddrs + Display> Source for NetP
 
     ghost beside = { λ peer. record nothing_beside { connected = is_some peer.stream } };
 
-    /// Hands on what the last connection gives. Where there is none, nothing is to come.
+    /// Reads what the last connection gives. Where there is none, nothing is to come.
     fn read(&mut self, room: &mut [u8]) -> Result<usize, Failed>
         requires { 0 < length room.old }
         ensures fits { IfOk result (λ n. n ≤ length room.new) }
@@ -219,7 +219,7 @@ impl<N: Net + Clock + Eprint + Drop, A: ToSocketAddrs + Display> Sink for NetPee
 
     ghost beside = { λ peer. record nothing_beside { connected = is_some peer.stream } };
 
-    /// Hands the piece on to the last connection, and tells how much that took. Where there is none, the whole piece is dropped.
+    /// Writes the piece to the last connection, and returns how much that took. Where there is none, the whole piece is dropped.
     fn write(&mut self, piece: &[u8]) -> Result<usize, Failed>
         requires { 0 < length piece.now }
         ensures some { IfOk result (λ n. 0 < n) }

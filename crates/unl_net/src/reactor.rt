@@ -211,7 +211,7 @@ impl<S: Read + Write + OpenStream + AsRawFd + Drop> Reactor<S> {
         }
     }
 
-    /// Lets go of a connection that has ended. The last one of all is served all the same, as one of which nothing comes: only so
+    /// Drops a connection that has ended. The last one of all is served all the same, as one of which nothing comes: only so
     /// is it known that no link comes any more.
     fn finish(&mut self, connection: Connection<S>) {
         let mut connection = connection;
@@ -259,7 +259,7 @@ impl<S: Read + Write + OpenStream + AsRawFd + Drop> Reactor<S> {
         Some(connection)
     }
 
-    /// Waits until something happens, for so many milliseconds at most, and does what is to be done.
+    /// Waits until something happens, for `most` milliseconds at most, and does what is to be done.
     ///
     /// # Errors
     /// That of the system.

@@ -1,20 +1,20 @@
-//! What is told of a request, and the kinds of requests.
+//! What is logged of a request, and the kinds of requests.
 ghost use Rattle.std.specs.Prelude.{◌≡◌, ◌≤◌, ◌&&◌, ◌||◌, All, length, nat_eq, not, take, true};
 ghost use Rattle.unl_net.specs.Telling.{is_told, longest_front, told_text};
 
 use std::str;
 
-/// So many bytes of a request are told at most.
+/// The most bytes of a request that are logged.
 const MOST_TOLD: usize = 64;
 
-/// Whether a byte may be told: one of ASCII that is seen, or a space, and no question mark.
+/// Whether a byte may be logged: a visible one of ASCII, or a space, and no question mark.
 fn is_told(byte: u8) -> bool
     ensures { result ≡ is_told byte }
 {
     byte >= b' ' && byte <= b'~' && byte != b'?'
 }
 
-/// Whether a byte of a request is told behind those before it, in which its method has ended or not: it may be, and is no second
+/// Whether a byte of a request is logged behind those before it, in which its method has ended or not: it may be, and is no second
 /// space.
 fn goes_on(has_method: bool, byte: u8) -> bool
     ensures { result ≡ (is_told byte && not (has_method && nat_eq byte 32)) }
@@ -29,7 +29,7 @@ fn has_ended(has_method: bool, byte: u8) -> bool
     has_method || byte == b' '
 }
 
-/// How many of these bytes are told.
+/// How many of these bytes are logged.
 #[tactic(auto, using(crate::proofs::Telling::no_more))]
 fn told_count(front: &[u8]) -> usize
     ensures { result ≡ longest_front (length front.now) front.now }
@@ -45,7 +45,7 @@ fn told_count(front: &[u8]) -> usize
     front.len()
 }
 
-/// How many bytes of a request are told: its method and its path. What a query or a field holds is not told.
+/// How many bytes of a request are logged: its method and its path, and nothing of a query or a field.
 #[tactic(auto, using(crate::proofs::Telling::cut_short, crate::proofs::Telling::cut_told, crate::proofs::Telling::same_text))]
 fn told_len(request: &[u8]) -> usize
     ensures exact { take result request.now ≡ told_text request.now }
@@ -56,7 +56,7 @@ fn told_len(request: &[u8]) -> usize
     told_count(&request[..MOST_TOLD.min(request.len())])
 }
 
-/// A kind of request: what is told of it, and a number that tells it from the others. Requests of different tokens are of
+/// A kind of request: what is logged of it, and a number that differs from those of the others. Requests of different tokens are of
 /// different kinds, so that each has an answer of its own.
 #[derive(Clone, Copy)]
 pub(crate) struct RequestKind {
@@ -86,7 +86,7 @@ impl RequestKind {
         }
     }
 
-    /// What is told of it.
+    /// What is logged of it.
     pub fn as_str(&self) -> &str
         ensures { result.now ≡ take self.now.len self.now.text }
     {
@@ -97,7 +97,7 @@ impl RequestKind {
     }
 }
 
-/// The first so many bytes, with zeros behind them.
+/// The first `len` bytes, with zeros behind them.
 fn front_of(bytes: &[u8], len: usize) -> [u8; MOST_TOLD]
     requires inside { len ≤ length bytes.now }
     requires short { len ≤ 64 }

@@ -381,7 +381,7 @@ impl<S: Read + Write + OpenStream + Drop, C: Clock + Wait + Drop> Served<S, C> {
     }
 }
 
-/// How far a link is whose connection has opened what stands at its front, or nothing.
+/// How far a link is whose connection has opened the request at its front, or nothing.
 fn stage_of<S: Read + Write + OpenStream + Drop>(connection: &Connection<S>) -> Stage {
     if connection.refused {
         Stage::Open

@@ -10,7 +10,7 @@ use crate::request_kind::RequestKind;
 use std::fmt;
 use std::fmt::Display;
 
-/// How many kinds of requests are told apart: more than a server is asked, one for the book and two for each of eight tokens.
+/// How many kinds of requests are kept apart: more than a server is asked, one for the book and two for each of eight tokens.
 const MOST_KINDS: usize = 32;
 
 /// That no status came.
@@ -166,7 +166,7 @@ impl StatusLog {
         }
     }
 
-    /// What is told of the request.
+    /// What is logged of the request.
     pub fn kind(&self) -> &str
         ensures exact { result.now ≡ take self.now.kind.len self.now.kind.text }
         ensures told { All (λ byte. is_told byte ≡ true) result.now }
