@@ -3,7 +3,7 @@
 #
 #     scripts/architecture.sh [--write]
 #
-# Dependencies come from crates.txt. What a crate is for is its line in docs/crates.txt (CRATE: PURPOSE), and without one the first
+# Dependencies come from crates.txt. What a crate is for is its line in docs/purposes.txt (CRATE: PURPOSE), and without one the first
 # sentence of the `//!` comment of its src/lib.rt or src/main.rt. A crate follows those that it depends on. With `--write` the
 # table is replaced in place; without it a difference is printed, and the status is 1.
 set -u
@@ -41,17 +41,17 @@ sentence() {
 sed 's/:.*//' crates.txt | sort > "$copy/listed"
 ls crates | sort > "$copy/there"
 cmp -s "$copy/listed" "$copy/there" || fail "crates.txt and crates/ have different crates: $(comm -3 "$copy/listed" "$copy/there" | tr -s '\t\n' ' ')"
-[ -f docs/crates.txt ] || fail 'docs/crates.txt is missing'
-sed 's/:.*//' docs/crates.txt | sort > "$copy/described"
+[ -f docs/purposes.txt ] || fail 'docs/purposes.txt is missing'
+sed 's/:.*//' docs/purposes.txt | sort > "$copy/described"
 unknown=$(comm -23 "$copy/described" "$copy/there" | tr '\n' ' ')
-[ -z "$unknown" ] || fail "docs/crates.txt describes no crate of this repository: $unknown"
+[ -z "$unknown" ] || fail "docs/purposes.txt describes no crate of this repository: $unknown"
 
 while read -r crate; do
-    purpose=$(sed -n "s/^$crate: *//p" docs/crates.txt)
+    purpose=$(sed -n "s/^$crate: *//p" docs/purposes.txt)
     root="crates/$crate/src/lib.rt"
     [ -f "$root" ] || root="crates/$crate/src/main.rt"
     [ -n "$purpose" ] || purpose=$(sentence "$root")
-    [ -n "$purpose" ] || fail "$crate says nowhere what it is for: begin $root with //!, or give it a line in docs/crates.txt"
+    [ -n "$purpose" ] || fail "$crate says nowhere what it is for: begin $root with //!, or give it a line in docs/purposes.txt"
     printf '%s\t%s\n' "$crate" "$purpose"
 done < "$copy/there" > "$copy/purposes"
 

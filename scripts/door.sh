@@ -16,7 +16,7 @@ upstream_port=${UPSTREAM_PORT:-15142}
 edge_port=${EDGE_PORT:-13963}
 
 start "$program" upstream --port "$upstream_port" --secret s --environments dev \
-    --client-tokens '*:dev.client' --frontend-tokens '*:dev.front' <examples/shop.jsonl >/dev/null
+    --client-tokens '*:dev.client' --frontend-tokens '*:dev.front' <examples/upstream-shop.jsonl >/dev/null
 upstream=$last
 wait_for "$upstream_port" "the upstream"
 start "$program" edge --port "$edge_port" --upstream "127.0.0.1:$upstream_port" --upstream-tokens '*:dev.client' \
