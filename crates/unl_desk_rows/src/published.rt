@@ -1,4 +1,4 @@
-ghost use Rattle.std.specs.Prelude.{◌≡◌, ◌≤◌, IfOk, IfSome};
+ghost use Rattle.std.specs.Prelude.{◌≡◌, ◌<◌, ◌≤◌, IfOk, IfSome};
 ghost use Rattle.unl_published.specs.Looking.{SameOrigin};
 ghost use Rattle.unl_published.specs.Seen.{next, published, told_list};
 
@@ -6,7 +6,8 @@ use left_right::Absorb;
 use std::alloc::{AllocError, Global};
 use std::sync::Wait;
 use std::test::Fail;
-use unl_published::{Counted, Publisher, Reader, Ruled, Told, begin};
+use std::thread::{Threads, join};
+use unl_published::{Counted, Publisher, Reader, Ruled, Told, Writer, begin, new_reader};
 
 /// A number that is published, and its front.
 #[derive(Drop)]
@@ -86,56 +87,145 @@ fn publish_and_tell<W: Wait>(
     }
 }
 
-/// What a reader sees that looked and was then told of what was published, and one that was told of nothing.
+/// The first reader has looked, and learns what is told. The second does not.
 fn look<W: Wait>(
     writer: &mut Publisher<'_, W, Setting, u64, Ruled<u64>>,
-    learns: Option<Reader<Setting, u64, Ruled<u64>>>,
-    other: Option<Reader<Setting, u64, Ruled<u64>>>,
+    learns: Result<Reader<Setting, u64, Ruled<u64>>, AllocError>,
+    other: Result<Reader<Setting, u64, Ruled<u64>>, AllocError>,
 ) -> Result<(Option<(u64, u64)>, Option<(u64, u64)>), AllocError>
-    requires { IfSome learns (λ reader. SameOrigin (next reader) (published writer.old)) }
+    requires { IfOk learns (λ reader. SameOrigin (next reader) (published writer.old)) }
 {
-    let (Some(learns), Some(other)) = (learns, other) else {
-        return Err(AllocError);
-    };
-    let (mut learns, _) = answer(learns, 0);
+    let other = other?;
+    let (mut learns, _) = answer(learns?, 0);
     learns.learn(publish_and_tell(writer, 7)?);
     let (_, told) = answer(learns, 100);
     let (_, untold) = answer(other, 200);
     Ok((told, untold))
 }
 
-/// What both readers see where there is room to tell `tells` readers.
+/// What a reader sees that was told, and one that was not, where there is room for so many seats.
 fn told_and_untold<W: Wait>(
     rt: &W,
     alloc: Global,
-    tells: usize,
+    seats: usize,
 ) -> Result<(Option<(u64, u64)>, Option<(u64, u64)>), AllocError>
-    requires { tells ≤ 16 }
+    requires { (0 < seats) × (seats ≤ 16) }
 {
-    let (writer, mut readers) = begin::<Setting, u64, Ruled<u64>, _>(
-        rt,
-        alloc,
-        opening(),
-        opening(),
-        2,
-        tells,
-    )?;
-    let learns = readers.pop();
-    let other = readers.pop();
+    let mut writer = Writer::new(rt, alloc, opening(), opening(), seats)?;
+    let learns = new_reader(&mut writer);
+    let other = new_reader(&mut writer);
     let mut writer = Publisher::new(rt, writer);
     let seen = look(&mut writer, learns, other);
     writer.end();
     seen
 }
 
-/// Where there is no room, a reader is told of a number alone.
+/// Where there are two seats alone, what was told is only a number.
 #[test]
 fn a_told_reader_sees_what_was_published(rt: HostRuntime) -> Result<(), Fail> {
-    for tells in 0..2 {
-        let (told, untold) = told_and_untold(&rt, rt.alloc(), tells)?;
-        assert!(rt;
-            told == Some((1, 107)) && (untold == Some((0, 200)) || untold == Some((1, 207)))
-        );
+    for seats in 2..4 {
+        let (told, untold) = told_and_untold(&rt, rt.alloc(), seats)?;
+        assert_eq!(rt; told, Some((1, 107)));
+        assert!(rt; untold == Some((0, 200)) || untold == Some((1, 207)));
     }
+    Ok(())
+}
+
+/// It learns once after each of two looks, then twice without a look, and at last what it was told before.
+fn learn_again<W: Wait>(
+    writer: &mut Publisher<'_, W, Setting, u64, Ruled<u64>>,
+    reader: Reader<Setting, u64, Ruled<u64>>,
+) -> Result<[Option<(u64, u64)>; 5], AllocError>
+    requires { SameOrigin (next reader) (published writer.old) }
+{
+    let (mut reader, zero) = answer(reader, 100);
+    reader.learn(publish_and_tell(writer, 7)?);
+    let (mut reader, one) = answer(reader, 100);
+    reader.learn(publish_and_tell(writer, 8)?);
+    let (mut reader, two) = answer(reader, 100);
+    let first = publish_and_tell(writer, 9)?;
+    let second = publish_and_tell(writer, 10)?;
+    let third = publish_and_tell(writer, 11)?;
+    reader.learn(first);
+    reader.learn(third);
+    let (mut reader, five) = answer(reader, 100);
+    reader.learn(second);
+    let (_, still) = answer(reader, 100);
+    Ok([zero, one, two, five, still])
+}
+
+fn told_again<W: Wait>(rt: &W, alloc: Global) -> Result<[Option<(u64, u64)>; 5], AllocError> {
+    let mut writer = Writer::new(rt, alloc, opening(), opening(), 4)?;
+    let reader = new_reader(&mut writer);
+    let mut writer = Publisher::new(rt, writer);
+    let seen = match reader {
+        Ok(reader) => learn_again(&mut writer, reader),
+        Err(e) => Err(e),
+    };
+    writer.end();
+    seen
+}
+
+#[test]
+fn a_reader_is_told_again_and_again(rt: HostRuntime) -> Result<(), Fail> {
+    let seen = told_again(&rt, rt.alloc())?;
+    let fronts = [0, 1, 2, 5, 5];
+    let given = [100, 107, 108, 111, 111];
+    for look in 0..5 {
+        assert_eq!(rt; seen[look], Some((fronts[look], given[look])));
+    }
+    Ok(())
+}
+
+fn publish_many<W: Wait>(writer: &mut Publisher<'_, W, Setting, u64, Ruled<u64>>) -> bool {
+    let mut good = true;
+    for number in 1..21u64 {
+        let published = writer.publish(number);
+        good = good && matches!(published, Ok(front) if front == number);
+    }
+    good
+}
+
+/// Each answer is of the number that was published at its front, and no front is below the one before.
+fn answer_many(reader: Reader<Setting, u64, Ruled<u64>>) -> bool {
+    let mut reader = reader;
+    let mut last = 0;
+    let mut good = true;
+    for _ in 0..500 {
+        let (next, seen) = answer(reader, 1000);
+        reader = next;
+        good = good
+            && matches!(seen, Some((front, given)) if last <= front && given == 1000 + front.min(20));
+        if let Some((front, _)) = seen {
+            last = front;
+        }
+    }
+    good
+}
+
+/// A writer publishes while a reader looks, each in a thread of its own.
+fn side_by_side<R: Threads + Wait + Sync>(rt: &R, alloc: Global) -> Result<bool, AllocError> {
+    let (writer, mut readers) = begin::<Setting, u64, Ruled<u64>, _>(
+        rt,
+        alloc,
+        opening(),
+        opening(),
+        16,
+        16,
+    )?;
+    let mut writer = Publisher::new(rt, writer);
+    let reader = readers.pop();
+    let (published, answered) = join(
+        rt,
+        || publish_many(&mut writer),
+        || reader.map(answer_many) == Some(true),
+    );
+    writer.end();
+    Ok(published && answered && readers.len() == 15)
+}
+
+#[test]
+fn a_writer_publishes_beside_a_reader(rt: HostRuntime) -> Result<(), Fail> {
+    assert!(rt; side_by_side(&rt, rt.alloc())?);
     Ok(())
 }
