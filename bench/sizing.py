@@ -70,7 +70,7 @@ def started(arguments, lines=()):
 
 
 def upstream(features, tokens):
-    process = started(["upstream", "--port", str(UPSTREAM), "--epoch", str(int(time.time())), "--secret", "s", "--environments", "dev",
+    process = started(["upstream", "--port", str(UPSTREAM), "--epoch", str(time.time_ns()), "--secret", "s", "--environments", "dev",
                        "--client-tokens", ",".join([CLIENT, *tokens]), "--frontend-tokens", FRONT], commands(features))
     ready(UPSTREAM, CLIENT)
     return process
