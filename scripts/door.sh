@@ -10,7 +10,7 @@ cd "$(dirname "$0")/.."
 need curl
 need python3
 
-lifetime=150
+lifetime=400
 ulimit -n 8192 2>/dev/null || ulimit -n "$(ulimit -H -n)"
 upstream_port=${UPSTREAM_PORT:-15142}
 edge_port=${EDGE_PORT:-13963}

@@ -180,15 +180,17 @@ def sessions(port, method, path, body, headers):
 
 
 def serves(port):
-    """Whether a server answers soon."""
-    until = time.monotonic() + SOON
-    while time.monotonic() < until:
+    """Whether a server answers soon. It is given ten seconds to start, and asked again where an answer is late, three times at most."""
+    until, tries = time.monotonic() + 10, 0
+    while time.monotonic() < until and tries < 3:
         try:
-            return answered(port, HEALTH, timeout=SOON) == [200]
+            if answered(port, HEALTH, timeout=SOON) == [200]:
+                return True
+            tries += 1
         except ConnectionRefusedError:
             time.sleep(0.01)
         except OSError:
-            break
+            tries += 1
     return False
 
 
