@@ -1,4 +1,5 @@
 """What slow clients do to others: a client that asks and reads as it should waits at most 2 seconds, whatever else is connected.
+A row in which an answer is late is played again: it fails where answers are late in each of three plays.
 
 Its words: the port of an upstream and the process that started it, those of an edge behind it with 4 workers, and the program. It
 prints what goes wrong, and on its last line how long the slowest answer took. The tokens are `*:dev.client` and `*:dev.front`.
