@@ -13,10 +13,9 @@ use Rattle.unl_lines.proofs.Silent.{prints_cause_alone}
 use Rattle.unl_upstream.specs.Command.{command_in}
 use Rattle.unl_upstream.specs.History.{accepted, after_commands, if_accepted, up_after}
 use Rattle.unl_upstream.specs.Kept.{most_rows, with_room}
-use Rattle.unl_upstream.specs.Lines.{obeyed_as, obeyed_by, obeyed_line, refusal_name as plain_name}
+use Rattle.unl_edge.specs.PlainLines.{obeyed_as, obeyed_by, obeyed_line, refusal_name as plain_name}
 use Rattle.unl_upstream.specs.Upstream.{Obeyed, Obeying, UpstreamState, commanded, refused_as}
 use Rattle.unl_upstream.proofs.Carrying.{both_behind}
-use Rattle.unl_upstream.proofs.Spelled.{within}
 use Rattle.unl_upstream.specs.declared.command.Command.{Command}
 use Rattle.unl_upstream.specs.declared.refusal.CommandRefusal.{CommandRefusal}
 use Rattle.unl_upstream.specs.declared.refusal.CommandRefusal.TheVariants as plain
@@ -109,6 +108,17 @@ keeps_more shelf line more now last one others =
       kept = others.kept ∙ ap (λ (s : Shelf). option_map (λ kept. kept ++ others.commands) s.commands) (sym one.leads)
           ∙ both_behind (one.command ∷ []) others.commands shelf.commands;
     }
+
+-- a line that is taken is within the limits
+within : {D : Type 0} (taking : Taking D) (desk : D) (line : List ℕ) (k : ℕ) (taken : Taken D) → take_line taking k desk line ≡ Ok taken
+    → taking k desk line ≡ Ok taken
+within taking desk line k taken is = limited (ltb most_lines k) (ltb longest_line (length line)) is
+  where
+    limited : (many long : Bool) → cond many (Err (codes "TooManyLines")) (cond long (Err (codes "LineTooLong")) (taking k desk line)) ≡ Ok taken
+        → taking k desk line ≡ Ok taken
+    limited true long is = absurd (cc is)
+    limited false true is = absurd (cc is)
+    limited false false is = is
 
 keeps_step : (shelf : Shelf) (k : ℕ) (line : List ℕ) (more : List (List ℕ)) (comes : LineResult Shelf) → take_line keeping k shelf line ≡ comes
     → ((now : Shelf) → (rest_from (k + 1) more now).ending ≡ done → SpellKept now more (rest_from (k + 1) more now).desk)

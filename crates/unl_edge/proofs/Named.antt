@@ -7,7 +7,7 @@ use Rattle.unl_exchange.specs.Linked.{ServesLinks, linking}
 use Rattle.unl_upstream.specs.declared.command.Command.{Command}
 use Rattle.unl_upstream.specs.Kept.{Carries, HasKept, KeptState, acknowledged, kept_commands}
 use Rattle.unl_upstream.specs.KeptHosting.{IsNamed, LinkServed, Linked, LinksName}
-use Rattle.unl_upstream.specs.Linked.{draws_after}
+use Rattle.unl_upstream.specs.Served.{draws_after}
 use Rattle.unl_upstream.proofs.Carrying.{both_behind, carries_all}
 use Rattle.unl_upstream.proofs.KeptNaming.{links_are_named}
 

@@ -25,7 +25,7 @@ use Rattle.unl_exchange.specs.Answering.{Coming}
 use Rattle.unl_exchange.specs.Linked.{ServesLinks as ServesTold, linking}
 use Rattle.unl_upstream.specs.Kept.{HoldsOn, KeeperState, KeptState, acknowledged, commands_in, kept_commands, kept_rows, kept_state}
 use Rattle.unl_upstream.specs.KeptHosting.{Hosts, LinkServed, LinksName, NoKeeperFaults}
-use Rattle.unl_upstream.specs.Lines.{obeyed_line}
+use Rattle.unl_edge.specs.PlainLines.{obeyed_line}
 use Rattle.unl_upstream.specs.Reopening.{IsOpening, IsSameKeeper, Reopens}
 use Rattle.unl_upstream.specs.Upstream.{UpstreamState, opening}
 use Rattle.unl_upstream.specs.declared.command.Command.{Command}

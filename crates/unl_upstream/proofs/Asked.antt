@@ -11,7 +11,7 @@ use Rattle.unl_http_api.specs.declared.end.End.TheVariants as ends
 use Rattle.unl_http_api.specs.declared.reply.Reply.{Reply}
 use Rattle.unl_http_api.specs.declared.request.Request.{Request}
 use Rattle.unl_http_api.specs.Session.{Reads}
-use Rattle.unl_upstream.specs.Linked.{draws_after}
+use Rattle.unl_upstream.specs.Served.{draws_after}
 
 -- what one answer gives a request, with its draw
 abbrev Giving : Type 0 → Type 1

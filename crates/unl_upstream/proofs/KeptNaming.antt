@@ -6,7 +6,7 @@ use Rattle.unl_upstream.specs.History.{after_commands}
 use Rattle.unl_upstream.specs.Kept.{KeepsAll, KeptState, Moves, Tried, acknowledged, faults_among}
 use Rattle.unl_upstream.specs.KeptHosting.{IsNamed, KeptLinksNameCommands, LinkNames, LinkServed, Linked, LinksName}
 use Rattle.unl_upstream.specs.KeptServing.{Gives, NoKeeperFault, serving, tried_in}
-use Rattle.unl_upstream.specs.Linked.{draws_after}
+use Rattle.unl_upstream.specs.Served.{draws_after}
 use Rattle.unl_upstream.specs.Upstream.{UpstreamState}
 use Rattle.unl_upstream.proofs.Asked.{Took, draws_both, took}
 use Rattle.unl_upstream.proofs.Carrying.{acknowledged_both, faults_both, keeps_both, moves_all}

@@ -6,9 +6,7 @@ pub mod Given
 pub mod Statuses
 pub mod Served
 pub mod Linking
-pub mod Spelled
 pub mod Asked
-pub mod Naming
 pub mod Depths
 pub mod Written
 pub mod Leading

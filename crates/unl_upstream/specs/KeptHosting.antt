@@ -12,7 +12,7 @@ use Rattle.unl_upstream.specs.declared.command.Command.{Command}
 use Rattle.unl_upstream.specs.History.{after_commands}
 use Rattle.unl_upstream.specs.Kept.{KeepsAll, KeepsSome, KeptState, Tried, acknowledged, faults_among}
 use Rattle.unl_upstream.specs.KeptServing.{KeepsOn, KeptServing, Lacks, NoKeeperFault, Step, serving, tried_in}
-use Rattle.unl_upstream.specs.Linked.{draws_after}
+use Rattle.unl_upstream.specs.Served.{draws_after}
 use Rattle.unl_upstream.specs.Served.{HostsAllBy, LinkServedBy}
 use Rattle.unl_upstream.specs.Upstream.{UpstreamState}
 

@@ -4,16 +4,10 @@ use Rattle.std.specs.List.{list_any}
 use Rattle.unl_core.specs.Board.{same_text, snapshot_in}
 use Rattle.unl_delta.specs.declared.version.EnvVersion.{EnvVersion}
 use Rattle.unl_delta.specs.History.{Era, IsLine, StandsIn, everything}
-use Rattle.unl_lines.specs.Lines.{lines}
-use Rattle.unl_lines.specs.Taken.{done, outcome_of}
 use Rattle.unl_tokens.specs.declared.token.Token.{Token}
 use Rattle.unl_upstream.specs.declared.command.Command.{Command}
 use Rattle.unl_upstream.specs.Upstream.{UpstreamState, opening}
 use Rattle.unl_upstream.specs.History.{AreHistories, IsHistoryOf, accepted, after_commands, history_of}
-use Rattle.unl_exchange.specs.Answering.{Coming}
-use Rattle.unl_upstream.specs.Hosting.{Linked}
-use Rattle.unl_upstream.specs.Lines.{SpellAccepted, obeying}
-use Rattle.unl_upstream.specs.Linked.{LinkedBy, LinksName, draws_after}
 
 -- the line of histories of an upstream that began in an epoch: the one history that these commands make
 abbrev pub line_of : ℕ → List Command → List Era
@@ -38,22 +32,3 @@ EnvironmentsStay =
     (environment : List ℕ)
     → is_some (snapshot_in environment (after_commands commands (opening boot secret environments book epoch)).board.slots)
     ≡ list_any (λ name. same_text name environment) environments
-
--- lines that end well lead where the commands that they spell do
-abbrev pub LinesGiveCommands : Type 0
-LinesGiveCommands = (up : UpstreamState) (bytes : List ℕ) → (outcome_of obeying up bytes).ending ≡ done
-    → SpellAccepted up (lines bytes) (outcome_of obeying up bytes).desk
-
--- what links hand on has such names
-abbrev pub LinksNameCommands : Type 0
-LinksNameCommands = (start : UpstreamState) (coming : Coming) (commands : List Command) (gone : ℕ) (links : List (List ℕ))
-    (backs : List (List ℕ × ℕ)) (up_after : UpstreamState) (coming_after : Coming)
-    → Linked (after_commands commands start) (draws_after gone coming) links backs up_after coming_after
-    → LinksName start coming commands gone links backs up_after coming_after
-
--- where all commands before links were accepted, so are all after them
-abbrev pub LinksAddAccepted : Type 0
-LinksAddAccepted = (start : UpstreamState) (coming : Coming) (commands : List Command) (gone : ℕ) (links : List (List ℕ))
-    (backs : List (List ℕ × ℕ)) (commands_after : List Command) (gone_after : ℕ)
-    → LinkedBy start coming commands gone links backs commands_after gone_after → accepted commands start ≡ commands
-    → accepted commands_after start ≡ commands_after

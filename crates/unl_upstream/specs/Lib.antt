@@ -3,14 +3,11 @@ pub mod Writing
 pub mod Upstream
 pub mod History
 pub mod Answer
-pub mod Lines
 pub mod Served
 pub mod Serving
 pub mod Requests
 pub mod Kept
 pub mod Reopening
 pub mod KeptServing
-pub mod Hosting
-pub mod Linked
 pub mod KeptHosting
 pub mod Laws

@@ -1,5 +1,5 @@
 -- Links that were served, by whoever answers their requests. `Changes before end count after` is what so many answers changed.
-use Rattle.std.specs.Prelude.{◌≡◌, ℕ, List, [], Option, Some, Result, Ok, Err}
+use Rattle.std.specs.Prelude.{◌≡◌, ℕ, List, [], Option, Some, Result, Ok, Err, drop, option_map}
 use Rattle.unl_base.specs.Faults.{Rose}
 use Rattle.unl_base.specs.declared.Failed.{Failed}
 use Rattle.unl_exchange.specs.Answering.{Answerer, Coming, answerer}
@@ -10,6 +10,10 @@ use Rattle.unl_http_api.specs.declared.end.End.{End}
 use Rattle.unl_http_api.specs.declared.end.End.TheVariants.{ReadFault, WriteFault, Memory}
 use Rattle.unl_http_api.specs.declared.reply.Reply.{Reply}
 use Rattle.unl_http_api.specs.declared.request.Request.{Request}
+
+-- the draws to come once so many are gone; where they aren't told, nothing is told
+abbrev pub draws_after : ℕ → Coming → Coming
+draws_after gone coming = option_map (λ told. (drop gone told.0, told.1)) coming
 
 -- a link was served: so many requests were answered, and this changed
 pub record ServesLinkBy

@@ -2,15 +2,12 @@
 use Rattle.std.specs.Prelude.{◌≡◌, ℕ, List, [], ◌∷◌, ◌++◌, length, option_to_list}
 use Rattle.unl_base.specs.declared.draws.Draw.{Draw}
 use Rattle.unl_exchange.specs.Answering.{Answerer, Answers, Coming, LacksMemory, answerer}
-use Rattle.unl_exchange.specs.Links.{LinkState}
-use Rattle.unl_http_api.specs.declared.end.End.{End}
 use Rattle.unl_http_api.specs.declared.reply.Reply.{Reply}
 use Rattle.unl_http_api.specs.declared.request.Request.{Request}
 use Rattle.unl_upstream.specs.declared.command.Command.{Command}
 use Rattle.unl_upstream.specs.Answer.{upstream_answer}
 use Rattle.unl_upstream.specs.History.{AreAdded, accepted, after_commands}
 use Rattle.unl_upstream.specs.Requests.{command_given}
-use Rattle.unl_upstream.specs.Served.{ServesLinkBy}
 use Rattle.unl_upstream.specs.Upstream.{UpstreamState}
 
 -- ---- one request
@@ -53,13 +50,3 @@ pub record Obeys (up : UpstreamState) (count : ℕ) (up_after : UpstreamState) :
   pub counted : length requests ≡ count
   pub obeyed : up_after ≡ after_commands (commands_given up.secret requests) up
   pub versions : AreAdded (accepted (commands_given up.secret requests) up) up up_after
-
--- ---- a connection
-
--- so many requests were answered, and their commands are all that changed the upstream
-abbrev pub Changes : Serving → End → ℕ → Serving → Type 0
-Changes before end count after = Obeys before.state count after.state
-
--- a link was served
-abbrev pub ServesLink : UpstreamState → Coming → LinkState → LinkState → UpstreamState → Coming → Type 0
-ServesLink = ServesLinkBy Step Lacks Changes

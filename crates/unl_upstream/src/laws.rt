@@ -12,7 +12,7 @@ ghost use Rattle.unl_upstream.specs.History.{accepted, after_command, after_comm
 ghost use Rattle.unl_upstream.specs.Kept.{KeepingCarries, KeepingGoesOn};
 ghost use Rattle.unl_upstream.specs.KeptHosting.{KeptLinksNameCommands};
 ghost use Rattle.unl_upstream.specs.Reopening.{ReopeningGivesBack};
-ghost use Rattle.unl_upstream.specs.Laws.{EnvironmentsStay, LinesGiveCommands, LinksAddAccepted, LinksNameCommands, VersionsStand};
+ghost use Rattle.unl_upstream.specs.Laws.{EnvironmentsStay, VersionsStand};
 ghost use Rattle.unl_upstream.specs.Laws.{VersionsStandInLines};
 
 /// After any commands each environment's version stands for the history of those that were accepted for it, its number is
@@ -42,19 +42,6 @@ pub fn requests_give_commands()
     ensures one { (up : UpstreamState) (q : Request) (draw : Draw) → (upstream_answer up q draw).up
         ≡ after_commands (option_to_list (command_given up.secret q)) up }
     ensures secret { (command : Command) (up : UpstreamState) → (after_command command up).secret ≡ up.secret }
-{}
-
-/// Lines that end well spell a command each, all of which are accepted, and lead where these do.
-pub fn lines_give_commands()
-    ensures { LinesGiveCommands }
-{}
-
-/// Links that were served lead, from an upstream on, where the commands before them and then the accepted ones of
-/// their answered requests lead; a draw is gone for each request, and at want of memory perhaps one more. Where all
-/// commands before them were accepted, so are all after them.
-pub fn links_name_commands()
-    ensures names { LinksNameCommands }
-    ensures accepted { LinksAddAccepted }
 {}
 
 /// Whatever commands are to be kept, one after another, and whatever faults come: the upstream is still the opening one after

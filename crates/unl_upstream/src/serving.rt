@@ -7,7 +7,7 @@ use crate::upstream::Upstream;
 use std::alloc::Global;
 use unl_base::{Draw, Draws, Link};
 use unl_documents::Memory;
-use unl_exchange::{Answering, Server, converse};
+use unl_exchange::{Answering, converse};
 use unl_http_api::{End, Reply, Request};
 
 /// Answers requests by an upstream.
@@ -63,22 +63,4 @@ impl Upstream {
     {
         converse::<ByUpstream, L, R>(alloc, self, link, draws)
     }
-}
-
-impl Server for Upstream {
-    ghost use Rattle.unl_upstream.specs.Serving.{ServesLink};
-
-    ghost fits = { λ up. Unit {0} };
-
-    ghost keeps = { λ up up_after. Unit {0} };
-
-    ghost serves = { ServesLink };
-
-    fn serve_link<L: Link, R: Draws>(&mut self, alloc: Global, link: &mut L, draws: &mut R) {
-        self.serve(alloc, link, draws);
-    }
-
-    ghost keeps_itself = { λ up. tt };
-
-    ghost keeps_on = { λ first next last first_kept next_kept. tt };
 }

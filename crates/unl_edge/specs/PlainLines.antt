@@ -1,13 +1,12 @@
 -- Commands in the lines of an input.
-use Rattle.std.specs.Prelude.{◌≡◌, ℕ, List, [], codes, map, Ok, Err}
+use Rattle.std.specs.Prelude.{ℕ, List, [], codes, Ok, Err}
 use Rattle.unl_documents.specs.FaultText.{fault_text}
 use Rattle.unl_documents.specs.Reading.{Reading}
-use Rattle.unl_lines.specs.Taken.{LineResult, Taking}
+use Rattle.unl_lines.specs.Taken.{LineResult}
 use Rattle.unl_upstream.specs.declared.command.Command.{Command}
 use Rattle.unl_upstream.specs.declared.refusal.CommandRefusal.{CommandRefusal}
 use Rattle.unl_upstream.specs.declared.refusal.CommandRefusal.TheVariants.{NoSuchEnvironment, NoSuchFeature, NoSuchSegment, TooMany, Memory}
 use Rattle.unl_upstream.specs.Command.{command_in}
-use Rattle.unl_upstream.specs.History.{accepted, after_commands}
 use Rattle.unl_upstream.specs.Upstream.{UpstreamState, Obeying, Obeyed, commanded}
 
 -- the name of a refusal; want of memory is none, and has none
@@ -31,14 +30,3 @@ obeyed_by up (Err fault) = Err (fault_text fault)
 -- what a line does to an upstream
 unfoldable pub obeyed_line : UpstreamState → List ℕ → LineResult UpstreamState
 obeyed_line up line = obeyed_by up (command_in line)
-
--- what a line does to an upstream, whatever its number
-abbrev pub obeying : Taking UpstreamState
-obeying number up line = obeyed_line up line
-
--- The lines spell these commands, one a line. All of them are accepted, and they lead there.
-pub record SpellAccepted (up : UpstreamState) (spelling : List (List ℕ)) (up_after : UpstreamState) : Type 0 where
-  pub commands : List Command
-  pub spelled : map command_in spelling ≡ map Ok commands
-  pub all_accepted : accepted commands up ≡ commands
-  pub leads : up_after ≡ after_commands commands up
