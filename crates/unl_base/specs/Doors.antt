@@ -1,9 +1,10 @@
--- What a door hands out and is handed back. What is not told is none.
+-- The state of a door: the links it hands out and takes back. An optional field that isn't observable is `None`.
 use Rattle.std.specs.Prelude.{◌≡◌, ◌⊎◌, ◌+◌, Bool, true, false, List, [], ◌∷◌, ◌++◌, Option, Some, None, ℕ, drop, if◌then◌else◌}
 use Rattle.std.specs.Prelude.{is_some, option_and_then, option_map, IfSome}
 
--- At which port a door listens, and whether it is closed; how many links it handed out and was handed back; what each link to come gives to
--- read; what each that came back had sent, and how often it had failed.
+-- The state of a door: the port it listens at; whether it is closed; how many links it has handed out and taken back;
+-- the bytes that each link to come gives to its reader; for each link taken back, the bytes it had sent and its fault
+-- count.
 pub record DoorState : Type 0 where
   pub port : Option ℕ
   pub closed : Bool
@@ -12,63 +13,64 @@ pub record DoorState : Type 0 where
   pub links : Option (List (List ℕ))
   pub returned : Option (List (List ℕ × ℕ))
 
--- what the next of a list gives to read: its first, or no bytes where the list is empty
+-- What the next link of a list gives to its reader: the first item, or no bytes if the list is empty.
 abbrev pub next_of : List (List ℕ) → List ℕ
 next_of [] = []
 next_of (first ∷ rest) = first
 
--- how many links an answer hands out
+-- The number of links in the result of an accept: 0 or 1.
 abbrev pub count_of : {A : Type 0} → Option A → ℕ
 count_of None = 0
 count_of (Some link) = 1
 
--- a door that listens at a port from now on where it could, and else where it did before
+-- The state after a call of `listen`: the port is set if the call succeeded and unchanged otherwise.
 abbrev pub listening_at : ℕ → Bool → DoorState → DoorState
 listening_at port could door = record door { port = if could then Some port else door.port }
 
--- it listens at a port
+-- The door listens at a port.
 abbrev pub IsListening : DoorState → Type 0
 IsListening door = is_some door.port ≡ true
 
--- no link comes any more
+-- The door is closed: it has no more links to hand out.
 pub record IsClosed (door : DoorState) : Type 0 where
   pub closed : door.closed ≡ true
   pub none_left : IfSome door.links (λ links. links ≡ [])
 
--- no link comes any more, and the port is this one
+-- The door is closed and listens at this port.
 pub record IsClosedAt (port : ℕ) (door : DoorState) : Type 0 where
   pub closed : IsClosed door
   pub at : door.port ≡ Some port
 
--- the port is this one, unless no link was handed out
+-- No link was handed out, or the door listens at this port.
 abbrev pub CameAt : ℕ → ℕ → DoorState → Type 0
 CameAt port served door = (served ≡ 0) ⊎ (door.port ≡ Some port)
 
--- a link comes
+-- The door is open: it has another link to hand out.
 pub record IsOpen (door : DoorState) : Type 0 where
   pub not_closed : door.closed ≡ false
   pub some_left : IfSome door.links (λ links. ¬ (links ≡ []))
 
--- the first of the links to come was handed out, and the door is then closed or not
+-- The state after the door handed out the first of its links; `closed` says whether it is closed afterwards.
 abbrev pub handing_out : Bool → DoorState → DoorState
 handing_out closed door =
     record door { closed = closed; given = door.given + 1; links = option_map (λ links. drop 1 links) door.links }
 
--- a link was handed out, or none exactly where the door is closed
+-- An accept went from the old to the new state. It returned no link and the door was closed, or it returned the first
+-- link of an open door.
 abbrev pub Accepts : {A : Type 0} → Option A → DoorState → DoorState → Type 0
 Accepts None old new = IsClosed old × (new ≡ old)
 Accepts (Some link) old new = IsOpen old × (new ≡ handing_out new.closed old)
 
--- a link that a door hands out gives the first of those to come, has sent nothing and has counted no fault
+-- A link that was just handed out gives the first of the texts to come, has sent nothing and has a fault count of 0.
 pub record IsFresh (door : DoorState) (left sent : Option (List ℕ)) (faults : ℕ) : Type 0 where
   pub gives : left ≡ option_map next_of door.links
   pub silent : sent ≡ option_map (λ _. []) door.returned
   pub faultless : faults ≡ 0
 
--- those that came back, and one more that had sent these bytes and had failed so often
+-- The links taken back, with one more, which had sent these bytes and had this fault count.
 abbrev pub and_one : Option (List ℕ) → ℕ → Option (List (List ℕ × ℕ)) → Option (List (List ℕ × ℕ))
 and_one sent faults returned = option_and_then (λ list. option_map (λ bytes. list ++ (bytes, faults) ∷ []) sent) returned
 
--- a link was handed back, which had sent these bytes and had failed so often
+-- The state after the door took back a link that had sent these bytes and had this fault count.
 abbrev pub taking_back : Option (List ℕ) → ℕ → DoorState → DoorState
 taking_back sent faults door = record door { back = door.back + 1; returned = and_one sent faults door.returned }

@@ -1,21 +1,21 @@
--- What is known of a peer. What is not told is none.
+-- The state of a peer. An optional field that isn't observable is `None`.
 use Rattle.std.specs.Io.KnownBytes.{ReadConsumes, WriteAppends}
 use Rattle.std.specs.Prelude.{◌≡◌, Bool, true, false, List, [], Option, None, ℕ, Result, Ok, IfNone, IfSome, drop, length, option_map}
 use Rattle.unl_base.specs.Doors.{next_of}
 
--- Whether a peer is connected; the bytes to come; those sent since the last connect; what each of the next connects gives to
--- read.
+-- Whether a peer is connected; the bytes still to be read; the bytes sent since the last connect; what each later
+-- connection gives to its reader.
 pub record PeerState : Type 0 where
   pub connected : Bool
   pub left : Option (List ℕ)
   pub sent : Option (List ℕ)
   pub replies : Option (List (List ℕ))
 
--- what an end has beside its bytes that is no link and no peer
+-- The state beside its bytes of a stream that is neither a link nor a peer: there is none.
 abbrev pub nothing_beside : PeerState
 nothing_beside = record { connected = false; left = None; sent = None; replies = None }
 
--- after a connect the next reply is to come, and nothing was sent
+-- The state after a successful connect: the next reply is to be read, and nothing was sent.
 abbrev pub connecting : PeerState → PeerState
 connecting peer = record {
   connected = true;
@@ -24,18 +24,18 @@ connecting peer = record {
   replies = option_map (λ list. drop 1 list) peer.replies;
 }
 
--- after a connect that failed there is no connection, and nothing is to come
+-- The state after a failed connect: there is no connection, and nothing to read.
 abbrev pub parting : PeerState → PeerState
 parting peer = record peer { connected = false; left = option_map (λ _. []) peer.left }
 
--- what a read gives of the connection that there may be: the bytes at the front of its stream, and without one that nothing is to come
+-- A read goes to the stream of the connection if there is one. Without a connection it returns 0.
 pub record ReadsConnection {S E : Type 0} (remaining : S → Option (List ℕ))
     (old new : Option S) (result : Result ℕ E) (room : List ℕ) : Type 0 where
   pub hands_on : IfSome old (λ was. IfSome new (λ now. ReadConsumes (remaining was) (remaining now) result room))
   pub alone : IfNone old (result ≡ Ok 0)
 
--- what becomes of a piece written to the connection that there may be: as much of it as is told follows what was sent, and without
--- one all of it is dropped
+-- A write goes to the stream of the connection if there is one, and appends to what was sent as far as that is
+-- observable. Without a connection all of the piece is dropped, and the write succeeds.
 pub record WritesConnection {S E : Type 0} (contents : S → Option (List ℕ))
     (old new : Option S) (result : Result ℕ E) (piece : List ℕ) : Type 0 where
   pub hands_on : IfSome old (λ was. IfSome new (λ now. WriteAppends (contents was) (contents now) result piece))

@@ -1,4 +1,4 @@
-//! Jobs in threads.
+//! Concurrent jobs on scoped threads.
 ghost use Rattle.std.specs.Prelude.{◌≡◌, ◌<◌, ◌≤◌, ◌++◌, ◌∷◌, [], IfOk, OnErr, OnOk, map, vec_capacity, vec_len};
 ghost use Rattle.std.specs.List.{AllZip};
 
@@ -9,7 +9,7 @@ use std::sync::Wait;
 use std::thread;
 use std::thread::{Promise, PromisedHandle, Scope, Threads};
 
-/// Runs each job in a thread of its own and `here` on this one.
+/// Runs each job on its own thread and `here` on this one. Fails if a job can't be started; `here` is then cancelled.
 pub fn run_beside<R: Threads + Wait, J: Job + Send + Drop, M: Job>(
     rt: &R,
     jobs: Vec<J>,
@@ -25,8 +25,8 @@ pub fn run_beside<R: Threads + Wait, J: Job + Send + Drop, M: Job>(
     (here, done)
 }
 
-/// Work for `run_around`. A scope says nothing of a `&mut` that its closure holds, so the closure holds a value of a type
-/// parameter.
+/// Work for `run_around`. The contract of a scope says nothing about a `&mut` that its closure captures, so the closure
+/// captures a value of a type parameter instead.
 trait Errand {
     type Done;
 
@@ -41,7 +41,7 @@ trait Errand {
         ensures { cancels self result };
 }
 
-/// A job that is lent.
+/// A borrowed job.
 #[derive(Drop)]
 struct Lent<'a, M> {
     job: &'a mut M,
@@ -67,12 +67,12 @@ impl<'a, M: Job> Errand for Lent<'a, M> {
     }
 }
 
-/// Does nothing. It ties a reference, for the borrow checker, to the variable that it was lent from.
+/// Does nothing at run time. For the borrow checker, it ties a reference to the variable that was borrowed.
 fn take_back<T>(x: &mut T)
     ensures { x.new ≡ x.old }
 {}
 
-/// A job that was done, and this is what it was before.
+/// The promise of a running job: it will be done, starting from the job as it was.
 #[derive(Drop)]
 struct Worked<J> {
     was: Snapshot<J>,
@@ -82,10 +82,10 @@ impl<J: Job> Promise<J> for Worked<J> {
     ghost kept_by = { λ promise job. J.worked promise.was.value job };
 }
 
-/// A job that runs.
+/// A job running on its thread.
 type Running<J> = PromisedHandle<J, Worked<J>>;
 
-/// Runs each job in a thread of its own and the errand on this one.
+/// Runs each job on its own thread and the errand on this one.
 fn run_around<R: Threads + Wait, J: Job + Send + Drop, E: Errand + Drop>(
     rt: &R,
     jobs: Vec<J>,
@@ -123,10 +123,11 @@ fn run_around<R: Threads + Wait, J: Job + Send + Drop, E: Errand + Drop>(
     )
 }
 
-/// Starts each job in a thread of its own.
+/// Starts each job on its own thread.
 ///
 /// # Errors
-/// Those that were started, where one can't be.
+///
+/// The jobs already started, if one can't be started.
 fn start_all<'s, X, J: Job + Send + Drop + 's>(
     scope: &Scope<'s, X>,
     jobs: Vec<J>,
@@ -170,7 +171,7 @@ fn start<'s, X, J: Job + Send + Drop + 's>(
     }
 }
 
-/// Waits for each job, and hands them back in order, in the room given.
+/// Waits for each job and returns them in order, in `room`.
 fn join_all<R: Threads, J: Job + Drop>(rt: &R, started: Vec<Running<J>>, room: Vec<J>) -> Vec<J>
     requires room { vec_len started ≤ vec_capacity room }
     requires empty { room.items ≡ [] }
@@ -183,7 +184,7 @@ fn join_all<R: Threads, J: Job + Drop>(rt: &R, started: Vec<Running<J>>, room: V
     done
 }
 
-/// Puts a job behind the others, for which there is room.
+/// Appends a job to a list that has spare capacity.
 fn keep<J: Drop>(done: &mut Vec<J>, job: J)
     requires { vec_len done.old < vec_capacity done.old }
     ensures items { done.new.items ≡ done.old.items ++ job ∷ [] }
@@ -192,7 +193,7 @@ fn keep<J: Drop>(done: &mut Vec<J>, job: J)
     done.push(job).unwrap();
 }
 
-/// Waits for each job, and drops them.
+/// Waits for each job and drops it.
 fn end_all<R: Threads, J: Job + Drop>(rt: &R, started: Vec<Running<J>>) {
     for handle in started {
         handle.join(rt);

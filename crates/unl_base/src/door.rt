@@ -1,4 +1,4 @@
-//! A door, which hands out links and takes them back.
+//! A door, which accepts links and takes them back.
 ghost use Rattle.std.specs.Prelude.{◌≡◌, ◌<◌, ◌≤◌, ℕ, is_ok, IfOk, IfSome, OnErr, OnOk};
 ghost use Rattle.unl_base.specs.Doors.{Accepts, DoorState, IsFresh, IsListening, listening_at, taking_back};
 ghost use Rattle.unl_base.specs.Faults.{HasCause};
@@ -6,34 +6,35 @@ ghost use Rattle.unl_base.specs.Faults.{HasCause};
 use crate::Failed;
 use crate::link::Link;
 
-/// Hands out the links that come to a port.
+/// Accepts the links that arrive at a port.
 pub trait Door {
-    /// The links that it hands out.
+    /// The type of its links.
     type L: Link;
 
-    /// At which port it listens, whether it is closed, how many links it has handed out and was handed back, and, where that is told, what
-    /// each link to come gives to read and what each that came back had sent and how often it had failed.
+    /// The port it listens at, whether it is closed, and how many links it has handed out and taken back. If
+    /// observable, also the bytes that each link to come will give to its reader, and for each link taken back the
+    /// bytes it had sent and its fault count.
     ghost state: { Self → DoorState };
 
-    /// How often this door has failed.
+    /// This door's fault count.
     ghost faults: { Self → ℕ };
 
-    /// Begins to listen at a port, and listens there from then on.
+    /// Starts listening at `port`.
     ///
     /// # Errors
     ///
-    /// `Failed`: the port can't be listened at. The fault is counted, and all else is as before.
+    /// `Failed`: it can't listen at the port. The fault is counted; nothing else changes.
     fn listen(&mut self, port: u16) -> Result<(), Failed>
         ensures listens { state self.new ≡ listening_at port (is_ok result) (state self.old) }
         ensures cause { HasCause (faults self.old) (faults self.new) result }
         ensures still { OnOk result (faults self.new ≡ faults self.old) };
 
-    /// Waits for the next link, and hands it out: none exactly where the door is closed. The link has sent nothing and
-    /// has counted no fault.
+    /// Waits for the next link and returns it. Returns `None` if and only if the door is closed. A new link has sent
+    /// nothing, and its fault count is 0.
     ///
     /// # Errors
     ///
-    /// `Failed`: no link could be had. The fault is counted, and all else is as before.
+    /// `Failed`: no link could be accepted. The fault is counted; nothing else changes.
     fn accept(&mut self) -> Result<Option<Self::L>, Failed>
         requires { IsListening (state self.old) }
         ensures accepts { IfOk result (λ link. Accepts link (state self.old) (state self.new)) }
@@ -43,12 +44,12 @@ pub trait Door {
         ensures cause { HasCause (faults self.old) (faults self.new) result }
         ensures still { OnOk result (faults self.new ≡ faults self.old) };
 
-    /// Takes back a link that was handed out.
+    /// Takes back a link that `accept` returned.
     fn give_back(&mut self, link: Self::L)
         requires { (state self.old).back < (state self.old).given }
         ensures returns { state self.new ≡ taking_back (Self.L.Sink.sent link) (Self.L.Source.faults link) (state self.old) }
         ensures same_faults { faults self.new ≡ faults self.old };
 
-    /// No more links come back than were handed out.
+    /// The door never takes back more links than it has handed out.
     ghost within: { (door : Self) → (state door).back ≤ (state door).given };
 }

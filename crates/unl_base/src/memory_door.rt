@@ -1,4 +1,4 @@
-//! A door whose links are kept in memory.
+//! A door whose links are in memory.
 ghost use Rattle.std.specs.Prelude.{◌≡◌, ◌<◌, ◌+◌, ◌-◌, ◌∷◌, ◌++◌, ◌↔◌, [], Some, None, All, drop, length, map, if◌then◌else◌};
 ghost use Rattle.std.specs.Prelude.{is_ok, is_some, option_map, slice_get, true, IfOk, IfSome, IsNone, OnErr};
 ghost use Rattle.unl_base.specs.Doors.{Accepts, count_of};
@@ -9,8 +9,8 @@ use crate::door::Door;
 use crate::memory::{Calls, MemoryLink};
 use std::marker::Model;
 
-/// The links of a door. Those that came back stand first, each in the place of one that was handed out; those to come
-/// stand last.
+/// The links of a door. Index `given` is the next link to hand out. The links taken back are at the indices below
+/// `back`.
 #[derive(Debug, Drop)]
 struct Stock {
     links: Vec<Option<MemoryLink>>,
@@ -45,7 +45,7 @@ impl Stock {
         }
     }
 
-    /// Hands out the next link.
+    /// Hands out the next link; `None` if there are none left.
     fn take(&mut self) -> Option<MemoryLink>
         ensures ends { IsNone result ↔ (self.old.links ≡ []) }
         ensures comes { IfSome result (λ link. IsNext self.old.links link) }
@@ -74,7 +74,7 @@ impl Stock {
         self.back += 1;
     }
 
-    /// What the link had sent that came back at a place.
+    /// The bytes sent by the link that was taken back at index `place`.
     fn sent(&self, place: usize) -> Option<&[u8]>
         ensures { option_map (λ sent. sent.now) result ≡ option_map (λ link. link.0) (slice_get self.now.returned place) }
     {
@@ -85,7 +85,7 @@ impl Stock {
     }
 }
 
-/// A door whose links are kept in memory, for tests. It is closed once all of them were handed out.
+/// A door whose links are in memory, for tests. It is closed once all of them have been handed out.
 #[derive(Debug, Drop)]
 pub struct MemoryDoor {
     port: Option<u16>,
@@ -102,8 +102,9 @@ impl Model for MemoryDoor {
 }
 
 impl MemoryDoor {
-    /// A door that hands out these links in order, each of which is there, has sent nothing and has counted no fault.
-    /// The calls of `listen` and `accept` whose numbers, from 0, are in `failing` fail.
+    /// A door that hands out the links of `links` in order. Each item must be `Some`, with a link that has sent nothing
+    /// and has a fault count of 0. The calls of `listen` and `accept` are numbered together from 0; those whose numbers
+    /// are in `failing` fail.
     pub fn new(links: Vec<Option<MemoryLink>>, failing: Vec<u64>) -> Self
         requires { All IsNew links.items }
         ensures { result ≡ record {
@@ -119,7 +120,8 @@ impl MemoryDoor {
         }
     }
 
-    /// What the link that was handed back at a place, from 0, had sent: none where no more than so many came back.
+    /// The bytes sent by the link that was given back at index `place`, counted from 0; `None` if `place` or fewer
+    /// links were given back.
     pub fn sent(&self, place: usize) -> Option<&[u8]>
         ensures { option_map (λ sent. sent.now) result ≡ option_map (λ link. link.0) (slice_get self.now.stock.returned place) }
     {
@@ -137,7 +139,7 @@ impl Door for MemoryDoor {
 
     ghost faults = { λ door. door.calls.faults };
 
-    /// Fails exactly where it is told to.
+    /// Fails exactly on the calls listed in `failing`.
     fn listen(&mut self, port: u16) -> Result<(), Failed>
         ensures listens { self.new.port ≡ (if is_ok result then Some port else self.old.port) }
         ensures stock { self.new.stock ≡ self.old.stock }
@@ -150,7 +152,7 @@ impl Door for MemoryDoor {
         Ok(())
     }
 
-    /// Fails exactly where it is told to.
+    /// Fails exactly on the calls listed in `failing`.
     fn accept(&mut self) -> Result<Option<MemoryLink>, Failed>
         requires { is_some self.old.port ≡ true }
         ensures accepts { IfOk result (λ link. Accepts link (door_of self.old) (door_of self.new)) }

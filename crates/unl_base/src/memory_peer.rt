@@ -1,4 +1,4 @@
-//! A peer whose replies are kept in memory.
+//! A peer whose replies are in memory.
 ghost use Rattle.std.specs.Prelude.{◌≡◌, ◌<◌, ◌≤◌, ◌++◌, [], None, drop, take, length, map, IfOk, OnErr, OnOk};
 ghost use Rattle.unl_base.specs.Doors.{next_of};
 ghost use Rattle.unl_base.specs.Memory.{Answers, ReadsLine, Writes, calls_of, on_line, peer_of};
@@ -12,7 +12,7 @@ use std::alloc::Global;
 use std::collections::VecDeque;
 use std::marker::Model;
 
-/// The replies that the next connects give.
+/// The replies of the connections to come.
 #[derive(Debug, Drop)]
 struct Replies {
     texts: VecDeque<Vec<u8>>,
@@ -35,7 +35,7 @@ impl Replies {
         }
     }
 
-    /// The next reply, which has no bytes where there is none.
+    /// Removes and returns the next reply; returns an empty one if none remain.
     fn next(&mut self) -> Vec<u8>
         ensures reply { result.items ≡ next_of self.old }
         ensures rest { self.new ≡ drop 1 self.old }
@@ -45,7 +45,7 @@ impl Replies {
     }
 }
 
-/// A peer whose replies are kept in memory, for tests.
+/// A peer whose replies are in memory, for tests.
 #[derive(Debug, Drop)]
 pub struct MemoryPeer {
     line: Option<Incoming>,
@@ -63,13 +63,13 @@ impl Model for MemoryPeer {
 }
 
 impl MemoryPeer {
-    /// A peer that isn't connected yet. Each successful connect gives the next of these replies, and an empty one
-    /// after the last. It takes writes as long as there is room for what was sent since the last connect, connected
-    /// or not. The calls whose numbers, from 0, are in `failing` fail.
+    /// A peer that isn't connected yet. Each successful connect gives the next of `replies`, or an empty reply after
+    /// the last. Whether connected or not, it takes writes while the bytes sent since the last connect fit into `room`.
+    /// The calls whose numbers, counted from 0, are in `failing` fail.
     ///
     /// # Errors
     ///
-    /// `BaseMemory`: memory for the room ran out.
+    /// `BaseMemory`: out of memory for the buffer.
     pub fn new(
         alloc: Global,
         replies: Vec<Vec<u8>>,
@@ -91,7 +91,7 @@ impl MemoryPeer {
         })
     }
 
-    /// The bytes that were sent since the last connect.
+    /// The bytes written since the last connect.
     pub fn sent(&self) -> &[u8]
         ensures { result.now ≡ self.now.store.sent }
     {
@@ -109,7 +109,7 @@ impl Source for MemoryPeer {
 
     ghost beside = { λ peer. record (peer_of peer) { left = None } };
 
-    /// Gives as many bytes of the reply as there is room for, and fails exactly where it is told to.
+    /// Reads as many bytes of the reply as fit into `room`. Fails exactly on the calls listed in `failing`.
     fn read(&mut self, room: &mut [u8]) -> Result<usize, Failed>
         requires { 0 < length room.old }
         ensures fits { IfOk result (λ n. n ≤ length room.new) }
@@ -138,7 +138,7 @@ impl Sink for MemoryPeer {
 
     ghost beside = { λ peer. record (peer_of peer) { sent = None } };
 
-    /// Takes all of the piece, and fails exactly past the room and where it is told to.
+    /// Takes all of `piece`. Fails exactly if `piece` is past the capacity or the call is listed in `failing`.
     fn write(&mut self, piece: &[u8]) -> Result<usize, Failed>
         requires { 0 < length piece.now }
         ensures writes { Writes result piece.now self.old.calls self.new.calls self.old.store self.new.store }
@@ -174,7 +174,7 @@ impl Peer for MemoryPeer {
 
     ghost state = { peer_of };
 
-    /// Fails exactly where it is told to.
+    /// Fails exactly on the calls listed in `failing`.
     fn connect(&mut self) -> Result<(), Failed>
         ensures connects { OnOk result (peer_of self.new ≡ connecting (peer_of self.old)) }
         ensures parts { OnErr result (peer_of self.new ≡ parting (peer_of self.old)) }

@@ -1,21 +1,21 @@
-//! The pace of a job that is done again and again.
+//! The pace of a repeated job.
 ghost use Rattle.std.specs.Prelude.{◌≡◌, ◌-◌, ℕ, Option, nat_lt, option_map, true, IfNone, IfSome};
 
 use std::marker::Model;
 
-/// Says when the next turn of a job comes.
+/// Decides when a repeated job takes its next turn.
 pub trait Pace {
-    /// How many turns are still to come, where that is told.
+    /// The number of turns that remain; `None` if it isn't observable.
     ghost turns: { Self → Option ℕ };
 
-    /// Waits for the next turn: false where it is told that there is none, and there alone.
+    /// Waits for the next turn and returns true. Returns false if and only if `turns` is known to be 0.
     fn more(&mut self) -> bool
         ensures takes { turns self.new ≡ option_map (λ n. n - 1) (turns self.old) }
         ensures told { IfSome (turns self.old) (λ n. result ≡ nat_lt 0 n) }
         ensures goes_on { IfNone (turns self.old) (result ≡ true) };
 }
 
-/// A pace of so many turns, which waits for none of them.
+/// A pace with a fixed number of turns, none of which it waits for.
 #[derive(Debug, Drop)]
 pub struct CountPace {
     turns: u64,
@@ -30,7 +30,7 @@ impl Model for CountPace {
 }
 
 impl CountPace {
-    /// A pace of so many turns.
+    /// A pace of `turns` turns.
     pub fn new(turns: u64) -> Self
         ensures { result ≡ turns }
     {

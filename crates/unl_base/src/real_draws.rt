@@ -1,4 +1,4 @@
-//! Draws by a clock, with words of a generator.
+//! Draws whose moments come from a clock and whose words come from a random number generator.
 ghost use Rattle.rand_core.specs.Stream.{next_u64};
 ghost use Rattle.std.specs.Prelude.{◌≡◌, ◌≤◌, None, IfOk};
 ghost use Rattle.unl_base.specs.Draws.{IsInLimit};
@@ -9,11 +9,11 @@ use rand_pcg::rand_core::Rng;
 use std::io;
 use std::time::{Clock, SystemTime};
 
-/// The last moment that a draw tells, in milliseconds since 1970.
+/// The latest moment that a draw reports, in milliseconds since 1970.
 const LAST_MOMENT: u64 = 100_000_000_000_000;
 
-/// Draws whose moments a clock tells. The words come from a small generator, which is none for secrets. Where the
-/// clock fails, the moment of the draw before is told again.
+/// Draws with the time of a clock and the words of a small generator, which isn't cryptographically secure. If the
+/// clock fails, a draw repeats the previous moment.
 #[derive(Drop)]
 pub struct RealDraws<C: Clock + Copy + Drop> {
     clock: C,
@@ -22,7 +22,7 @@ pub struct RealDraws<C: Clock + Copy + Drop> {
 }
 
 impl<C: Clock + Copy + Drop> RealDraws<C> {
-    /// Draws by this clock, whose words begin at the time that it tells.
+    /// Draws by `clock`. The generator is seeded with the clock's current time.
     pub fn new(clock: C) -> Self {
         let mut draws = RealDraws {
             clock,
@@ -34,7 +34,7 @@ impl<C: Clock + Copy + Drop> RealDraws<C> {
         draws
     }
 
-    /// The moment that the clock tells, or the last that it told.
+    /// Returns the clock's time, or the last one known if the clock fails, capped at `LAST_MOMENT`.
     fn moment(&mut self) -> u64
         ensures limit { result ≤ 100000000000000 }
         ensures words { self.new.words ≡ self.old.words }
@@ -46,7 +46,7 @@ impl<C: Clock + Copy + Drop> RealDraws<C> {
     }
 }
 
-/// The moment that a clock tells, in milliseconds since 1970, or the last one that is told.
+/// Reads the clock, in milliseconds since 1970. Returns `LAST_MOMENT` for a time past a `u64`.
 fn moment_of<C: Clock + Copy + Drop>(clock: C) -> io::Result<u64> {
     let since = SystemTime::now(&clock)?
         .duration_since(SystemTime::UNIX_EPOCH)
@@ -57,7 +57,7 @@ fn moment_of<C: Clock + Copy + Drop>(clock: C) -> io::Result<u64> {
 impl<C: Clock + Copy + Drop> Draws for RealDraws<C> {
     ghost coming = { λ _. None };
 
-    /// The moment of the clock, and the generator's next word.
+    /// Returns the clock's time and the generator's next word.
     fn draw(&mut self) -> Draw
         ensures limit { IsInLimit result }
         ensures word { (result.word, ⟦<Lcg64Xsh32 as Rng>⟧.stream self.new.words)
@@ -69,7 +69,7 @@ impl<C: Clock + Copy + Drop> Draws for RealDraws<C> {
         }
     }
 
-    /// Draws by the same clock, whose words are others.
+    /// The result uses the same clock and a generator seeded by this one.
     fn split(&mut self) -> Self {
         let state = self.words.next_u64();
         let stream = self.words.next_u64();

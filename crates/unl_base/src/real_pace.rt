@@ -1,4 +1,4 @@
-//! A pace by a clock.
+//! A pace that sleeps between turns.
 ghost use Rattle.std.specs.Prelude.{◌≡◌};
 ghost use Rattle.unl_base.specs.Paces.{turns_of};
 
@@ -6,7 +6,7 @@ use crate::pace::Pace;
 use std::thread;
 use std::time::{Clock, Duration};
 
-/// A pace that sleeps so long before each turn and has no last one, or that has no turn.
+/// A pace without an end that sleeps for an interval before each turn, or a pace with no turns.
 #[derive(Drop)]
 pub struct RealPace<C: Clock + Drop> {
     clock: C,
@@ -14,7 +14,7 @@ pub struct RealPace<C: Clock + Drop> {
 }
 
 impl<C: Clock + Drop> RealPace<C> {
-    /// A pace of turns that stand so far from each other, or of none where there is no interval.
+    /// A pace that sleeps for `interval` before each turn. It has no turns if `interval` is `None`.
     pub fn new(clock: C, interval: Option<Duration>) -> Self
         ensures { ⟦<RealPace<C> as Pace>⟧.turns result ≡ turns_of interval }
     {

@@ -1,4 +1,4 @@
-//! What runs jobs side by side.
+//! A runner of concurrent jobs.
 ghost use Rattle.std.specs.Prelude.{◌≡◌, ◌≤◌, ℕ, IfOk, OnErr, OnOk};
 ghost use Rattle.std.specs.List.{AllZip};
 ghost use Rattle.unl_base.specs.Faults.{HasCause, Rose};
@@ -14,34 +14,35 @@ use std::thread::Threads;
 pub enum Place<'a, R> {
     /// All on the caller's thread, one after the other.
     Here,
-    /// Each on a thread of its own.
+    /// Each on its own thread.
     Threads(&'a R),
     /// Nowhere: no job can be started.
     Nowhere,
 }
 
-/// Runs jobs side by side.
+/// Runs jobs concurrently.
 pub trait Spawner {
-    /// What its threads are started by.
+    /// The runtime that starts its threads.
     type Rt: Threads + Wait;
 
-    /// How often a job couldn't be started.
+    /// The number of failures to start a job.
     ghost faults: { Self → ℕ };
 
-    /// Where it runs jobs.
+    /// Returns where it runs jobs.
     fn place(&self) -> Place<'_, Self::Rt>;
 
-    /// Counts that a job couldn't be started.
+    /// Counts a failure to start a job.
     fn count_fault(&mut self)
         ensures later { faults self.old ≤ faults self.new }
         ensures rose { Rose (faults self.old) (faults self.new) };
 
-    /// Runs each job on a thread of its own and `here` on the caller, waits for all, and hands them back, the jobs in order.
+    /// Runs `here` on the caller's thread and each job where `place` says, waits for all of them, and returns them, the
+    /// jobs in order.
     ///
     /// # Errors
     ///
-    /// `Failed`: a job couldn't be started. `here` was called off, those jobs that were started have ended, and all jobs are
-    /// dropped. The fault is counted.
+    /// `Failed`: a job couldn't be started. `here` was cancelled, the jobs already started have finished, and all jobs
+    /// are dropped. The fault is counted.
     final fn with<J: Job + Send + Drop, M: Job>(
         &mut self,
         jobs: Vec<J>,
@@ -70,7 +71,7 @@ pub trait Spawner {
     }
 }
 
-/// Runs `here` and then each job in turn.
+/// Runs `here`, then each job in turn.
 fn run_in_turn<J: Job, M: Job>(jobs: Vec<J>, here: M) -> (M, Result<Vec<J>, Failed>)
     ensures here { OnOk result.1 (M.worked here result.0) }
     ensures each { IfOk result.1 (λ done. AllZip J.worked jobs.items done.items) }
@@ -84,7 +85,7 @@ fn run_in_turn<J: Job, M: Job>(jobs: Vec<J>, here: M) -> (M, Result<Vec<J>, Fail
     (here, Ok(jobs))
 }
 
-/// Calls off a job.
+/// Cancels a job.
 fn call_off<M: Job>(here: M) -> M
     ensures { M.cancelled here result }
 {

@@ -1,4 +1,4 @@
--- Events that leave each feature at its place and in its project leave the places of each project.
+-- Events that leave each feature at its position and in its project leave the project index as it is.
 use Rattle.std.proofs.Common.{◌≡◌, ℕ, zero, suc, ◌+◌, Bool, true, false, not, cond, List, [], ◌∷◌, map, Option, Some, None, inl, inr, refl, sym, ap, subst, ◌∙◌}
 use Rattle.std.specs.Prelude.{option_and_then, option_map, slice_get, slice_set}
 use Rattle.std.specs.List.{AllByRecursion as Every, list_all, prefix_len}
@@ -23,13 +23,13 @@ use Rattle.unl_documents.specs.declared.state.State.{State}
 use Rattle.unl_documents.specs.Parameters.{AreRising}
 use Rattle.unl_documents.specs.States.{name_key}
 
--- what the places hang on: the names and the projects
+-- What the index depends on: the names and the projects.
 abbrev pub sides : List Feature → List (List ℕ × List ℕ)
 sides fs = map (λ f. (f.name, f.project)) fs
 
--- ---- what is alike on these sides
+-- ---- lists that agree in names and projects
 
--- the first of two lists that are alike, and the others
+-- Two lists that agree: their first features, and the rest.
 record AlikeCons (f g : Feature) (fs gs : List Feature) : Type 0 where
   names : f.name ≡ g.name
   projects : f.project ≡ g.project
@@ -67,7 +67,7 @@ keeps_alike fs gs (SegmentRemoved n id) h = refl
 
 -- ---- one event
 
--- an item in place of one that is like it
+-- An item replaced by one that agrees with it.
 set_alike : (fs : List Feature) (i : ℕ) (f g : Feature) → slice_get fs i ≡ Some g → f.name ≡ g.name → f.project ≡ g.project → sides (slice_set fs i f) ≡ sides fs
 set_alike [] zero f g at names projects = absurd cc
 set_alike [] (suc i) f g at names projects = absurd cc
@@ -77,7 +77,7 @@ set_alike (x ∷ xs) zero f g at names projects =
     ap (λ (p : List ℕ × List ℕ). p ∷ sides xs) first
 set_alike (x ∷ xs) (suc i) f g at names projects = ap (λ (ps : List (List ℕ × List ℕ)). (x.name, x.project) ∷ ps) (set_alike xs i f g at names projects)
 
--- the feature that stands at its place
+-- A feature put in place of one with its name and project.
 put_at : (f g : Feature) (fs : List Feature) (place : ℕ) → place ≡ prefix_len (λ y. is_before (name_key y) f.name) fs → AreRising (map name_key fs) → slice_get fs place ≡ Some g
     → bytes_eq g.name f.name ≡ true → bytes_eq g.project f.project ≡ true → sides (put name_key f fs) ≡ sides fs
 put_at f g fs place is rising at named within =
@@ -132,7 +132,7 @@ changes fs (FeatureRemoved n name project) keeps = refl
 changes fs (SegmentUpdated n segment) keeps = refl
 changes fs (SegmentRemoved n id) keeps = refl
 
--- ---- one event after the other
+-- ---- event by event
 
 fold_alike : (first : List Feature) (s : State) (es : List Event) → InOrder s → sides s.features ≡ sides first → Every (λ e. keeps_place first e ≡ true) es → sides (fold_events es s).features ≡ sides first
 fold_alike first s [] order so_far keeps = so_far
@@ -160,7 +160,7 @@ after_alike number (FeatureRemoved n name project ∷ es) s order keeps = later_
 after_alike number (SegmentUpdated n segment ∷ es) s order keeps = later_alike number s (SegmentUpdated n segment ∷ es) order keeps
 after_alike number (SegmentRemoved n id ∷ es) s order keeps = later_alike number s (SegmentRemoved n id ∷ es) order keeps
 
--- the places are those of the state after the events too
+-- The index is still the index after the events.
 pub still_index : (number : ℕ) (es : List Event) (s after : State) (index : List ProjectPlaces) → IsInOrder s → list_all (keeps_place s.features) es ≡ true
     → after ≡ state_after number es s → IsIndex s.features index → IsIndex after.features index
 still_index number es s after index order keeps is places project =

@@ -1,2 +1,2 @@
--- Building a list of what there is of each item.
+-- Filtering and mapping a list, item by item.
 pub use Rattle.unl_delta.proofs.Coding.{cons_front}

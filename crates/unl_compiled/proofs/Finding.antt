@@ -1,4 +1,4 @@
--- What is found by its name or its id, and what is seen.
+-- Lookups by name or id, and what is visible.
 use Rattle.std.proofs.Common.{◌≡◌, ℕ, ◌&&◌, ◌==◌, Bool, true, false, cond, List, [], ◌∷◌, Option, Some, None, inl, inr, refl, ap}
 use Rattle.std.specs.Prelude.{filter, filter_map}
 use Rattle.std.specs.List.{find, cons_option}
@@ -15,7 +15,7 @@ and_true : (b : Bool) → (b && true) ≡ b
 and_true true = refl
 and_true false = refl
 
--- an id as a key
+-- Two ids are the same if their keys are.
 same_id : (a b : ℕ) → bytes_eq (a ∷ []) (b ∷ []) ≡ (a == b)
 same_id a b = and_true (a == b)
 
@@ -26,7 +26,7 @@ segment_is id (s ∷ ss) =
     let others = segment_is id ss in
     λ i. cond (first i) (Some s) (others i)
 
--- the toggles of those that are seen
+-- The toggles of the visible features.
 pub seen_toggles : (toggle : Feature → Option Data) (seen : Feature → Bool) (fs : List Feature) → filter_map (λ f. cond (seen f) (toggle f) None) fs ≡ filter_map toggle (filter seen fs)
 seen_toggles toggle seen [] = refl
 seen_toggles toggle seen (f ∷ fs) =

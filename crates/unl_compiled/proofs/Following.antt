@@ -1,4 +1,4 @@
--- The order that events keep.
+-- Events keep the order of features and segments.
 use Rattle.std.proofs.Common.{◌≡◌, ◌<◌, ◌+◌, ℕ, List, ◌∷◌, length, drop, cond, get_or, nat_lt, inl, inr, refl, sym, subst, ap, ◌∙◌}
 use Rattle.std.proofs.lemmas.Bool.{cases_Bool}
 use Rattle.std.proofs.lemmas.List.{drop_more}
@@ -18,7 +18,7 @@ use Rattle.unl_documents.specs.States.{id_key, name_key}
 ordered_again : (s : State) → InOrder s → IsInOrder s
 ordered_again s h = record { names = rising_again name_key s.features h.names; ids = rising_again id_key s.segments h.ids }
 
--- an event keeps the order
+-- One event keeps the order.
 pub step_ordered : (e : Event) (s : State) → IsValidEvent e → IsInOrder s → IsInOrder (step e s)
 step_ordered (Hydration n state) s valid h = record { names = valid.names; ids = valid.ids }
 step_ordered (FeatureUpdated n feature) s valid h = ordered_again _ (step_in_order (FeatureUpdated n feature) s refl (in_order s h))
@@ -32,7 +32,7 @@ valid_at events i e inside is h = subst IsValidEvent (sym is) (each_at IsValidEv
 left_at : (events : List Event) (i : ℕ) (e : Event) → i < length events → e ≡ get_or events i e → drop i events ≡ e ∷ drop (i + 1) events
 left_at events i e inside is = drop_more events i e inside ∙ ap (λ (first : Event). first ∷ drop (i + 1) events) (sym is)
 
--- one event more
+-- One event more.
 pub step_more : (events : List Event) (start now after : State) (i : ℕ) (e : Event) → i < length events → e ≡ get_or events i e
     → Every IsValidEvent events → IsInOrder now → after ≡ step e now → fold_events (drop i events) now ≡ start
     → IsInOrder after × (fold_events (drop (i + 1) events) after ≡ start)
@@ -40,7 +40,7 @@ step_more events start now after i e inside is valid order goes so_far =
     let left = left_at events i e inside is in
     rw goes (step_ordered e now (valid_at events i e inside is valid) order, sym (ap (λ es. fold_events es now) left) ∙ so_far)
 
--- one event more, where those above a number count
+-- One event more, of those above a number.
 pub step_above_more : (above : ℕ) (events : List Event) (start now after : State) (i : ℕ) (e : Event) → i < length events
     → e ≡ get_or events i e → Every IsValidEvent events → IsInOrder now → after ≡ cond (nat_lt above (number_of e)) (step e now) now
     → fold_events (later number_of above (drop i events)) now ≡ start

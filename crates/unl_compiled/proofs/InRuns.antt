@@ -1,4 +1,4 @@
--- Features in runs, one run more at a time.
+-- Features in chunks, one chunk at a time.
 use Rattle.std.proofs.Common.{◌≡◌, ◌<◌, ◌≤◌, ◌+◌, ℕ, zero, suc, Bool, true, false, List, [], ◌∷◌, ◌++◌, length, map, take, drop, get_or, Less, Option, Some, None, is_lt, inl, inr, refl, sym, ap, subst, ◌∙◌, append_assoc, arith}
 use Rattle.std.specs.Prelude.{All, IsSome, option_map, slice_get}
 use Rattle.std.specs.List.{AllByRecursion as Every, prefix_len}
@@ -16,11 +16,11 @@ use Rattle.unl_documents.specs.declared.feature.Feature.{Feature}
 use Rattle.unl_documents.specs.Parameters.{AreRising}
 use Rattle.unl_documents.specs.Series.{joined, NoneIsEmpty}
 
--- the items of the runs from a place on: those of the run there, and those behind it
+-- The items of the chunks from an index on: those of the chunk there, and those after it.
 pub run_at : {T : Type 0} (runs : List (List T)) (i : ℕ) (run : List T) → i < length runs → run ≡ get_or runs i run → joined (drop i runs) ≡ run ++ joined (drop (i + 1) runs)
 run_at {T} runs i run lt is = ap joined (drop_more runs i run lt ∙ ap (λ (first : List T). first ∷ drop (i + 1) runs) (sym is))
 
--- one run more of what is gathered from each item
+-- One chunk more of what is gathered from each item.
 pub run_more : {T U : Type 0} (gather : List T → List U) → ((xs ys : List T) → gather (xs ++ ys) ≡ gather xs ++ gather ys) → (runs : List (List T)) (i : ℕ) (run : List T) (front new whole : List U)
     → i < length runs → run ≡ get_or runs i run → new ≡ front ++ gather run → front ++ gather (joined (drop i runs)) ≡ whole → new ++ gather (joined (drop (i + 1) runs)) ≡ whole
 run_more {T} {U} gather joins runs i run front new whole lt is goes so_far =
@@ -34,24 +34,24 @@ all_parts P (x ∷ xs) ys h =
     let rest = all_parts P xs ys (All-tail P x (xs ++ ys) h) in
     (All-cons P x xs (All-head P x (xs ++ ys) h) rest.0, rest.1)
 
--- what holds of each item of the runs from a place on holds of those of the run there, and of those behind it
+-- What holds for each item of the chunks from an index on holds for the chunk there, and for those after it.
 pub all_at : {T : Type 0} (P : T → Type 0) (runs : List (List T)) (i : ℕ) (run : List T) → i < length runs → run ≡ get_or runs i run → All P (joined (drop i runs))
     → All P run × All P (joined (drop (i + 1) runs))
 all_at P runs i run lt is h = all_parts P run (joined (drop (i + 1) runs)) (rw (run_at runs i run lt is) at h)
 
--- ---- an item at a place
+-- ---- an item at an index
 
 none_past : {T : Type 0} (xs : List T) (place : ℕ) → None ≡ slice_get xs place → place < length xs → ⊥
 none_past [] place is lt = omega (arith, lt)
 none_past (x ∷ xs) zero is lt = cc
 none_past (x ∷ xs) (suc place) is lt = none_past xs place is (omega (arith, lt))
 
--- what was looked up at a place that there is
+-- A lookup at an index within the list finds an item.
 pub stands : {T U : Type 0} (seen : T → U) (found : Option T) (xs : List U) (place : ℕ) → option_map seen found ≡ slice_get xs place → place < length xs → IsSome found
 stands seen None xs place is lt = absurd (none_past xs place is lt)
 stands seen (Some x) xs place is lt = refl
 
--- ---- the places of the features of a project
+-- ---- the positions of a project's features
 
 pub places_join : (p : List ℕ) (place : ℕ) (fs gs : List Feature) → places_from place p (fs ++ gs) ≡ places_from place p fs ++ places_from (place + length fs) p gs
 places_join p place [] gs = ap (λ (n : ℕ). places_from n p gs) (omega arith)
@@ -63,7 +63,7 @@ places_join p place (f ∷ fs) gs =
       | inr other ↦ rw other rest
     ]
 
--- one run more of them
+-- One chunk more of them.
 pub places_more : (p : List ℕ) (runs : List (List Feature)) (i : ℕ) (run : List Feature) (front new whole : List ℕ) (place next : ℕ) → i < length runs → run ≡ get_or runs i run
     → new ≡ front ++ places_from place p run → next ≡ place + length run → front ++ places_from place p (joined (drop i runs)) ≡ whole
     → new ++ places_from next p (joined (drop (i + 1) runs)) ≡ whole
@@ -73,7 +73,7 @@ places_more p runs i run front new whole place next lt is goes behind so_far =
     ∙ ap (λ (n : ℕ). front ++ (places_from place p run ++ places_from n p rest)) behind
     ∙ sym (ap (λ (ns : List ℕ). front ++ ns) (ap (places_from place p) (run_at runs i run lt is) ∙ places_join p place run rest)) ∙ so_far
 
--- ---- where a key stands, or else belongs
+-- ---- the position of a key, or where it would be inserted
 
 passing : {T : Type 0} (test : T → Bool) (xs ys : List T) → Every (λ x. test x ≡ true) xs → prefix_len test (xs ++ ys) ≡ length xs + prefix_len test ys
 passing test [] ys h = omega arith
@@ -91,7 +91,7 @@ failing test (x ∷ xs) ys h =
       | inr not ↦ rw not refl
     ]
 
--- the place in its run, behind all runs before that
+-- The position within its chunk, after all chunks before that.
 pub place_in_run : {T : Type 0} (key : T → List ℕ) (k : List ℕ) (runs : List (List T)) (place : ℕ) (run : List T) → Held key k runs place run
     → prefix_len (is_below key k) (joined runs) ≡ length (joined (take place runs)) + prefix_len (is_below key k) run
 place_in_run {T} key k runs place run h =
@@ -109,7 +109,7 @@ all_taken [] (suc place) none = refl
 all_taken (x ∷ xs) zero none = absurd cc
 all_taken {T} (x ∷ xs) (suc place) none = ap (λ (ys : List T). x ∷ ys) (all_taken xs place none)
 
--- the place behind all runs
+-- The position after all chunks.
 pub place_at_end : {T : Type 0} (key : T → List ℕ) (k : List ℕ) (runs : List (List T)) (place : ℕ) → NoneIsEmpty runs → AreRising (map key (joined runs))
     → place ≡ prefix_len (ends_before key k) runs → None ≡ slice_get runs place → prefix_len (is_below key k) (joined runs) ≡ length (joined (take place runs))
 place_at_end {T} key k runs place full rising is none =

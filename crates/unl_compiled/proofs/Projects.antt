@@ -1,4 +1,4 @@
--- The places of a project's features, as they are added one after the other.
+-- The project index, as positions are added one by one.
 use Rattle.std.proofs.Common.{◌≡◌, ℕ, zero, suc, ◌+◌, ◌<◌, Bool, true, false, not, cond, List, [], ◌∷◌, ◌++◌, length, get_or, inl, inr, refl, sym, ap, subst, ◌∙◌, arith}
 use Rattle.std.specs.Prelude.{slice_set}
 use Rattle.std.specs.List.{prefix_len}
@@ -9,11 +9,11 @@ use Rattle.std.proofs.lemmas.Slice.Eq.{bytes_eq-Decides}
 use Rattle.unl_compiled.specs.Places.{listed}
 use Rattle.unl_compiled.specs.declared.index.ProjectPlaces.{ProjectPlaces}
 
--- the entry is one of another project
+-- The entry is for another project.
 abbrev pub differs : List ℕ → ProjectPlaces → Bool
 differs project e = not (bytes_eq e.project project)
 
--- what a place adds to those of p
+-- What adding a position of `project` adds to the positions of `p`.
 abbrev pub more : List ℕ → List ℕ → ℕ → List ℕ
 more project p place = cond (bytes_eq project p) (place ∷ []) []
 
@@ -26,7 +26,7 @@ apart_from a b p apart same =
       | inr other ↦ other
     ]
 
--- behind an entry of another project
+-- An entry for another project may be put in front.
 behind : (e : ProjectPlaces) (project p : List ℕ) (place : ℕ) (es new : List ProjectPlaces) → bytes_eq e.project project ≡ false → listed p new ≡ listed p es ++ more project p place → listed p (e ∷ new) ≡ listed p (e ∷ es) ++ more project p place
 behind e project p place es new apart is =
     elim (cases_Bool (bytes_eq e.project p)) [
@@ -72,7 +72,7 @@ old_project project p place (e ∷ es) d (suc slot) is lt =
           behind e project p place es (slice_set es slot (record { project = (get_or es slot d).project; places = (get_or es slot d).places ++ place ∷ [] })) apart (old_project project p place es d slot (omega arith) (omega arith))
     ]
 
--- the same of an entry that is known to stand there
+-- The same, for an entry that is known to be there.
 pub entry_more : (project p : List ℕ) (place : ℕ) (es : List ProjectPlaces) (entry : ProjectPlaces) (slot : ℕ) → slot ≡ prefix_len (differs project) es → slot < length es → get_or es slot entry ≡ entry
     → listed p (slice_set es slot (record { project = entry.project; places = entry.places ++ place ∷ [] })) ≡ listed p es ++ more project p place
 entry_more project p place es entry slot is lt same =

@@ -1,4 +1,4 @@
--- The places of each project's features after one of them came, went or moved to another project.
+-- The project index after a feature is added, removed or moved to another project.
 use Rattle.std.proofs.Common.{◌≡◌, ℕ, zero, suc, ◌+◌, ◌<◌, ◌≤◌, Bool, true, false, List, [], ◌∷◌, ◌++◌, length, map, take, drop, get_or, Option, Some, None, inl, inr, refl, sym, ap, subst, ◌∙◌, arith}
 use Rattle.std.specs.Prelude.{nat_lt, option_and_then, option_map, slice_get, slice_set}
 use Rattle.std.specs.List.{prefix_len}
@@ -30,7 +30,7 @@ use Rattle.unl_documents.specs.declared.state.State.{State}
 use Rattle.unl_documents.specs.Parameters.{AreRising}
 use Rattle.unl_documents.specs.States.{name_key}
 
--- ---- the places that are listed
+-- ---- the listed positions
 
 none_left : (so : Bool) (f : ℕ → ℕ) → map f (drop (count_if so) []) ≡ []
 none_left true f = refl
@@ -69,7 +69,7 @@ moved_behind c p (e ∷ es) (new ∷ news) tail all parted h =
           rw (elsewhere, apart) (moved_behind c p es news tail all.1 (rw apart at parted) (λ every. h (omega (arith, every, count))))
     ]
 
--- of each project those after the change are listed
+-- The new entries list each project's positions after the change.
 pub moved_listed : (c : Change) (index news : List ProjectPlaces) (p : List ℕ) → AllMoved c index news → IsParted c.place (listed p index) → listed p (news ++ unlisted c.come c.place index) ≡ moved c p (listed p index)
 moved_listed c index news p all parted =
     moved_behind c p index news (unlisted c.come c.place index) all parted (λ none.
@@ -82,13 +82,13 @@ moved_and c [] (first ∷ news) e new all is = absurd all
 moved_and c (first ∷ es) [] e new all is = absurd all
 moved_and c (first ∷ es) (second ∷ news) e new all is = (all.0, moved_and c es news e new all.1 is)
 
--- one more of them
+-- One entry more.
 pub moved_more : (c : Change) (index news : List ProjectPlaces) (i : ℕ) (e new : ProjectPlaces) → i < length index → e ≡ get_or index i e → AllMoved c (take i index) news → IsMoved c e new → AllMoved c (take (i + 1) index) (news ++ new ∷ [])
 moved_more c index news i e new lt at all is =
     let taken : take (i + 1) index ≡ take i index ++ e ∷ [] = take_more index i e lt ∙ ap (λ (other : ProjectPlaces). take i index ++ other ∷ []) (sym at) in
     subst (λ (es : List ProjectPlaces). AllMoved c es (news ++ new ∷ [])) (sym taken) (moved_and c (take i index) news e new all is)
 
--- ---- the places rise
+-- ---- the positions ascend
 
 least_and : (n : ℕ) (ns : List ℕ) → ((j d : ℕ) → j < length ns → n + 1 ≤ get_or ns j d) → (j d : ℕ) → j < length (n ∷ ns) → n ≤ get_or (n ∷ ns) j d
 least_and n ns h zero d lt = omega arith
@@ -119,7 +119,7 @@ parted_places k p place (f ∷ fs) =
       | inr other ↦ rw other (parted_places k p (place + 1) fs)
     ]
 
--- ---- the places of features in three parts
+-- ---- the positions of features in three parts
 
 none_low : (p : List ℕ) (k place : ℕ) (fs : List Feature) → k ≤ place → cut k (places_from place p fs) ≡ 0
 none_low p k place [] le = refl
@@ -151,7 +151,7 @@ shift_is p less more place (f ∷ fs) =
       | inr other ↦ rw other rest
     ]
 
--- one place more is shifted where it stands
+-- One position more is shifted in place.
 pub one_more : (f : ℕ → ℕ) (places : List ℕ) (i : ℕ) → i < length places → slice_set (map f (take i places) ++ drop i places) i (f (get_or (map f (take i places) ++ drop i places) i 0)) ≡ map f (take (i + 1) places) ++ drop (i + 1) places
 one_more f [] i lt = absurd (omega (arith, lt))
 one_more f (n ∷ ns) zero lt = refl
@@ -163,7 +163,7 @@ length_if : (so : Bool) (place : ℕ) → count_if so ≡ length (place_if so pl
 length_if true place = refl
 length_if false place = refl
 
--- places below the change, those that go, and those above it
+-- The positions before the change, the removed one, and those after it.
 moved_parts : (c : Change) (p ns low high : List ℕ) → ns ≡ low ++ (place_if (is_of p c.gone) c.place ++ high) → cut c.place ns ≡ length low
     → moved c p ns ≡ low ++ (place_if (is_of p c.come) c.place ++ map (shifted (count_of c.gone) (count_of c.come)) high)
 moved_parts c p ns low high is at =
@@ -174,7 +174,7 @@ moved_parts c p ns low high is at =
     ap (drop (count_if (is_of p c.gone))) back ∙ ap (λ (n : ℕ). drop n (gone ++ high)) (length_if (is_of p c.gone) c.place) ∙ drop-append_seam gone high in
     λ i. front i ++ (place_if (is_of p c.come) c.place ++ map (shifted (count_of c.gone) (count_of c.come)) (rest i))
 
--- features at a place, of which these are the places of each project, where there are any
+-- At most one feature at `place`, of the optional project.
 pub record Stand (place : ℕ) (project : Option (List ℕ)) (fs : List Feature) : Type 0 where
   pub count : length fs ≡ count_of project
   pub places : (p : List ℕ) → places_from place p fs ≡ place_if (is_of p project) place
@@ -204,9 +204,9 @@ moved_places c p front old new back at gone come =
     ∙ ap (λ (ns : List ℕ). low ++ (place_if (is_of p c.come) c.place ++ ns)) (shift_is p (count_of c.gone) (count_of c.come) c.place back)
     ∙ sym (three_parts p c.place c.come front new back at come)
 
--- ---- the features by a name
+-- ---- the features split by a name
 
--- those that come before the name, the one that has it, and those that come after it
+-- The features before the name, the one that has it, and those after it.
 record Named (name : List ℕ) (fs : List Feature) (place : ℕ) (project : Option (List ℕ)) (old : List Feature) : Type 0 where
   parts : fs ≡ below name_key name fs ++ (old ++ above name_key name fs)
   low : length (below name_key name fs) ≡ place
@@ -233,7 +233,7 @@ by_name name fs place is rising = decided (project_of name fs) refl
         ap (λ (n : ℕ). option_map (λ (g : Feature). g.project) (option_and_then (if_key name_key name) (slice_get fs n))) is
         ∙ ap (λ (o : Option Feature). option_map (λ (g : Feature). g.project) o) (told name_key name fs rising).0 ∙ project_found name fs
 
-    -- the feature at the place has the name
+    -- The feature at the position has the name.
     named : (g : Feature) (project : List ℕ) → slice_get fs place ≡ Some g → bytes_eq g.name name ≡ true → g.project ≡ project → Named name fs place (Some project) (g ∷ [])
     named g project at same within =
         let before : is_before name g.name ≡ false =
@@ -269,7 +269,7 @@ by_name name fs place is rising = decided (project_of name fs) refl
         )
     decided (Some project) there = found (slice_get fs place) project refl there
 
--- what becomes of the places where others stand in place of the feature of a name
+-- The index after other features replace the one of a name.
 replaced : (name : List ℕ) (fs others : List Feature) (c : Change) (index new : List ProjectPlaces) → AreRising (map name_key fs) → c.place ≡ prefix_len (λ y. is_before (name_key y) name) fs
     → c.gone ≡ project_of name fs → Stand c.place c.come others → IsIndex fs index → ((p : List ℕ) → IsParted c.place (listed p index) → listed p new ≡ moved c p (listed p index))
     → IsIndex (below name_key name fs ++ (others ++ above name_key name fs)) new
@@ -279,13 +279,13 @@ replaced name fs others c index new rising at gone come is goes p =
     let parted : IsParted c.place (listed p index) = subst (λ (ns : List ℕ). IsParted c.place ns) (sym (is p)) (parted_places c.place p 0 fs) in
     goes p parted ∙ ap (moved c p) (is p ∙ ap (places_of p) s.1.parts) ∙ moved_places c p (below name_key name fs) s.0 others (above name_key name fs) s.1.low stand come
 
--- a feature is put among them
+-- The index after a feature is added or replaced.
 pub index_with : (f : Feature) (fs : List Feature) (c : Change) (index new : List ProjectPlaces) → AreRising (map name_key fs) → c.place ≡ prefix_len (λ y. is_before (name_key y) f.name) fs
     → c.gone ≡ project_of f.name fs → c.come ≡ Some f.project → IsIndex fs index → ((p : List ℕ) → IsParted c.place (listed p index) → listed p new ≡ moved c p (listed p index)) → IsIndex (put name_key f fs) new
 index_with f fs c index new rising at gone come is goes =
     replaced f.name fs (f ∷ []) c index new rising at gone (subst (λ (o : Option (List ℕ)). Stand c.place o (f ∷ [])) (sym come) (one_stands c.place f)) is goes
 
--- the one of a name is taken away
+-- The index after the feature of a name is removed.
 pub index_without : (name : List ℕ) (fs : List Feature) (c : Change) (index new : List ProjectPlaces) → AreRising (map name_key fs) → c.place ≡ prefix_len (λ y. is_before (name_key y) name) fs
     → c.gone ≡ project_of name fs → c.come ≡ None → IsIndex fs index → ((p : List ℕ) → IsParted c.place (listed p index) → listed p new ≡ moved c p (listed p index)) → IsIndex (without name_key name fs) new
 index_without name fs c index new rising at gone come is goes =

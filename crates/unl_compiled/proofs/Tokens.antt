@@ -1,4 +1,4 @@
--- The tokens of toggles.
+-- The JSON tokens of toggles.
 use Rattle.std.proofs.Common.{◌≡◌, ℕ, Bool, List, [], ◌∷◌, ◌++◌, Option, Some, None, option_map, refl, ap, ◌∙◌, append_assoc}
 use Rattle.std.specs.Prelude.{filter_map}
 use Rattle.json.specs.Token.{begin_object, end_object, begin_array, end_array, key}

@@ -1,4 +1,4 @@
--- Places after a feature came, went or moved to another project.
+-- The project index after a feature is added, removed or moved to another project.
 use Rattle.std.specs.Prelude.{◌≡◌, ℕ, ◌+◌, ◌-◌, List, [], ◌∷◌, ◌++◌, map, take, drop, length}
 use Rattle.std.specs.Prelude.{nat_lt, Bool, false, not, Option, Some, None, if◌then◌else◌}
 use Rattle.std.specs.List.{prefix_len}
@@ -7,61 +7,63 @@ use Rattle.std.specs.Option.{option_map_or}
 use Rattle.std.specs.Str.{bytes_eq}
 use Rattle.unl_compiled.specs.declared.index.ProjectPlaces.{ProjectPlaces}
 
--- a feature of the one project goes from a place, and one of the other comes to it, where there are such
+-- A change at one position: a feature of project `gone` is removed there, and then one of project `come` is inserted.
+-- Each is optional.
 pub record Change : Type 0 where
   pub place : ℕ
   pub gone : Option (List ℕ)
   pub come : Option (List ℕ)
 
--- how many features have the project
+-- How many features an optional project stands for: 1 or 0.
 abbrev pub count_of : Option (List ℕ) → ℕ
 count_of None = 0
 count_of (Some project) = 1
 
--- the one project is the other
+-- The second project is there, and is the first.
 abbrev pub is_of : List ℕ → Option (List ℕ) → Bool
 is_of project other = option_map_or (λ p. bytes_eq p project) other false
 
--- one where it is so
+-- 1 if so, else 0.
 abbrev pub count_if : Bool → ℕ
 count_if so = if so then 1 else 0
 
--- the place where it is so
+-- The position if so, else nothing.
 abbrev pub place_if : Bool → ℕ → List ℕ
 place_if so place = if so then place ∷ [] else []
 
--- a place behind so many features less and so many more
+-- A position after `less` features are removed before it and `more` inserted.
 abbrev pub shifted : ℕ → ℕ → ℕ → ℕ
 shifted less more place = place - less + more
 
--- no place below this one stands behind one that isn't
+-- The positions less than `place` all come before the others.
 abbrev pub IsParted : ℕ → List ℕ → Type 0
 IsParted place places = IsPartitionedBy (λ n. nat_lt n place) places
 
--- how many of the places, which rise, are below one
+-- How many of the positions, which ascend, are less than `place`.
 abbrev pub cut : ℕ → List ℕ → ℕ
 cut place places = prefix_len (λ n. nat_lt n place) places
 
--- the places of a project's features after a change
+-- The positions of a project's features after a change: those before it, the inserted feature's, and the rest shifted,
+-- without the removed feature's.
 abbrev pub moved : Change → List ℕ → List ℕ → List ℕ
 moved c project places =
     take (cut c.place places) places
     ++ (place_if (is_of project c.come) c.place
     ++ map (shifted (count_of c.gone) (count_of c.come)) (drop (count_if (is_of project c.gone)) (drop (cut c.place places) places)))
 
--- the same project, and its places after a change
+-- The entry `new` has the project of `e`, and its positions after a change.
 pub record IsMoved (c : Change) (e new : ProjectPlaces) : Type 0 where
   pub project : new.project ≡ e.project
   pub places : IsParted c.place e.places → new.places ≡ moved c e.project e.places
 
--- so for each of them
+-- `IsMoved` for each pair of entries; the lists have the same length.
 abbrev pub AllMoved : Change → List ProjectPlaces → List ProjectPlaces → Type 0
 AllMoved c [] [] = Unit {0}
 AllMoved c (e ∷ es) (new ∷ news) = IsMoved c e new × AllMoved c es news
 AllMoved c [] (new ∷ news) = ⊥
 AllMoved c (e ∷ es) [] = ⊥
 
--- the project of the feature that came, where it isn't listed
+-- The entry to append: the inserted feature's project, if it isn't listed.
 abbrev pub unlisted : Option (List ℕ) → ℕ → List ProjectPlaces → List ProjectPlaces
 unlisted None place index = []
 unlisted (Some project) place index =

@@ -1,4 +1,4 @@
--- Where a version has what it lends.
+-- Positions in a version's state: of a project's features, and of strategies.
 use Rattle.std.specs.Prelude.{◌≡◌, ℕ, ◌+◌, List, [], ◌∷◌, Option, Some, None, slice_get, option_and_then, if◌then◌else◌}
 use Rattle.std.specs.List.{find}
 use Rattle.std.specs.Option.{option_map_or}
@@ -8,28 +8,28 @@ use Rattle.unl_documents.specs.declared.feature.Feature.{Feature}
 use Rattle.unl_documents.specs.declared.state.State.{State}
 use Rattle.unl_documents.specs.declared.strategy.Strategy.{Strategy}
 
--- the places, rising, of the features of a project, the first of which stands at this place
+-- The positions of a project's features in ascending order, if the first feature of the list is at `place`.
 abbrev pub places_from : ℕ → List ℕ → List Feature → List ℕ
 places_from place project [] = []
 places_from place project (f ∷ fs) =
     if bytes_eq f.project project then place ∷ places_from (place + 1) project fs else places_from (place + 1) project fs
 
--- the places, rising, of the features of a project
+-- The positions of a project's features, in ascending order.
 abbrev pub places_of : List ℕ → List Feature → List ℕ
 places_of project features = places_from 0 project features
 
--- the strategy at a place of the feature at a place
+-- The strategy at an index of the feature at an index.
 abbrev pub strategy_at : State → ℕ → ℕ → Option Strategy
 strategy_at state feature strategy = option_and_then (λ f. slice_get f.strategies strategy) (slice_get state.features feature)
 
--- the places that are listed of a project: none where it isn't listed
+-- The positions that the index lists for a project: none if the project isn't listed.
 abbrev pub listed : List ℕ → List ProjectPlaces → List ℕ
 listed project index = option_map_or (λ e. e.places) (find (λ e. bytes_eq e.project project) index) []
 
--- of each project the places of its features are listed
+-- The index lists for each project the positions of its features.
 abbrev pub IsIndex : List Feature → List ProjectPlaces → Type 0
 IsIndex features index = (project : List ℕ) → listed project index ≡ places_of project features
 
--- the feature, if it has the name
+-- The feature, if it has the name.
 abbrev pub if_name : List ℕ → Feature → Option Feature
 if_name name f = if bytes_eq f.name name then Some f else None

@@ -14,7 +14,7 @@ use Rattle.unl_strategies.specs.Moment.{Moment}
 use Rattle.unl_tokens.specs.Names.{sees}
 use Rattle.unl_tokens.specs.declared.projects.Projects.{Projects}
 
--- the variant of a feature that is on or off
+-- The JSON of a variant. `on` says whether its feature is on.
 unfoldable pub variant_data : Bool → VariantAnswer → Data
 variant_data on v = object (
     with_some field.Payload (option_map payload_data v.payload) (
@@ -23,7 +23,7 @@ variant_data on v = object (
     with field.Name (string v.name)
     no_members))))
 
--- a feature as a client sees it
+-- The JSON of a feature as a client sees it.
 unfoldable pub toggle_data : Feature → Evaluation → Data
 toggle_data f e = object (
     with field.Enabled (boolean e.on) (
@@ -32,24 +32,24 @@ toggle_data f e = object (
     with field.Variant (variant_data e.on e.variant)
     no_members))))
 
--- a toggle where all are asked for, or where it is on
+-- The toggle, if all are asked for or it is on.
 abbrev pub toggle_if : Bool → Feature → Evaluation → Option Data
 toggle_if all f e = if all || e.on then Some (toggle_data f e) else None
 
--- the toggle of a feature over a state
+-- The toggle of a feature, evaluated over a state.
 unfoldable pub toggle_of : State → Bool → Fields → Moment → Feature → Option Data
 toggle_of state all context moment f = toggle_if all f (feature_evaluation state f context moment)
 
--- the toggle of a feature over a state, where its project is seen
+-- The toggle of a feature, evaluated over a state, if its project is seen.
 abbrev pub toggle_if_seen : Projects → State → Bool → Fields → Moment → Feature → Option Data
 toggle_if_seen projects state all context moment f = if sees projects f.project then toggle_of state all context moment f else None
 
--- the body with these toggles
+-- The body that has these toggles.
 unfoldable pub written_toggles : List Data → Data
 written_toggles toggles = object (
     with field.Toggles (array (items_of toggles))
     no_members)
 
--- the toggles of a state: all of them, or those that are on
+-- The body for a state: all toggles, or those that are on.
 unfoldable pub toggles_data : State → Bool → Fields → Moment → Data
 toggles_data state all context moment = written_toggles (filter_map (toggle_of state all context moment) state.features)

@@ -1,4 +1,4 @@
-//! Features with their constraints compiled.
+//! Features with compiled constraints.
 ghost use Rattle.std.specs.Prelude.{◌≡◌, ◌<◌, Some, IfOk, length, map, option_map, slice_get};
 ghost use Rattle.unl_dependencies.specs.Evaluation.{is_active_at};
 ghost use Rattle.unl_documents.specs.Parameters.{AreRising};
@@ -14,7 +14,7 @@ use unl_delta::keyed::Keyed;
 use unl_documents::{Feature, List, Memory, Shared, Strategy, Text};
 use unl_strategies::{Moment, rule};
 
-/// A feature and the constraints of its strategies, compiled. Contracts see the feature.
+/// A feature and the compiled constraints of its strategies. In contracts the value is the feature.
 #[derive(Drop)]
 pub(crate) struct CompiledFeature {
     document: Shared<Feature>,
@@ -33,7 +33,7 @@ impl Model for CompiledFeature {
 }
 
 impl CompiledFeature {
-    /// The feature, compiled.
+    /// Compiles the constraints of a feature's strategies.
     pub(crate) fn new(alloc: Global, document: &Shared<Feature>) -> Result<CompiledFeature, Memory>
         ensures { IfOk result (λ f. f ≡ document.now) }
     {
@@ -51,7 +51,7 @@ impl CompiledFeature {
         self.document.get()
     }
 
-    /// The constraints of the strategy at a place.
+    /// The compiled constraints of the strategy at an index.
     pub(crate) fn constraints(&self, place: usize) -> &List<Compiled>
         requires { place < length self.now.strategies }
         ensures { Some result.now ≡ option_map (λ s. s.constraints) (slice_get self.now.strategies place) }
@@ -59,7 +59,7 @@ impl CompiledFeature {
         &self.constraints.as_slice()[place]
     }
 
-    /// Whether the feature has a strategy at the place, and it is active.
+    /// Whether the feature has a strategy at index `place`, and that strategy is active.
     pub(crate) fn is_active(
         &self,
         alloc: Global,
@@ -91,7 +91,7 @@ impl CompiledFeature {
     }
 }
 
-/// Whether a strategy is active whose constraints are compiled, at its place in the feature of a name.
+/// Whether a strategy is active, given its compiled constraints, the name of its feature, and its index in that feature.
 #[tactic(auto, unfolding(unl_strategies::specs::Strategy::is_active))]
 fn active(
     alloc: Global,
@@ -130,7 +130,7 @@ impl Keyed for CompiledFeature {
     }
 }
 
-/// The constraints of each of the strategies, compiled.
+/// Compiles the constraints of each strategy.
 fn compiled_each(alloc: Global, strategies: &[Strategy]) -> Result<List<List<Compiled>>, Memory>
     ensures { IfOk result (λ all. all ≡ map (λ s. s.constraints) strategies.now) }
 {

@@ -1,4 +1,4 @@
-//! Where the features of each project stand.
+//! An index from each project to the positions of its features.
 ghost use Rattle.std.specs.Prelude.{◌≡◌, ◌∷◌, [], ◌++◌, ◌+◌, ◌≤◌, ℕ, List, length, not, IfOk, OnOk, if◌then◌else◌};
 ghost use Rattle.std.specs.List.{prefix_len};
 ghost use Rattle.std.specs.Str.{bytes_eq};
@@ -9,14 +9,14 @@ use crate::feature::CompiledFeature;
 use std::alloc::Global;
 use unl_documents::{Copied, List, Memory, Run, Shared, Text};
 
-/// A project, and the places of its features, rising.
+/// A project, and the positions of its features in ascending order.
 #[derive(Drop)]
 pub(crate) struct ProjectPlaces {
     pub project: Shared<Text>,
     pub places: List<usize>,
 }
 
-/// The places of the features of each project that has some, where the features stand in runs.
+/// Builds the index of the features of these chunks. Only projects that have features are listed.
 pub(crate) fn index_of(
     alloc: Global,
     runs: &[Run<CompiledFeature>],
@@ -31,8 +31,8 @@ pub(crate) fn index_of(
     Ok(index)
 }
 
-/// Adds the places of the features of a run, the first of which stands at this place. Gives the place
-/// behind them.
+/// Adds the features of a chunk to the index. `first` is the position of the chunk's first feature. Returns the position
+/// after its last one.
 fn add_run(
     index: &mut List<ProjectPlaces>,
     alloc: Global,
@@ -50,14 +50,14 @@ fn add_run(
     Ok(place)
 }
 
-/// The next place. More than memory holds count as want of it.
+/// The next position. An overflow is reported as out of memory.
 fn behind(place: usize) -> Result<usize, Memory>
     ensures { IfOk result (λ next. next ≡ place + 1) }
 {
     place.checked_add(1).ok_or(Memory)
 }
 
-/// Adds a place to those of a project.
+/// Adds a position to those of a project.
 fn add(
     index: &mut List<ProjectPlaces>,
     alloc: Global,
@@ -74,7 +74,7 @@ fn add(
     index.get_mut(slot).places.push(place)
 }
 
-/// Adds a project with one place.
+/// Adds a project with one position.
 pub(crate) fn add_project(
     index: &mut List<ProjectPlaces>,
     alloc: Global,
@@ -89,7 +89,7 @@ pub(crate) fn add_project(
     index.push(ProjectPlaces { project, places })
 }
 
-/// Where the project stands, or how many projects there are where it doesn't.
+/// The slot of a project in the index, or the length of the index if the project isn't listed.
 pub(crate) fn slot_of(index: &[ProjectPlaces], project: &str) -> usize
     ensures slot { result ≡ prefix_len (λ e. not (bytes_eq e.project project.now)) index.now }
     ensures inside { result ≤ length index.now }
@@ -102,7 +102,7 @@ pub(crate) fn slot_of(index: &[ProjectPlaces], project: &str) -> usize
     index.len()
 }
 
-/// The places of the features of a project.
+/// The positions of a project's features. Empty if the project isn't listed.
 pub(crate) fn places_of<'a>(index: &'a [ProjectPlaces], project: &str) -> &'a [usize]
     ensures { result.now ≡ listed project.now index.now }
 {

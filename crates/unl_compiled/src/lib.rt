@@ -1,4 +1,4 @@
-//! What answers are computed over: the versions of an environment, ready to be evaluated.
+//! The snapshots that requests are evaluated against: versions of an environment with their constraints compiled.
 #![tactic(auto)]
 
 mod feature;

@@ -1,4 +1,4 @@
-//! Where the features of each project stand after one of them came, went or moved to another project.
+//! The project index after one feature is added, removed or moved to another project.
 ghost use Rattle.std.specs.Prelude.{◌≡◌, ◌++◌, ◌≤◌, false, ℕ, List, Some, drop, length, map, option_map, IfOk, OnOk};
 ghost use Rattle.std.specs.Option.{option_map_or};
 ghost use Rattle.std.specs.Str.{bytes_eq};
@@ -11,7 +11,8 @@ use std::alloc::Global;
 use std::marker::Model;
 use unl_documents::{List, Memory, Text};
 
-/// A feature of the one project goes from a place, and one of the other comes to it, where there are such.
+/// A change at one position: a feature of project `gone` is removed, and then one of project `come` is inserted. Each is
+/// optional.
 #[derive(Drop)]
 pub(crate) struct Change<'a> {
     pub place: usize,
@@ -28,7 +29,7 @@ impl<'a> Model for Change<'a> {
     ghost view = { λ c. record { place = c.place; gone = option_map (λ t. t.now) c.gone; come = option_map (λ t. t.now) c.come } };
 }
 
-/// The places of the features of each project after a change.
+/// The index after a change.
 pub(crate) fn changed(
     alloc: Global,
     index: &[ProjectPlaces],
@@ -42,7 +43,7 @@ pub(crate) fn changed(
     Ok(new)
 }
 
-/// The projects that are listed, with their places after a change.
+/// The listed projects, with their positions after a change.
 fn changed_each(
     alloc: Global,
     index: &[ProjectPlaces],
@@ -72,7 +73,7 @@ fn changed_entry(
     })
 }
 
-/// Adds the project of the feature that came, where it isn't listed.
+/// Adds the inserted feature's project if it isn't listed.
 fn push_unlisted(
     new: &mut List<ProjectPlaces>,
     alloc: Global,
@@ -102,7 +103,7 @@ fn push_project(
     add_project(new, alloc, project, place)
 }
 
-/// The places of the features of a project after a change.
+/// The positions of a project's features after a change.
 fn changed_places(
     alloc: Global,
     places: &[usize],
@@ -121,7 +122,7 @@ fn changed_places(
     Ok(List::from_vec(list))
 }
 
-/// How many of the places, which rise, are below one.
+/// How many of the positions, which ascend, are less than `place`.
 fn cut_of(places: &[usize], place: usize) -> usize
     ensures cut { IsParted place places.now → result ≡ cut place places.now }
     ensures inside { result ≤ length places.now }
@@ -129,7 +130,7 @@ fn cut_of(places: &[usize], place: usize) -> usize
     places.partition_point(|other| *other < place)
 }
 
-/// All but the first, where it goes.
+/// All but the first if `goes`, otherwise all.
 fn without_first(places: &[usize], goes: bool) -> &[usize]
     ensures { result.now ≡ drop (count_if goes) places.now }
 {
@@ -142,7 +143,7 @@ fn without_first(places: &[usize], goes: bool) -> &[usize]
     }
 }
 
-/// Adds the place, where it is so.
+/// Adds the position if `so`.
 fn push_if(list: &mut Vec<usize>, so: bool, place: usize) -> Result<(), Memory>
     ensures { OnOk result (list.new.items ≡ list.old.items ++ place_if so place) }
 {
@@ -152,7 +153,7 @@ fn push_if(list: &mut Vec<usize>, so: bool, place: usize) -> Result<(), Memory>
     Ok(())
 }
 
-/// The places behind so many features less and so many more.
+/// The positions after `less` features are removed before them and `more` inserted.
 fn all_shifted(
     alloc: Global,
     places: &[usize],
@@ -175,14 +176,15 @@ fn shift_all(places: &mut [usize], less: usize, more: usize) -> Result<(), Memor
     Ok(())
 }
 
-/// The place behind so many features less and so many more. More than memory holds count as want of it.
+/// The position after `less` features are removed before it and `more` inserted. An overflow is reported as out of
+/// memory.
 fn shifted(place: usize, less: usize, more: usize) -> Result<usize, Memory>
     ensures { IfOk result (λ n. n ≡ shifted less more place) }
 {
     place.saturating_sub(less).checked_add(more).ok_or(Memory)
 }
 
-/// How many features have the project.
+/// How many features the project stands for: 1 for a project, 0 for none.
 fn count_of(project: Option<&Text>) -> usize
     ensures { result ≡ count_of (option_map (λ t. t.now) project.entry) }
 {

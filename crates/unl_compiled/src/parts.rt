@@ -1,4 +1,4 @@
-//! All features and segments of a version, compiled.
+//! The compiled features and segments of a version.
 ghost use Rattle.std.specs.Prelude.{◌≡◌, ◌<◌, Some, IfOk, IsSome, length, nat_lt, option_map, slice_get, if◌then◌else◌};
 ghost use Rattle.std.specs.List.{AllByRecursion};
 ghost use Rattle.unl_compiled.specs.Next.{state_after};
@@ -16,13 +16,13 @@ use unl_delta::Event;
 use unl_delta::keyed::{put_in_place, put_in_series, without_in_place, without_in_series};
 use unl_documents::{Copied, Feature, List, Memory, Run, Segment, Series, Shared, State};
 
-/// The features by their names and the segments by their ids. Contracts see the state that they
-/// were compiled from.
+/// The features in ascending order of their names, and the segments in ascending order of their ids. In contracts the
+/// value is the state that they were compiled from.
 #[derive(Drop)]
 pub(crate) struct Parts {
-    /// Names rising.
+    /// In ascending order of names.
     pub features: Series<CompiledFeature>,
-    /// Ids rising.
+    /// In ascending order of ids.
     pub segments: List<Shared<CompiledSegment>>,
 }
 
@@ -44,7 +44,7 @@ impl Copied for Parts {
 }
 
 impl Parts {
-    /// All of a state, compiled.
+    /// Compiles the features and segments of a state.
     pub(crate) fn of(alloc: Global, state: &State) -> Result<Parts, Memory>
         ensures { IfOk result (λ p. p ≡ state.now) }
     {
@@ -54,7 +54,7 @@ impl Parts {
         })
     }
 
-    /// The features, in runs.
+    /// The chunks of the feature list. None is empty.
     pub(crate) fn runs(&self) -> &[Run<CompiledFeature>]
         ensures features { joined result.now ≡ self.now.features }
         ensures full { NoneIsEmpty result.now }
@@ -62,7 +62,7 @@ impl Parts {
         self.features.runs()
     }
 
-    /// The constraints of the strategy at a place of the feature at a place.
+    /// The compiled constraints of strategy number `strategy` of feature number `feature`. Both count from 0.
     pub(crate) fn constraints(&self, feature: usize, strategy: usize) -> &List<Compiled>
         requires { IsSome (strategy_at self.now feature strategy) }
         ensures { option_map (λ s. s.constraints) (strategy_at self.now feature strategy) ≡ Some result.now }
@@ -70,8 +70,9 @@ impl Parts {
         feature_at(&self.features, feature).constraints(strategy)
     }
 
-    /// The parts after a batch's events, where they are those of a version with this number. What
-    /// no event names is shared.
+    /// The parts after a batch's events, applied to the parts of version `number`. If the first event is a hydration, its
+    /// state replaces these parts and all later events apply. Otherwise only the events above `number` apply. Without a
+    /// hydration, features and segments that no event names are shared with these parts.
     #[tactic(auto, unfolding(crate::specs::Next::state_after))]
     pub(crate) fn next(&self, alloc: Global, number: u64, events: &[Event]) -> Result<Parts, Memory>
         requires order { told.IsInOrder self.now }
@@ -88,7 +89,7 @@ impl Parts {
     }
 }
 
-/// The feature at a place.
+/// The feature at an index.
 fn feature_at(features: &Series<CompiledFeature>, place: usize) -> &CompiledFeature
     requires { place < length features.now }
     ensures { Some result.now ≡ slice_get features.now place }
@@ -96,7 +97,7 @@ fn feature_at(features: &Series<CompiledFeature>, place: usize) -> &CompiledFeat
     features.get(place).unwrap()
 }
 
-/// The features, compiled, in runs of as many.
+/// Compiles the features, in chunks of the same lengths.
 fn compiled_features(
     alloc: Global,
     features: &Series<Feature>,
@@ -157,7 +158,7 @@ fn fold_all(alloc: Global, parts: Parts, events: &[Event]) -> Result<Parts, Memo
     Ok(now)
 }
 
-/// The parts after the events above a number.
+/// The parts after the events whose number is greater than `above`.
 #[tactic(auto, unfolding(unl_delta::specs::State::later))]
 fn fold_later(alloc: Global, parts: Parts, events: &[Event], above: u64) -> Result<Parts, Memory>
     requires order { told.IsInOrder parts }
@@ -171,7 +172,7 @@ fn fold_later(alloc: Global, parts: Parts, events: &[Event], above: u64) -> Resu
     Ok(now)
 }
 
-/// The parts after an event, if it is above a number.
+/// The parts after an event, or unchanged if its number is not greater than `above`.
 fn step_above(alloc: Global, parts: Parts, event: &Event, above: u64) -> Result<Parts, Memory>
     requires { told.IsInOrder parts }
     ensures { IfOk result (λ p. p ≡ (if nat_lt above (told.number_of event.now) then told.step event.now parts else parts)) }
@@ -182,7 +183,7 @@ fn step_above(alloc: Global, parts: Parts, event: &Event, above: u64) -> Result<
     Ok(parts)
 }
 
-/// The parts after one event, of which only the one that it names is compiled anew.
+/// The parts after one event. Only the feature or segment that it names is recompiled; a hydration recompiles everything.
 fn step(alloc: Global, parts: Parts, event: &Event) -> Result<Parts, Memory>
     requires { told.IsInOrder parts }
     ensures { IfOk result (λ p. p ≡ told.step event.now parts) }

@@ -1,4 +1,4 @@
-//! What is seen of a version.
+//! The part of a version that a set of projects may see.
 ghost use Rattle.std.specs.Prelude.{◌≡◌, ◌+◌, ◌≤◌, IfOk, length, map, option_and_then, option_map, slice_get, take};
 ghost use Rattle.std.specs.Cmp.Lexicographic.{slice_cmp};
 ghost use Rattle.std.specs.List.{prefix_len};
@@ -23,7 +23,7 @@ use unl_documents::{Feature, List, Memory, Run, Shared};
 use unl_strategies::Moment;
 use unl_tokens::Projects;
 
-/// The features whose project is seen, and all segments. Contracts see the state that they make.
+/// The features whose project is seen, and all segments. In contracts the value is the state that they form.
 #[derive(Drop)]
 pub(crate) struct Seen<'a> {
     parts: &'a Parts,
@@ -46,7 +46,7 @@ impl<'a> Model for Seen<'a> {
 }
 
 impl<'a> Seen<'a> {
-    /// What is seen of the parts of a valid state.
+    /// The visible part of a valid state.
     pub(crate) fn of(parts: &'a Parts, projects: &'a Projects) -> Seen<'a>
         requires { IsValidState parts.now }
         ensures view { result ≡ view_of (sees projects.now) parts.now }
@@ -87,7 +87,7 @@ impl<'a> Features for Seen<'a> {
     }
 }
 
-/// The feature of a name, if its project is seen, among features whose names rise.
+/// Finds a feature by its name, if its project is seen. The features are in ascending order of their names.
 pub(crate) fn seen_named<'a>(
     parts: &'a Parts,
     projects: &Projects,
@@ -101,7 +101,7 @@ pub(crate) fn seen_named<'a>(
     if_seen(projects, found)
 }
 
-/// The document of a feature that was looked for.
+/// The document of a lookup's result.
 pub(crate) fn document_of(found: Option<&CompiledFeature>) -> Option<&Feature>
     ensures { option_map (λ f. f.now) result ≡ option_map (λ f. f.now) found.entry }
 {
@@ -131,7 +131,7 @@ fn if_seen<'a>(
     }
 }
 
-/// The feature of a name, among features whose names rise.
+/// Finds a feature by its name. The features are in ascending order of their names.
 pub(crate) fn feature_named<'a>(parts: &'a Parts, name: &str) -> Option<&'a CompiledFeature>
     requires { AreRising (map name_key parts.now.features) }
     ensures { option_map (λ f. f.now) result ≡ feature_with name.now parts.now.features }
@@ -139,8 +139,8 @@ pub(crate) fn feature_named<'a>(parts: &'a Parts, name: &str) -> Option<&'a Comp
     feature_among(parts.runs(), name)
 }
 
-/// Where the feature of a name stands, or else belongs, among features whose names rise. More than
-/// memory holds before it count as want of it.
+/// The position of the feature of a name, or where it would be inserted. The features are in ascending order of their
+/// names. An overflow of the position is reported as out of memory.
 pub(crate) fn place_named(parts: &Parts, name: &str) -> Result<usize, Memory>
     requires { AreRising (map name_key parts.now.features) }
     ensures { IfOk result (λ place. place
@@ -149,7 +149,7 @@ pub(crate) fn place_named(parts: &Parts, name: &str) -> Result<usize, Memory>
     place_among(parts.runs(), name)
 }
 
-/// Where it does among features in runs.
+/// As `place_named`, over the chunks of the features.
 fn place_among(runs: &[Run<CompiledFeature>], name: &str) -> Result<usize, Memory>
     requires rising { AreRising (map name_key (joined runs.now)) }
     requires full { NoneIsEmpty runs.now }
@@ -164,7 +164,7 @@ fn place_among(runs: &[Run<CompiledFeature>], name: &str) -> Result<usize, Memor
     }
 }
 
-/// The runs before a place.
+/// The first `place` chunks.
 fn first(runs: &[Run<CompiledFeature>], place: usize) -> &[Run<CompiledFeature>]
     requires { place ≤ length runs.now }
     ensures { result.now ≡ take place runs.now }
@@ -172,7 +172,7 @@ fn first(runs: &[Run<CompiledFeature>], place: usize) -> &[Run<CompiledFeature>]
     &runs[..place]
 }
 
-/// How many features the runs have together.
+/// How many features the chunks have together. An overflow is reported as out of memory.
 fn count_of(runs: &[Run<CompiledFeature>]) -> Result<usize, Memory>
     ensures { IfOk result (λ count. count ≡ length (joined runs.now)) }
 {
@@ -189,8 +189,8 @@ fn sum_of(count: usize, more: usize) -> Result<usize, Memory>
     count.checked_add(more).ok_or(Memory)
 }
 
-/// The feature of a name, among features in runs whose names rise: it is in the first run that
-/// doesn't end before the name, or in none.
+/// Finds a feature by its name in chunks whose names ascend. It can only be in the first chunk that doesn't end before
+/// the name.
 fn feature_among<'a>(runs: &'a [Run<CompiledFeature>], name: &str) -> Option<&'a CompiledFeature>
     requires rising { AreRising (map name_key (joined runs.now)) }
     requires full { NoneIsEmpty runs.now }
@@ -202,14 +202,15 @@ fn feature_among<'a>(runs: &'a [Run<CompiledFeature>], name: &str) -> Option<&'a
     }
 }
 
-/// The run at a place.
+/// The chunk at an index.
 fn run_at(runs: &[Run<CompiledFeature>], place: usize) -> Option<&List<Shared<CompiledFeature>>>
     ensures { option_map (λ run. run.now) result ≡ slice_get runs.now place }
 {
     Some(runs.get(place)?.get())
 }
 
-/// Which run the name stands in, or else belongs in, among runs of features.
+/// The index of the chunk that has the name, or that it would be inserted into, by binary search. It is the number of
+/// chunks if all end before the name.
 fn run_of(runs: &[Run<CompiledFeature>], name: &str) -> usize
     requires rising { AreRising (map name_key (joined runs.now)) }
     requires full { NoneIsEmpty runs.now }
@@ -218,7 +219,7 @@ fn run_of(runs: &[Run<CompiledFeature>], name: &str) -> usize
     runs.partition_point(|run| ends_before(run.get().as_slice(), name))
 }
 
-/// Whether the last of the features has a name that comes before this one.
+/// Whether the features end before a name: the last one's name is less than it. False for no features.
 fn ends_before(features: &[Shared<CompiledFeature>], name: &str) -> bool
     ensures { result ≡ ends_before name_key name.now features.now }
 {
@@ -228,7 +229,7 @@ fn ends_before(features: &[Shared<CompiledFeature>], name: &str) -> bool
     }
 }
 
-/// The feature of a name, among the features of a run, whose names rise.
+/// Finds a feature by its name in one chunk, whose names ascend.
 fn feature_in<'a>(run: &'a List<Shared<CompiledFeature>>, name: &str) -> Option<&'a CompiledFeature>
     requires { AreRising (map name_key run.now) }
     ensures { option_map (λ f. f.now) result ≡ feature_with name.now run.now }
@@ -237,7 +238,7 @@ fn feature_in<'a>(run: &'a List<Shared<CompiledFeature>>, name: &str) -> Option<
     feature_at(features, place_of(features, name), name)
 }
 
-/// The feature at the place, if it has the name.
+/// The feature at an index, if it has the name.
 fn feature_at<'a>(
     features: &'a [Shared<CompiledFeature>],
     place: usize,
@@ -252,7 +253,7 @@ fn feature_at<'a>(
     None
 }
 
-/// Where the name stands, or else belongs, among features whose names rise.
+/// The position of a name, or where it would be inserted, by binary search. The names ascend.
 fn place_of(features: &[Shared<CompiledFeature>], name: &str) -> usize
     requires { AreRising (map name_key features.now) }
     ensures { result ≡ prefix_len (λ f. is_lt (slice_cmp nat_cmp (name_key f) name.now)) features.now }

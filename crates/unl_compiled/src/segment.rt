@@ -1,4 +1,4 @@
-//! Segments with their constraints compiled.
+//! Segments with compiled constraints.
 ghost use Rattle.std.specs.Prelude.{◌≡◌, IfOk, map, option_map};
 ghost use Rattle.std.specs.List.{list_all};
 ghost use Rattle.unl_constraints.specs.Constraint.{all_hold};
@@ -14,7 +14,7 @@ use unl_context::Context;
 use unl_delta::keyed::{Keyed, found};
 use unl_documents::{Constraint, List, Memory, Segment, Shared};
 
-/// A segment and its constraints, compiled. Contracts see the segment.
+/// A segment and its compiled constraints. In contracts the value is the segment.
 #[derive(Drop)]
 pub(crate) struct CompiledSegment {
     document: Shared<Segment>,
@@ -33,7 +33,7 @@ impl Model for CompiledSegment {
 }
 
 impl CompiledSegment {
-    /// The segment, compiled.
+    /// Compiles a segment's constraints.
     pub(crate) fn new(alloc: Global, document: &Shared<Segment>) -> Result<CompiledSegment, Memory>
         ensures { IfOk result (λ s. s ≡ document.now) }
     {
@@ -64,7 +64,7 @@ impl Keyed for CompiledSegment {
     }
 }
 
-/// The constraints, compiled.
+/// Compiles the constraints, in order.
 pub(crate) fn compiled(alloc: Global, constraints: &[Constraint]) -> Result<List<Compiled>, Memory>
     ensures { IfOk result (λ all. all ≡ constraints.now) }
 {
@@ -75,8 +75,8 @@ pub(crate) fn compiled(alloc: Global, constraints: &[Constraint]) -> Result<List
     Ok(all)
 }
 
-/// Whether the segments, whose ids rise, have one of each id, and the context meets it. `now` is in
-/// milliseconds since 1970.
+/// Whether each id names one of the segments, and the context meets that segment. The segments are in ascending order of
+/// their ids. `now` is in milliseconds since 1970.
 pub(crate) fn all_met(
     alloc: Global,
     ids: &[u64],
@@ -112,7 +112,7 @@ fn is_met(
     }
 }
 
-/// The segment of an id, among segments whose ids rise.
+/// Finds a segment by its id, by binary search. The segments are in ascending order of their ids.
 fn segment_of(segments: &[Shared<CompiledSegment>], id: u64) -> Option<&CompiledSegment>
     requires { AreRising (map id_key segments.now) }
     ensures { option_map (λ s. s.now) result ≡ segment_with id segments.now }

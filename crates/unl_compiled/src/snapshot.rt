@@ -1,3 +1,4 @@
+//! A version of an environment, prepared for evaluation.
 ghost use Rattle.std.specs.Prelude.{◌≡◌, false, Some, IfOk, IfSome, IsSome, option_map};
 ghost use Rattle.serde_json.specs.View.{view};
 ghost use Rattle.serde_json.specs.Written.{compact_text, has_float};
@@ -28,9 +29,8 @@ use unl_documents::{Feature, List, Memory, Shared};
 use unl_strategies::Moment;
 use unl_tokens::Projects;
 
-/// A version of an environment, as answers are computed over it: its documents with their
-/// constraints compiled, and where the features of each project stand. Contracts see the version,
-/// which is valid.
+/// A version of an environment with its constraints compiled, and the positions of each project's features. In contracts
+/// the value is the version, which is valid.
 #[derive(Drop)]
 pub struct Snapshot {
     version: Shared<EnvVersion>,
@@ -52,7 +52,7 @@ impl Model for Snapshot {
 }
 
 impl Snapshot {
-    /// The snapshot of a version.
+    /// Builds the snapshot of a version.
     pub fn build(alloc: Global, version: EnvVersion) -> Result<Snapshot, Memory>
         requires { IsValidVersion version }
         ensures { IfOk result (λ s. s ≡ version) }
@@ -62,8 +62,8 @@ impl Snapshot {
         Snapshot::of_parts(alloc, version, parts, projects)
     }
 
-    /// The snapshot of the version after a batch that applies at the place where this one's version
-    /// stands. What no event of the batch names is shared with this one.
+    /// The snapshot of the version after `batch`, which applies at `place`, whose version is this snapshot's. Without a
+    /// hydration, compiled features and segments that no event of the batch names are shared with this snapshot.
     pub fn next(&self, alloc: Global, place: &Place, batch: &Batch) -> Result<Snapshot, Memory>
         requires place { place.now.version ≡ Some self.now }
         requires batch { IsValidBatch batch.now }
@@ -78,7 +78,7 @@ impl Snapshot {
         Snapshot::of_parts(alloc, version, next, projects)
     }
 
-    /// The version. Takes no memory.
+    /// The version. Doesn't allocate.
     pub fn version(&self) -> &EnvVersion
         ensures version { result.now ≡ self.now }
         ensures valid { IsValidVersion result.now }
@@ -86,14 +86,14 @@ impl Snapshot {
         self.version.get()
     }
 
-    /// The version, as a place holds it.
+    /// Another handle of the shared version.
     pub fn shared(&self, _alloc: Global) -> Result<Shared<EnvVersion>, Memory>
         ensures { IfOk result (λ v. v ≡ self.now) }
     {
         self.version.copy()
     }
 
-    /// The feature of a name, among the features whose project is seen, if there is one. Takes no memory.
+    /// Finds a feature by its name, among the features whose project is seen. Doesn't allocate.
     pub fn feature(&self, name: &str, projects: &Projects) -> Option<&Feature>
         ensures found { option_map (λ f. f.now) result
             ≡ feature_named name.now (view_of (sees projects.now) self.now.state).features }
@@ -102,8 +102,8 @@ impl Snapshot {
         document_of(seen_named(&self.parts, projects, name))
     }
 
-    /// The evaluation of the feature of a name, among the features whose project is seen. None
-    /// exactly where there is no such feature among them.
+    /// Evaluates the feature of a name, among the features whose project is seen. Returns `None` exactly if there is no such
+    /// feature.
     pub fn evaluate(
         &self,
         alloc: Global,
@@ -119,8 +119,8 @@ impl Snapshot {
         evaluate(alloc, &seen, name, context, moment)
     }
 
-    /// The body of the frontend endpoints: the toggles of the features whose project is seen, all
-    /// of them or those that are on, in the order of their names.
+    /// The body of the frontend endpoints: the toggles of the features whose project is seen, in the order of their names.
+    /// With `all` it has all of them, otherwise those that are on.
     pub fn toggles(
         &self,
         alloc: Global,
@@ -136,8 +136,7 @@ impl Snapshot {
         toggles_of(alloc, &self.parts, projects, all, context, moment)
     }
 
-    /// The body of the frontend endpoints, as `toggles` gives it, in the text that is sent. The error
-    /// is want of memory.
+    /// The body that `toggles` returns, as the text that is sent. Fails only if it runs out of memory.
     pub fn toggles_text(
         &self,
         alloc: Global,
@@ -152,16 +151,16 @@ impl Snapshot {
         toggles_text(alloc, &self.parts, projects, all, context, moment)
     }
 
-    /// The places, rising, of the features of the version's state that have this project, and none
-    /// where no feature has it. Takes no memory.
+    /// The positions of a project's features in the version's state, in ascending order. Empty if no feature has the project.
+    /// Doesn't allocate.
     pub fn of_project(&self, project: &str) -> &[usize]
         ensures { result.now ≡ places_in project.now self.now.state.features }
     {
         places_of(self.projects.get().as_slice(), project)
     }
 
-    /// The compiled constraints of the strategy at a place of the feature at a place of the
-    /// version's state: one for each of its constraints, in order. Takes no memory.
+    /// The compiled constraints of strategy number `strategy` of feature number `feature` of the version's state, in order.
+    /// Both count from 0. Doesn't allocate.
     pub fn constraints(&self, feature: usize, strategy: usize) -> &List<Compiled>
         requires { IsSome (strategy_at self.now.state feature strategy) }
         ensures { option_map (λ s. s.constraints) (strategy_at self.now.state feature strategy) ≡ Some result.now }
@@ -169,7 +168,7 @@ impl Snapshot {
         self.parts.constraints(feature, strategy)
     }
 
-    /// The snapshot of a version whose parts are compiled, and the places in them are known.
+    /// Makes the snapshot of a version from its compiled parts and its project index.
     fn of_parts(
         alloc: Global,
         version: EnvVersion,
@@ -189,7 +188,7 @@ impl Snapshot {
     }
 }
 
-/// The version of a place after a batch that applies there.
+/// The version after a batch that applies at the place.
 fn next_of(
     alloc: Global,
     version: &EnvVersion,

@@ -1,4 +1,4 @@
-//! Where the features of each project stand after events, and whether these leave them where they stand.
+//! The project index after events: shared, adjusted or rebuilt.
 ghost use Rattle.std.specs.Prelude.{◌≡◌, [], ◌∷◌, false, true, IfOk, map, option_map};
 ghost use Rattle.std.specs.List.{list_all};
 ghost use Rattle.std.specs.Option.{option_map_or};
@@ -17,8 +17,8 @@ use std::alloc::Global;
 use unl_delta::Event;
 use unl_documents::{Feature, List, Memory, Shared, Text};
 
-/// Where the features of each project stand after a batch's events, which come to these parts, where
-/// those before are of a version with this number. Where no place moves, the places are shared.
+/// The project index after a batch's events. `before` and `projects` are the parts and the index of version `number`;
+/// `after` are the parts after the events. The index is shared if no position and no project changes.
 pub(crate) fn places_after(
     alloc: Global,
     number: u64,
@@ -41,7 +41,7 @@ pub(crate) fn places_after(
     }
 }
 
-/// Where the features of each project stand, as the features tell.
+/// Builds the project index of the parts.
 pub(crate) fn all_places(
     alloc: Global,
     parts: &Parts,
@@ -51,8 +51,8 @@ pub(crate) fn all_places(
     Shared::new(alloc, index_of(alloc, parts.runs())?)
 }
 
-/// What `places_after` gives of one event, which moves the places behind the one feature that it
-/// names, where it names one.
+/// As `places_after`, for one event. If it puts or removes a feature, the positions after that feature shift by at most
+/// one; otherwise the index is rebuilt.
 fn places_after_one(
     alloc: Global,
     number: u64,
@@ -80,7 +80,7 @@ fn places_after_one(
     }
 }
 
-/// Where the features of each project stand when this one is put among them.
+/// The project index after a feature is added or replaced.
 fn places_with(
     alloc: Global,
     feature: &Feature,
@@ -99,7 +99,7 @@ fn places_with(
     Shared::new(alloc, changed(alloc, projects.as_slice(), &change)?)
 }
 
-/// Where the features of each project stand without the one of a name.
+/// The project index after the feature of a name is removed.
 fn places_without(
     alloc: Global,
     name: &Text,
@@ -118,7 +118,7 @@ fn places_without(
     Shared::new(alloc, changed(alloc, projects.as_slice(), &change)?)
 }
 
-/// Whether each of the events leaves each feature at its place and in its project.
+/// Whether each of the events leaves each feature at its position and in its project.
 fn keeps_places(parts: &Parts, events: &[Event]) -> bool
     requires { AreRising (map name_key parts.now.features) }
     ensures { result ≡ list_all (keeps_place parts.now.features) events.now }
@@ -131,7 +131,8 @@ fn keeps_places(parts: &Parts, events: &[Event]) -> bool
     true
 }
 
-/// Whether the event does: it changes a feature within its project, or no feature at all.
+/// Whether the event leaves each feature at its position and in its project: it updates a feature within its project,
+/// removes one that isn't there, or is on a segment.
 fn keeps_place(parts: &Parts, event: &Event) -> bool
     requires { AreRising (map name_key parts.now.features) }
     ensures { result ≡ keeps_place parts.now.features event.now }
@@ -148,7 +149,7 @@ fn keeps_place(parts: &Parts, event: &Event) -> bool
     }
 }
 
-/// The project of the feature of a name, among features whose names rise.
+/// The project of the feature of a name. The features are in ascending order of their names.
 fn project_of<'a>(parts: &'a Parts, name: &Text) -> Option<&'a Text>
     requires { AreRising (map name_key parts.now.features) }
     ensures { option_map (λ t. t.now) result ≡ told.project_of name.now parts.now.features }
@@ -156,7 +157,7 @@ fn project_of<'a>(parts: &'a Parts, name: &Text) -> Option<&'a Text>
     project_in(document_of(feature_named(parts, name.as_str())))
 }
 
-/// The project of a feature that was looked for.
+/// The project of a lookup's result.
 fn project_in(found: Option<&Feature>) -> Option<&Text>
     ensures { option_map (λ t. t.now) result ≡ option_map (λ f. f.project) (option_map (λ f. f.now) found.entry) }
 {

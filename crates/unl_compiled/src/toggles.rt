@@ -1,4 +1,4 @@
-//! The body of the frontend endpoints.
+//! The body of the frontend endpoints, as a JSON value.
 ghost use Rattle.std.specs.Prelude.{◌≡◌, ◌++◌, All, IfOk, OnOk, map, filter_map, option_to_list};
 ghost use Rattle.serde_json.specs.View.{view};
 ghost use Rattle.unl_compiled.specs.Toggles.{variant_data, toggle_data, toggle_if, toggle_if_seen, toggle_of};
@@ -21,8 +21,8 @@ use unl_documents::{Feature, Field, List, Memory, Run, Shared};
 use unl_strategies::Moment;
 use unl_tokens::Projects;
 
-/// The toggles of the parts of a valid state whose project is seen, all of them or those that are on,
-/// in the order of their names.
+/// The toggles of the features whose project is seen, in the order of their names: all of them, or those that are on.
+/// `parts` are those of a valid state.
 #[tactic(auto, unfolding(crate::specs::Toggles::toggles_data))]
 pub(crate) fn toggles_of(
     alloc: Global,
@@ -41,7 +41,7 @@ pub(crate) fn toggles_of(
     write_toggles(alloc, toggles)
 }
 
-/// The toggles of what is seen of the parts.
+/// The toggles of the visible features.
 fn toggles_seen(
     alloc: Global,
     seen: &Seen,
@@ -69,7 +69,7 @@ fn write_toggles(alloc: Global, toggles: Vec<Value>) -> Result<Value, Memory>
     Ok(Value::Object(members))
 }
 
-/// The toggles of the features whose project is seen.
+/// The toggles of the features of the chunks whose project is seen.
 fn each_toggle(
     alloc: Global,
     seen: &Seen,
@@ -100,7 +100,7 @@ fn each_toggle(
     Ok(toggles)
 }
 
-/// Adds the toggles of those features of a run whose project is seen.
+/// Adds the toggles of the features of a chunk whose project is seen.
 fn push_run(
     toggles: &mut Vec<Value>,
     alloc: Global,
@@ -128,7 +128,7 @@ fn push_run(
     )
 }
 
-/// Adds the toggles of those features whose project is seen.
+/// Adds the toggles of the features whose project is seen.
 #[tactic(auto, using(crate::proofs::Coding::cons_front))]
 fn push_each(
     toggles: &mut Vec<Value>,
@@ -154,7 +154,7 @@ fn push_each(
     Ok(())
 }
 
-/// Adds the toggle of a feature, if its project is seen and the toggle is asked for.
+/// Adds the toggle of a feature if its project is seen, and either all are asked for or it is on.
 #[tactic(auto, unfolding(crate::specs::Toggles::toggle_of))]
 fn push_seen(
     toggles: &mut Vec<Value>,

@@ -1,7 +1,7 @@
-//! The body of the frontend endpoints, written straight as text.
+//! The body of the frontend endpoints, written directly as text.
 //!
-//! Each function that writes does so behind what the writer has. Its error is want of memory, after
-//! which a part may have been written.
+//! Each function that writes appends to the writer. It fails only if it runs out of memory, and may then have written a
+//! part.
 ghost use Rattle.std.specs.Prelude.{◌≡◌, All, IfOk, OnOk, filter_map};
 ghost use Rattle.serde_json.specs.Written.{compact_text};
 ghost use Rattle.unl_compiled.specs.Toggles.{variant_data, toggle_data, toggle_if, toggle_if_seen, toggle_of, toggles_data};
@@ -24,11 +24,11 @@ use unl_documents::{Feature, Field, List, Memory, Run, Shared};
 use unl_strategies::Moment;
 use unl_tokens::Projects;
 
-/// The bytes for which there is room from the beginning.
+/// The initial capacity of the buffer, in bytes.
 const ROOM: usize = 128;
 
-/// The toggles of the parts of a valid state whose project is seen, all of them or those that are on,
-/// in the order of their names, as text. The error is want of memory.
+/// The text of the toggles of the features whose project is seen, in the order of their names: all of them, or those that
+/// are on. `parts` are those of a valid state. Fails only if it runs out of memory.
 pub(crate) fn toggles_text(
     alloc: Global,
     parts: &Parts,
@@ -49,7 +49,7 @@ pub(crate) fn toggles_text(
     Ok(List::from_vec(out.into_inner()))
 }
 
-/// Writes the object of the toggles of what is seen of the parts.
+/// Writes the object with the toggles of the visible features.
 fn write_toggles(
     out: &mut Writer,
     alloc: Global,
@@ -74,7 +74,7 @@ fn write_toggles(
     Ok(())
 }
 
-/// Writes the toggles of what is seen of the parts, one behind the other.
+/// Writes the toggles of the visible features, one after the other.
 fn write_items(
     out: &mut Writer,
     alloc: Global,
@@ -103,7 +103,7 @@ fn write_items(
     )
 }
 
-/// Writes the toggles of the features whose project is seen, one behind the other.
+/// Writes the toggles of the features of the chunks whose project is seen, one after the other.
 fn write_each(
     out: &mut Writer,
     alloc: Global,
@@ -126,7 +126,7 @@ fn write_each(
     Ok(())
 }
 
-/// Writes the toggles of those features of a run whose project is seen, one behind the other.
+/// Writes the toggles of the features of a chunk whose project is seen, one after the other.
 #[tactic(auto, using(unl_documents::proofs::Tokens::found_more))]
 fn write_run(
     out: &mut Writer,
@@ -150,7 +150,7 @@ fn write_run(
     Ok(())
 }
 
-/// Writes the toggle of a feature, if its project is seen and the toggle is asked for.
+/// Writes the toggle of a feature if its project is seen, and either all are asked for or it is on.
 #[tactic(auto, unfolding(crate::specs::Toggles::toggle_of))]
 fn write_if_seen(
     out: &mut Writer,
@@ -174,7 +174,7 @@ fn write_if_seen(
     write_if_asked(out, all, feature.document(), &evaluation)
 }
 
-/// Writes the toggle of a feature, if all are asked for, or if it is on.
+/// Writes the toggle of a feature if all are asked for or it is on.
 fn write_if_asked(
     out: &mut Writer,
     all: bool,
@@ -189,7 +189,7 @@ fn write_if_asked(
     Ok(())
 }
 
-/// Writes a feature as a client sees it.
+/// Writes the toggle of a feature.
 #[tactic(auto, unfolding(crate::specs::Toggles::toggle_data))]
 fn write_toggle(out: &mut Writer, feature: &Feature, evaluation: &Evaluation) -> Result<(), Memory>
     ensures { OnOk result (Wrote (tokens_of (toggle_data feature.now evaluation.now)) out.old out.new) }
@@ -204,7 +204,7 @@ fn write_toggle(out: &mut Writer, feature: &Feature, evaluation: &Evaluation) ->
     Ok(())
 }
 
-/// Writes the variant of a feature that is on or off.
+/// Writes the variant of a feature. `on` says whether the feature is on.
 fn write_variant(out: &mut Writer, on: bool, variant: &VariantAnswer) -> Result<(), Memory>
     ensures { OnOk result (Wrote (tokens_of (variant_data on variant.now)) out.old out.new) }
 {

@@ -1,4 +1,4 @@
--- Folding texts of ASCII.
+-- Case folding of ASCII text.
 use Rattle.std.proofs.Common.{◌≡◌, ℕ, zero, suc, ◌<◌, List, [], ◌∷◌, map, IsAscii, encode_utf8_all, sym, ap, ◌∙◌, arith}
 use Rattle.std.proofs.lemmas.Bool.Decides.{nat_tests}
 use Rattle.std.specs.Char.{to_ascii_lowercase}
@@ -16,7 +16,7 @@ lower_is_ascii [] ascii k = ascii k
 lower_is_ascii (c ∷ cs) ascii zero = lower_ascii c (ascii 0)
 lower_is_ascii (c ∷ cs) ascii (suc k) = lower_is_ascii cs (λ i. ascii (suc i)) k
 
--- such a text in folded case has its letters in lower case
+-- ASCII text is folded by converting it to lower case.
 pub folded_ascii : (text : List ℕ) → IsAscii text → map to_ascii_lowercase text ≡ folded text
 unfolding folded
 folded_ascii text ascii =

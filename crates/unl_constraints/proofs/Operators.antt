@@ -1,4 +1,4 @@
--- What inverting, and the contrary operator, do to the table of operators.
+-- The effect of inversion, and of the opposite operator, on the table of operators.
 use Rattle.std.proofs.Common.{◌≡◌, ℕ, Bool, true, false, not, ◌&&◌, Option, Some, None, IsSome, if◌then◌else◌, refl}
 use Rattle.std.specs.Ordering.{is_lt, is_le, is_gt, is_ge, is_some_and}
 use Rattle.std.specs.declared.cmp.Ordering.{Ordering}
@@ -16,7 +16,7 @@ negated true true false h = refl
 negated true false b h = refl
 negated false inverted b h = absurd (cc h)
 
--- no row of the table asks whether the constraint is inverted
+-- No row of the table depends on whether the constraint is inverted.
 same_row : (operator : Operator) (c : Constraint) (inverted : Bool) (context : Fields) (now : ℕ) → fits_by operator (record c { inverted = inverted }) context now ≡ fits_by operator c context now
 unfolding is_in text_fits number_order version_order date_order
 same_row (Unknown name) c inverted context now = refl
@@ -30,7 +30,7 @@ contrary : (inverted b : Bool) → (true && (if inverted then not (not b) else n
 contrary true b = refl
 contrary false b = refl
 
--- two answers of which one is the contrary of the other, both inverted or neither
+-- If one result negates the other, it still does after both are inverted.
 contraries : (inverted a b : Bool) → a ≡ not b → (true && (if inverted then not a else a)) ≡ not (true && (if inverted then not b else b))
 contraries inverted a b is = rw is (contrary inverted b)
 

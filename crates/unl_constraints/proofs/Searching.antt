@@ -1,4 +1,4 @@
--- What a search by halving finds among items whose keys rise.
+-- What a binary search finds among items with ascending keys.
 use Rattle.std.proofs.Common.{◌≡◌, ℕ, zero, suc, ◌+◌, ◌<◌, ◌≤◌, ◌||◌, Bool, true, false, List, [], ◌∷◌, map, length, get_or, Option, Some, None, Less, nat_cmp, inl, inr, refl, sym, ap, ◌∙◌, arith, cond}
 use Rattle.std.specs.Prelude.{option_and_then, slice_get}
 use Rattle.std.specs.Cmp.Lexicographic.{slice_cmp}
@@ -14,15 +14,15 @@ use Rattle.std.proofs.lemmas.Cmp.{nat_list_cmp_total}
 use Rattle.std.proofs.lemmas.Map.Text.{is_eq-slice_cmp}
 use Rattle.std.proofs.lemmas.Slice.Eq.{bytes_eq-Decides}
 
--- the item's key comes before k
+-- The item's key is below `k`.
 abbrev pub is_below : {X : Type 0} → (X → List ℕ) → List ℕ → X → Bool
 is_below key k x = is_lt (slice_cmp nat_cmp (key x) k)
 
--- the item's key is k
+-- The item's key is `k`.
 abbrev pub has_key : {X : Type 0} → (X → List ℕ) → List ℕ → X → Bool
 has_key key k x = bytes_eq (key x) k
 
--- the item, if its key is k
+-- The item, if its key is `k`.
 abbrev pub if_key : {X : Type 0} → (X → List ℕ) → List ℕ → X → Option X
 if_key key k x = cond (has_key key k x) (Some x) None
 
@@ -51,7 +51,7 @@ prefix_is p (x ∷ xs) (suc i) le h =
     let rest : i ≡ prefix_len p xs = prefix_is p xs i (omega arith) (λ k d low high. h.0 (suc k) d (omega arith) (omega arith), λ k d low high. h.1 (suc k) d (omega arith) (omega arith)) in
     rw (h.0 0 x (omega arith) (omega arith)) (omega arith)
 
--- ---- what stands at the place
+-- ---- the item at the index
 
 apart : {X : Type 0} (key : X → List ℕ) (k : List ℕ) (x : X) (o : Ordering) → slice_cmp nat_cmp (key x) k ≡ o → has_key key k x ≡ is_eq o
 apart key k x o is = sym (is_eq-slice_cmp (key x) k) ∙ ap is_eq is
@@ -72,7 +72,7 @@ none_later key k low (y ∷ ys) after above =
     let not : has_key key k y ≡ false = not_later key k low y after above.0 in
     (rw not others.0, rw not others.1)
 
--- what is found by its key, and whether one has it, is told by the one item at the place
+-- The one item at the index determines which item has the key, and whether any has it.
 abbrev pub IsTold : {X : Type 0} → (X → List ℕ) → List ℕ → List X → Type 0
 IsTold key k xs = (option_and_then (if_key key k) (slice_get xs (prefix_len (is_below key k) xs)) ≡ find (has_key key k) xs)
     × (option_map_or (has_key key k) (slice_get xs (prefix_len (is_below key k) xs)) false ≡ list_any (has_key key k) xs)

@@ -1,4 +1,4 @@
--- What sorting, folding and taking each once leave of a constraint's values.
+-- The effect of sorting, folding and removing duplicates on a constraint's values.
 use Rattle.std.proofs.Common.{◌≡◌, ℕ, Bool, true, false, ◌||◌, ◌&&◌, cond, List, [], ◌∷◌, map, nat_eq, nat_cmp, inl, inr, refl, sym, ap, ◌∙◌}
 use Rattle.std.specs.Cmp.Lexicographic.{pointwise, slice_cmp, texts_ties}
 use Rattle.std.specs.List.{list_any, dedup, dedup_from}
@@ -37,10 +37,10 @@ any_map : (test : List ℕ → Bool) (f : List ℕ → List ℕ) (xs : List (Lis
 any_map test f [] = refl
 any_map test f (x ∷ xs) = ap (λ rest. test (f x) || rest) (any_map test f xs)
 
--- values that are members stand as they are
+-- Values that are compared whole are unchanged.
 pub member_values : (c : Constraint) → kind_of c.operator ≡ kind.Member → compared_values c ≡ c.values
 member_values c is = ap (λ k. map (compared (is_part k && c.caseless)) c.values) is ∙ map-id c.values
 
--- values that are parts are folded where letters are alike in either case
+-- Values that are compared as substrings are case-folded if the constraint is case-insensitive.
 pub part_values : (test : List ℕ → Bool) (c : Constraint) → kind_of c.operator ≡ kind.Part → list_any test (compared_values c) ≡ list_any (λ value. test (compared c.caseless value)) c.values
 part_values test c is = ap (λ k. list_any test (map (compared (is_part k && c.caseless)) c.values)) is ∙ any_map test (compared c.caseless) c.values

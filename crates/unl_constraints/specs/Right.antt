@@ -1,4 +1,4 @@
--- The right side of a constraint, as its operator reads it.
+-- The right side of a constraint, parsed as its operator needs.
 use Rattle.std.specs.Prelude.{◌≡◌, ℕ, List, map, Bool, true, false, ◌&&◌, Option, option_map, option_and_then}
 use Rattle.std.specs.List.{list_any}
 use Rattle.semver.specs.Identifiers.{parts_of}
@@ -19,7 +19,7 @@ use Rattle.unl_constraints.specs.declared.right.Right.{Right}
 use Rattle.unl_constraints.specs.declared.right.Single.{Single}
 use Rattle.unl_constraints.specs.declared.right.Single.TheVariants as single
 
--- what the operator compares
+-- What the operator compares.
 abbrev pub kind_of : Operator → Kind
 kind_of In = kind.Member
 kind_of NotIn = kind.Member
@@ -38,25 +38,25 @@ kind_of SemverGt = kind.Version
 kind_of SemverLt = kind.Version
 kind_of (Unknown name) = kind.Member
 
--- the values are compared as parts of the field
+-- The values are compared as substrings of the field.
 abbrev pub is_part : Kind → Bool
 is_part kind.Part = true
 is_part k = false
 
--- the values are folded: the operator is one of the three STR operators, and letters are alike in either case
+-- The values are case-folded: the operator is one of the three STR operators and the constraint is case-insensitive.
 abbrev pub is_folded : Constraint → Bool
 is_folded c = is_part (kind_of c.operator) && c.caseless
 
--- the values as they are compared
+-- The values in the form in which they are compared.
 abbrev pub compared_values : Constraint → List (List ℕ)
 compared_values c = map (compared (is_folded c)) c.values
 
--- the values as they are compared, in rising byte order, each once
+-- The values in the form in which they are compared, in ascending byte order, without duplicates.
 pub record AreValues (c : Constraint) (values : List (List ℕ)) : Type 0 where
   pub rising : AreRising values
   pub same : (text : List ℕ) → is_among values text ≡ is_among (compared_values c) text
 
--- what was read of the text is what the kind compares with
+-- `s` is the constraint's value, parsed as this kind of comparison needs.
 abbrev pub IsSingle : Kind → Option (List ℕ) → Single → Type 0
 IsSingle kind.Member text s = Unit {0}
 IsSingle kind.Part text s = Unit {0}
@@ -67,7 +67,7 @@ IsSingle kind.Instant text s = ⊥
 IsSingle kind.Version text (single.Version v) = option_map parts_of v ≡ option_and_then version_of text
 IsSingle kind.Version text s = ⊥
 
--- what was read is the right side of the constraint
+-- `right` is the parsed and sorted right side of the constraint.
 pub record IsRight (c : Constraint) (right : Right) : Type 0 where
   pub rising : AreRising right.values
   pub same : (test : List ℕ → Bool) → list_any test right.values ≡ list_any test (compared_values c)

@@ -1,4 +1,4 @@
-//! Constraints whose right side is read once.
+//! Compiled constraints, whose right side is parsed once.
 ghost use Rattle.std.specs.Prelude.{◌≡◌, IfOk};
 ghost use Rattle.unl_constraints.specs.Constraint.{constraint_holds, all_hold as all_hold_spec};
 ghost use Rattle.unl_constraints.specs.Right.{AreValues};
@@ -10,8 +10,8 @@ use std::marker::Model;
 use unl_context::Context;
 use unl_documents::{Constraint, Copied, List, Memory, Text};
 
-/// A constraint whose values are in order and whose value is read, for many contexts. Contracts see
-/// the constraint.
+/// A constraint with sorted values and a parsed value, for evaluation with many contexts. Contracts see it as the
+/// constraint.
 #[derive(Drop)]
 pub struct Compiled {
     constraint: Constraint,
@@ -30,7 +30,7 @@ impl Model for Compiled {
 }
 
 impl Compiled {
-    /// The constraint, compiled. The only error is want of memory.
+    /// Compiles a constraint. The only error is out of memory.
     pub fn new(alloc: Global, constraint: &Constraint) -> Result<Compiled, Memory>
         ensures { IfOk result (λ c. c ≡ constraint.now) }
     {
@@ -39,25 +39,25 @@ impl Compiled {
         Ok(Compiled { constraint, right })
     }
 
-    /// Whether a context meets the constraint, as [`holds`](crate::holds) says it. `now` is in
-    /// milliseconds since 1970. The only error is want of memory.
+    /// Whether a context satisfies the constraint, by the rules of [`holds`](crate::holds). `now` is in milliseconds since
+    /// 1970. The only error is out of memory.
     pub fn holds(&self, alloc: Global, context: &Context, now: u64) -> Result<bool, Memory>
         ensures { IfOk result (λ r. r ≡ constraint_holds self.now context.now now) }
     {
         compare(alloc, &self.constraint, &self.right, context, now)
     }
 
-    /// The constraint's values in rising byte order, each once. Where the operator is one of the
-    /// three STR operators and letters are alike in either case, they are folded first, by the
-    /// default folding of the Unicode Standard. Takes no memory.
+    /// Returns the constraint's values in ascending byte order, without duplicates. If the operator is one of the three STR
+    /// operators and the constraint is case-insensitive, the values are case-folded first, by the default folding of the
+    /// Unicode Standard. Does not allocate.
     pub fn values(&self) -> &List<Text>
         ensures { AreValues self.now result.now }
     {
         &self.right.values
     }
 
-    /// Whether a context meets each of the constraints, and so where there are none. `now` is in
-    /// milliseconds since 1970. The only error is want of memory.
+    /// Whether a context satisfies all of the constraints; true if there are none. `now` is in milliseconds since 1970. The
+    /// only error is out of memory.
     pub fn all_hold(
         alloc: Global,
         constraints: &[Compiled],

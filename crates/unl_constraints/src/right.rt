@@ -1,4 +1,4 @@
-//! The right sides of constraints, as their operators read them.
+//! The right sides of constraints, parsed as their operators need.
 ghost use Rattle.std.specs.Prelude.{◌≡◌, ℕ, List, Bool, IfOk, OnOk, map, option_map, option_and_then};
 ghost use Rattle.std.specs.List.{list_any};
 ghost use Rattle.semver.specs.Identifiers.{parts_of};
@@ -24,9 +24,9 @@ use unl_documents::{Constraint, List, Memory, Operator, Text};
 /// What an operator compares.
 #[derive(Clone, Copy)]
 pub(crate) enum Kind {
-    /// The field with the whole of each value.
+    /// The field with each whole value.
     Member,
-    /// The field with parts that it may have.
+    /// The field with substrings that it may contain.
     Part,
     /// Two numbers.
     Number,
@@ -36,42 +36,42 @@ pub(crate) enum Kind {
     Version,
 }
 
-/// The right side of a constraint.
+/// The right side of a constraint, parsed and sorted.
 #[derive(Drop)]
 pub(crate) struct Right {
-    /// The values as they are compared, in rising byte order, each once.
+    /// The values in the form in which they are compared, in ascending byte order, without duplicates.
     pub values: List<Text>,
-    /// The value.
+    /// The parsed value.
     pub single: Single,
-    /// Which of a context's own fields the constraint's field is, if it is one.
+    /// Which of the context's six fields the constraint names, if it names one.
     pub known: Option<Known>,
 }
 
-/// The value of a constraint, as its operator reads it.
+/// The value of a constraint, parsed as its operator needs.
 #[derive(Drop)]
 pub(crate) enum Single {
-    /// The operator compares with the values.
+    /// The operator compares with the list of values instead.
     Values,
-    /// The number, if it is one.
+    /// The number, if the value is one.
     Number(Option<Decimal>),
-    /// The instant, if it is one, in nanoseconds since 1970.
+    /// The instant in nanoseconds since 1970, if the value is one.
     Instant(Option<i128>),
-    /// The version, if it is one.
+    /// The version, if the value is one.
     Version(Option<Version>),
 }
 
-/// The right side of a constraint, as it is compared with.
+/// The right side of a constraint, in a form that a context can be compared with.
 pub(crate) trait RightSide {
-    /// It is the right side of the constraint.
+    /// `self` is the right side of the constraint.
     ghost is_of: { Constraint → Self → Type 0 };
 
-    /// Whether a text is one of the constraint's values.
+    /// Whether a string is one of the constraint's values.
     fn has(&self, constraint: &Constraint, text: &str) -> bool
         requires right { is_of constraint.now self.now }
         requires kind { kind_by constraint.now.operator ≡ kind.Member }
         ensures { result ≡ among constraint.now.values text.now };
 
-    /// Whether one of the constraint's values stands there in a text. The error is want of memory.
+    /// Whether a string has one of the constraint's values at that position. The only error is out of memory.
     fn has_part(
         &self,
         alloc: Global,
@@ -83,18 +83,18 @@ pub(crate) trait RightSide {
         requires kind { kind_by constraint.now.operator ≡ kind.Part }
         ensures { IfOk result (λ r. r ≡ some_there place constraint.now.caseless text.now constraint.now.values) };
 
-    /// Which of a context's own fields the constraint's field is, if it is one.
+    /// Returns which of the context's six fields the constraint names, if it names one.
     fn known(&self, constraint: &Constraint) -> Option<Known>
         requires { is_of constraint.now self.now }
         ensures { result ≡ known_by constraint.now.field };
 
-    /// The constraint's value, as its operator reads it.
+    /// Returns the constraint's value, parsed as its operator needs.
     fn single(&self, constraint: &Constraint) -> &Single
         requires { is_of constraint.now self.now }
         ensures { IsSingle (kind_by constraint.now.operator) constraint.now.value result.now };
 }
 
-/// The values are kept in order, so a text among them is found by halving.
+/// The values are sorted, so a binary search can be used.
 impl RightSide for Right {
     ghost is_of = { IsRight };
 
@@ -122,7 +122,8 @@ impl RightSide for Right {
     }
 }
 
-/// The constraint's values are looked through as they stand: for one look it doesn't pay to copy and sort them.
+/// The constraint's values are searched in their original order: for a single evaluation, copying and sorting them doesn't
+/// pay.
 impl RightSide for Single {
     ghost is_of = { λ c s. IsSingle (kind_by c.operator) c.value s };
 
@@ -151,7 +152,7 @@ impl RightSide for Single {
 }
 
 impl Right {
-    /// The right side of a constraint. The error is want of memory.
+    /// Prepares the right side of a constraint. The only error is out of memory.
     pub(crate) fn of(alloc: Global, constraint: &Constraint) -> Result<Right, Memory>
         ensures { IfOk result (IsRight constraint.now) }
     {
@@ -164,7 +165,7 @@ impl Right {
 }
 
 impl Single {
-    /// The value of a constraint, as its operator reads it. The error is want of memory.
+    /// Parses the value of a constraint as its operator needs. The only error is out of memory.
     pub(crate) fn of(alloc: Global, constraint: &Constraint) -> Result<Single, Memory>
         ensures { IfOk result (IsSingle (kind_by constraint.now.operator) constraint.now.value) }
     {
@@ -179,7 +180,7 @@ impl Single {
     }
 }
 
-/// What the operator compares.
+/// Returns what the operator compares.
 fn kind_of(operator: &Operator) -> Kind
     ensures { result ≡ kind_by operator.now }
 {
@@ -203,7 +204,7 @@ fn kind_of(operator: &Operator) -> Kind
     }
 }
 
-/// Whether the values are compared in folded case.
+/// Whether the values are case-folded before they are compared.
 fn is_folded(constraint: &Constraint) -> bool
     ensures { result ≡ is_folded_by constraint.now }
 {
@@ -222,7 +223,7 @@ fn values_of(alloc: Global, constraint: &Constraint) -> Result<List<Text>, Memor
     in_order(values)
 }
 
-/// The texts as they are compared.
+/// Returns copies of the strings in the form in which they are compared.
 fn compared_each(alloc: Global, folded: bool, texts: &[Text]) -> Result<Vec<Text>, Memory>
     ensures { IfOk result (λ all. all.items ≡ map (compared_by folded) texts.now) }
 {
@@ -233,7 +234,7 @@ fn compared_each(alloc: Global, folded: bool, texts: &[Text]) -> Result<Vec<Text
     Ok(all)
 }
 
-/// The texts in rising byte order, each once.
+/// Sorts the strings in ascending byte order and removes duplicates.
 fn in_order(texts: Vec<Text>) -> Result<List<Text>, Memory>
     ensures rising { IfOk result AreRising }
     ensures same { IfOk result (λ ordered. (test : List ℕ → Bool) → list_any test ordered ≡ list_any test texts.items) }
@@ -244,7 +245,7 @@ fn in_order(texts: Vec<Text>) -> Result<List<Text>, Memory>
     Ok(List::from_vec(texts))
 }
 
-/// The number of a text, if it is one.
+/// Parses a number. Returns `None` if there is no string or it is not a number.
 pub(crate) fn number(text: Option<&str>) -> Option<Decimal>
     ensures { IsRead (option_and_then number_of (option_map (λ t. t.now) text.entry)) result }
 {
@@ -254,7 +255,7 @@ pub(crate) fn number(text: Option<&str>) -> Option<Decimal>
     }
 }
 
-/// The version of a text, if it is one.
+/// Parses a version. Returns `None` if there is no string or it is not a version.
 pub(crate) fn version(alloc: Global, text: Option<&str>) -> Result<Option<Version>, Memory>
     ensures { IfOk result (λ v. option_map parts_of v ≡ option_and_then version_of (option_map (λ t. t.now) text.entry)) }
 {
@@ -264,7 +265,7 @@ pub(crate) fn version(alloc: Global, text: Option<&str>) -> Result<Option<Versio
     }
 }
 
-/// The instant of a text, if it is one.
+/// Parses an instant. Returns `None` if there is no string or it is not an instant.
 fn instant(alloc: Global, text: Option<&str>) -> Result<Option<i128>, Memory>
     ensures { IfOk result (λ i. i ≡ option_and_then instant_of (option_map (λ t. t.now) text.entry)) }
 {

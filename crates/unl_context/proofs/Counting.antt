@@ -1,4 +1,4 @@
--- What the pairs of a query set: those of the form `properties[x]` may be kept apart, and properties become no fewer.
+-- The pairs of a query: keys `properties[x]` may be kept apart from the others, and the number of properties never falls.
 use Rattle.std.proofs.Common.{◌≡◌, ℕ, List, [], ◌∷◌, ◌≤◌, ◌<◌, fold, length, Bool, true, false, Option, Some, None, Less, Equal, Greater, nat_cmp, refl, ap, ◌∙◌, arith}
 use Rattle.std.specs.Prelude.{option_to_list, is_some, ◌||◌, ◌==◌, if◌then◌else◌}
 use Rattle.std.specs.Cmp.Lexicographic.{slice_cmp}
@@ -25,7 +25,7 @@ plain_is : (pairs : List Pair) (s : Settings) → (fold taken s pairs).plain ≡
 plain_is [] s = refl
 plain_is (p ∷ pairs) s = plain_is pairs (taken s p)
 
--- what one key sets, or none
+-- Applying the property that a key sets, if any, is `set_inner`.
 one_is : (c : Fields) (pair : Pair) → fold named c (option_to_list (inner_of pair)) ≡ set_inner c pair
 unfolding inner_of set_inner
 one_is c (key, value) = elim (inner_name key) as (λ found. fold named c (option_to_list (elim found as (λ _. Option Property) [ Some name ↦ Some (record { name = name; value = value }) | None ↦ None ])) ≡ (elim found as (λ _. Fields) [ Some name ↦ with_property name value c | None ↦ c ])) [ Some name ↦ refl | None ↦ refl ]
@@ -94,18 +94,18 @@ inner_grows (p ∷ ps) c =
     let rest = inner_grows ps (named c p) in
     omega arith
 
--- a context of more than 256 properties is not within the limits
+-- A context with more than 256 properties exceeds the limits.
 over : (c : Fields) → 256 < length c.properties → is_within_limits c ≡ false
 unfolding is_within_limits
 over c many = search arith
 
--- what is too much before the keys `properties[x]` are looked at is too much
+-- If there are more than 256 properties before the keys `properties[x]` are applied, the context exceeds the limits.
 pub too_many : (pairs : List Pair) → 256 < length (fold taken none_yet pairs).plain.properties → is_within_limits (set_by pairs) ≡ false
 too_many pairs many =
     let more = inner_grows (fold taken none_yet pairs).inner (fold taken none_yet pairs).plain in
     rw (← set_apart pairs) (over (with_inner (fold taken none_yet pairs)) (omega arith))
 
--- as many as that stay
+-- Once there are more than 256 properties, there still are after all pairs.
 pub stays_over : (pairs : List Pair) (s total : Settings) → fold taken s pairs ≡ total → 256 < length s.plain.properties → 256 < length total.plain.properties
 stays_over pairs s total is many =
     let more = taken_grows pairs s in

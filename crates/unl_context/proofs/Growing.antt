@@ -1,4 +1,4 @@
--- The names of an object's members, one after the other.
+-- The names of an object's members, one by one.
 use Rattle.std.proofs.Common.{◌≡◌, ℕ, List, [], ◌∷◌, ◌++◌, map, Option, Some, None, String, Global, string_bytes, sym, ap, subst, ◌∙◌, append_assoc, nat_cmp, Less}
 use Rattle.std.specs.Prelude.{option_to_list, IfSome}
 use Rattle.std.specs.Cmp.Lexicographic.{slice_cmp}
@@ -19,7 +19,7 @@ drop_name : (P : List ℕ → Type 0) (before : List (List ℕ)) (name : List �
 drop_name P [] name after h = h.1
 drop_name P (k ∷ before) name after h = (h.0, drop_name P before name after h.1)
 
--- without one of them the names are still rising
+-- Names without one of them are still strictly ascending.
 rising_without : (before : List (List ℕ)) (name : List ℕ) (after : List (List ℕ)) → AreRising (before ++ name ∷ after) → AreRising (before ++ after)
 unfolding IsStrictlySortedBy
 rising_without [] name after h = h.1
@@ -29,7 +29,7 @@ all_above : (first : String Global) (es : List Entry) → AllByRecursion (λ k. 
 all_above first [] h = tt
 all_above first (e ∷ es) h = (h.0, all_above first es h.1)
 
--- the names of an object's members are rising
+-- The names of an object's members are strictly ascending.
 pub rising_names : (es : List Entry) → IsStrictlySortedBy string_cmp (keys_of es) → AreRising (names_of es)
 unfolding IsStrictlySortedBy
 rising_names [] h = tt

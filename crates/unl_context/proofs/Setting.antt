@@ -1,4 +1,4 @@
--- What the pairs of a query set: the six fields by their last pairs, and properties whose names rise.
+-- What the pairs of a query set: each of the six fields by its last pair, and properties sorted by name.
 use Rattle.std.proofs.Common.{◌≡◌, ℕ, List, [], ◌∷◌, fold, codes, length, Bool, true, false, Option, Some, None, is_some, ◌||◌, ◌==◌, if◌then◌else◌, refl, sym, ap, subst, ◌∙◌, inl, inr}
 use Rattle.std.specs.Option.{option_or}
 use Rattle.std.specs.Str.{bytes_eq}
@@ -13,7 +13,7 @@ use Rattle.unl_context.specs.Laws.{last_value, is_key, LastFieldCounts, SetNames
 use Rattle.unl_context.proofs.Lasting.{last_counts}
 use Rattle.unl_context.proofs.Rising.{no_names, rising_put}
 
--- what holds for each of the six names
+-- A statement that holds for each of the six names holds for all.
 each : (P : Known → Type 0) → P known.UserId → P known.SessionId → P known.RemoteAddress → P known.Environment → P known.AppName → P known.CurrentTime → (k : Known) → P k
 each P a b c d e f known.UserId = a
 each P a b c d e f known.SessionId = b
@@ -22,7 +22,7 @@ each P a b c d e f known.Environment = d
 each P a b c d e f known.AppName = e
 each P a b c d e f known.CurrentTime = f
 
--- a property changes no field
+-- Setting a property changes no field.
 stays : (k : Known) (name value : List ℕ) (c : Fields) → known_field k (with_property name value c) ≡ known_field k c
 stays k name value c = each (λ k. known_field k (with_property name value c) ≡ known_field k c) refl refl refl refl refl refl k
 
@@ -31,7 +31,7 @@ stays k name value c = each (λ k. known_field k (with_property name value c) �
 abbrev Sets : Known → Fields → List ℕ → List ℕ → Type 0
 Sets k c value key = known_field k (set_plain c (key, value)) ≡ (if is_key k key then Some value else known_field k c)
 
--- a key is this text, or another
+-- Case split: a key equals this string or it does not.
 decided : (P : List ℕ → Type 0) (literal key : List ℕ) → P literal → (bytes_eq key literal ≡ false → P key) → P key
 decided P literal key here other =
     elim (cases_Bool (bytes_eq key literal)) [
@@ -39,7 +39,7 @@ decided P literal key here other =
       | inr told ↦ other told
     ]
 
--- any other key changes no field
+-- Any other key does not change this field.
 other_key : (k : Known) (c : Fields) (value key : List ℕ) → known_by key ≡ None → is_key k key ≡ false → Sets k c value key
 unfolding set_plain
 other_key k c value key unknown other = by (known_by key) unknown

@@ -1,4 +1,4 @@
--- The limits of a context: texts of up to 4,096 bytes, and up to 256 properties whose names have 1 to 255 bytes.
+-- The limits of a context: values of at most 4,096 bytes, and at most 256 properties, whose names have 1 to 255 bytes.
 use Rattle.std.specs.Prelude.{ℕ, List, length, Bool, true, ◌&&◌, not, Option, Some, None, Ok, Err, nat_lt, nat_le, if◌then◌else◌}
 use Rattle.std.specs.List.{list_all}
 use Rattle.unl_context.specs.declared.properties.Property.{Property}
@@ -6,32 +6,32 @@ use Rattle.unl_context.specs.declared.fault.BadContext.TheVariants.{TooLarge}
 use Rattle.unl_context.specs.Context.{Fields}
 use Rattle.unl_context.specs.Reading.{Reading}
 
--- a name has 1 to 255 bytes
+-- The string has 1 to 255 bytes, as the name of a property must.
 abbrev pub is_name : List ℕ → Bool
 is_name text = nat_lt 0 (length text) && nat_le (length text) 255
 
--- a text as the name of a property
+-- The string as the name of a property, or `TooLarge`.
 abbrev pub name_of : List ℕ → Reading (List ℕ)
 name_of key = if is_name key then Ok key else Err TooLarge
 
--- a text as a value, unless it is too long
+-- The string as a value, or `TooLarge` if it has more than 4,096 bytes.
 abbrev pub short_text : List ℕ → Reading (List ℕ)
 short_text text = if nat_lt 4096 (length text) then Err TooLarge else Ok text
 
--- the properties, unless there are too many
+-- The properties, or `TooLarge` if there are more than 256.
 abbrev pub up_to_256 : List Property → Reading (List Property)
 up_to_256 properties = if nat_lt 256 (length properties) then Err TooLarge else Ok properties
 
--- a field is absent or short enough
+-- A field is absent or has at most 4,096 bytes.
 abbrev pub text_fits : Option (List ℕ) → Bool
 text_fits None = true
 text_fits (Some text) = not (nat_lt 4096 (length text))
 
--- a property has a name and a value that is short enough
+-- A property's name and value are within their limits.
 abbrev pub property_fits : Property → Bool
 property_fits p = is_name p.name && not (nat_lt 4096 (length p.value))
 
--- every part of the context is within its limit
+-- Every part of the context is within its limits.
 unfoldable pub is_within_limits : Fields → Bool
 is_within_limits c =
     text_fits c.user_id && text_fits c.session_id && text_fits c.remote_address

@@ -1,18 +1,18 @@
-//! Laws on what a query sets, each the contract of a function that does nothing.
+//! Laws on what the pairs of a query set. Each is the contract of an empty function.
 ghost use Rattle.unl_context.specs.Laws.{LastFieldCounts, LastPropertyCounts, SetNamesRise};
 
-/// Of the pairs whose key is one of the six names, the last sets that field.
+/// A field has the value of the last pair whose key is the field's name.
 pub fn last_field_counts()
     ensures { LastFieldCounts }
 {}
 
-/// Of the pairs `properties[x]` the last sets the property x; where there is none, the last of
-/// the pairs x does.
+/// A property x has the value of the last pair with the key `properties[x]`, or if there is none, of the last pair with the
+/// key x.
 pub fn last_property_counts()
     ensures { LastPropertyCounts }
 {}
 
-/// The properties that a query sets stand in the byte order of their names, each once.
+/// The names of the properties that a query sets are in byte order, without duplicates.
 pub fn set_names_rise()
     ensures { SetNamesRise }
 {}

@@ -1,10 +1,10 @@
-//! A text that is held.
+//! An owned string.
 ghost use Rattle.std.specs.Prelude.{◌≡◌, List, ℕ, string_bytes, IfOk};
 
 use std::alloc::{AllocError, Global};
 use std::marker::Model;
 
-/// A text, which contracts see as its bytes.
+/// An owned string. Contracts see it as its bytes.
 #[derive(Debug, Drop)]
 pub(crate) struct Text {
     string: String,
@@ -17,7 +17,7 @@ impl Model for Text {
 }
 
 impl Text {
-    /// A copy of a text.
+    /// Returns a copy of a string.
     pub(crate) fn new(alloc: Global, text: &str) -> Result<Text, AllocError>
         ensures { IfOk result (λ t. t ≡ text.now) }
     {
@@ -26,14 +26,14 @@ impl Text {
         })
     }
 
-    /// A text as it is held, without a copy.
+    /// Wraps a string without copying it.
     pub(crate) fn of(string: String) -> Text
         ensures { result ≡ string_bytes string }
     {
         Text { string }
     }
 
-    /// The text.
+    /// Returns the string as a slice.
     pub(crate) fn as_str(&self) -> &str
         ensures { result.now ≡ self.now }
     {

@@ -1,4 +1,4 @@
-//! Values of JSON (RFC 8259): what stands at a key, and texts.
+//! JSON values (RFC 8259): the value at a key, and values as strings.
 ghost use Rattle.std.specs.Prelude.{◌≡◌, IfOk, IfNone, option_map};
 ghost use Rattle.serde_json.specs.Data.{number};
 ghost use Rattle.serde_json.specs.View.{number_view, view};
@@ -12,7 +12,7 @@ use itoa::Buffer;
 use serde_json::{Number, Value};
 use std::alloc::{AllocError, Global};
 
-/// The value that the bytes spell, or none where they are no UTF-8 or no JSON.
+/// Parses JSON. Returns `None` if the bytes are not UTF-8 or not JSON.
 pub(crate) fn read_json(alloc: Global, bytes: &[u8]) -> Result<Option<Value>, AllocError>
     ensures { IfOk result (λ found. option_map view found ≡ json_of bytes.now) }
 {
@@ -23,7 +23,7 @@ pub(crate) fn read_json(alloc: Global, bytes: &[u8]) -> Result<Option<Value>, Al
     }
 }
 
-/// The value at a key; null counts as absent.
+/// Returns the value at a key. Null counts as absent.
 #[tactic(auto, unfolding(crate::specs::Values::at))]
 pub(crate) fn value_at<'a>(key: &str, value: &'a Value) -> Option<&'a Value>
     ensures { option_map (λ found. view found.now) result ≡ at key.now (view value.now) }
@@ -34,8 +34,8 @@ pub(crate) fn value_at<'a>(key: &str, value: &'a Value) -> Option<&'a Value>
     }
 }
 
-/// Takes the value at a key out of an object, so that what it holds need not be copied; null counts
-/// as absent, and then nothing is taken.
+/// Moves the value at a key out of an object, so that it need not be copied. Null counts as absent, and then the object is
+/// unchanged.
 #[tactic(auto, unfolding(crate::specs::Values::at))]
 pub(crate) fn taken_at(key: &str, value: &mut Value) -> Option<Value>
     ensures gives { option_map view result ≡ at key.now (view value.old) }
@@ -47,7 +47,7 @@ pub(crate) fn taken_at(key: &str, value: &mut Value) -> Option<Value>
     }
 }
 
-/// As [`text_in`], of a value that is let go: a text is taken without a copy.
+/// Like [`text_in`], but consumes the value: a string is moved, not copied.
 #[tactic(auto, unfolding(crate::specs::Values::text_in))]
 pub(crate) fn text_of(alloc: Global, part: Part, value: Value) -> Result<Text, BadContext>
     ensures { Gives result (text_in part (view value)) }
@@ -58,7 +58,8 @@ pub(crate) fn text_of(alloc: Global, part: Part, value: Value) -> Result<Text, B
     }
 }
 
-/// The text of the value at a part of a context: a text, or an integer or a boolean by its text.
+/// Returns the value of a part of a context as a string. The value is a string, or an integer or boolean, which becomes its
+/// JSON text.
 #[tactic(auto, unfolding(crate::specs::Values::text_in))]
 pub(crate) fn text_in(alloc: Global, part: Part, value: &Value) -> Result<Text, BadContext>
     ensures { Gives result (text_in part (view value.now)) }
@@ -72,7 +73,7 @@ pub(crate) fn text_in(alloc: Global, part: Part, value: &Value) -> Result<Text, 
     }
 }
 
-/// The text of an integer at a part of a context.
+/// Returns the integer at a part of a context as a string.
 #[tactic(auto, unfolding(crate::specs::Values::text_in))]
 fn integer_in(alloc: Global, part: Part, value: &Number) -> Result<Text, BadContext>
     ensures { Gives result (text_in part (number (number_view value.now))) }

@@ -1,4 +1,4 @@
--- What a token is shown of a board whose slots have what was sent of lines of histories.
+-- What a token sees of a board whose slots are revisions of lines of histories.
 use Rattle.std.proofs.Common.{◌≡◌, ℕ, Bool, true, false, cond, List, [], ◌∷◌, Option, Some, None, Result, Ok, Err, refl, subst}
 use Rattle.std.specs.Prelude.{IfSome, option_and_then, find}
 use Rattle.unl_delta.specs.declared.batch.Batch.{Batch}
@@ -18,7 +18,7 @@ use Rattle.unl_core.specs.Histories.{AllStand, Histories, ShowsRevision, ShowsWh
 use Rattle.unl_core.specs.Shown.{Ready, Shown, ready_by, ready_for, shown_by, where_ready}
 use Rattle.unl_core.proofs.Same.{text_same}
 
--- what stands for an environment stands for its line
+-- The version found for an environment is a revision of its line.
 pub found_stands : (told : Histories) (environment : List ℕ) (slots : List Slot) (v : EnvVersion) → AllStand told slots → snapshot_in environment slots ≡ Some v
     → StandsIn (told.line environment) (told.sees environment) v
 found_stands told environment [] v stand is = absurd cc
@@ -32,7 +32,7 @@ found_stands told environment (slot ∷ slots) v stand is = decided (is_named en
         (subst (λ (o : Option EnvVersion). IfSome o (StandsIn (told.line slot.environment) (told.sees slot.environment))) so stand.0)
     decided false named so more = more so
 
--- what a token is shown is what stands for its environment
+-- The version that a token sees is that of its environment.
 ready_stands : (board : Board) (shown : Result Shown Unseen) (ready : Ready) → ready_for board shown ≡ Ok ready
     → snapshot_in ready.token.environment board.slots ≡ Some ready.version
 ready_stands board (Err unseen) ready is = absurd cc
@@ -50,13 +50,13 @@ ready_is : (told : Histories) (board : Board) (q : Request) (kind : Kind) (ready
 ready_is told board q kind ready stand is =
     found_stands told ready.token.environment board.slots ready.version stand (ready_stands board (shown_by board q kind) ready is)
 
--- it is one revision
+-- It is one revision.
 pub shows_revision : (told : Histories) (board : Board) (q : Request) (kind : Kind) (ready : Ready) → AllStand told board.slots → ready_by board q kind ≡ Ok ready
     → ShowsRevision told ready
 shows_revision told board q kind ready stand is =
     seen_in (told.line ready.token.environment) (told.sees ready.token.environment) (sees ready.token.projects) ready.version (ready_is told board q kind ready stand is)
 
--- and events that are told were sent of its line
+-- The events that a token is sent are sent of its environment's line.
 pub tells_of_line : (told : Histories) (board : Board) (q : Request) (kind : Kind) (ready : Ready) (since : Option ℕ) (batch : Batch) → AllStand told board.slots
     → ready_by board q kind ≡ Ok ready → delta_answer ready.version since (sees ready.token.projects) ≡ Sent batch
     → IsSent (told.line ready.token.environment) (both_see told ready) batch
@@ -64,7 +64,7 @@ tells_of_line told board q kind ready since batch stand is answer =
     answer_sent (told.line ready.token.environment) (told.sees ready.token.environment) ready.version since (sees ready.token.projects) batch
     (ready_is told board q kind ready stand is) answer
 
--- so it is of a board that is known
+-- The same for a board that may be known.
 pub shows_where_stands : (told : Histories) (known : Option Board) → ShowsWhereStands told known
 shows_where_stands told None stand = tt
 shows_where_stands told (Some board) stand = λ q kind ready is. shows_revision told board q kind ready stand is

@@ -1,4 +1,4 @@
--- The places of a desk and the slots of its board.
+-- The places of a desk agree with the slots of its board.
 use Rattle.std.proofs.Common.{◌≡◌, ℕ, zero, suc, ◌<◌, ◌+◌, List, [], ◌∷◌, ◌++◌, length, map, Some, None, Option, ap, refl, sym, ◌∙◌, All, IfSome, subst, get_or, unwrap_or, true, false}
 use Rattle.std.proofs.Math.ListN.{set}
 use Rattle.std.proofs.Math.Seq.{map-set_same}
@@ -31,7 +31,7 @@ versions_at (slot ∷ slots) = ap (λ vs. slot.snapshot ∷ vs) (versions_at slo
 abbrev standing : Board → List Place → ℕ → Standing
 standing board places front = record { board = board; places = places; front = front }
 
--- the places made for a board's slots
+-- The initial places of a board's slots.
 pub standing_begun : (board : Board) (places : List Place) → AreSlots board.slots → places ≡ map place_at board.slots → All IsValidPlace places → IsStanding board places
 standing_begun board places slots made valid = record { slots = slots; versions = ap versions made ∙ versions_at board.slots; valid = valid }
 
@@ -40,7 +40,7 @@ snapshots_taking slot version [] = refl
 snapshots_taking zero version (x ∷ xs) = refl
 snapshots_taking (suc slot) version (x ∷ xs) = ap (λ vs. x.snapshot ∷ vs) (snapshots_taking slot version xs)
 
--- a version stands at a slot and at its place
+-- A version is put at a slot and at its place.
 pub standing_taking : (board : Board) (places : List Place) (slot : ℕ) (version : EnvVersion) (place : Place) → IsStanding board places → place.version ≡ Some version → IsValidVersion version
     → IsStanding (with_snapshot slot version board) (set places slot place)
 standing_taking board places slot version place standing there valid =
@@ -57,7 +57,7 @@ joined : {T V : Type 0} (f : T → Option V) (o : Option T) → unwrap_or (optio
 joined f None = refl
 joined f (Some x) = refl
 
--- the version of a place is what stands at its slot
+-- The version of a place is that of its slot.
 pub stands_at : (board : Board) (places : List Place) (slot : ℕ) (p : Place) → IsStanding board places → slot < length places → p ≡ get_or places slot p
     → p.version ≡ snapshot_at board.slots slot
 stands_at board places slot p standing low is =
@@ -68,7 +68,7 @@ stands_at board places slot p standing low is =
     ∙ ap (λ (o : Option (Option EnvVersion)). unwrap_or o None) (slice_get-map (λ s. s.snapshot) board.slots slot)
     ∙ joined (λ (s : Slot). s.snapshot) (slice_get board.slots slot)
 
--- a place is held, or not, with the version that it has
+-- A place is held or released, and keeps its version.
 pub standing_held : (board : Board) (places : List Place) (slot : ℕ) (place : Place) (d : Place) → IsStanding board places → slot < length places
     → place.version ≡ (get_or places slot d).version → IsStanding board (set places slot place)
 standing_held board places slot place d standing low same =
@@ -80,7 +80,7 @@ standing_held board places slot place d standing low same =
       valid = All-set IsValidPlace places slot place sound standing.valid;
     }
 
--- one slot more, of a new name, with an empty place
+-- A slot is added for a new name, with an empty place.
 pub standing_more : (board grown : Board) (places : List Place) (environment : List ℕ) (slot : Slot) → IsStanding board places → length board.slots < 8
     → None ≡ place_in environment board.slots → slot ≡ empty_slot environment → grown.slots ≡ board.slots ++ slot ∷ []
     → IsStanding grown (places ++ empty_place ∷ [])
@@ -95,19 +95,19 @@ standing_more board grown places environment slot standing room none made pushed
   valid = All-append IsValidPlace places (empty_place ∷ []) standing.valid (All-cons IsValidPlace empty_place [] tt (All-nil IsValidPlace));
 }
 
--- the place of a slot, as it stands
+-- The place at an index.
 place_is : (board : Board) (places : List Place) (front slot : ℕ) (p : Place) → slot < length places → p ≡ get_or places slot p
     → place_of (installed_by (record { board = board; places = places; front = front })) slot ≡ p
 place_is board places front slot p low is = ap (λ o. unwrap_or o empty_place) (slice_get-get_or places slot p low) ∙ sym is
 
--- a desk whose slot is held
+-- A desk after a slot is held.
 pub hold_is : (board : Board) (places : List Place) (front slot : ℕ) (p : Place) (s : Standing) → record { board = board; places = places; front = front } ≡ s → slot < length places
     → p ≡ get_or places slot p → record { board = board; places = set places slot (record { version = p.version; held = true }); front = front } ≡ with_hold slot s
 hold_is board places front slot p s same low is =
     ap (λ (v : Option EnvVersion). standing board (set places slot (record { version = v; held = true })) front) (ap (λ (q : Place). q.version) (sym (place_is board places front slot p low is)))
     ∙ ap (with_hold slot) same
 
--- a desk with the version after a batch
+-- A desk after a batch.
 pub install_is : (board new : Board) (places : List Place) (front slot : ℕ) (batch : Batch) (p : Place) (v kept shared : EnvVersion) (s : Standing)
     → record { board = board; places = places; front = front } ≡ s → slot < length places → p ≡ get_or places slot p
     → v ≡ next_version p batch → shared ≡ v → kept ≡ v → new ≡ with_snapshot slot shared board
@@ -122,7 +122,7 @@ install_is board new places front slot batch p v kept shared s same low is next 
     (set places slot (record { version = Some w; held = false })) (front + 1)) (kept_is ∙ made)
     ∙ ap (with_batch slot batch) same
 
--- so it stands in order
+-- It still agrees with its board.
 pub install_standing : (board new : Board) (places : List Place) (slot : ℕ) (v kept shared : EnvVersion) → IsStanding board places → new ≡ with_snapshot slot shared board
     → shared ≡ v → kept ≡ v → IsValidVersion v → IsStanding new (set places slot (record { version = Some kept; held = false }))
 install_standing board new places slot v kept shared before changed shared_is kept_is valid =

@@ -24,11 +24,11 @@ use Rattle.unl_core.specs.declared.board.Board.{Board}
 use Rattle.unl_core.specs.Laws.{TagIsOfItsNumber, TagIsRead}
 use Rattle.unl_core.specs.Tag.{number_of_tag, if_spelled, tag_front, tag_text, whole_in, number_part}
 
--- the tag of a number in an epoch
+-- The tag of a number in an epoch.
 abbrev tag : Board → ℕ → ℕ → ℕ → List ℕ
 tag board place epoch n = tag_text board place (record { epoch = epoch; number = n })
 
--- ---- a tag from which a number is read is the tag of that number
+-- ---- a tag that a number is read from is the tag of that number
 
 some_same : (m n : ℕ) → ◌≡◌ {A = Option ℕ} (Some m) (Some n) → m ≡ n
 some_same m n h = cc
@@ -45,7 +45,7 @@ pub tag_is : TagIsOfItsNumber
 unfolding number_of_tag
 tag_is board place epoch text n h = by_whole board place epoch text n (whole_in (number_part (length (tag_front board place epoch)) text)) h
 
--- ---- from the tag of a number that number is read
+-- ---- the number of a tag is read back from it
 
 tokens_are : (n : ℕ) → n < 2 ^ 64 → tokens (decimal n) ≡ Token.number (decimal n) ∷ []
 unfolding print_from ArePrintable

@@ -1,4 +1,4 @@
--- What a request says of the client that sends it.
+-- What a request says about its client.
 use Rattle.std.specs.Prelude.{ℕ, List, [], Bool, false, Option, Some, None, option_and_then}
 use Rattle.std.specs.Ordering.{is_lt}
 use Rattle.semver.specs.Parse.{Parts}
@@ -6,19 +6,19 @@ use Rattle.unl_constraints.specs.Version.{version_of, precedence}
 use Rattle.unl_http_api.specs.declared.request.Request.{Request}
 use Rattle.unl_http_api.specs.Route.{if_utf8}
 
--- the first version of the client specification whose clients know segments
+-- The first version of the client specification whose clients know segments.
 abbrev pub first_with_segments : Parts
 first_with_segments = (4, 2, 0, [], [])
 
--- the version that bytes spell, where they are a text that is a full version
+-- The version that bytes are the text of, if they are the text of a full version.
 abbrev pub version_in : List ℕ → Option Parts
 version_in bytes = option_and_then version_of (if_utf8 bytes)
 
--- there is a version, and it comes before the first with segments
+-- There is a version, and it comes before the first one with segments.
 abbrev pub is_before_segments : Option Parts → Bool
 is_before_segments None = false
 is_before_segments (Some version) = is_lt (precedence version first_with_segments)
 
--- the request names a version of the client specification whose clients know no segments
+-- The request names a version of the client specification whose clients don't know segments.
 abbrev pub knows_no_segments : Request → Bool
 knows_no_segments q = is_before_segments (option_and_then version_in q.spec)

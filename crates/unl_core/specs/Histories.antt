@@ -1,4 +1,4 @@
--- Boards whose slots have what was sent of lines of histories.
+-- Boards whose slots are revisions of lines of histories.
 use Rattle.std.specs.Prelude.{◌≡◌, ℕ, List, Some, Ok, option_map, Option, IfSome}
 use Rattle.std.specs.List.{AllByRecursion}
 use Rattle.unl_delta.specs.declared.version.EnvVersion.{EnvVersion}
@@ -13,37 +13,37 @@ use Rattle.unl_core.specs.declared.board.Slot.{Slot}
 use Rattle.unl_core.specs.Answer.{seen}
 use Rattle.unl_core.specs.Shown.{Ready, ready_by}
 
--- the line of histories of each environment, and whose projects are sent of it
+-- The line of histories of each environment, and the projects that are seen of it.
 pub record Histories : Type 0 where
   pub line : List ℕ → List Era
   pub sees : List ℕ → Sees
 
--- each of them is a line
+-- Each of them is a line.
 abbrev pub AreLines : Histories → Type 0
 AreLines told = (environment : List ℕ) → IsLine (told.line environment)
 
--- what an environment has, where it has something, stands for its line, as it is seen
+-- The version of an environment, if there is one, is a revision of its line, filtered by the projects that are seen.
 abbrev pub StandsAt : Histories → List ℕ → Option EnvVersion → Type 0
 StandsAt told environment version = IfSome version (StandsIn (told.line environment) (told.sees environment))
 
--- so does what each slot has
+-- This holds for each slot.
 abbrev pub AllStand : Histories → List Slot → Type 0
 AllStand told slots = AllByRecursion (λ slot. StandsAt told slot.environment slot.snapshot) slots
 
--- those whose projects are sent, and a token: the projects that both see
+-- The projects that both the environment's copy and the token see.
 abbrev pub both_see : Histories → Ready → Sees
 both_see told ready = both (told.sees ready.token.environment) (sees ready.token.projects)
 
--- what a token is shown is one revision of the line of its environment, as both see it
+-- What a token sees is one revision of its environment's line, filtered by the projects that both see.
 abbrev pub ShowsRevision : Histories → Ready → Type 0
 ShowsRevision told ready =
     option_map (view_of (both_see told ready)) (revision_in (told.line ready.token.environment) (revision_of ready.version))
     ≡ Some (seen ready)
 
--- so it is of whatever the board is asked
+-- This holds for each request to the board.
 abbrev pub ShowsRevisions : Histories → Board → Type 0
 ShowsRevisions told board = (q : Request) (kind : Kind) (ready : Ready) → ready_by board q kind ≡ Ok ready → ShowsRevision told ready
 
--- so it is of a board that may be known, where its slots stand for their lines
+-- This holds for a board that may be known, if its slots are revisions of their lines.
 abbrev pub ShowsWhereStands : Histories → Option Board → Type 0
 ShowsWhereStands told known = IfSome known (λ board. AllStand told board.slots) → IfSome known (ShowsRevisions told)

@@ -1,4 +1,4 @@
--- The token that a request shows, and what stands for it.
+-- The token of a request, and the version of its environment.
 use Rattle.std.specs.Prelude.{ℕ, List, Bool, true, false, Option, Some, None, option_map, option_and_then, slice_get, if◌then◌else◌}
 use Rattle.std.specs.Prelude.{Result, Ok, Err}
 use Rattle.unl_delta.specs.declared.version.EnvVersion.{EnvVersion}
@@ -12,53 +12,53 @@ use Rattle.unl_core.specs.declared.shown.Unseen.{Unseen}
 use Rattle.unl_core.specs.declared.shown.Unseen.TheVariants.{NoToken, UnknownToken, WrongKind, NotReady}
 use Rattle.unl_core.specs.Board.{snapshot_in}
 
--- a token, and its place in the book
+-- A token, and its position in the book.
 pub record Shown : Type 0 where
   pub place : ℕ
   pub token : Token
 
--- a token of the book with the state of its environment
+-- A token of the book with its position, and the version of its environment.
 pub record Ready : Type 0 where
   pub place : ℕ
   pub token : Token
   pub version : EnvVersion
 
--- both kinds are the same
+-- Both kinds are the same.
 abbrev pub is_kind : Kind → Kind → Bool
 is_kind Client Client = true
 is_kind Client Frontend = false
 is_kind Frontend Client = false
 is_kind Frontend Frontend = true
 
--- the token of a text, with its place
+-- The token of a text, with its position.
 abbrev pub entry_of : List ℕ → List Token → Option Shown
 entry_of text book =
     option_and_then (λ place. option_map (λ token. record { place = place; token = token }) (slice_get book place)) (place_of text book)
 
--- a known token, if it is of this kind
+-- A known token, if it is of this kind.
 abbrev pub of_kind : Kind → Option Shown → Result Shown Unseen
 of_kind kind None = Err UnknownToken
 of_kind kind (Some shown) = if is_kind shown.token.kind kind then Ok shown else Err WrongKind
 
--- what the token of a request is shown, if it has one that is known and of that kind
+-- The token of a text, if there is one, the book has it, and it is of this kind.
 abbrev pub shown_text : Board → Kind → Option (List ℕ) → Result Shown Unseen
 shown_text board kind None = Err NoToken
 shown_text board kind (Some text) = of_kind kind (entry_of text board.book)
 
--- the token that a request shows, where it is one of this kind
+-- The token of a request, if the book has it and it is of this kind.
 abbrev pub shown_by : Board → Request → Kind → Result Shown Unseen
 shown_by board q kind = shown_text board kind q.token
 
--- what is shown, where something stands for the token's environment
+-- The token with the version of its environment, if there is one.
 abbrev pub where_ready : Shown → Option EnvVersion → Result Ready Unseen
 where_ready shown None = Err NotReady
 where_ready shown (Some version) = Ok (record { place = shown.place; token = shown.token; version = version })
 
--- what a token is shown with what stands for its environment
+-- The same for a token that was accepted, or else its refusal.
 abbrev pub ready_for : Board → Result Shown Unseen → Result Ready Unseen
 ready_for board (Err unseen) = Err unseen
 ready_for board (Ok shown) = where_ready shown (snapshot_in shown.token.environment board.slots)
 
--- the token that a request shows, with what stands for its environment
+-- The token of a request, with the version of its environment.
 abbrev pub ready_by : Board → Request → Kind → Result Ready Unseen
 ready_by board q kind = ready_for board (shown_by board q kind)

@@ -1,4 +1,4 @@
-//! The answer to one request.
+//! Answers a request.
 ghost use Rattle.std.specs.Prelude.{◌≡◌, ◌≢◌, ◌∷◌, [], codes, IfOk, IfSome, Err, Ok, Some};
 ghost use Rattle.unl_core.specs.Answer.{answer_of, asked_context, at_route, delta_reply, document_reply, feature_reply, feed_for};
 ghost use Rattle.unl_core.specs.Answer.{feed_reply, feed_state, feed_tag, feed_with, has_tag, listed, news_since, one_text, plain};
@@ -34,9 +34,9 @@ use unl_metrics::{BadReport, Report};
 use unl_strategies::Moment;
 use unl_tokens::{BadRequest, Kind, Projects, Token, answer_text, read_request};
 
-/// Answers a request by the first case that fits: no route, a method that the route doesn't have, and then what the route
-/// answers. What a token is answered is over what it sees of its environment's state: the features of its projects, and
-/// all segments.
+/// Answers a request by the first case that fits: there is no such route, the route doesn't have the method, or the
+/// route's own answer. A token is answered over what it sees of its environment's state: the features of its projects,
+/// and all segments.
 #[tactic(auto, unfolding(crate::specs::Answer::answer_of))]
 pub fn answer(
     alloc: Global,
@@ -57,7 +57,7 @@ pub fn answer(
     at_route(alloc, board, request, draw, &route)
 }
 
-/// A reply to a request that reports nothing.
+/// The answer to a request that reports nothing.
 fn plain(reply: Reply) -> Answer
     ensures { result ≡ plain reply }
 {
@@ -68,7 +68,7 @@ fn plain(reply: Reply) -> Answer
     }
 }
 
-/// What the route answers, whose methods have the request's.
+/// The answer of a route that has the request's method.
 fn at_route(
     alloc: Global,
     board: &Board,
@@ -96,7 +96,7 @@ fn at_route(
     }
 }
 
-/// Takes in what an application counted at its toggles.
+/// Reads the metrics that an application reports.
 fn report(alloc: Global, board: &Board, request: &Request, kind: Kind) -> Result<Answer, Memory>
     ensures answer { IfOk result (λ a. a ≡ reported (shown_by board.now request.now kind) (single_report_of request.now.body)) }
     ensures report { IfOk result (λ a. IfSome a.report IsReport) }
@@ -110,7 +110,7 @@ fn report(alloc: Global, board: &Board, request: &Request, kind: Kind) -> Result
     }
 }
 
-/// Takes in what an edge summed up.
+/// Reads the metrics that an edge has summed up.
 fn bulk_report(alloc: Global, board: &Board, request: &Request) -> Result<Answer, Memory>
     ensures answer { IfOk result (λ a. a ≡ reported (shown_by board.now request.now Kind.Client) (bulk_report_of request.now.body)) }
     ensures report { IfOk result (λ a. IfSome a.report IsReport) }
@@ -124,7 +124,7 @@ fn bulk_report(alloc: Global, board: &Board, request: &Request) -> Result<Answer
     }
 }
 
-/// A report for the environment of a token, or the refusal of one that can't be read.
+/// The answer to a report for a token's environment, or the refusal of a report that can't be read.
 fn reported_by(
     alloc: Global,
     token: &Token,
@@ -145,7 +145,7 @@ fn reported_by(
     }
 }
 
-/// That it stands. Who asks for it asks often, so no value is made for its text.
+/// The health reply. Health checks are frequent, so its text is a constant.
 fn healthy(alloc: Global) -> Result<Reply, Memory>
     ensures { IfOk result (λ r. r ≡ reply 200 (one_text (codes "status") (codes "OK"))) }
 {
@@ -153,7 +153,7 @@ fn healthy(alloc: Global) -> Result<Reply, Memory>
     Ok(with_text(StatusCode::OK, text))
 }
 
-/// Which of the tokens asked for are known.
+/// The known tokens among those that the request lists.
 fn validate(alloc: Global, board: &Board, request: &Request) -> Result<Reply, Memory>
     ensures { IfOk result (λ r. r ≡ validated board.now (asked_in request.now.body)) }
 {
@@ -167,7 +167,7 @@ fn validate(alloc: Global, board: &Board, request: &Request) -> Result<Reply, Me
     }
 }
 
-/// Takes note of nothing: a client that registers need only send an object.
+/// Registers a client. Nothing is stored: the request only has to send an object.
 fn register(alloc: Global, board: &Board, request: &Request, kind: Kind) -> Result<Reply, Memory>
     ensures { IfOk result (λ r. r ≡ registered request.now (shown_by board.now request.now kind)) }
 {
@@ -180,7 +180,7 @@ fn register(alloc: Global, board: &Board, request: &Request, kind: Kind) -> Resu
     }
 }
 
-/// The toggles of what the request's token sees, all of them or those that are on.
+/// The toggles that the request's token sees: all of them, or those that are on.
 fn toggles(
     alloc: Global,
     board: &Board,
@@ -225,7 +225,7 @@ fn toggles_for(
     }
 }
 
-/// The context of a request: its body's, or else its query's.
+/// The context of a request: from the body of a POST, otherwise from the query.
 fn asked_context(alloc: Global, request: &Request) -> Result<Context, BadContext>
     ensures { Gives memory result (asked_context request.now) }
 {
@@ -235,7 +235,7 @@ fn asked_context(alloc: Global, request: &Request) -> Result<Context, BadContext
     Context::read_query(alloc, query_of(request.target.as_slice()))
 }
 
-/// The context in an environment.
+/// The context with its environment replaced.
 fn placed(alloc: Global, mut context: Context, environment: &str) -> Result<Context, Memory>
     ensures { IfOk result (λ c. c ≡ record context { environment = Some environment.now }) }
 {
@@ -275,7 +275,8 @@ fn feature_of(alloc: Global, ready: &Ready, name: &str) -> Result<Reply, Memory>
     }
 }
 
-/// The features and segments that the request's token sees, in the form that the asker knows, unless the asker has them.
+/// The features and segments that the request's token sees, with segments inlined for clients that don't know them. The
+/// reply is 304 if the request has the feed's tag.
 fn feed(alloc: Global, board: &Board, request: &Request) -> Result<Reply, Memory>
     ensures { IfOk result (λ r. r ≡ feed_reply board.now request.now (ready_by board.now request.now Kind.Client)) }
 {
@@ -321,11 +322,11 @@ fn feed_tag(alloc: Global, board: &Board, inlined: bool, ready: &Ready) -> Resul
     tag_of(alloc, board, ready.place, version.epoch, version.number)
 }
 
-/// What a feed holds: what the token sees, with its segments inlined where that is asked.
+/// The content of a feed: what the token sees, with segments inlined if asked for.
 ///
 /// # Errors
 ///
-/// `TooMany`: a strategy would have more than 100 constraints.
+/// `TooMany` if a strategy would have more than 100 constraints. `Memory` if it runs out of memory.
 fn feed_state(alloc: Global, inlined: bool, ready: &Ready) -> Result<State, InlineRefusal>
     ensures state { Gives InlineRefusal.Memory result (feed_state inlined (seen ready.now)) }
     ensures valid { IfOk result IsValidState }
@@ -342,7 +343,7 @@ fn feed_state(alloc: Global, inlined: bool, ready: &Ready) -> Result<State, Inli
     }
 }
 
-/// The feed of a state with its tag.
+/// The reply with the feed of a state, and its tag.
 fn feed_with(alloc: Global, ready: &Ready, tag: Text, state: &State) -> Result<Reply, Memory>
     requires { IsValidState state.now }
     ensures { IfOk result (λ r. r ≡ feed_with ready.now tag (Ok state.now)) }
@@ -359,7 +360,7 @@ fn feed_with(alloc: Global, ready: &Ready, tag: Text, state: &State) -> Result<R
     Ok(tagged_text(tag, text))
 }
 
-/// What changed since the number of the request's tag, as its token sees it.
+/// The changes since the number in the request's tag, as its token sees them.
 fn changes(alloc: Global, board: &Board, request: &Request) -> Result<Reply, Memory>
     ensures { IfOk result (λ r. r ≡ delta_reply board.now request.now (ready_by board.now request.now Kind.Client)) }
 {
@@ -382,7 +383,7 @@ fn changes_for(
     news_since(alloc, board, ready, since)
 }
 
-/// What is new for one who has what is numbered up to some number, or that nothing is.
+/// The changes since a number, or since nothing, as the token sees them, or that there are none.
 fn news_since(
     alloc: Global,
     board: &Board,
@@ -424,7 +425,7 @@ fn still_at(
     }
 }
 
-/// The tag of what is answered at a number of the version's epoch.
+/// The tag of an answer at a number of the version's epoch.
 fn tag_at(alloc: Global, board: &Board, ready: &Ready, number: u64) -> Result<Text, Memory>
     ensures { IfOk result (λ tag. tag ≡ tag_at board.now ready.now number) }
 {
@@ -442,7 +443,7 @@ fn has_tag(request: &Request, tag: &str) -> bool
     }
 }
 
-/// The names of the projects as a feed lists them.
+/// The project names as a feed lists them.
 fn listed(alloc: Global, projects: &Projects) -> Result<List<Text>, Memory>
     ensures { IfOk result (λ names. names ≡ listed projects.now) }
 {

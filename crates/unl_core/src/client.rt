@@ -1,4 +1,4 @@
-//! What a request says of the client that sends it.
+//! What a request says about its client.
 ghost use Rattle.std.specs.Prelude.{◌≡◌, IfOk};
 ghost use Rattle.std.specs.Ordering.{is_lt};
 ghost use Rattle.semver.specs.Identifiers.{parts_of};
@@ -11,7 +11,7 @@ use unl_constraints::read_version;
 use unl_documents::Memory;
 use unl_http_api::{Request, utf8_in};
 
-/// Whether the request names a version of the client specification whose clients know no segments: a full version of
+/// Whether the request names a version of the client specification whose clients don't know segments: a full version of
 /// Semantic Versioning 2.0.0 with precedence below 4.2.0.
 pub(crate) fn knows_no_segments(alloc: Global, request: &Request) -> Result<bool, Memory>
     ensures { IfOk result (λ old. old ≡ knows_no_segments request.now) }
@@ -40,7 +40,7 @@ fn is_old_version(alloc: Global, text: &str) -> Result<bool, Memory>
     }
 }
 
-/// Whether a version comes before the first whose clients know segments.
+/// Whether a version comes before the first one whose clients know segments.
 fn is_before_first(version: &Version) -> bool
     ensures { result ≡ is_lt (precedence (parts_of version.now) first_with_segments) }
 {

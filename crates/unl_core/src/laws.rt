@@ -1,4 +1,4 @@
-//! Laws of the definitions.
+//! Laws of the definitions of tags and of what a token sees.
 ghost use Rattle.std.specs.Prelude.{◌≡◌, ℕ, Ok, Option};
 ghost use Rattle.unl_core.specs.declared.board.Board.{Board};
 ghost use Rattle.unl_core.specs.Histories.{AllStand, Histories, ShowsRevisions, both_see};
@@ -12,19 +12,19 @@ ghost use Rattle.unl_http_api.specs.declared.request.Request.{Request};
 ghost use Rattle.unl_tokens.specs.declared.kind.Kind.{Kind};
 ghost use Rattle.unl_tokens.specs.Names.{sees};
 
-/// A number is read only from a tag that is spelled exactly so with it.
+/// A number is read from a tag only if it is exactly the tag of that number.
 pub fn tag_is_of_its_number()
     ensures { TagIsOfItsNumber }
 {}
 
-/// The number with which a tag is spelled is read from it again.
+/// A tag's number is read back from the tag.
 pub fn tag_is_read()
     ensures { TagIsRead }
 {}
 
-/// Where each slot of a board stands for the line of histories of its environment, what a token is shown of that board is one
-/// revision of its environment's line, and the events that it is told are sent of that line: as it and who is sent them both
-/// see it.
+/// If the version of each slot of a board is a revision of its environment's line of histories, a token sees one
+/// revision of that line, and the events it is sent are sent of that line. Both are filtered by the projects that the
+/// slot and the token see.
 pub fn answers_show_one_revision()
     ensures state { (told : Histories) (board : Board) → AllStand told board.slots → ShowsRevisions told board }
     ensures events { (told : Histories) (board : Board) (q : Request) (kind : Kind) (ready : Ready) (since : Option ℕ) (batch : Batch)

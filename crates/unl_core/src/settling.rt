@@ -1,4 +1,4 @@
-//! What a report does: it is summed up, or refused where the book of metrics has no room for it.
+//! Adds a request's report to the metrics book.
 ghost use Rattle.std.specs.Prelude.{◌≡◌, Err, IfOk, IfSome, Ok, OnErr, OnOk};
 ghost use Rattle.unl_core.specs.Settling.{final_book, final_reply, summed};
 ghost use Rattle.unl_metrics.specs.Reports.{IsReport};
@@ -11,8 +11,8 @@ use unl_documents::{Memory, Text};
 use unl_http_api::Reply;
 use unl_metrics::{AddRefusal, MetricsBook, Report};
 
-/// Sums up what an answer reports, and gives the reply: the answer's own, or that the book is full, which then stays as it
-/// was. An `Err` changes nothing.
+/// Adds the answer's report to the book and returns the reply: the answer's own, or the refusal 503 `MetricsFull` if the
+/// book has no room. The book is then unchanged, as on an error.
 pub fn settle(alloc: Global, book: &mut MetricsBook, answer: Answer) -> Result<Reply, Memory>
     requires { IfSome answer.report IsReport }
     ensures reply { IfOk result (λ reply. reply ≡ final_reply book.old answer) }
@@ -26,7 +26,7 @@ pub fn settle(alloc: Global, book: &mut MetricsBook, answer: Answer) -> Result<R
     }
 }
 
-/// Sums up a report for its environment, where there is one.
+/// Adds a report for its environment, if there is one.
 fn sum_up(
     alloc: Global,
     book: &mut MetricsBook,

@@ -1,4 +1,4 @@
-//! The token that a request shows, and what stands for it.
+//! The token of a request, and the version of its environment.
 ghost use Rattle.std.specs.Prelude.{◌≡◌};
 ghost use Rattle.unl_core.specs.Board.{snapshot_in};
 ghost use Rattle.unl_core.specs.Shown.{entry_of, is_kind, ready_by, shown_by, where_ready};
@@ -9,20 +9,20 @@ use unl_compiled::Snapshot;
 use unl_http_api::Request;
 use unl_tokens::{Book, Kind, Token};
 
-/// Why nothing is shown to a request.
+/// Why a request's token is not accepted.
 #[derive(Clone, Copy, Debug, PartialEq, Eq)]
 pub enum Unseen {
-    /// It shows no token.
+    /// The request has no token.
     NoToken,
-    /// The book has no token of that text.
+    /// The book has no such token.
     UnknownToken,
     /// The token is of the other kind.
     WrongKind,
-    /// Nothing stands for the token's environment.
+    /// The token's environment has no version yet.
     NotReady,
 }
 
-/// A token, and its place in the book.
+/// A token, and its position in the book.
 #[derive(Drop)]
 pub(crate) struct Shown<'b> {
     pub place: u32,
@@ -37,7 +37,7 @@ impl<'b> Model for Shown<'b> {
     ghost view = { λ s. record { place = s.place; token = s.token.now } };
 }
 
-/// A token of the book with what stands for its environment.
+/// A token of the book with its position, and the snapshot of its environment.
 #[derive(Drop)]
 pub(crate) struct Ready<'b> {
     pub place: u32,
@@ -69,7 +69,7 @@ fn is_kind(found: Kind, kind: Kind) -> bool
     }
 }
 
-/// The token of a text, with its place.
+/// Finds a token by its text.
 fn entry_of<'b>(book: &'b Book, text: &[u8]) -> Option<Shown<'b>>
     ensures { result ≡ entry_of text.now book.now }
 {
@@ -78,7 +78,7 @@ fn entry_of<'b>(book: &'b Book, text: &[u8]) -> Option<Shown<'b>>
     Some(Shown { place, token })
 }
 
-/// The token that a request shows, where it is one of this kind.
+/// The token of a request, if the book has it and it is of this kind.
 pub(crate) fn shown_by<'b>(
     board: &'b Board,
     request: &Request,
@@ -111,7 +111,7 @@ fn where_ready<'b>(board: &'b Board, shown: &Shown<'b>) -> Result<Ready<'b>, Uns
     }
 }
 
-/// The token that a request shows, where it is one of this kind, with what stands for its environment.
+/// The token of a request, if the book has it and it is of this kind, with the snapshot of its environment.
 pub(crate) fn ready_by<'b>(
     board: &'b Board,
     request: &Request,

@@ -1,4 +1,4 @@
-//! The tags of answers.
+//! The entity tags of answers.
 ghost use Rattle.std.specs.Prelude.{◌≡◌, ◌++◌, codes, decimal, length, IfOk, string_bytes};
 ghost use Rattle.unl_core.specs.Tag.{hex_16, if_spelled, inlined_tag, number_of_tag, number_part, since_of, tag_front, tag_text, whole_in};
 
@@ -9,7 +9,7 @@ use unl_documents::parsing::read_json;
 use unl_documents::{Memory, Text};
 use unl_http_api::Bytes;
 
-/// The tag for the token at a place, of what stands at a number of an epoch.
+/// The tag for the token at `place`, of the content at `number` of `epoch`.
 pub(crate) fn tag_of(
     alloc: Global,
     board: &Board,
@@ -37,7 +37,7 @@ pub(crate) fn inlined_tag_of(
     Ok(Text::from(format!(in alloc; "{front}{number}i\"")?))
 }
 
-/// What stands before the number in each tag for the token at a place, of what is answered in an epoch.
+/// The part of a tag before its number, for the token at `place` and an epoch.
 fn tag_front(alloc: Global, board: &Board, place: u32, epoch: u64) -> Result<String, AllocError>
     ensures { IfOk result (λ s. string_bytes s ≡ tag_front board.now place epoch) }
 {
@@ -49,7 +49,8 @@ fn tag_front(alloc: Global, board: &Board, place: u32, epoch: u64) -> Result<Str
     format!(in alloc; "\"{boot:016x}-{generation}-{place}-{epoch}.")
 }
 
-/// The number of a request's tag, where it has one that is spelled exactly so for the token at a place and this epoch.
+/// The number in a request's tag. `None` if there is no tag, or if it isn't exactly the tag of some number for this token
+/// and epoch.
 pub(crate) fn since_of(
     alloc: Global,
     board: &Board,
@@ -82,7 +83,7 @@ fn number_of_tag(
     }
 }
 
-/// The number, where the tag is spelled exactly so with it.
+/// The number, if the tag is exactly the tag of that number.
 fn if_spelled(
     alloc: Global,
     board: &Board,
@@ -101,7 +102,7 @@ fn if_spelled(
     }
 }
 
-/// How many bytes stand before the number in each such tag.
+/// The length of the part before the number, in bytes.
 fn front_length(alloc: Global, board: &Board, place: u32, epoch: u64) -> Result<usize, Memory>
     ensures { IfOk result (λ front. front ≡ length (tag_front board.now place epoch)) }
 {
@@ -109,7 +110,7 @@ fn front_length(alloc: Global, board: &Board, place: u32, epoch: u64) -> Result<
     Ok(front.len())
 }
 
-/// The bytes of a tag that spell its number, if it is one that begins with so many bytes.
+/// The digits of a tag whose number comes after `front` bytes. Empty if the tag is too short.
 fn number_part(front: usize, tag: &[u8]) -> &[u8]
     ensures { result.now ≡ number_part front tag.now }
 {
@@ -119,7 +120,7 @@ fn number_part(front: usize, tag: &[u8]) -> &[u8]
     &tag[front..tag.len() - 1]
 }
 
-/// The whole number that bytes spell in JSON.
+/// The whole number that is written in JSON.
 fn whole_in(alloc: Global, bytes: &[u8]) -> Result<Option<u64>, Memory>
     ensures { IfOk result (λ number. number ≡ whole_in bytes.now) }
 {

@@ -1,4 +1,4 @@
--- The tokens of events and batches.
+-- The JSON tokens of events and batches.
 use Rattle.std.proofs.Common.{◌≡◌, ℕ, List, [], ◌∷◌, ◌++◌, Option, Some, None, option_map, refl}
 use Rattle.std.specs.Prelude.{All, codes}
 use Rattle.std.specs.List.{AllByRecursion}
@@ -21,7 +21,7 @@ pub all_events : (events : List Event) → AllByRecursion IsValidEvent events �
 all_events [] valid = All-nil IsValidEvent
 all_events (e ∷ events) valid = All-cons IsValidEvent e events valid.0 (all_events events valid.1)
 
--- an event of these members
+-- the tokens of an event with these members
 abbrev framed : ℕ → List Token → List ℕ → List Token
 framed number between word = (begin_object ∷ tokens_at field.EventId (count number)) ++ (between ++ (tokens_at field.Kind (string word) ++ end_object ∷ []))
 

@@ -1,4 +1,4 @@
--- Going over the events of a batch, and what then holds of their order.
+-- Reading the events of a batch one after the other, and the order that they are then in.
 use Rattle.std.proofs.Common.{◌≡◌, ◌&&◌, not, ℕ, ◌+◌, ◌<◌, ◌≤◌, Bool, true, false, cond, ltb, List, [], ◌∷◌, ◌++◌, length, get_or, drop, Option, Some, None, Result, Ok, Err, refl, sym, ap, subst, ◌∙◌, append_assoc, add-one, drop-cons, arith}
 use Rattle.std.specs.Prelude.{◌≢◌, IfOk, IfSome, ok_or, option_and_then, option_map}
 use Rattle.std.specs.List.{AllByRecursion as Every}
@@ -24,7 +24,7 @@ use Rattle.unl_delta.specs.State.{number_of, is_change}
 use Rattle.unl_delta.specs.Valid.{NeverFall, IsBatch, IsValidEvent, IsValidBatch}
 use Rattle.unl_delta.proofs.Every.{every_append}
 
--- what was read before, and what is still read
+-- the events read so far, followed by those still to be read
 abbrev pub with_front : List Event → Result (List Event) BadBatch → Result (List Event) BadBatch
 with_front front reading = reading >>= λ others. Ok (front ++ others)
 
@@ -60,9 +60,9 @@ is_done front values i before total le so_far =
 pub each_more : (front : List Event) (e : Event) → Every IsValidEvent front → IsValidEvent e → Every IsValidEvent (front ++ e ∷ [])
 each_more front e each valid = every_append IsValidEvent front (e ∷ []) each (valid, tt)
 
--- ---- the order of what is read
+-- ---- the order of the events read
 
--- an event that was read at a place stands well there
+-- the event is allowed at the position: a change unless it is first, with no number below the one before
 record Fits (place before : ℕ) (e : Event) : Type 0 where
   pub change : 0 < place → is_change e ≡ true
   pub rises : before ≤ number_of e
@@ -90,7 +90,7 @@ fits_at place before value x is = decided (at_place place (event_of value)) is
     decided (Ok e) so = fits_from place before e x so
     decided (Err fault) so = absurd cc
 
--- events from a later place on are changes, and their numbers never fall
+-- events after the first position are changes, and the numbers never decrease
 record AreInOrder (place before : ℕ) (es : List Event) : Type 0 where
   pub changes : 0 < place → Every (λ e. is_change e ≡ true) es
   pub numbers : NeverFall number_of before es
@@ -116,7 +116,7 @@ in_order_from place before (item value values) es is = decided (λ low xs so. in
     decided again (Err fault) one so = absurd cc
     decided again (Ok e) one so = more again e (events_from (place + 1) (number_of e) values) one refl so
 
--- what is read from the first place on is a batch
+-- events read from the first position on are those of a well-formed batch
 pub read_in_order : (values : Items) (es : List Event) → events_from 0 0 values ≡ Ok es → Every (λ e. is_change e ≡ true) (drop 1 es) × NeverFall number_of 0 es
 unfolding events_from
 read_in_order no_items es is =

@@ -1,4 +1,4 @@
--- Where a key stands, or else belongs, among items whose keys rise, and what parts the items there.
+-- The position where a key is, or belongs, among items whose keys ascend, and how it splits the items.
 use Rattle.std.proofs.Common.{◌≡◌, ◌<◌, ◌≤◌, ◌+◌, ◌&&◌, ℕ, zero, suc, Bool, true, false, not, cond, Option, Some, None, List, [], ◌∷◌, ◌++◌, length, map, take, drop, get_or, Ordering, Less, Equal, Greater, nat_cmp, inl, inr, refl, sym, ap, subst, ◌∙◌, arith}
 use Rattle.std.specs.Prelude.{find, option_and_then, slice_get, slice_set, insert, remove}
 use Rattle.std.specs.Cmp.Lexicographic.{slice_cmp}
@@ -17,14 +17,14 @@ use Rattle.unl_delta.proofs.Every.{every_weaker, filter_all, filter_in, filter_n
 use Rattle.unl_delta.proofs.Order.{cmp, Rises, less_apart, less_back, less_from_test, rises_from_rising}
 use Rattle.unl_documents.specs.Parameters.{AreRising}
 
--- ---- the place of a key
+-- ---- the position of a key
 
 pub each_at : {T : Type 0} (P : T → Type 0) (xs : List T) (i : ℕ) (d : T) → i < length xs → Every P xs → P (get_or xs i d)
 each_at P [] i d inside h = absurd (omega (arith, inside))
 each_at P (x ∷ xs) zero d inside h = h.0
 each_at P (x ∷ xs) (suc i) d inside h = each_at P xs i d (omega (arith, inside)) h.1
 
--- no item that comes before the key stands behind one that doesn't
+-- the items that come before the key are at the front
 pub partitioned : {T : Type 0} (key : T → List ℕ) (k : List ℕ) (xs : List T) → Rises key xs → IsPartitionedBy (λ y. is_before (key y) k) xs
 unfolding Rises
 partitioned key k [] h i j d le lt before = absurd (omega arith)
@@ -35,12 +35,12 @@ partitioned {T} key k (x ∷ xs) h zero (suc j) d le lt before =
 partitioned key k (x ∷ xs) h (suc i) zero d le lt before = absurd (omega arith)
 partitioned key k (x ∷ xs) h (suc i) (suc j) d le lt before = partitioned key k xs h.1 i j d (omega arith) (omega arith) before
 
--- a point that parts the items that pass a test from the others is how many pass it in front
+-- a partition point of a test is the number of items at the front that pass it
 pub point_is : {T : Type 0} (p : T → Bool) (xs : List T) (i : ℕ) → i ≤ length xs → IsPartitionPoint (λ x. p x ≡ true) (λ x. p x ≡ false) xs i → i ≡ prefix_len p xs
 point_is p [] i le h = omega arith
 point_is p (x ∷ xs) i le h = sym (prefix_len_is p (x ∷ xs) i x le (λ k lt. h.0 k x (omega arith) lt) (λ lt. h.1 i x (omega arith) lt))
 
--- ---- what stands in front of the place, and behind it
+-- ---- the items before the position, and after it
 
 below_in : {T : Type 0} (key : T → List ℕ) (k : List ℕ) (y : T) (ys : List T) → is_before (key y) k ≡ true → below key k (y ∷ ys) ≡ y ∷ below key k ys
 unfolding below
@@ -68,7 +68,7 @@ unfolding above
 all_above {T} key k xs h =
     filter_all (λ y. is_before k (key y)) xs (every_weaker (λ (y : T). cmp k (key y) ≡ Less) (λ (y : T). is_before k (key y) ≡ true) xs (λ y less. ap is_lt less) h)
 
--- behind an item that doesn't come before the key come greater keys alone
+-- after an item that doesn't come before the key, all keys are greater
 pub greater : {T : Type 0} (key : T → List ℕ) (k : List ℕ) (y : T) (ys : List T) → is_before (key y) k ≡ false → Every (λ z. cmp (key y) (key z) ≡ Less) ys → Every (λ z. cmp k (key z) ≡ Less) ys
 greater {T} key k y ys before h = decided (cmp (key y) k) refl before
   where
@@ -80,11 +80,11 @@ greater {T} key k y ys before h = decided (cmp (key y) k) refl before
         let back : cmp k (key y) ≡ Less = nat_list_cmp_total.antisymm k (key y) ∙ ap ordering_reverse is in
         every_weaker (λ (z : T). cmp (key y) (key z) ≡ Less) (λ (z : T). cmp k (key z) ≡ Less) ys (λ z less. nat_list_cmp_total.trans k (key y) (key z) back less) h
 
--- whether an item stands at the place that doesn't come after the key
+-- whether there is an item at the position whose key doesn't come after k
 abbrev pub stands : {T : Type 0} → (T → List ℕ) → List ℕ → List T → ℕ → Bool
 stands key k xs place = option_map_or (λ y. not (is_before k (key y))) (slice_get xs place) false
 
--- the place parts the items into those below the key, the one of the key where it stands, and those above it
+-- the position splits the items into those below the key, the one with the key if there is one, and those above it
 pub record Parts {T : Type 0} (key : T → List ℕ) (k : List ℕ) (xs : List T) (place : ℕ) (there : Bool) : Type 0 where
   pub low : take place xs ≡ below key k xs
   pub high : drop (cond there (suc place) place) xs ≡ above key k xs
@@ -109,7 +109,7 @@ parts_here {T} key k y ys h before =
       })
     ]
 
--- one more item that comes before the key
+-- one more item at the front, which comes before the key
 parts_more : {T : Type 0} (key : T → List ℕ) (k : List ℕ) (y : T) (ys : List T) (place : ℕ) (there : Bool) → is_before (key y) k ≡ true → Parts key k ys place there → Parts key k (y ∷ ys) (suc place) there
 parts_more {T} key k y ys place there before rest =
     let after : is_before k (key y) ≡ false = ap is_lt (less_back (key y) k (less_from_test _ before)) in
@@ -144,9 +144,9 @@ parts_at {T} key k (y ∷ ys) (suc place) h is =
           absurd (omega (arith, is, count))
     ]
 
--- ---- an item that is put there, and one that is taken out
+-- ---- inserting an item, and removing one
 
--- the same of what was looked up in two views of the items, by two views of the key
+-- the same split, for equal lists and equal keys
 pub parts_seen : {T : Type 0} (key : T → List ℕ) (k : List ℕ) (xs shown again : List T) (j i : List ℕ) (place : ℕ) (there known : Bool)
     → AreRising (map key xs) → shown ≡ xs → again ≡ xs → j ≡ k → i ≡ k → place ≡ prefix_len (λ y. is_before (key y) j) shown
     → there ≡ stands key i again place → there ≡ known → Parts key k xs place known
@@ -174,14 +174,14 @@ pub none_is : {T : Type 0} (key : T → List ℕ) (k : List ℕ) (xs : List T) (
 none_is {T} key k xs place parts =
     sym (take-append-drop place xs) ∙ ap (λ (low : List T). low ++ drop place xs) parts.low ∙ ap (λ (high : List T). below key k xs ++ high) parts.high
 
--- ---- the item of a key
+-- ---- the item with the key
 
--- items of greater keys alone have none of the key
+-- among items with greater keys, none has the key
 pub none_found : {T : Type 0} (key : T → List ℕ) (k : List ℕ) (xs : List T) → Every (λ y. cmp k (key y) ≡ Less) xs → find (λ y. bytes_eq (key y) k) xs ≡ None
 none_found key k [] h = refl
 none_found key k (y ∷ ys) h = rw (less_apart k (key y) h.0) (none_found key k ys h.1)
 
--- a key that neither comes before another nor after it is the same
+-- two keys are equal if neither comes before the other
 same_key : (a b : List ℕ) → is_before a b ≡ false → is_before b a ≡ false → bytes_eq a b ≡ true
 same_key a b before after = sym (is_eq-slice_cmp a b) ∙ decided (cmp a b) (cmp b a) (nat_list_cmp_total.antisymm a b) before after
   where
@@ -192,7 +192,7 @@ same_key a b before after = sym (is_eq-slice_cmp a b) ∙ decided (cmp a b) (cmp
     decided Greater Equal turned first second = absurd cc
     decided Greater Greater turned first second = absurd cc
 
--- two keys are the same where neither comes before the other, and only there
+-- two keys are equal exactly if neither comes before the other
 same_is : (a b : List ℕ) → (not (is_before a b) && not (is_before b a)) ≡ bytes_eq a b
 same_is a b = sym (decided (cmp a b) (cmp b a) (nat_list_cmp_total.antisymm b a)) ∙ is_eq-slice_cmp a b
   where
@@ -201,13 +201,13 @@ same_is a b = sym (decided (cmp a b) (cmp b a) (nat_list_cmp_total.antisymm b a)
     decided Equal back turned = sym (ap (λ (b : Ordering). not (is_lt b)) turned)
     decided Greater back turned = sym (ap (λ (b : Ordering). not (is_lt b)) turned)
 
--- the first doesn't come before the second, and so the other test tells
+-- if the first doesn't come before the second, the other test decides whether they are equal
 pub same_if_not_after : (a b : List ℕ) (before after : Bool) → before ≡ is_before a b → after ≡ is_before b a → before ≡ false → not after ≡ bytes_eq a b
 same_if_not_after a b before after first second h =
     let lower : is_before a b ≡ false = sym first ∙ h in
     ap not second ∙ ap (λ (t : Bool). not t && not (is_before b a)) (sym lower) ∙ same_is a b
 
--- the first comes before the second
+-- if the first comes before the second, they are not equal
 pub apart_if_before : (a b : List ℕ) (before : Bool) → before ≡ is_before a b → before ≡ true → not before ≡ bytes_eq a b
 apart_if_before a b before first h = ap not h ∙ sym (sym (is_eq-slice_cmp a b) ∙ ap is_eq (less_from_test _ (sym first ∙ h)))
 
@@ -240,7 +240,7 @@ found_at {T} key k (y ∷ ys) (suc place) h is =
           absurd (omega (arith, is, count))
     ]
 
--- ---- keys that rise one after the other
+-- ---- keys that ascend pairwise
 
 pub rises_from_neighbours : {T : Type 0} (key : T → List ℕ) (xs : List T) → AllAdjacentBelow (λ x y. true ≡ is_before (key x) (key y)) xs (length xs) → Rises key xs
 unfolding Rises

@@ -1,4 +1,4 @@
--- Items in runs, one behind the other, whose keys rise: where a key stands among them, or else belongs.
+-- Chunks of items whose keys ascend: where a key is, or belongs.
 use Rattle.std.proofs.Common.{◌≡◌, ◌<◌, ◌≤◌, ◌+◌, ◌-◌, ℕ, zero, suc, Bool, true, false, Option, Some, None, List, [], ◌∷◌, ◌++◌, length, map, take, drop, get_or, Less, inl, inr, refl, sym, ap, subst, ◌∙◌, append_assoc, arith}
 use Rattle.std.specs.Prelude.{filter, find, nat_lt, slice_get}
 use Rattle.std.specs.List.{AllByRecursion as Every, flat_map, prefix_len}
@@ -23,7 +23,7 @@ use Rattle.unl_delta.proofs.Order.{cmp, Rises, less_apart, less_back, less_from_
 use Rattle.unl_documents.specs.Parameters.{AreRising}
 use Rattle.unl_documents.specs.Series.{joined, NoneIsEmpty}
 
--- ---- a list that rises in two parts
+-- ---- a list in two parts whose keys ascend
 
 every_front : {T : Type 0} (P : T → Type 0) (xs ys : List T) → Every P (xs ++ ys) → Every P xs
 every_front P [] ys h = tt
@@ -43,9 +43,9 @@ unfolding Rises
 rises_back key [] ys h = h
 rises_back key (x ∷ xs) ys h = rises_back key xs ys h.1
 
--- ---- a run that ends before a key, and one that doesn't
+-- ---- chunks that end before a key, and chunks that don't
 
--- one more item in front changes nothing at the end
+-- one more item at the front doesn't change the end
 ends_alike : {T : Type 0} (key : T → List ℕ) (k : List ℕ) (x y : T) (ys : List T) → ends_before key k (x ∷ y ∷ ys) ≡ ends_before key k (y ∷ ys)
 ends_alike {T} key k x y ys =
     let more : suc (suc (length ys)) - 1 ≡ suc (length ys) = omega arith in
@@ -61,14 +61,14 @@ all_before {T} key k (x ∷ y ∷ ys) h ends =
     let others : Every (λ (z : T). cmp (key z) k ≡ Less) (y ∷ ys) = all_before key k (y ∷ ys) h.1 (sym (ends_alike key k x y ys) ∙ ends) in
     (nat_list_cmp_total.trans (key x) (key y) k h.0.0 others.0, others)
 
--- what stands behind a run that doesn't end before the key comes after the key
+-- all items after a chunk that doesn't end before the key come after the key
 all_behind : {T : Type 0} (key : T → List ℕ) (k : List ℕ) (run more : List T) → Rises key (run ++ more) → 1 ≤ length run → ends_before key k run ≡ false → Every (λ z. cmp k (key z) ≡ Less) more
 unfolding Rises
 all_behind key k [] more h full ends = absurd (omega (arith, full))
 all_behind key k (x ∷ []) more h full ends = greater key k x more ends h.0
 all_behind key k (x ∷ y ∷ ys) more h full ends = all_behind key k (y ∷ ys) more h.1 (omega arith) (sym (ends_alike key k x y ys) ∙ ends)
 
--- of items that all come after the key no last one comes before it
+-- items that all come after the key don't end before it
 not_ended : {T : Type 0} (key : T → List ℕ) (k : List ℕ) (run : List T) → Every (λ y. cmp k (key y) ≡ Less) run → ends_before key k run ≡ true → ⊥
 not_ended key k [] h ends = absurd cc
 not_ended key k (x ∷ []) h ends = let less : is_before (key x) k ≡ false = ap is_lt (less_back k (key x) h.0) in cc
@@ -79,7 +79,7 @@ none_ends key k [] i d full h inside ends = absurd (omega (arith, inside))
 none_ends {T} key k (run ∷ runs) zero d full h inside ends = not_ended key k run (every_front (λ (y : T). cmp k (key y) ≡ Less) run (joined runs) h) ends
 none_ends {T} key k (run ∷ runs) (suc i) d full h inside ends = none_ends key k runs i d full.1 (every_back (λ (y : T). cmp k (key y) ≡ Less) run (joined runs) h) (omega (arith, inside)) ends
 
--- no run that ends before the key stands behind one that doesn't
+-- the chunks that end before the key come first
 stops : {T : Type 0} (key : T → List ℕ) (k : List ℕ) (runs : List (List T)) → Every (λ run. 1 ≤ length run) runs → Rises key (joined runs) → IsPartitionedBy (ends_before key k) runs
 stops key k [] full h i j d le lt before = absurd (omega arith)
 stops key k (run ∷ runs) full h zero zero d le lt before = before
@@ -91,9 +91,9 @@ stops {T} key k (run ∷ runs) full h zero (suc j) d le lt before =
 stops key k (run ∷ runs) full h (suc i) zero d le lt before = absurd (omega arith)
 stops key k (run ∷ runs) full h (suc i) (suc j) d le lt before = stops key k runs full.1 (rises_back key run (joined runs) h) i j d (omega arith) (omega arith) before
 
--- ---- the run of a key
+-- ---- the chunk of a key
 
--- in front of the run all come before the key, and behind it all come after it
+-- all items before the chunk come before the key, and all items after the chunk come after it
 pub record Around {T : Type 0} (key : T → List ℕ) (k : List ℕ) (runs : List (List T)) (place : ℕ) : Type 0 where
   pub low : Every (λ y. cmp (key y) k ≡ Less) (joined (take place runs))
   pub high : Every (λ y. cmp k (key y) ≡ Less) (joined (drop (suc place) runs))
@@ -122,7 +122,7 @@ around {T} key k (run ∷ runs) (suc place) full h is =
           absurd (omega (arith, is, count))
     ]
 
--- the runs in front of a place, the one there, and those behind it
+-- a list splits into the chunks before a position, the chunk there, and the chunks after it
 parted : {T : Type 0} (runs : List (List T)) (place : ℕ) (run : List T) → slice_get runs place ≡ Some run → joined runs ≡ joined (take place runs) ++ (run ++ joined (drop (suc place) runs))
 parted [] place run is = absurd cc
 parted {T} (first ∷ runs) zero run is =
@@ -137,7 +137,7 @@ take_past [] (suc i) none = refl
 take_past (x ∷ xs) zero none = absurd cc
 take_past {A} (x ∷ xs) (suc i) none = ap (λ (ys : List A). x ∷ ys) (take_past xs i none)
 
--- ---- what is put, taken out and found between items that come before the key and items that come after it
+-- ---- insertion, removal and lookup between items that come before the key and items that come after it
 
 all_low : {T : Type 0} (key : T → List ℕ) (k : List ℕ) (xs : List T) → Every (λ y. cmp (key y) k ≡ Less) xs → below key k xs ≡ xs
 unfolding below
@@ -192,17 +192,17 @@ find_parts {T} key k xs ys zs low high =
     or_none None = refl
     or_none (Some y) = refl
 
--- ---- the run of a key is changed
+-- ---- changing the chunk of a key
 
--- each run has an item, by recursion
+-- no chunk is empty, by recursion
 each_full : {T : Type 0} (runs : List (List T)) → NoneIsEmpty runs → Every (λ run. 1 ≤ length run) runs
 each_full {T} runs full = recursion_from_All (λ (run : List T). 1 ≤ length run) runs full
 
--- no run that ends before the key stands behind one that doesn't
+-- the chunks that end before the key come first
 pub runs_partitioned : {T : Type 0} (key : T → List ℕ) (k : List ℕ) (runs : List (List T)) → NoneIsEmpty runs → AreRising (map key (joined runs)) → IsPartitionedBy (ends_before key k) runs
 runs_partitioned key k runs full rising = stops key k runs (each_full runs full) (rises_from_rising key (joined runs) rising)
 
--- the run of a place, what stands in front of it and behind it, and that its keys rise
+-- the chunk at a position, what is before and after it, and that its keys ascend
 pub record Held {T : Type 0} (key : T → List ℕ) (k : List ℕ) (runs : List (List T)) (place : ℕ) (run : List T) : Type 0 where
   pub inside : place < length runs
   pub rising : AreRising (map key run)
@@ -247,9 +247,9 @@ pub find_in_run : {T : Type 0} (key : T → List ℕ) (k : List ℕ) (runs : Lis
 find_in_run {T} key k runs items place run h same =
     find_parts key k (joined (take place runs)) run (joined (drop (place + 1) runs)) h.low h.high ∙ ap (λ (xs : List T). find (λ (y : T). bytes_eq (key y) k) xs) (sym h.parts ∙ same)
 
--- ---- all runs end before the key
+-- ---- all chunks end before the key
 
--- all items come before a key where its place is behind all runs
+-- if the key's position is after all chunks, all items come before the key
 all_end_before : {T : Type 0} (key : T → List ℕ) (k : List ℕ) (runs : List (List T)) (items : List T) (place : ℕ) → NoneIsEmpty runs → joined runs ≡ items → AreRising (map key items) → place ≡ prefix_len (ends_before key k) runs → slice_get runs place ≡ None
     → Every (λ y. cmp (key y) k ≡ Less) items
 all_end_before {T} key k runs items place full same rising is none =
@@ -273,9 +273,9 @@ pub find_at_end : {T : Type 0} (key : T → List ℕ) (k : List ℕ) (runs : Lis
     → None ≡ find (λ y. bytes_eq (key y) k) items
 find_at_end key k runs items place full same rising is none = sym (none_same key k items (all_end_before key k runs items place full same rising is none))
 
--- ---- a filter over runs
+-- ---- a filter over chunks
 
--- what a list gives, where what two give stands one behind the other: that of the runs so far, and of one more
+-- a function that distributes over concatenation, applied to the chunks so far and one more
 pub gathers_next : {T U : Type 0} (f : List T → List U) (front : List U) (runs : List (List T)) (i : ℕ) (here : List T) (so_far next : List U) → ((xs ys : List T) → f (xs ++ ys) ≡ f xs ++ f ys) → i < length runs → here ≡ get_or runs i here
     → so_far ≡ front ++ f (joined (take i runs)) → next ≡ so_far ++ f here → next ≡ front ++ f (joined (take (i + 1) runs))
 gathers_next {T} {U} f front runs i here so_far next parts inside is before now =
@@ -284,7 +284,7 @@ gathers_next {T} {U} f front runs i here so_far next parts inside is before now 
     now ∙ ap (λ (ys : List U). ys ++ f here) before ∙ append_assoc front (f (joined (take i runs))) (f here)
     ∙ ap (λ (ys : List U). front ++ ys) (sym (parts (joined (take i runs)) here) ∙ ap f (sym (ap (λ (rs : List (List T)). joined rs) taken ∙ all)))
 
--- one more that is above the number, of items that all are
+-- one more item above the number, after items that all are
 pub later_keeps : {T : Type 0} (number : T → ℕ) (n : ℕ) (xs : List T) (i : ℕ) (x : T) → i < length xs → x ≡ get_or xs i x → n < number x → later number n (take i xs) ≡ take i xs → later number n (take (i + 1) xs) ≡ take (i + 1) xs
 unfolding later
 later_keeps {T} number n xs i x inside is above before =
@@ -292,7 +292,7 @@ later_keeps {T} number n xs i x inside is above before =
     let one : filter (λ y. nat_lt n (number y)) (x ∷ []) ≡ x ∷ [] = filter_in (λ y. nat_lt n (number y)) x [] (lt-ltb _ _ above) in
     ap (later number n) taken ∙ later_append number n (take i xs) (x ∷ []) ∙ ap (λ (ys : List T). ys ++ filter (λ y. nat_lt n (number y)) (x ∷ [])) before ∙ ap (λ (ys : List T). take i xs ++ ys) one ∙ sym taken
 
--- ---- the first item that passes a test, run by run
+-- ---- the first item that passes a test, chunk by chunk
 
 find_on : {T : Type 0} (p : T → Bool) (runs : List (List T)) (i : ℕ) (here : List T) → i < length runs → here ≡ get_or runs i here
     → find p (joined (drop i runs)) ≡ option_or (find p here) (find p (joined (drop (i + 1) runs)))

@@ -1,4 +1,4 @@
--- What is valid stays so: states under events and views, versions under batches, and what is answered from them.
+-- What stays valid: states under events and views, versions under batches, and the answers from them.
 use Rattle.std.proofs.Common.{arith, ◌≡◌, ℕ, Bool, true, false, cond, ltb, List, [], ◌∷◌, ◌++◌, map, Option, Some, None, refl, ◌==◌, ◌||◌}
 use Rattle.std.specs.Prelude.{All, filter, IfSome, option_map, unwrap_or}
 use Rattle.std.specs.List.{AllByRecursion as Every, cons_option}
@@ -129,7 +129,7 @@ entries_are_valid (e ∷ es) s new h = ((new.0, was_is_name e s h), entries_are_
 
 -- ---- versions
 
--- what a version holds is valid
+-- the contents of a version are valid
 record Holds (v : EnvVersion) : Type 0 where
   pub state : IsValidState v.state
   pub entries : Every IsValidEntry v.entries
@@ -201,7 +201,7 @@ shown_are_valid : (sees : Sees) (entries : List Entry) → Every IsValidEntry en
 shown_are_valid sees [] h = tt
 shown_are_valid sees (entry ∷ entries) h = first_is_valid (shown sees entry.event entry.was) (shown_to sees entries) (shown_is_valid sees entry.event entry.was h.0.0 h.0.1) (shown_are_valid sees entries h.1)
 
--- what an answer holds is valid
+-- the contents of an answer are valid
 AnswerHolds : DeltaAnswer → Type 0
 AnswerHolds Same = Unit {0}
 AnswerHolds (Sent batch) = Every IsValidEvent batch.events

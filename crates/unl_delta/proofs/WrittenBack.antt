@@ -1,4 +1,4 @@
--- What is written is read again.
+-- Reading returns what was written.
 use Rattle.std.proofs.Common.{◌≡◌, ℕ, ◌+◌, ◌≤◌, Bool, true, false, ltb, List, [], ◌∷◌, length, map, Option, Some, None, Ok, refl, ◌∙◌, ◌&&◌, not}
 use Rattle.std.specs.Prelude.{codes, drop, option_map}
 use Rattle.std.specs.List.{AllByRecursion as Every}
@@ -127,7 +127,7 @@ unfolding events_from
 events_back [] changes numbers valid readable = refl
 events_back (e ∷ es) changes numbers valid readable = rw (at_back 0 0 e valid.0 readable.0 refl numbers.0, changes_back 0 (number_of e) es changes numbers.1 valid.1 readable.1) refl
 
--- what stands at each key, whichever of them are told
+-- the value of each key, where the epoch and `after` are optional
 record Stands (value : Data) (told since : Option ℕ) (es : List Event) : Type 0 where
   pub epoch : at field.Epoch value ≡ option_map count told
   pub after : at field.After value ≡ option_map count since

@@ -1,4 +1,4 @@
--- What the events and batches of a delta are read as: their keys in order, each with its kind. The forms are chosen by this project.
+-- How events and batches are read: the keys of each in order, each with its type. The forms are chosen by this project.
 use Rattle.std.specs.Prelude.{ℕ, ◌+◌, List, [], ◌∷◌, codes, length, ◌&&◌, not, nat_lt, Option, option_and_then, option_map, Result, Ok}
 use Rattle.std.specs.Prelude.{Err, ok_or, if◌then◌else◌, None}
 use Rattle.std.specs.Option.{option_or}
@@ -22,21 +22,21 @@ use Rattle.unl_delta.specs.State.{number_of, is_change}
 
 -- ---- events
 
--- all that stands in an environment
+-- the whole state of an environment
 unfoldable pub hydration_of : Data → Reading Event
 hydration_of value = do
   number ← required any_whole field.EventId value
   state ← state_of value
   Ok (Hydration number state)
 
--- a feature that is new or other than before
+-- a feature was added or changed
 unfoldable pub feature_updated_of : Data → Reading Event
 feature_updated_of value = do
   number ← required any_whole field.EventId value
   feature ← required (object_of feature_of) field.Feature value
   Ok (FeatureUpdated number feature)
 
--- a feature that is gone, with the project that it had
+-- a feature was removed, with the project that it had
 unfoldable pub feature_removed_of : Data → Reading Event
 feature_removed_of value = do
   number ← required any_whole field.EventId value
@@ -44,21 +44,21 @@ feature_removed_of value = do
   project ← defaulted (codes "default") name field.Project value
   Ok (FeatureRemoved number named project)
 
--- a segment that is new or other than before
+-- a segment was added or changed
 unfoldable pub segment_updated_of : Data → Reading Event
 segment_updated_of value = do
   number ← required any_whole field.EventId value
   segment ← required (object_of segment_of) field.Segment value
   Ok (SegmentUpdated number segment)
 
--- a segment that is gone
+-- a segment was removed
 unfoldable pub segment_removed_of : Data → Reading Event
 segment_removed_of value = do
   number ← required any_whole field.EventId value
   id ← required any_whole field.SegmentId value
   Ok (SegmentRemoved number id)
 
--- the event of a type
+-- an event of the type named by a word
 unfoldable pub event_of_type : List ℕ → Data → Reading Event
 event_of_type word value =
     if bytes_eq word (codes "hydration") then hydration_of value else (
@@ -68,7 +68,7 @@ event_of_type word value =
     if bytes_eq word (codes "segment-removed") then segment_removed_of value else (
     Err (WrongKind field.Kind))))))
 
--- an event, or why it is none
+-- an event, or its first fault
 unfoldable pub event_of : Data → Reading Event
 event_of value = do
   word ← required any_text field.Kind value
@@ -80,24 +80,24 @@ event_of value = do
 abbrev pub BatchReading : Type 0
 BatchReading = Result Batch BadBatch
 
--- whatever is wrong inside an event is named by its place
+-- any fault inside an event becomes BadEvent with the event's position
 abbrev pub at_place : ℕ → Reading Event → Result Event BadBatch
 at_place place (Ok event) = Ok event
 at_place place (Err e) = Err (BadEvent place)
 
--- a hydration stands at the first place alone, and no number is below the one before it
+-- only the first event can be a hydration, and no number is below the one before it
 unfoldable pub in_order : ℕ → ℕ → Event → Result Event BadBatch
 in_order place before event =
     if nat_lt 0 place && not (is_change event) then Err (HydrationNotFirst place)
     else (if nat_lt (number_of event) before then Err (NotRising place) else Ok event)
 
--- the event of a place, behind one of that number
+-- the event at a position, after one with the number `before`
 unfoldable pub event_at : ℕ → ℕ → Data → Result Event BadBatch
 event_at place before value = do
   event ← at_place place (event_of value)
   in_order place before event
 
--- the events from a place on, up to the first fault
+-- the events from a position on, or the first fault
 unfoldable pub events_from : ℕ → ℕ → Items → Result (List Event) BadBatch
 events_from place before no_items = Ok []
 events_from place before (item value values) = do
@@ -105,13 +105,13 @@ events_from place before (item value values) = do
   others ← events_from (place + 1) (number_of event) values
   Ok (event ∷ others)
 
--- any fault in what stands beside the events is that there is no batch
+-- any fault in a member other than the events becomes NotJson
 abbrev pub or_not_json : {T : Type 0} → Reading T → Result T BadBatch
 or_not_json (Ok x) = Ok x
 or_not_json (Err e) = Err NotJson
 
--- the batch of one who has what is numbered up to `held`, where the document doesn't say after which number it comes;
--- where it tells no epoch, of the epoch 0
+-- a batch from a JSON value; without `after` in the document it gets `held`, the number that the requester had,
+-- and without an epoch it gets epoch 0
 unfoldable pub batch_of : Option ℕ → Data → BatchReading
 batch_of held value = do
   items ← ok_or (option_and_then as_array (at field.Events value)) NotJson
@@ -124,7 +124,7 @@ batch_of held value = do
 abbrev pub longest_batch : ℕ
 longest_batch = 16777216
 
--- the batch that the bytes spell
+-- a batch from bytes in JSON
 unfoldable pub batch_of_bytes : Option ℕ → List ℕ → BatchReading
 batch_of_bytes held bytes = if nat_lt longest_batch (length bytes) then Err NotJson else (ok_or (json_of bytes) NotJson >>= batch_of held)
 

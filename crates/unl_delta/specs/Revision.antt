@@ -1,4 +1,4 @@
--- Where versions stand, and their order: by epoch first.
+-- Revisions of an environment, and their order: by epoch first.
 use Rattle.std.specs.Prelude.{◌≡◌, ℕ, ◌==◌, ◌<◌, ◌≤◌, Bool, ◌&&◌, ◌||◌, nat_lt, ◌⊎◌}
 use Rattle.unl_delta.specs.declared.version.EnvVersion.{EnvVersion}
 
@@ -7,14 +7,14 @@ pub record Revision : Type 0 where
   pub epoch : ℕ
   pub number : ℕ
 
--- where a version stands
+-- the revision of a version
 abbrev pub revision_of : EnvVersion → Revision
 revision_of v = record { epoch = v.epoch; number = v.number }
 
--- the first of two is the older one (chosen by this project)
+-- whether the first revision is older than the second (chosen by this project)
 abbrev pub is_older : Revision → Revision → Bool
 is_older these those = nat_lt these.epoch those.epoch || ((these.epoch == those.epoch) && nat_lt these.number those.number)
 
--- the second of two is no older one
+-- the second revision is not older than the first
 abbrev pub IsUpTo : Revision → Revision → Type 0
 IsUpTo these those = (these.epoch < those.epoch) ⊎ ((these.epoch ≡ those.epoch) × (these.number ≤ those.number))

@@ -1,4 +1,4 @@
--- Batches and versions as every call gives them.
+-- Well-formed and valid batches and versions.
 use Rattle.std.specs.Prelude.{ℕ, ◌≡◌, ◌≤◌, ◌+◌, List, [], ◌∷◌, drop, length, true, IfSome}
 use Rattle.std.specs.List.{AllByRecursion}
 use Rattle.unl_documents.specs.Limits.{IsName}
@@ -16,24 +16,24 @@ use Rattle.unl_delta.specs.State.{number_of, entry_number, is_change}
 
 -- ---- the order of events
 
--- from low on the numbers never fall
+-- the numbers start at low or above and never decrease
 abbrev pub NeverFall : {T : Type 0} → (T → ℕ) → ℕ → List T → Type 0
 NeverFall number low [] = Unit {0}
 NeverFall number low (x ∷ xs) = (low ≤ number x) × NeverFall number (number x) xs
 
--- a hydration stands at the first place alone, and the numbers never fall
+-- well formed: only the first event can be a hydration, and the numbers never decrease
 pub record IsBatch (batch : Batch) : Type 0 where
   pub changes : AllByRecursion (λ e. is_change e ≡ true) (drop 1 batch.events)
   pub numbers : NeverFall number_of 0 batch.events
 
--- the entries are changes, and their numbers never fall, are above the base and at most the version's
+-- well formed: the entries are changes, and their numbers never decrease, are above the base and at most the version's number
 pub record IsVersion (v : EnvVersion) : Type 0 where
   pub base : v.base ≤ v.number
   pub changes : AllByRecursion (λ entry. is_change entry.event ≡ true) v.entries
   pub numbers : NeverFall entry_number (v.base + 1) v.entries
   pub most : AllByRecursion (λ entry. entry_number entry ≤ v.number) v.entries
 
--- ---- what the events hold
+-- ---- the contents of events
 
 -- the documents and the names of an event are within the limits
 abbrev pub IsValidEvent : Event → Type 0
@@ -43,11 +43,11 @@ IsValidEvent (FeatureRemoved n name project) = IsName name × IsName project
 IsValidEvent (SegmentUpdated n segment) = IsValidSegment segment
 IsValidEvent (SegmentRemoved n id) = Unit {0}
 
--- so is the project that a feature was in
+-- so is the project that the event's feature had
 abbrev pub IsValidEntry : Entry → Type 0
 IsValidEntry entry = IsValidEvent entry.event × IfSome entry.was IsName
 
--- a hydration is read again where it has no more features and segments than a document may have
+-- a hydration can be read again if it has no more features and segments than a document may have
 abbrev pub IsReadable : Event → Type 0
 IsReadable (Hydration n state) = (length state.features ≤ 10000) × (length state.segments ≤ 1000)
 IsReadable (FeatureUpdated n feature) = Unit {0}
@@ -55,22 +55,22 @@ IsReadable (FeatureRemoved n name project) = Unit {0}
 IsReadable (SegmentUpdated n segment) = Unit {0}
 IsReadable (SegmentRemoved n id) = Unit {0}
 
--- a batch as it is read, made and taken
+-- a valid batch: well formed, with valid events
 pub record IsValidBatch (batch : Batch) : Type 0 where
   pub order : IsBatch batch
   pub events : AllByRecursion IsValidEvent batch.events
 
--- a version as it stands at a place
+-- a valid version: well formed, with a valid state and valid entries
 pub record IsValidVersion (v : EnvVersion) : Type 0 where
   pub order : IsVersion v
   pub state : IsValidState v.state
   pub entries : AllByRecursion IsValidEntry v.entries
 
--- the version of a place is valid, where there is one
+-- the place has no version, or a valid one
 abbrev pub IsValidPlace : Place → Type 0
 IsValidPlace place = IfSome place.version IsValidVersion
 
--- the batch that is answered is valid, where there is one
+-- the answer has no batch, or a valid one
 abbrev pub IsValidAnswer : DeltaAnswer → Type 0
 IsValidAnswer Same = Unit {0}
 IsValidAnswer (Sent batch) = IsValidBatch batch

@@ -1,4 +1,4 @@
--- What events and batches are written as. A `put` keeps the keys in byte order.
+-- How events and batches are written as JSON values. `put` keeps the keys in byte order.
 use Rattle.std.specs.Prelude.{ℕ, List, Option, codes, option_map}
 use Rattle.serde_json.specs.Data.{Data, string, object, no_members}
 use Rattle.unl_documents.specs.declared.field.Field.TheVariants as field
@@ -7,7 +7,7 @@ use Rattle.unl_delta.specs.declared.batch.Batch.{Batch}
 use Rattle.unl_delta.specs.declared.event.Event.{Event}
 use Rattle.unl_delta.specs.declared.event.Event.TheVariants.{Hydration, FeatureUpdated, FeatureRemoved, SegmentUpdated, SegmentRemoved}
 
--- an event with its type and its number
+-- an event, with its type and number
 unfoldable pub event_data : Event → Data
 event_data (Hydration number state) = object (
     with field.Kind (string (codes "hydration")) (
@@ -37,7 +37,7 @@ event_data (SegmentRemoved number id) = object (
     with field.SegmentId (count id)
     no_members)))
 
--- the events, with an epoch and the number after which they come, where these are told
+-- the events, with an epoch and the number after which they come, if these are given
 unfoldable pub batch_with : Option ℕ → Option ℕ → List Event → Data
 batch_with epoch after events = object (
     with_some field.Epoch (option_map count epoch) (
@@ -45,6 +45,6 @@ batch_with epoch after events = object (
     with field.Events (list event_data events)
     no_members)))
 
--- the events, with the epoch where it isn't 0, and the number after which they come where the batch has one
+-- a batch: its events, its epoch unless that is 0, and the number after which they come if it has one
 unfoldable pub batch_data : Batch → Data
 batch_data batch = batch_with (unless_zero batch.epoch) batch.after batch.events

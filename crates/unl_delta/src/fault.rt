@@ -1,19 +1,21 @@
+//! The error of reading a batch.
 ghost use Rattle.std.specs.Prelude.{◌≡◌};
 ghost use Rattle.unl_delta.specs.declared.fault.BadBatch.TheVariants.{Memory as memory};
 
 use unl_documents::Memory;
 
-/// Why a document is no batch: its first fault, or want of memory.
+/// Why a document is not a batch: its first fault, or out of memory.
 #[derive(Clone, Copy, Debug, PartialEq, Eq)]
 pub enum BadBatch {
-    /// No JSON, too many bytes, no list of events, or an `epoch` or an `after` that is no unsigned whole number.
+    /// Not JSON, too many bytes, no list of events, or an `epoch` or `after` that is not an unsigned whole number.
     NotJson,
-    /// With the place, from 0, of the first event that can't be read.
+    /// An event can't be read. Holds the position of the first such event, counted from 0.
     BadEvent(u64),
-    /// With the place of a hydration behind another event.
+    /// A hydration comes after another event. Holds its position.
     HydrationNotFirst(u64),
-    /// With the place of an event whose number is below the one before it.
+    /// An event's number is below that of the event before it. Holds its position.
     NotRising(u64),
+    /// Out of memory.
     Memory,
 }
 

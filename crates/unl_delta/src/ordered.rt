@@ -1,4 +1,4 @@
-//! Items that may stand in the order of their keys.
+//! A list of items with lookup by key.
 ghost use Rattle.std.specs.Prelude.{◌≡◌, true, IfOk, find, map, option_map};
 ghost use Rattle.std.specs.Str.{bytes_eq};
 ghost use Rattle.unl_delta.specs.Keyed.{put as placed, without as others};
@@ -9,8 +9,8 @@ use std::alloc::Global;
 use std::marker::Model;
 use unl_documents::{List, Memory, Shared};
 
-/// Items, and whether their keys rise. Where they do, the item of a key is found by halving, and no list is made when one is
-/// put or taken out. Contracts see the items.
+/// Items, and whether their keys are known to be in ascending order. If they are, lookups use binary search, and inserting
+/// or removing an item changes the list in place. In contracts this is the list of items.
 #[derive(Drop)]
 pub(crate) struct Ordered<T: Keyed> {
     items: List<Shared<T>>,
@@ -29,7 +29,7 @@ impl<T: Keyed> Model for Ordered<T> {
 }
 
 impl<T: Keyed> Ordered<T> {
-    /// The items, looked through once.
+    /// Scans the items once to see whether their keys ascend.
     pub(crate) fn of(items: List<Shared<T>>) -> Ordered<T>
         ensures { result ≡ items }
     {
@@ -44,7 +44,7 @@ impl<T: Keyed> Ordered<T> {
         self.items
     }
 
-    /// The items with this one among them, in place of the one of its key if there is one.
+    /// Inserts an item by its key, replacing the item with the same key if there is one.
     pub(crate) fn put(self, alloc: Global, item: Shared<T>) -> Result<Ordered<T>, Memory>
         ensures { IfOk result (λ new. new ≡ placed T.key item self) }
     {
@@ -53,7 +53,7 @@ impl<T: Keyed> Ordered<T> {
         Ok(Ordered { items, rises })
     }
 
-    /// The items but the one of a key.
+    /// Removes the item with this key.
     pub(crate) fn without(self, alloc: Global, key: &T::Key) -> Result<Ordered<T>, Memory>
         ensures { IfOk result (λ new. new ≡ others T.key (T.Key.ranks key.now) self) }
     {
@@ -62,7 +62,7 @@ impl<T: Keyed> Ordered<T> {
         Ok(Ordered { items, rises })
     }
 
-    /// The first item of a key.
+    /// The first item with this key.
     pub(crate) fn find(&self, key: &T::Key) -> Option<&T>
         ensures { option_map (λ x. x.now) result ≡ find (λ x. bytes_eq (T.key x) (T.Key.ranks key.now)) self.now }
     {
@@ -103,7 +103,7 @@ fn without_among<T: Keyed>(
     without(alloc, key, &items)
 }
 
-/// The first item of a key, looked up from the front.
+/// The first item with this key, by linear search.
 pub(crate) fn first_of<'a, T: Keyed>(items: &'a [Shared<T>], key: &T::Key) -> Option<&'a T>
     ensures { option_map (λ x. x.now) result ≡ find (λ x. bytes_eq (T.key x) (T.Key.ranks key.now)) items.now }
 {
@@ -116,7 +116,7 @@ pub(crate) fn first_of<'a, T: Keyed>(items: &'a [Shared<T>], key: &T::Key) -> Op
     None
 }
 
-/// Whether two keys are the same: neither comes before the other.
+/// Whether two keys are equal: neither comes before the other.
 fn is_same<K: Key>(one: &K, other: &K) -> bool
     ensures { result ≡ bytes_eq (K.ranks one.now) (K.ranks other.now) }
 {

@@ -1,4 +1,4 @@
-//! A series of items that may stand in the order of their keys.
+//! A chunked list of items with lookup by key.
 ghost use Rattle.std.specs.Prelude.{◌≡◌, ◌++◌, true, IfOk, OnOk, find, map, option_map};
 ghost use Rattle.std.specs.Str.{bytes_eq};
 ghost use Rattle.unl_delta.specs.Keyed.{put as placed, without as others};
@@ -13,8 +13,8 @@ use std::alloc::Global;
 use std::marker::Model;
 use unl_documents::{List, Memory, Run, Series, Shared};
 
-/// A series of items, and whether their keys rise. Where they do, the item of a key is found by halving, and one run is made
-/// anew when one is put or taken out. Contracts see the items.
+/// A chunked list of items, and whether their keys are known to be in ascending order. If they are, lookups use binary
+/// search, and inserting or removing an item rebuilds one chunk. In contracts this is the list of items.
 #[derive(Drop)]
 pub(crate) struct OrderedSeries<T: Keyed> {
     items: Series<T>,
@@ -33,7 +33,7 @@ impl<T: Keyed> Model for OrderedSeries<T> {
 }
 
 impl<T: Keyed> OrderedSeries<T> {
-    /// The items, looked through once.
+    /// Scans the items once to see whether their keys ascend.
     pub(crate) fn of(alloc: Global, items: Series<T>) -> Result<OrderedSeries<T>, Memory>
         ensures { IfOk result (λ o. o ≡ items) }
     {
@@ -41,7 +41,7 @@ impl<T: Keyed> OrderedSeries<T> {
         Ok(OrderedSeries { items, rises })
     }
 
-    /// Items whose keys are known to rise, which aren't looked through.
+    /// Takes items whose keys are known to ascend, without scanning them.
     pub(crate) fn in_order(items: Series<T>) -> OrderedSeries<T>
         requires { AreRising (map T.key items) }
         ensures { result ≡ items }
@@ -56,7 +56,7 @@ impl<T: Keyed> OrderedSeries<T> {
         self.items
     }
 
-    /// The items with this one among them, in place of the one of its key if there is one.
+    /// Inserts an item by its key, replacing the item with the same key if there is one.
     pub(crate) fn put(self, alloc: Global, item: Shared<T>) -> Result<OrderedSeries<T>, Memory>
         ensures { IfOk result (λ new. new ≡ placed T.key item self) }
     {
@@ -65,7 +65,7 @@ impl<T: Keyed> OrderedSeries<T> {
         Ok(OrderedSeries { items, rises })
     }
 
-    /// The items but the one of a key.
+    /// Removes the item with this key.
     pub(crate) fn without(self, alloc: Global, key: &T::Key) -> Result<OrderedSeries<T>, Memory>
         ensures { IfOk result (λ new. new ≡ others T.key (T.Key.ranks key.now) self) }
     {
@@ -74,7 +74,7 @@ impl<T: Keyed> OrderedSeries<T> {
         Ok(OrderedSeries { items, rises })
     }
 
-    /// The first item of a key.
+    /// The first item with this key.
     pub(crate) fn find(&self, key: &T::Key) -> Option<&T>
         ensures { option_map (λ x. x.now) result ≡ find (λ x. bytes_eq (T.key x) (T.Key.ranks key.now)) self.now }
     {
@@ -124,7 +124,7 @@ fn without_among<T: Keyed>(
     Series::of_list(alloc, &without(alloc, key, &items)?)
 }
 
-/// The first item of a key, looked up from the front.
+/// The first item with this key, by linear search.
 fn first_of_runs<'a, T: Keyed>(runs: &'a [Run<T>], key: &T::Key) -> Option<&'a T>
     ensures { option_map (λ x. x.now) result ≡ find (λ x. bytes_eq (T.key x) (T.Key.ranks key.now)) (joined runs.now) }
 {
@@ -136,7 +136,7 @@ fn first_of_runs<'a, T: Keyed>(runs: &'a [Run<T>], key: &T::Key) -> Option<&'a T
     None
 }
 
-/// The items in one list.
+/// The items as one list.
 fn listed<T: Drop>(alloc: Global, items: &Series<T>) -> Result<List<Shared<T>>, Memory>
     ensures { IfOk result (λ list. list ≡ items.now) }
 {

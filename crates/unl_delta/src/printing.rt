@@ -1,4 +1,4 @@
-//! Printing batches straight as text.
+//! Prints batches as JSON text, without building a JSON value.
 ghost use Rattle.std.specs.Prelude.{◌≡◌, ◌∷◌, ◌++◌, [], OnOk};
 ghost use Rattle.json.specs.Token.{begin_object, end_object};
 ghost use Rattle.serde_json.specs.Data.{string};
@@ -16,7 +16,7 @@ use json::Writer;
 use unl_documents::printed::{Printed, print_at, print_some, print_unless_zero};
 use unl_documents::{Feature, Field, Memory, Segment, Shared, State, Text};
 
-/// Begins an event, with its number.
+/// Begins an event and prints its number.
 fn begin_event(out: &mut Writer, number: u64) -> Result<(), Memory>
     ensures { OnOk result (Wrote (begin_object ∷ tokens_at field.EventId (count number)) out.old out.new) }
 {
@@ -24,7 +24,7 @@ fn begin_event(out: &mut Writer, number: u64) -> Result<(), Memory>
     print_at(out, Field::EventId, &number)
 }
 
-/// Ends an event, with the word for its type.
+/// Prints the event's type and ends the event.
 fn end_event(out: &mut Writer, word: &str) -> Result<(), Memory>
     ensures { OnOk result (Wrote (tokens_at field.Kind (string word.now) ++ end_object ∷ []) out.old out.new) }
 {

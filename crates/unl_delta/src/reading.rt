@@ -1,4 +1,4 @@
-//! Reading batches.
+//! Reads batches from JSON.
 ghost use Rattle.std.specs.Prelude.{◌≡◌, IfOk, IfSome};
 ghost use Rattle.std.specs.List.{AllByRecursion};
 ghost use Rattle.serde_json.specs.View.{view, items_view};
@@ -106,7 +106,7 @@ fn read_event(alloc: Global, value: &Value) -> Result<Event, BadDocument>
     read_event_of_type(alloc, word.as_str(), value)
 }
 
-/// The event at a place, whatever stands before it.
+/// Reads the event at a position, without regard to the events before it.
 fn lone_event(alloc: Global, place: usize, value: &Value) -> Result<Event, BadBatch>
     ensures gives { Gives memory result (at_place place (event_read (view value.now))) }
     ensures valid { IfOk result IsValidEvent }
@@ -159,7 +159,7 @@ fn events_of(alloc: Global, values: &[Value]) -> Result<List<Event>, BadBatch>
     Ok(events)
 }
 
-/// The epoch of the events, which is 0 where the document tells none.
+/// The epoch of the events, 0 if the document has none.
 fn epoch_of(alloc: Global, value: &Value) -> Result<u64, BadBatch>
     ensures { Gives memory result
         (or_not_json (defaulted_at 0 any_whole field.Epoch (view value.now))) }
@@ -171,7 +171,7 @@ fn epoch_of(alloc: Global, value: &Value) -> Result<u64, BadBatch>
     }
 }
 
-/// The number after which the events come, where the document has one.
+/// The number after which the events come, if the document has one.
 fn after_of(alloc: Global, value: &Value) -> Result<Option<u64>, BadBatch>
     ensures gives { Gives memory result
         (or_not_json (optional_at any_whole field.After (view value.now))) }
@@ -201,10 +201,10 @@ fn batch_of(alloc: Global, value: &Value, held: Option<u64>) -> Result<Batch, Ba
     })
 }
 
-/// The batch that a value stands for, or its first fault by place. Where the document doesn't say
-/// after which number its events come, that number is `held`, which the asker had.
+/// Reads a batch from a JSON value, or returns its first fault in the order of the events. If the document does not have the
+/// number after which its events come, the batch gets `held`, the number that the requester had.
 ///
-/// `NotJson` comes where there is no list of events, or an `epoch` or an `after` that is no unsigned whole number.
+/// Returns `NotJson` if there is no list of events, or if an `epoch` or `after` is not an unsigned whole number.
 pub fn read_batch(alloc: Global, value: &Value, held: Option<u64>) -> Result<Batch, BadBatch>
     ensures gives { Gives memory result (batch_read held (view value.now)) }
     ensures valid { IfOk result IsValidBatch }
@@ -212,7 +212,8 @@ pub fn read_batch(alloc: Global, value: &Value, held: Option<u64>) -> Result<Bat
     batch_of(alloc, value, held)
 }
 
-/// The batch that the bytes spell, at most 16,777,216 of them: as `read_batch` reads it.
+/// Reads a batch from at most 16,777,216 bytes of JSON, as [`read_batch`] does. Returns `NotJson` for more bytes and for
+/// bytes that are not JSON.
 #[tactic(auto, unfolding(crate::specs::Reading::batch_of_bytes))]
 pub fn read_batch_bytes(alloc: Global, bytes: &[u8], held: Option<u64>) -> Result<Batch, BadBatch>
     ensures gives { Gives memory result (batch_of_bytes held bytes.now) }
@@ -227,7 +228,7 @@ pub fn read_batch_bytes(alloc: Global, bytes: &[u8], held: Option<u64>) -> Resul
     read_batch(alloc, &value, held)
 }
 
-/// A feed as one hydration of its epoch, or none exactly where the feed has no number.
+/// Turns a feed into a batch with one hydration of the feed's epoch. Returns `None` exactly if the feed has no number.
 pub fn of_feed(alloc: Global, feed: Feed) -> Result<Option<Batch>, Memory>
     ensures batch { IfOk result (λ batch. batch ≡ batch_of_feed feed) }
     ensures valid { IsValidState feed.state → IfOk result (λ batch. IfSome batch IsValidBatch) }

@@ -1,4 +1,4 @@
-//! The one way in which a slot takes a batch.
+//! The one way for a slot to take a batch.
 ghost use Rattle.std.specs.Prelude.{◌≡◌, ◌<◌, ◌-◌, ◌^◌, IfOk, OnErr, OnOk, length};
 ghost use Rattle.unl_delta.specs.Batch.{verdict_of};
 ghost use Rattle.unl_delta.specs.History.{FollowsLines};
@@ -11,13 +11,15 @@ use crate::verdicts::verdict;
 use std::alloc::Global;
 use unl_documents::Memory;
 
-/// A slot takes a batch, and the answer is the verdict of its place: what applies is published by one install, a gap holds
-/// the slot, and all else leaves everything as it was. Where the slot's version stands for a line of histories and the batch is
-/// sent of it, the version that the slot has then does.
+/// Takes a batch into a slot and returns the verdict of the slot's place. A batch that applies is published by one install,
+/// a gap holds the slot, and any other verdict changes nothing.
+///
+/// If the slot's version represents a line of histories and the batch is sent from that line, its version afterwards represents
+/// the line too.
 ///
 /// # Errors
 ///
-/// Want of memory, which leaves the places, the front and the book as they are.
+/// Out of memory. The places, the front and the book stay as they are.
 pub fn take_batch<I: Installer>(
     alloc: Global,
     to: &mut I,
@@ -38,7 +40,7 @@ pub fn take_batch<I: Installer>(
     take(alloc, to, slot, batch)
 }
 
-/// Does what the verdict says.
+/// Carries out the verdict.
 fn take<I: Installer>(
     alloc: Global,
     to: &mut I,

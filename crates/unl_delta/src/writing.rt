@@ -1,4 +1,4 @@
-//! Writing batches.
+//! Writes batches as JSON values.
 ghost use Rattle.std.specs.Prelude.{◌≡◌, Option, ℕ, false, Ok, OnOk, IfOk};
 ghost use Rattle.std.specs.List.{AllByRecursion};
 ghost use Rattle.std.specs.Option.{option_or};
@@ -19,9 +19,9 @@ use std::alloc::Global;
 use unl_documents::written::{Written, put, put_some, put_unless_zero, put_value};
 use unl_documents::{Feature, Field, List, Memory, Segment, Shared, State, Text};
 
-/// An object with an event's type and number, and nothing else so far.
+/// Adds an event's type and number to its members.
 ///
-/// `put` keeps the keys in byte order, so the keys that only one type has are put in first.
+/// `put` keeps the keys in byte order, so the members that only one type has are put in before these two.
 fn put_head(
     members: &mut Map<String, Value>,
     alloc: Global,
@@ -144,11 +144,9 @@ impl Written for Batch {
     }
 }
 
-/// The value that is read as the batch: its events, `epoch` where that isn't 0, and `after` where
-/// the batch has one.
+/// The JSON value that is read as the batch: its events, `epoch` unless it is 0, and `after` if the batch has one.
 ///
-/// A hydration past the limits that a document has on features and segments is written too, and
-/// is not read again.
+/// A hydration that exceeds a document's limits on features and segments is written too, but can't be read again.
 pub fn write_batch(alloc: Global, batch: &Batch) -> Result<Value, Memory>
     ensures written { IfOk result (λ v. view v ≡ batch_data batch.now) }
     ensures reads_back { IsValidBatch batch.now → AllByRecursion IsReadable batch.now.events

@@ -19,7 +19,7 @@ use Rattle.unl_strategies.specs.Moment.{Moment}
 use Rattle.unl_dependencies.specs.Evaluation.{feature_named, dependencies_met, evaluation_where, feature_evaluation, evaluation_of}
 use Rattle.unl_dependencies.specs.Laws.{Lacks}
 
--- ---- none where the state lacks the name
+-- ---- no evaluation exactly if the state lacks the name
 
 found_not : (name : List ℕ) (fs : List Feature) → feature_named name fs ≡ None → All (λ (f : Feature). f.name ≢ name) fs
 found_not name [] none = All-nil (λ (f : Feature). f.name ≢ name)
@@ -50,7 +50,7 @@ none_where_lacking state name context moment = (
   λ lacks. ap (option_map (λ f. feature_evaluation state f context moment)) (lacking name state.features lacks),
 )
 
--- ---- each is found
+-- ---- each feature is found
 
 all_at : (P : List ℕ → Type 0) (fs : List Feature) (place : ℕ) (f : Feature) → AllByRecursion P (map name_key fs) → slice_get fs place ≡ Some f → P f.name
 all_at P [] place f all is = absurd (cc)
@@ -74,7 +74,7 @@ unfolding evaluation_of
 each_is_found state place f context moment rising is =
     ap (option_map (λ g. feature_evaluation state g context moment)) (found_at state.features place f rising is)
 
--- ---- a parent stands alone
+-- ---- a parent evaluates the same on its own
 
 no_dependencies : (dependencies : List Dependency) (state : State) (context : Fields) (moment : Moment) → length dependencies ≡ 0 → dependencies_met dependencies state context moment ≡ true
 unfolding dependencies_met

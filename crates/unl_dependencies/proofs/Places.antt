@@ -1,4 +1,4 @@
--- The least place at which a test passes.
+-- The least index at which a test passes.
 use Rattle.std.proofs.Common.{◌≡◌, ℕ, zero, suc, ◌+◌, ◌<◌, Bool, true, false, cond, List, [], ◌∷◌, length, drop, Option, Some, None, inl, inr, refl, ap, sym, ◌∙◌, subst, arith}
 use Rattle.std.specs.Prelude.{◌↔◌, slice_get, unwrap_or}
 use Rattle.std.specs.Option.{option_map_or}
@@ -12,7 +12,7 @@ use Rattle.unl_strategies.specs.Strategy.{is_active}
 use Rattle.unl_dependencies.specs.Evaluation.{is_active_at, active_from, first_active}
 use Rattle.unl_dependencies.specs.Laws.{IsFirstActive}
 
--- ---- any test of a place and what stands there
+-- ---- any test of an index and the item there
 
 abbrev Test : Type 0 → Type 0
 Test T = ℕ → T → Bool
@@ -126,7 +126,7 @@ none_is_active f segments context moment =
       λ fails. same ∙ none_is_found test f.strategies 0 (λ k. same_at f segments context moment k ∙ fails k),
     )
 
--- ---- from one place to the next
+-- ---- from one index to the next
 
 record Split {T : Type 0} (xs : List T) (i : ℕ) : Type 0 where
   item : T

@@ -1,4 +1,4 @@
--- The feature of a name among those that are seen.
+-- Looking up a name among the visible features.
 use Rattle.std.proofs.Common.{◌≡◌, ℕ, Bool, true, false, List, [], ◌∷◌, map, None, Less, nat_cmp, inl, inr, refl, ap, sym, ◌∙◌}
 use Rattle.std.specs.Prelude.{filter, option_and_then}
 use Rattle.std.specs.Cmp.Lexicographic.{slice_cmp}

@@ -1,4 +1,4 @@
--- What a feature is, where its variant is lent.
+-- Decisions: evaluations with a borrowed variant.
 use Rattle.std.specs.Prelude.{ℕ, List, length, Bool, not, ◌&&◌, ◌||◌, ◌==◌, option_map, if◌then◌else◌}
 use Rattle.unl_documents.specs.declared.dependency.Dependency.{Dependency}
 use Rattle.unl_variants.specs.Variant.{is_among}
@@ -7,11 +7,11 @@ use Rattle.unl_dependencies.specs.declared.evaluation.Evaluation.{Evaluation}
 use Rattle.unl_dependencies.specs.declared.evaluation.Decision.{Decision}
 use Rattle.unl_dependencies.specs.declared.evaluation.Decision.TheVariants.{Off, On}
 
--- the evaluation that it stands for
+-- The evaluation that a decision represents.
 abbrev pub evaluation_by : Decision → Evaluation
 evaluation_by Off = off
 evaluation_by (On variant) = on_with (option_map (λ v. v.now) variant)
 
--- the dependency asks for a parent that is on or off, with a variant of this name
+-- The dependency requires a parent that is on or off as given, with a variant of this name.
 abbrev pub asks_for : Dependency → Bool → List ℕ → Bool
 asks_for d on name = if d.enabled then on && (length d.variants == 0 || is_among d.variants name) else not on

@@ -1,5 +1,5 @@
--- What a feature is for a context at a moment: whether it is on, and its variant, as the Unleash references on strategies,
--- variants and dependencies say it.
+-- The evaluation of a feature for a context at a moment: whether it is on, and its variant, by the Unleash references on
+-- strategies, variants and dependencies.
 use Rattle.std.specs.Prelude.{ℕ, ◌+◌, List, [], ◌∷◌, codes, length, Bool, true, false, not, ◌&&◌, ◌||◌, ◌==◌, Option, Some, None, is_some}
 use Rattle.std.specs.Prelude.{option_map, option_and_then, slice_get, if◌then◌else◌}
 use Rattle.std.specs.List.{list_all, find}
@@ -21,98 +21,99 @@ use Rattle.unl_variants.specs.Variant.{choice_of, is_among}
 use Rattle.unl_dependencies.specs.declared.evaluation.Evaluation.{Evaluation}
 use Rattle.unl_dependencies.specs.declared.evaluation.VariantAnswer.{VariantAnswer}
 
--- the feature has a strategy at the place, and it is active
+-- The feature has a strategy at the index, and that strategy is active.
 abbrev pub is_active_at : Feature → List Segment → Fields → Moment → ℕ → Bool
 is_active_at f segments context moment place =
     option_map_or (λ s. is_active s f.name place segments context moment) (slice_get f.strategies place) false
 
--- the least place, from this one on, whose strategy is active
+-- The least index whose strategy is active, where the first strategy has the index `place`.
 abbrev pub active_from : ℕ → List Strategy → List ℕ → List Segment → Fields → Moment → Option ℕ
 active_from place [] feature segments context moment = None
 active_from place (s ∷ ss) feature segments context moment =
     if is_active s feature place segments context moment then Some place
     else active_from (place + 1) ss feature segments context moment
 
--- the least place whose strategy is active
+-- The index of the feature's first active strategy.
 unfoldable pub first_active : Feature → List Segment → Fields → Moment → Option ℕ
 first_active f segments context moment = active_from 0 f.strategies f.name segments context moment
 
--- enabled, with its dependencies met, and with no strategy or with one that is active
+-- The feature is on: it is enabled, its dependencies are met, and it has no strategies or an active one.
 unfoldable pub is_on : Bool → Feature → List Segment → Fields → Moment → Bool
 is_on met f segments context moment =
     f.enabled && (met && (length f.strategies == 0 || is_some (first_active f segments context moment)))
 
--- the random id's number for what the mark names
+-- The random id's number for the given mark.
 abbrev pub random_of : Feature → Mark → Moment → ℕ
 random_of f mark moment = random_id (random_number f.name mark moment.word)
 
--- the variant that is chosen in a group
+-- The variant that is chosen in a group.
 unfoldable pub variant_in : List ℕ → List Variant → Fields → ℕ → Option Variant
 variant_in group variants context random = option_and_then (slice_get variants) (choice_of group variants context random)
 
--- the group of a strategy's variants: its own, or else the feature's name
+-- The group of a strategy's variants: its parameter `groupId`, or else the feature's name.
 abbrev pub group_of : Feature → Strategy → List ℕ
 group_of f s = parameter_or f.name (codes "groupId") s.parameters
 
--- the variant of the strategy at a place
+-- The variant that is chosen among those of the strategy at the index.
 unfoldable pub strategy_variant : Feature → Fields → Moment → ℕ → Option Variant
 strategy_variant f context moment place =
     option_and_then (λ s. variant_in (group_of f s) s.variants context (random_of f (mark.Strategy place) moment))
     (slice_get f.strategies place)
 
--- the feature's own variant
+-- The variant that is chosen among the feature's own.
 unfoldable pub own_variant : Feature → Fields → Moment → Option Variant
 own_variant f context moment = variant_in f.name f.variants context (random_of f mark.Own moment)
 
--- the variant of the first active strategy, or else the feature's own
+-- The variant of the first active strategy, or else the feature's own.
 unfoldable pub variant_of : Feature → Fields → Moment → Option ℕ → Option Variant
 variant_of f context moment first = option_or (option_and_then (strategy_variant f context moment) first) (own_variant f context moment)
 
--- what is answered of a variant
+-- The parts of a variant that an evaluation reports. Without a variant, the name is `disabled`.
 abbrev pub answer_of : Option Variant → VariantAnswer
 answer_of None = record { name = codes "disabled"; enabled = false; payload = None }
 answer_of (Some v) = record { name = v.name; enabled = true; payload = v.payload }
 
--- an evaluation that is off has no variant
+-- The evaluation of a feature that is off, which has no variant.
 abbrev pub off : Evaluation
 off = record { on = false; variant = answer_of None }
 
--- an evaluation that is on, with this variant
+-- The evaluation of a feature that is on, with this variant.
 abbrev pub on_with : Option Variant → Evaluation
 on_with variant = record { on = true; variant = answer_of variant }
 
--- the evaluation of a feature of which it is known whether its dependencies are met
+-- The evaluation of a feature, given whether its dependencies are met.
 unfoldable pub evaluation_where : Bool → Feature → List Segment → Fields → Moment → Evaluation
 evaluation_where met f segments context moment =
     if is_on met f segments context moment then on_with (variant_of f context moment (first_active f segments context moment)) else off
 
--- the feature of a name
+-- The first feature with the given name.
 abbrev pub feature_named : List ℕ → List Feature → Option Feature
 feature_named name features = find (λ f. bytes_eq f.name name) features
 
--- the parent is on, and with one of the variants where some are named; or it is off. `disabled` is a name here
+-- The parent's evaluation is the one that the dependency requires: off; or on, and with one of the listed variants if there
+-- are any. `disabled` is compared like any other name.
 abbrev pub agrees : Dependency → Evaluation → Bool
 agrees d parent =
     if d.enabled then parent.on && (length d.variants == 0 || is_among d.variants parent.variant.name) else not parent.on
 
--- a parent has no dependencies of its own, and agrees
+-- The parent has no dependencies of its own, and its evaluation is the one that the dependency requires.
 unfoldable pub is_met_by : List Segment → Fields → Moment → Dependency → Feature → Bool
 is_met_by segments context moment d parent =
     length parent.dependencies == 0 && agrees d (evaluation_where true parent segments context moment)
 
--- the state has the parent, and it meets the dependency
+-- The state has the parent, and the parent satisfies the dependency.
 unfoldable pub is_met : State → Fields → Moment → Dependency → Bool
 is_met state context moment d = option_map_or (is_met_by state.segments context moment d) (feature_named d.feature state.features) false
 
--- all of them are met
+-- All of the dependencies are met.
 unfoldable pub dependencies_met : List Dependency → State → Fields → Moment → Bool
 dependencies_met dependencies state context moment = list_all (is_met state context moment) dependencies
 
--- the evaluation of a feature over a state
+-- The evaluation of a feature in a state.
 unfoldable pub feature_evaluation : State → Feature → Fields → Moment → Evaluation
 feature_evaluation state f context moment =
     evaluation_where (dependencies_met f.dependencies state context moment) f state.segments context moment
 
--- the evaluation of the feature of a name, or none where the state lacks it
+-- The evaluation of the feature with the given name, or none if the state has no such feature.
 unfoldable pub evaluation_of : State → List ℕ → Fields → Moment → Option Evaluation
 evaluation_of state name context moment = option_map (λ f. feature_evaluation state f context moment) (feature_named name state.features)

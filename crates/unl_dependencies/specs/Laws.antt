@@ -1,4 +1,4 @@
--- What an evaluation is, said of the whole state.
+-- Laws on the evaluations of a whole state.
 use Rattle.std.specs.Prelude.{◌≡◌, ◌≢◌, ◌<◌, ◌↔◌, ℕ, List, All, map, filter, length, Bool, true, false, Option, Some, None}
 use Rattle.std.specs.Prelude.{option_and_then, slice_get, if◌then◌else◌}
 use Rattle.unl_documents.specs.declared.feature.Feature.{Feature}
@@ -12,52 +12,53 @@ use Rattle.unl_strategies.specs.Moment.{Moment}
 use Rattle.unl_dependencies.specs.Evaluation.{is_active_at, first_active, evaluation_where, feature_named}
 use Rattle.unl_dependencies.specs.Evaluation.{feature_evaluation, evaluation_of}
 
--- no feature of the state has the name
+-- No feature of the state has the name.
 abbrev pub Lacks : State → List ℕ → Type 0
 Lacks state name = All (λ f. f.name ≢ name) state.features
 
--- there is no evaluation exactly where the state lacks the name
+-- An evaluation is absent exactly if the state has no feature with the name.
 abbrev pub NoneWhereLacking : Type 0
 NoneWhereLacking = (state : State) (name : List ℕ) (context : Fields) (moment : Moment)
     → (evaluation_of state name context moment ≡ None) ↔ Lacks state name
 
--- each feature of a valid state is found by its name
+-- Each feature of a valid state is found by its name.
 abbrev pub EachIsFound : Type 0
 EachIsFound = (state : State) (place : ℕ) (f : Feature) (context : Fields) (moment : Moment)
     → IsValidState state → slice_get state.features place ≡ Some f → evaluation_of state f.name context moment
     ≡ Some (feature_evaluation state f context moment)
 
--- a parent that counts, since it has no dependencies, is evaluated as if it stood alone
+-- A parent without dependencies has the same evaluation in the state and on its own, with nothing but the segments.
 abbrev pub ParentStandsAlone : Type 0
 ParentStandsAlone = (state : State) (parent : Feature) (context : Fields) (moment : Moment)
     → length parent.dependencies ≡ 0 → feature_evaluation state parent context moment
     ≡ evaluation_where true parent state.segments context moment
 
--- writing the segments of a state out changes no evaluation
+-- Inlining the segments of a state changes no evaluation.
 abbrev pub InliningChangesNothing : Type 0
 InliningChangesNothing = (state : State) (name : List ℕ) (context : Fields) (moment : Moment)
     → evaluation_of (inlined state) name context moment ≡ evaluation_of state name context moment
 
--- the strategy at the place is active, and none before it is
+-- The strategy at the index is active, and none before it is.
 pub record IsFirstActive (f : Feature) (segments : List Segment) (context : Fields) (moment : Moment) (place : ℕ) : Type 0 where
   pub active : is_active_at f segments context moment place ≡ true
   pub first : (earlier : ℕ) → earlier < place → is_active_at f segments context moment earlier ≡ false
 
--- the first place whose strategy is active is the least
+-- `first_active` is the least index whose strategy is active.
 abbrev pub FirstIsLeast : Type 0
 FirstIsLeast = (f : Feature) (segments : List Segment) (context : Fields) (moment : Moment) (place : ℕ)
     → (first_active f segments context moment ≡ Some place) ↔ IsFirstActive f segments context moment place
 
--- there is none exactly where no strategy is active
+-- `first_active` is absent exactly if no strategy is active.
 abbrev pub NoneIsActive : Type 0
 NoneIsActive = (f : Feature) (segments : List Segment) (context : Fields) (moment : Moment)
     → (first_active f segments context moment ≡ None) ↔ ((place : ℕ) → is_active_at f segments context moment place ≡ false)
 
--- the feature, where its project is seen
+-- The feature, if its project is visible.
 abbrev pub if_seen : (List ℕ → Bool) → Feature → Option Feature
 if_seen sees f = if sees f.project then Some f else None
 
--- of features of rising names, the one of a name among those that are seen is the one among all, where it is seen
+-- If the names are strictly ascending, looking up a name among the visible features gives the feature with that name among
+-- all features if it is visible, and otherwise none.
 abbrev pub SeenAmongAll : Type 0
 SeenAmongAll = (sees : List ℕ → Bool) (name : List ℕ) (features : List Feature)
     → AreRising (map name_key features) → feature_named name (filter (λ f. sees f.project) features)

@@ -1,4 +1,4 @@
-//! Whether a feature's dependencies are met.
+//! Decides whether a feature's dependencies are met.
 ghost use Rattle.std.specs.Prelude.{◌≡◌, IfOk};
 ghost use Rattle.std.specs.List.{list_all};
 ghost use Rattle.unl_documents.specs.States.{IsValidState};
@@ -15,7 +15,7 @@ use unl_context::Context;
 use unl_documents::{Dependency, Memory, Text};
 use unl_strategies::Moment;
 
-/// Whether all of the dependencies are met over a state whose documents are within their limits. The error is want of
+/// Whether all of the dependencies are met in a state whose documents are within their limits. The only error is out of
 /// memory.
 #[tactic(auto, unfolding(crate::specs::Evaluation::dependencies_met))]
 pub fn all_met<F: Features>(
@@ -37,8 +37,8 @@ pub fn all_met<F: Features>(
     Ok(true)
 }
 
-/// Whether a dependency is met: the state, whose documents are within their limits, has the parent, which meets it. The
-/// error is want of memory.
+/// Whether a dependency is met: the state has the parent, and the parent satisfies the dependency. The state's documents are
+/// within their limits. The only error is out of memory.
 #[tactic(auto, unfolding(crate::specs::Evaluation::is_met))]
 pub fn is_met<F: Features>(
     alloc: Global,
@@ -56,8 +56,8 @@ pub fn is_met<F: Features>(
     }
 }
 
-/// Whether a parent within its limits meets a dependency. One that has dependencies of its own meets none, so no parent's
-/// parent counts. The error is want of memory.
+/// Whether a parent satisfies a dependency. The parent is within its limits. A parent that has dependencies of its own
+/// satisfies none, so a parent's parents are never considered. The only error is out of memory.
 #[tactic(auto, unfolding(crate::specs::Evaluation::is_met_by))]
 pub fn is_met_by<F: Features>(
     alloc: Global,
@@ -78,15 +78,15 @@ pub fn is_met_by<F: Features>(
     Ok(decision_agrees(dependency, decision))
 }
 
-/// Whether a parent's evaluation is what a dependency asks for: off; or on, and with one of its variants where it names
-/// some. `disabled` is a name as any other. It takes no memory.
+/// Whether a parent's evaluation is the one that a dependency requires: off; or on, and with one of the listed variants if
+/// the dependency lists any. `disabled` is compared like any other name. Does not allocate.
 pub fn agrees(dependency: &Dependency, parent: &Evaluation) -> bool
     ensures { result ≡ agreeing dependency.now parent.now }
 {
     asks_for(dependency, parent.on, parent.variant.name.as_str())
 }
 
-/// Whether what a parent is is what a dependency asks for, as [`agrees`] says it.
+/// Like [`agrees`], for a parent's decision.
 fn decision_agrees(dependency: &Dependency, parent: Decision) -> bool
     ensures { result ≡ agreeing dependency.now (evaluation_by parent.entry) }
 {
@@ -97,7 +97,7 @@ fn decision_agrees(dependency: &Dependency, parent: Decision) -> bool
     }
 }
 
-/// Whether a dependency asks for a parent that is on or off, with a variant of this name.
+/// Whether a dependency requires a parent that is on or off as given, with a variant of the given name.
 fn asks_for(dependency: &Dependency, on: bool, variant: &str) -> bool
     ensures { result ≡ asks_for_parent dependency.now on variant.now }
 {

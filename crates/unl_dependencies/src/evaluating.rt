@@ -1,4 +1,4 @@
-//! The evaluation of a feature over a state.
+//! Evaluates a feature in a state.
 ghost use Rattle.std.specs.Prelude.{◌≡◌, IfOk};
 ghost use Rattle.unl_documents.specs.States.{IsValidState};
 ghost use Rattle.unl_documents.specs.Valid.{IsValidFeature};
@@ -14,8 +14,8 @@ use unl_context::Context;
 use unl_documents::Memory;
 use unl_strategies::Moment;
 
-/// The evaluation of the feature of a name for a context at a moment, over a state whose documents are within their
-/// limits. Ok(None) exactly where the state lacks the name.
+/// Evaluates the feature with the given name for a context at a moment, in a state whose documents are within their limits.
+/// Returns `Ok(None)` exactly if the state has no feature with that name. The only error is out of memory.
 #[tactic(auto, unfolding(crate::specs::Evaluation::evaluation_of))]
 pub fn evaluate<F: Features>(
     alloc: Global,
@@ -34,8 +34,9 @@ pub fn evaluate<F: Features>(
     }
 }
 
-/// The evaluation of a feature over a state that it depends on: the features that it names as its parents, and the
-/// segments that its strategies and theirs name.
+/// Evaluates a feature in a state whose documents are within their limits. Apart from the feature itself, the result depends
+/// only on its parents in the state and on the segments that its strategies and theirs refer to. The only error is out of
+/// memory.
 pub fn evaluate_feature<F: Features>(
     alloc: Global,
     features: &F,
@@ -51,8 +52,7 @@ pub fn evaluate_feature<F: Features>(
     decide(alloc, features, feature, context, moment)?.evaluation(alloc)
 }
 
-/// What a feature is over a state that it depends on, as [`evaluate_feature`] says it, where the variant is lent and not
-/// copied. The error is want of memory.
+/// Like [`evaluate_feature`], but borrows the variant instead of copying it. The only error is out of memory.
 #[tactic(auto, unfolding(crate::specs::Evaluation::feature_evaluation))]
 pub fn decide<'a, F: Features>(
     alloc: Global,

@@ -1,3 +1,4 @@
+//! The results of evaluations.
 ghost use Rattle.std.specs.Prelude.{◌≡◌, IfOk, codes, option_map};
 ghost use Rattle.unl_dependencies.specs.Evaluation.{off as off_evaluation, on_with as evaluation_on_with, answer_of};
 ghost use Rattle.unl_dependencies.specs.Decision.{evaluation_by};
@@ -5,44 +6,44 @@ ghost use Rattle.unl_dependencies.specs.Decision.{evaluation_by};
 use std::alloc::Global;
 use unl_documents::{Copied, Memory, Payload, Text, Variant};
 
-/// The name that stands where there is no variant.
+/// The variant name of an evaluation without a variant.
 pub(crate) fn no_variant() -> &'static str
     ensures { result.now ≡ codes "disabled" }
 {
     "disabled"
 }
 
-/// What a feature is for a context at a moment.
+/// The evaluation of a feature for a context at a moment.
 #[derive(Debug, Drop)]
 pub struct Evaluation {
-    /// Whether it is on.
+    /// Whether the feature is on.
     pub on: bool,
-    /// Its variant.
+    /// The feature's variant.
     pub variant: VariantAnswer,
 }
 
 /// The variant of an evaluation.
 #[derive(Debug, Drop)]
 pub struct VariantAnswer {
-    /// The variant's name, or `disabled` where there is none.
+    /// The variant's name, or `disabled` if there is none.
     pub name: Text,
     /// Whether there is a variant.
     pub enabled: bool,
-    /// What the variant hands to the application.
+    /// The variant's payload for the application, if it has one.
     pub payload: Option<Payload>,
 }
 
-/// What a feature is for a context at a moment, where its variant is lent.
+/// The evaluation of a feature for a context at a moment, with a borrowed variant.
 #[derive(Clone, Copy)]
 pub enum Decision<'a> {
-    /// It is off.
+    /// The feature is off.
     Off,
-    /// It is on, with this variant, if there is one.
+    /// The feature is on, with this variant, if there is one.
     On(Option<&'a Variant>),
 }
 
 impl<'a> Decision<'a> {
-    /// The evaluation that it stands for. The error is want of memory.
+    /// Converts the decision to an evaluation by copying the variant. The only error is out of memory.
     pub fn evaluation(self, alloc: Global) -> Result<Evaluation, Memory>
         ensures { IfOk result (λ e. e ≡ evaluation_by self.entry) }
     {
@@ -54,7 +55,7 @@ impl<'a> Decision<'a> {
 }
 
 impl Evaluation {
-    /// The evaluation of a feature that is off, which has no variant. The error is want of memory.
+    /// Returns the evaluation of a feature that is off, which has no variant. The only error is out of memory.
     pub fn off(alloc: Global) -> Result<Evaluation, Memory>
         ensures { IfOk result (λ e. e ≡ off_evaluation) }
     {
@@ -64,7 +65,7 @@ impl Evaluation {
         })
     }
 
-    /// The evaluation of a feature that is on, with this variant, if there is one. The error is want of memory.
+    /// Returns the evaluation of a feature that is on, with this variant, if there is one. The only error is out of memory.
     pub fn on_with(alloc: Global, variant: Option<&Variant>) -> Result<Evaluation, Memory>
         ensures { IfOk result (λ e. e ≡ evaluation_on_with (option_map (λ v. v.now) variant.entry)) }
     {
@@ -76,7 +77,7 @@ impl Evaluation {
 }
 
 impl VariantAnswer {
-    /// What is answered of a variant.
+    /// Copies the reported parts of a variant.
     fn of(alloc: Global, variant: Option<&Variant>) -> Result<VariantAnswer, Memory>
         ensures { IfOk result (λ answer. answer ≡ answer_of (option_map (λ v. v.now) variant.entry)) }
     {

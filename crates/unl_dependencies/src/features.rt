@@ -1,4 +1,4 @@
-//! What evaluations are computed over.
+//! The data that evaluations are computed from.
 ghost use Rattle.std.specs.Prelude.{◌≡◌, All, IfOk, IfSome, option_map};
 ghost use Rattle.unl_documents.specs.States.{IsValidState};
 ghost use Rattle.unl_documents.specs.Valid.{IsValidFeature};
@@ -12,26 +12,27 @@ use unl_context::Context;
 use unl_documents::{Feature, Memory, State};
 use unl_strategies::{Moment, active};
 
-/// Features that are found by their names and whose strategies are tested. Contracts see a state.
+/// Features that can be looked up by name and whose strategies can be tested. Contracts see a state.
 pub trait Features {
-    /// A feature, as it is kept.
+    /// The representation of a feature.
     type Feature: Drop;
 
-    /// The state that the evaluations are those of.
+    /// The state that is evaluated.
     ghost state: { Self → Whole };
 
     /// The document of a feature.
     ghost document: { Self.Feature → FeatureDocument };
 
-    /// The feature of a name, if there is one. It takes no memory.
+    /// Returns the feature with the given name, if there is one. Does not allocate.
     fn named(&self, name: &str) -> Option<&Self::Feature>
         ensures { option_map (λ f. document f.now) result ≡ feature_with name.now (state self.now).features };
 
-    /// The document of a feature. It takes no memory.
+    /// Returns the document of a feature. Does not allocate.
     fn document(feature: &Self::Feature) -> &Feature
         ensures { result.now ≡ document feature.now };
 
-    /// Whether a feature has a strategy at the place, from 0, and it is active. The error is want of memory.
+    /// Whether a feature has a strategy at the index `place`, from 0, and that strategy is active. The only error is out of
+    /// memory.
     fn is_active(
         &self,
         alloc: Global,
@@ -82,7 +83,7 @@ impl Features for State {
     }
 }
 
-/// The feature of a name, which is within its limits.
+/// Returns the feature with the given name, if there is one. As part of a valid state, it is within its limits.
 pub(crate) fn valid_named<'a, F: Features>(features: &'a F, name: &str) -> Option<&'a F::Feature>
     requires valid { IsValidState (F.state features.now) }
     ensures value { option_map (λ f. F.document f.now) result ≡ feature_with name.now (F.state features.now).features }

@@ -1,4 +1,4 @@
-//! Finding a feature by its name.
+//! Finds a feature by its name.
 ghost use Rattle.std.specs.Prelude.{◌≡◌, All, IfSome, option_map};
 ghost use Rattle.unl_documents.specs.Series.{joined};
 ghost use Rattle.unl_documents.specs.Valid.{IsValidFeature};
@@ -6,7 +6,7 @@ ghost use Rattle.unl_dependencies.specs.Evaluation.{feature_named as feature_wit
 
 use unl_documents::{Feature, Run, Series, Shared};
 
-/// The feature of a name, if the series has one. It takes no memory.
+/// Returns the first feature with the given name, if the series has one. Does not allocate.
 pub fn feature_named<'a>(features: &'a Series<Feature>, name: &str) -> Option<&'a Feature>
     ensures value { option_map (λ f. f.now) result ≡ feature_with name.now features.now }
     ensures valid { All IsValidFeature features.now → IfSome result (λ f. IsValidFeature f.now) }

@@ -1,8 +1,8 @@
-//! What an evaluation is, said of the whole state.
+//! Laws on the evaluations of a whole state. Each is the contract of an empty function.
 ghost use Rattle.unl_dependencies.specs.Laws.{NoneWhereLacking, EachIsFound, ParentStandsAlone, InliningChangesNothing, FirstIsLeast};
 ghost use Rattle.unl_dependencies.specs.Laws.{NoneIsActive, SeenAmongAll};
 
-/// There is no evaluation exactly where no feature of the state has the name.
+/// An evaluation is absent exactly if no feature of the state has the name.
 pub fn none_where_lacking()
     ensures { NoneWhereLacking }
 {}
@@ -12,26 +12,26 @@ pub fn each_is_found()
     ensures { EachIsFound }
 {}
 
-/// A parent that counts for a dependency is evaluated as every feature of the state, though nothing but itself and the
-/// segments is looked at.
+/// A parent that can satisfy a dependency has the same evaluation as a feature of the state and on its own, with nothing but
+/// the segments.
 pub fn parent_stands_alone()
     ensures { ParentStandsAlone }
 {}
 
-/// Whether segments are named or written out in the strategies, of any state, each feature is evaluated alike.
+/// In any state, features have the same evaluations after the segments that strategies refer to are inlined.
 pub fn inlining_changes_nothing()
     ensures { InliningChangesNothing }
 {}
 
-/// The place that [`first_active`](crate::first_active) answers is the least whose strategy is active, and there is none
-/// exactly where no strategy is.
+/// [`first_active`](crate::first_active) returns the least index whose strategy is active, and none exactly if no strategy
+/// is active.
 pub fn first_is_least()
     ensures least { FirstIsLeast }
     ensures none { NoneIsActive }
 {}
 
-/// Of features whose names rise, the one of a name among those whose project is seen is the one among all, where its
-/// project is seen.
+/// If the features' names are strictly ascending, looking up a name among the features whose projects are visible returns
+/// the feature with that name among all features, provided that its project is visible.
 pub fn seen_among_all()
     ensures { SeenAmongAll }
 {}

@@ -1,4 +1,4 @@
-//! What a feature is for a context at a moment: whether it is on, and its variant.
+//! Evaluates features: whether a feature is on for a context at a moment, and with which variant.
 #![tactic(auto)]
 
 mod dependencies;

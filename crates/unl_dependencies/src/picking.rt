@@ -1,4 +1,4 @@
-//! Whether a feature is on, and its variant, once it is known whether its dependencies are met.
+//! Decides whether a feature is on, and with which variant, once it is known whether its dependencies are met.
 ghost use Rattle.std.specs.Prelude.{◌≡◌, ◌≤◌, length, IfOk, option_map};
 ghost use Rattle.unl_documents.specs.Valid.{IsValidFeature};
 ghost use Rattle.unl_variants.specs.Variant.{AreWithinLimits};
@@ -16,8 +16,8 @@ use unl_documents::{Feature, List, Memory, Variant};
 use unl_strategies::{Mark, Moment, parameter_or, random_for, random_id};
 use unl_variants::choose;
 
-/// The evaluation of a feature within its limits, where it is known whether its dependencies are met. The error is want
-/// of memory.
+/// Evaluates a feature, given whether its dependencies are met. The feature is within its limits. The only error is out of
+/// memory.
 pub fn evaluate_where<F: Features>(
     alloc: Global,
     met: bool,
@@ -33,7 +33,7 @@ pub fn evaluate_where<F: Features>(
     decision_where(alloc, met, features, feature, context, moment)?.evaluation(alloc)
 }
 
-/// What a feature within its limits is, where it is known whether its dependencies are met. The error is want of memory.
+/// Like [`evaluate_where`], but borrows the variant instead of copying it.
 #[tactic(auto, unfolding(crate::specs::Evaluation::evaluation_where, crate::specs::Evaluation::is_on))]
 pub(crate) fn decision_where<'a, F: Features>(
     alloc: Global,
@@ -58,8 +58,8 @@ pub(crate) fn decision_where<'a, F: Features>(
     Ok(Decision::On(variant_of(document, context, moment, first)))
 }
 
-/// The place, from 0, of the first strategy that is active: the least such place, and none where no strategy is. The
-/// feature is within its limits. The error is want of memory.
+/// Returns the index, from 0, of the first strategy that is active, or `None` if none is. The feature is within its limits.
+/// The only error is out of memory.
 pub fn first_active<F: Features>(
     alloc: Global,
     features: &F,
@@ -97,8 +97,8 @@ fn first_among<F: Features>(
     Ok(None)
 }
 
-/// The variant of a feature that is on, where it is known which strategy is the first that is active: that strategy's, or
-/// else the feature's own. The feature is within its limits. It takes no memory.
+/// Returns the variant of a feature that is on, given the index of its first active strategy: that strategy's variant, or
+/// else the feature's own. The feature is within its limits. Does not allocate.
 #[tactic(auto, unfolding(crate::specs::Evaluation::variant_of))]
 pub fn variant_of<'a>(
     feature: &'a Feature,
@@ -118,8 +118,9 @@ pub fn variant_of<'a>(
     }
 }
 
-/// The variant of the strategy at a place, from 0, of a feature within its limits: none where there is no such place, or
-/// none is chosen. Its group is the parameter `groupId`, or else the feature's name. It takes no memory.
+/// Returns the variant that is chosen among those of the strategy at the index `place`, from 0. Returns `None` if there is
+/// no such strategy or no variant is chosen. The variants' group is the parameter `groupId`, or else the feature's name. The
+/// feature is within its limits. Does not allocate.
 #[tactic(auto, unfolding(crate::specs::Evaluation::strategy_variant))]
 pub fn strategy_variant<'a>(
     feature: &'a Feature,
@@ -143,8 +144,8 @@ pub fn strategy_variant<'a>(
     )
 }
 
-/// The variant that is chosen among the feature's own, in the group of its name, if one is. The feature is within its
-/// limits. It takes no memory.
+/// Returns the variant that is chosen among the feature's own, with the feature's name as the group, if one is chosen. The
+/// feature is within its limits. Does not allocate.
 #[tactic(auto, unfolding(crate::specs::Evaluation::own_variant))]
 pub fn own_variant<'a>(
     feature: &'a Feature,
@@ -165,8 +166,8 @@ pub fn own_variant<'a>(
     )
 }
 
-/// The variant that is chosen in a group, where the random number is that of a feature's mark: it is made only where
-/// there are variants.
+/// Returns the variant that is chosen in a group. The random number, that of a feature's mark, is computed only if there are
+/// variants.
 #[tactic(auto, unfolding(crate::specs::Evaluation::variant_in, unl_variants::specs::Variant::choice_of))]
 fn variant_drawn<'a>(
     group: &str,
@@ -187,7 +188,7 @@ fn variant_drawn<'a>(
     variant_in(group, variants, context, random_id(random))
 }
 
-/// The variant that is chosen in a group.
+/// Returns the variant that is chosen in a group, given the random id's number.
 #[tactic(auto, unfolding(crate::specs::Evaluation::variant_in))]
 fn variant_in<'a>(
     group: &str,

@@ -1,3 +1,4 @@
+//! Tests of an edge writer that publishes concurrently with its readers.
 use std::alloc::Global;
 use std::sync::Wait;
 use std::test::Fail;
@@ -12,10 +13,10 @@ use unl_tokens::Book;
 
 const TOKENS: &[u8] = br#"{"tokens":[{"token":"*:dev.f","type":"frontend"}]}"#;
 
-/// The front of an answer, and its status.
+/// The front and the status of an answer.
 type Look = (u64, u16);
 
-/// A writer and two readers of a board with one empty slot.
+/// Returns a writer and two readers of a board with one empty slot.
 fn begun<'a, W: Wait>(
     rt: &'a W,
     alloc: Global,
@@ -40,7 +41,7 @@ fn publish_book<W: Wait>(alloc: Global, writer: &mut EdgeWriter<'_, W>) -> Resul
     }
 }
 
-/// Asks for the toggles of a token.
+/// Requests the toggles of a token.
 fn ask(alloc: Global, reader: &mut EdgeReader) -> Result<Look, Memory> {
     let request = Request {
         method: Method::Get,
@@ -55,10 +56,10 @@ fn ask(alloc: Global, reader: &mut EdgeReader) -> Result<Look, Memory> {
     Ok((front, answer.reply.status))
 }
 
-/// The status of an answer at the front 0, where the token is unknown, and then, where its environment has no state.
+/// The status of an answer: at front 0 the token is unknown; later its environment has no state.
 const STATUSES: [u16; 2] = [403, 503];
 
-/// Publishes a book again and again.
+/// Publishes a book 20 times.
 struct Publishing<'a, 'w, W: Wait> {
     writer: &'a mut EdgeWriter<'w, W>,
     alloc: Global,
@@ -83,7 +84,7 @@ impl<W: Wait> Job for Publishing<'_, '_, W> {
     fn cancel(&mut self) {}
 }
 
-/// Asks again and again: each answer is of the board at its front, and no front is below the one before.
+/// Sends 200 requests. Each answer must be that of the board at its front, and the fronts must not fall.
 #[derive(Drop)]
 struct Asking {
     reader: EdgeReader,
@@ -119,7 +120,7 @@ impl Job for Asking {
     fn cancel(&mut self) {}
 }
 
-/// So many jobs that ask, one for each reader.
+/// Returns one `Asking` job for each reader.
 fn askers(alloc: Global, readers: Vec<EdgeReader>) -> Result<Vec<Asking>, Memory> {
     let mut asking = Vec::new(alloc);
     for reader in readers {
@@ -132,7 +133,7 @@ fn askers(alloc: Global, readers: Vec<EdgeReader>) -> Result<Vec<Asking>, Memory
     Ok(asking)
 }
 
-/// Publishes on this thread while the readers ask, each in a thread of its own.
+/// Publishes on this thread while each reader answers requests in its own thread.
 fn publish_beside<R: Threads + Wait>(
     rt: &R,
     alloc: Global,

@@ -1,5 +1,5 @@
-//! Rows of what is published to readers: what one that was told of it sees, and readers beside a writer, each in a thread of its
-//! own.
+//! Tests of what readers see of the published boards: a reader that has learned of a publication, and readers in their own
+//! threads that run concurrently with a writer.
 #![tactic(auto)]
 
 #[cfg(test)]

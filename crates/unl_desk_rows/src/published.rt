@@ -1,3 +1,4 @@
+//! Tests of published values: readers that learn of a publication, and a reader concurrent with its writer.
 ghost use Rattle.std.specs.Prelude.{◌≡◌, ◌<◌, ◌≤◌, IfOk, IfSome};
 ghost use Rattle.unl_published.specs.Looking.{SameOrigin};
 ghost use Rattle.unl_published.specs.Seen.{next, published, told_list};
@@ -56,7 +57,7 @@ fn opening() -> Setting
     }
 }
 
-/// The front of one look, and the sum of the number that was seen there and the one asked.
+/// Looks once, and returns the front and the sum of the number seen and `asked`.
 fn answer(
     reader: Reader<Setting, u64, Ruled<u64>>,
     asked: u64,
@@ -73,7 +74,7 @@ fn answer(
     }
 }
 
-/// Publishes a number, and tells of it.
+/// Publishes a number and returns what `tell` gives.
 fn publish_and_tell<W: Wait>(
     writer: &mut Publisher<'_, W, Setting, u64, Ruled<u64>>,
     number: u64,
@@ -87,7 +88,7 @@ fn publish_and_tell<W: Wait>(
     }
 }
 
-/// The first reader has looked, and learns what is told. The second does not.
+/// The first reader looks, then learns of a publication and looks again. The second reader looks without having learned.
 fn look<W: Wait>(
     writer: &mut Publisher<'_, W, Setting, u64, Ruled<u64>>,
     learns: Result<Reader<Setting, u64, Ruled<u64>>, AllocError>,
@@ -103,7 +104,7 @@ fn look<W: Wait>(
     Ok((told, untold))
 }
 
-/// What a reader sees that was told, and one that was not, where there is room for so many seats.
+/// Returns what two readers see, the first of which learned of a publication, with room for this many seats.
 fn told_and_untold<W: Wait>(
     rt: &W,
     alloc: Global,
@@ -120,7 +121,7 @@ fn told_and_untold<W: Wait>(
     seen
 }
 
-/// Where there are two seats alone, what was told is only a number.
+/// With only two seats, `tell` gives only a front.
 #[test]
 fn a_told_reader_sees_what_was_published(rt: HostRuntime) -> Result<(), Fail> {
     for seats in 2..4 {
@@ -131,7 +132,7 @@ fn a_told_reader_sees_what_was_published(rt: HostRuntime) -> Result<(), Fail> {
     Ok(())
 }
 
-/// It learns once after each of two looks, then twice without a look, and at last what it was told before.
+/// The reader learns once after each of two looks, then twice without a look, and at last of an older publication.
 fn learn_again<W: Wait>(
     writer: &mut Publisher<'_, W, Setting, u64, Ruled<u64>>,
     reader: Reader<Setting, u64, Ruled<u64>>,
@@ -186,7 +187,7 @@ fn publish_many<W: Wait>(writer: &mut Publisher<'_, W, Setting, u64, Ruled<u64>>
     good
 }
 
-/// Each answer is of the number that was published at its front, and no front is below the one before.
+/// Each answer must have the number that was published at its front, and the fronts must not fall.
 fn answer_many(reader: Reader<Setting, u64, Ruled<u64>>) -> bool {
     let mut reader = reader;
     let mut last = 0;
@@ -203,7 +204,7 @@ fn answer_many(reader: Reader<Setting, u64, Ruled<u64>>) -> bool {
     good
 }
 
-/// A writer publishes while a reader looks, each in a thread of its own.
+/// A writer publishes while a reader looks, each in its own thread.
 fn side_by_side<R: Threads + Wait + Sync>(rt: &R, alloc: Global) -> Result<bool, AllocError> {
     let (writer, mut readers) = begin::<Setting, u64, Ruled<u64>, _>(
         rt,

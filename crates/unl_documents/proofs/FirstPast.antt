@@ -1,4 +1,4 @@
--- The first item that passes a test, among lists that stand one behind the other.
+-- The first item that passes a test, among lists that are joined.
 use Rattle.std.proofs.Common.{◌≡◌, ℕ, suc, ◌+◌, ◌<◌, Bool, true, false, List, ◌∷◌, length, get_or, drop, Option, Some, None, refl, ap, sym, ◌∙◌, add-one, drop-cons}
 use Rattle.std.specs.Prelude.{flat_map, is_some}
 use Rattle.std.specs.List.{find}

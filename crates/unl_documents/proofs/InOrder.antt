@@ -1,4 +1,4 @@
--- Lists that are put in the order of their keys.
+-- Sorting lists by key.
 use Rattle.std.proofs.Common.{◌≡◌, ℕ, true, false, List, [], ◌∷◌, map, Option, Some, None, Ok, Err, Ordering, is_lt, nat_cmp, refl, sym, ap, subst, ◌∙◌}
 use Rattle.std.specs.Prelude.{◌≢◌, IfOk, IfErr, option_map, if◌then◌else◌}
 use Rattle.std.specs.Cmp.{IsStrictWeakOrder}
@@ -102,7 +102,7 @@ twice_from_order {T} key spelled field xs e is =
       | None ↦ λ none other. absurd cc
     ] refl is
 
--- what sorts the items, or names the least key that stands twice, gives their order
+-- A function that sorts the items, or names the least duplicate key, returns `in_order`.
 pub gives_order : {T : Type 0} (key : T → List ℕ) (spelled : List ℕ → List ℕ) (field : Field) (xs : List T) (result : Reading (List T)) → IfOk result (IsSorting key xs)
     → IfErr result (λ e. e ≢ Memory → (k : List ℕ) × IsLeastTwice k (map key xs) × (e ≡ DuplicateName field (spelled k))) → Gives result (in_order key spelled field xs)
 gives_order key spelled field xs (Ok ys) sorting twice = order_from_sorting key spelled field xs ys sorting

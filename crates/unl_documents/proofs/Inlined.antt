@@ -1,4 +1,4 @@
--- States whose segments are written out.
+-- States with inlined segments.
 use Rattle.std.proofs.Common.{◌≡◌, ℕ, ◌≤◌, ◌++◌, Bool, true, false, cond, List, [], ◌∷◌, length, map, Option, Some, None, inl, inr, refl, ap, sym, ◌∙◌, arith}
 use Rattle.std.specs.Prelude.{All, flat_map, nat_lt, ◌==◌}
 use Rattle.std.specs.List.{find, list_all}
@@ -19,7 +19,7 @@ use Rattle.unl_documents.specs.Operators.{operator_of}
 use Rattle.unl_documents.specs.States.{IsValidState, name_key}
 use Rattle.unl_documents.specs.Valid.{IsValidConstraint, IsValidSegment, IsValidStrategy, IsValidFeature}
 
--- ---- where no segment is named
+-- ---- strategies that refer to no segment
 
 alone : (segments : List Segment) (s : Strategy) → s.segments ≡ [] → inlined_strategy segments s ≡ s
 unfolding inlined_strategy all_constraints

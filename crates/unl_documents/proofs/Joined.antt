@@ -1,4 +1,4 @@
--- Joined lists: where an item stands, and what becomes of each.
+-- Joined lists: the position of an item, and mapping over all items.
 use Rattle.std.proofs.Common.{◌≡◌, ℕ, zero, suc, ◌+◌, ◌-◌, ◌<◌, ◌≤◌, List, [], ◌∷◌, ◌++◌, length, get_or, drop, take, map, refl, sym, ap, subst, ◌∙◌, arith, append-nil, append_assoc}
 use Rattle.std.specs.Prelude.{All, Option, slice_get, flat_map}
 use Rattle.std.proofs.lemmas.Grind.{flat_map-append}
@@ -8,59 +8,59 @@ use Rattle.std.proofs.lemmas.List.Elements.{All-get_or, All-push}
 use Rattle.std.proofs.lemmas.List.Folds.{length-flat_map-take}
 use Rattle.unl_documents.specs.Series.{joined, NoneIsEmpty}
 
--- a place in the front
+-- An index within the first list.
 slice_get_front : {T : Type 0} (xs ys : List T) (k : ℕ) → k < length xs → slice_get (xs ++ ys) k ≡ slice_get xs k
 slice_get_front [] ys k lt = absurd (omega arith)
 slice_get_front (x ∷ xs) ys zero lt = refl
 slice_get_front (x ∷ xs) ys (suc k) lt = slice_get_front xs ys k (omega arith)
 
--- a place behind the front
+-- An index past the first list.
 slice_get_behind : {T : Type 0} (xs ys : List T) (k : ℕ) → length xs ≤ k → slice_get (xs ++ ys) k ≡ slice_get ys (k - length xs)
 slice_get_behind [] ys k le = ap (slice_get ys) (omega arith)
 slice_get_behind (x ∷ xs) ys zero le = absurd (omega arith)
 slice_get_behind (x ∷ xs) ys (suc k) le = slice_get_behind xs ys k (omega arith) ∙ ap (slice_get ys) (omega arith)
 
--- a place that is in the next list
+-- An index within the next list.
 pub stands_here : {T : Type 0} (lists : List (List T)) (i : ℕ) (here : List T) (k : ℕ) (total : Option T) → i < length lists → here ≡ get_or lists i here → k < length here
     → slice_get (joined (drop i lists)) k ≡ total → slice_get here k ≡ total
 stands_here lists i here k total lt is inside so_far =
     let parts : drop i lists ≡ here ∷ drop (i + 1) lists = drop_more lists i here lt ∙ ap (λ list. list ∷ drop (i + 1) lists) (sym is) in
     sym (slice_get_front here (joined (drop (i + 1) lists)) k inside) ∙ ap (λ left. slice_get (joined left) k) (sym parts) ∙ so_far
 
--- a place that is behind it
+-- An index past the next list.
 pub stands_later : {T : Type 0} (lists : List (List T)) (i : ℕ) (here : List T) (k : ℕ) (total : Option T) → i < length lists → here ≡ get_or lists i here → length here ≤ k
     → slice_get (joined (drop i lists)) k ≡ total → slice_get (joined (drop (i + 1) lists)) (k - length here) ≡ total
 stands_later lists i here k total lt is past so_far =
     let parts : drop i lists ≡ here ∷ drop (i + 1) lists = drop_more lists i here lt ∙ ap (λ list. list ∷ drop (i + 1) lists) (sym is) in
     sym (slice_get_behind here (joined (drop (i + 1) lists)) k past) ∙ ap (λ left. slice_get (joined left) k) (sym parts) ∙ so_far
 
--- lists for each item of all lists, one behind the other
+-- Mapping over the joined list, list by list.
 pub flat_map_joined : {T U : Type 0} (f : T → List U) (lists : List (List T)) → flat_map f (joined lists) ≡ flat_map (λ list. flat_map f list) lists
 flat_map_joined f [] = refl
 flat_map_joined f (list ∷ lists) = flat_map-append f list (joined lists) ∙ ap (λ rest. flat_map f list ++ rest) (flat_map_joined f lists)
 
--- one more list
+-- Appending one more list.
 pub joined-push : {T : Type 0} (lists : List (List T)) (list : List T) → joined (lists ++ list ∷ []) ≡ joined lists ++ list
 joined-push lists list = flat_map-append (λ l. l) lists (list ∷ []) ∙ ap (λ l. joined lists ++ l) (append-nil list)
 
--- one list more, of the first of the items that are left
+-- Appending one more list, made of the first of the remaining items.
 pub part_more : {T : Type 0} (lists made : List (List T)) (list part left rest total : List T) → made ≡ lists ++ list ∷ [] → list ≡ part → rest ≡ part ++ left → joined lists ++ rest ≡ total → joined made ++ left ≡ total
 part_more lists made list part left rest total is same parts so_far =
     ap (λ l. joined l ++ left) is ∙ ap (λ l. l ++ left) (joined-push lists list) ∙ append_assoc (joined lists) list left
     ∙ ap (λ l. joined lists ++ l) (ap (λ l. l ++ left) same ∙ sym parts) ∙ so_far
 
--- one list more, which has an item
+-- Appending one more list, which isn't empty.
 pub full_more : {T : Type 0} (lists made : List (List T)) (list part : List T) → made ≡ lists ++ list ∷ [] → list ≡ part → 1 ≤ length part → NoneIsEmpty lists → NoneIsEmpty made
 full_more lists made list part is same inside full = rw is (All-push (λ l. 1 ≤ length l) lists list full (rw same inside))
 
--- what becomes of each item of the first lists: those of the next list too
+-- If all items of the first lists are mapped, mapping the next list extends the result by one list.
 pub map_more : {T U : Type 0} (f : T → U) (lists : List (List T)) (i : ℕ) (here : List T) (before after : List U) → i < length lists → here ≡ get_or lists i here
     → before ≡ map f (joined (take i lists)) → after ≡ before ++ map f here → after ≡ map f (joined (take (i + 1) lists))
 map_more f lists i here before after lt is so_far next =
     let taken : take (i + 1) lists ≡ take i lists ++ here ∷ [] = take_more lists i here lt ∙ ap (λ l. take i lists ++ l ∷ []) (sym is) in
     next ∙ ap (λ l. l ++ map f here) so_far ∙ sym (ap (λ l. map f (joined l)) taken ∙ ap (map f) (joined-push (take i lists) here) ∙ map-append f (joined (take i lists)) here)
 
--- what comes of each item, in as many lists of as many items: the next list
+-- As `map_more`, with the results in lists of the same lengths, none of which is empty.
 pub maps_next : {T U : Type 0} (f : T → U) (lists : List (List T)) (i : ℕ) (here : List T) (made : List (List U)) (next : List U) → i < length lists → here ≡ get_or lists i here → NoneIsEmpty lists → next ≡ map f here
     → (joined made ≡ map f (joined (take i lists))) × NoneIsEmpty made → (joined (made ++ next ∷ []) ≡ map f (joined (take (i + 1) lists))) × NoneIsEmpty (made ++ next ∷ [])
 maps_next f lists i here made next lt is full same so_far =
@@ -69,7 +69,7 @@ maps_next f lists i here made next lt is full same so_far =
     let long : length next ≡ length here = ap length same ∙ length-map here f in
     (map_more f lists i here _ _ lt is refl all, All-push (λ l. 1 ≤ length l) made next so_far.1 (rw long inside))
 
--- what holds of each item holds of those of one list
+-- What holds for each item of all lists holds for each item of one.
 pub each_in_list : {T : Type 0} (P : T → Type 0) (lists : List (List T)) (i : ℕ) (here : List T) → i < length lists → here ≡ get_or lists i here → All P (joined lists) → All P here
 each_in_list P lists i here lt is each = λ k d below.
     let inside : k < length (get_or lists i here) = subst (λ l. k < length l) is below in

@@ -1,11 +1,11 @@
--- The parts of a text between bytes of one kind, where `split_once` cuts it, and the items among them.
+-- The parts of a text between occurrences of a byte, as `split_once` splits it, and the items among them.
 use Rattle.std.proofs.Common.{◌≡◌, ℕ, suc, ◌+◌, ◌<◌, List, [], ◌∷◌, length, refl, ap, arith, Bor, cond}
 use Rattle.std.specs.Prelude.{Option, Some, None, true, false, ◌==◌, IfSome, IfNone, MatchOption, not}
 use Rattle.std.specs.List.{position_or_len, before_first, after_first, onto_first}
 use Rattle.std.proofs.lemmas.List.Splits.{slice_split_first}
 use Rattle.unl_documents.specs.Texts.{parts}
 
--- what `split_once` at a character tells of its result
+-- The result of `split_once` at a character.
 abbrev pub CutsAtFirst : ℕ → List ℕ → Option (Bor (List ℕ) × Bor (List ℕ)) → Type 0
 CutsAtFirst byte text result =
     MatchOption result (position_or_len (λ b. b == byte) text ≡ length text)

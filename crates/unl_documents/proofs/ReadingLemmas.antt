@@ -1,4 +1,4 @@
--- Reading, and what a value stands for.
+-- The results of reading and the documents that values represent.
 use Rattle.std.proofs.Common.{◌≡◌, ℕ, true, false, List, Option, Some, None, Ok, Err, refl, sym, ap, ◌∙◌}
 use Rattle.std.specs.Prelude.{◌↔◌, if◌then◌else◌}
 use Rattle.std.specs.Str.{is_utf8}
@@ -18,7 +18,7 @@ faultless : {T : Type 0} (r : Reading T) → fault_of r ≡ None → (x : T) × 
 faultless (Ok x) h = (x, refl)
 faultless (Err e) h = absurd cc
 
--- a reading that is sound gives a document exactly where the value stands for it and has no fault
+-- A sound reading gives a document if and only if the value represents it and has no fault.
 pub exactly : {T : Type 0} (reads : Data → Reading T) (Reads : Data → T → Type 0) → Sound reads Reads → One Reads → (value : Data) (d : T) (fault : Option BadDocument)
     → fault_of (document reads value) ≡ fault → (document reads value ≡ Ok d) ↔ (Reads value d × (fault ≡ None))
 exactly reads Reads sound one value d fault same = (
@@ -28,7 +28,7 @@ exactly reads Reads sound one value d fault same = (
       a.1 ∙ ap Ok (one value a.0 d stands p.0),
 )
 
--- and ends with a fault exactly where it has that one
+-- A reading fails with a fault if and only if that is the fault of the value.
 pub faulty : {T : Type 0} (r : Reading T) (e : BadDocument) (fault : Option BadDocument) → fault_of r ≡ fault → (r ≡ Err e) ↔ (fault ≡ Some e)
 faulty (Ok x) e fault same = (λ h. absurd cc, λ h. absurd cc)
 faulty (Err d) e fault same = (λ h. cc, λ h. cc)

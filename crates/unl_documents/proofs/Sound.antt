@@ -1,4 +1,4 @@
--- What is read of a value is what it stands for.
+-- If a value is read as a document, it represents that document.
 use Rattle.std.proofs.Common.{◌≡◌, ℕ, List, [], ◌∷◌, length, Bool, true, false, Option, Some, None, Ok, Err, eqb, refl, sym, ap, subst, ◌∙◌}
 use Rattle.std.specs.Prelude.{MatchOption, codes, nat_lt, not, option_to_list, option_map, ◌++◌, if◌then◌else◌}
 use Rattle.serde_json.specs.Data.{Data, unsigned, negative, float, null, boolean, number, string, array, object, Items, no_items, item, Members, no_members, member}
@@ -21,7 +21,7 @@ use Rattle.unl_documents.proofs.InOrder.{sorting_from_order}
 
 -- ---- steps
 
--- what comes before and what comes after, where a reading gave something
+-- If two chained readings succeed, each of them succeeds.
 bind : {A B : Type 0} (r : Reading A) (k : A → Reading B) (y : B) → (r >>= k) ≡ Ok y → (x : A) × (r ≡ Ok x) × (k x ≡ Ok y)
 bind (Ok x) k y h = (x, refl, h)
 bind (Err e) k y h = absurd cc
@@ -36,7 +36,7 @@ untested : {T : Type 0} (test : Bool) (e : BadDocument) (r : Reading T) (x : T) 
 untested true e r x h = absurd cc
 untested false e r x h = h
 
--- what reads a kind of value reads what the value stands for
+-- A sound reading: if it succeeds, the value represents the result.
 abbrev pub Sound : {T : Type 0} → (Data → Reading T) → (Data → T → Type 0) → Type 0
 Sound {T} reads Is = (value : Data) (x : T) → reads value ≡ Ok x → Is value x
 

@@ -1,4 +1,4 @@
--- What bytes spell in JSON.
+-- The value of a JSON text.
 use Rattle.std.proofs.Common.{◌≡◌, ℕ, List, Some, None, refl, inl, inr}
 use Rattle.std.specs.Prelude.{IsUtf8}
 use Rattle.std.specs.Str.{is_utf8}

@@ -1,4 +1,4 @@
--- What is written stands for the document.
+-- The JSON value that a document is written as represents that document.
 use Rattle.std.proofs.Common.{◌≡◌, List, [], ◌∷◌, map, Some, refl, arith}
 use Rattle.std.specs.Prelude.{All}
 use Rattle.std.proofs.lemmas.List.Elements.{All-tail}
@@ -37,7 +37,7 @@ has_or_at default Is f value found x here is = rw here is
 meta_stands : (head : FeedHead) → IsObject ReadsMeta (meta_data head) (record { epoch = head.epoch; number = Some head.number })
 meta_stands head = object_is meta_of ReadsMeta field.Meta meta_is (meta_data head) (record { epoch = head.epoch; number = Some head.number }) (meta_back head)
 
--- however many features and segments the state has
+-- This holds for any number of features and segments.
 pub feed_stands : (head : FeedHead) (s : State) → IsValidState s → ReadsFeed (feed_data head s) (record { epoch = head.epoch; state = s; number = Some head.number })
 unfolding feed_data meta_data meta_with at
 feed_stands head s valid =

@@ -1,4 +1,4 @@
--- The tokens of what is printed.
+-- The tokens that are written for JSON values.
 use Rattle.std.proofs.Common.{◌≡◌, ℕ, List, [], ◌∷◌, ◌++◌, map, Option, Some, None, option_map, Ok, refl, sym, ap, ◌∙◌, append_assoc}
 use Rattle.std.specs.List.{cons_option}
 use Rattle.json.specs.Print.{print}
@@ -28,20 +28,20 @@ use Rattle.unl_documents.specs.Tokens.{tokens_of, all_tokens, tokens_if, tokens_
 use Rattle.unl_documents.specs.Writing.{with, with_some, count, list, unless_zero, override_data, payload_data, variant_data, dependency_data, constraint_data, segment_data, parameters_data, strategy_data, feature_data, meta_with, meta_data, query_data, feed_data}
 use Rattle.unl_documents.proofs.RoundTrip.{in_order, with_pairs-in_order}
 
--- one token
+-- Writing one token.
 pub one : {E : Type 0} {x : Unit {0}} {t : Token} {old new : Written} → Writes {E = E} (Ok x) old new t → Wrote (t ∷ []) old new
 one w = record { before = w.room.0; tokens = w.ok }
 
--- some tokens, and then some more
+-- Writing some tokens, then others.
 pub then : {xs ys : List Token} {old between new : Written} → Wrote xs old between → Wrote ys between new → Wrote (xs ++ ys) old new
 then {xs} {ys} {old} {between} {new} first second =
     record { before = second.before ∙ first.before; tokens = second.tokens ∙ ap (λ ts. ts ++ ys) first.tokens ∙ append_assoc old.tokens xs ys }
 
--- the same tokens
+-- Writing the same tokens, spelled differently.
 pub spelled : {xs ys : List Token} {old new : Written} → xs ≡ ys → Wrote ys old new → Wrote xs old new
 spelled {xs} {ys} {old} {new} same wrote = record { before = wrote.before; tokens = wrote.tokens ∙ ap (λ ts. old.tokens ++ ts) (sym same) }
 
--- one value more, where there is one
+-- Adds the tokens of an optional value.
 pub found_more : (front : List Token) (o : Option Data) (ds : List Data) → (front ++ tokens_if o) ++ all_tokens ds ≡ front ++ all_tokens (cons_option o ds)
 found_more front None ds = append_assoc front [] (all_tokens ds)
 found_more front (Some d) ds = append_assoc front (tokens_of d) (all_tokens ds)
@@ -50,17 +50,17 @@ pub items_tokens_of : (ds : List Data) → items_tokens (items_outline (items_of
 items_tokens_of [] = refl
 items_tokens_of (d ∷ ds) = ap (λ ts. tokens_of d ++ ts) (items_tokens_of ds) ∙ sym (append_assoc (tokens_of d) (all_tokens ds) (end_array ∷ []))
 
--- a list in its brackets
+-- The tokens of a list: its items in brackets.
 pub list_tokens : (ds : List Data) → tokens_of (array (items_of ds)) ≡ begin_array ∷ (all_tokens ds ++ end_array ∷ [])
 list_tokens ds = ap (λ ts. begin_array ∷ ts) (items_tokens_of ds)
 
--- the text of a value that was written behind nothing
+-- A value written to an empty output gives the value's JSON text.
 pub text_of : (d : Data) (old new : Written) → old.before ≡ [] → old.tokens ≡ [] → Wrote (tokens_of d) old new → new.before ++ print new.tokens ≡ compact_text d
 text_of d old new before none wrote =
     let tokens : new.tokens ≡ tokens_of d = wrote.tokens ∙ ap (λ ts. ts ++ tokens_of d) none in
     ap (λ bytes. bytes ++ print new.tokens) (wrote.before ∙ before) ∙ ap print tokens ∙ print-outline d
 
--- ---- the objects, their keys in byte order, with the optional ones and without
+-- ---- the objects, their keys in byte order, with and without the optional ones
 
 pub override_tokens : (o : Override)
     → tokens_of (override_data o)

@@ -1,4 +1,4 @@
--- A value stands for one document.
+-- A value represents at most one document.
 use Rattle.std.proofs.Common.{◌≡◌, ℕ, List, [], ◌∷◌, true, false, Option, Some, None, refl, sym, ap, subst, ◌∙◌}
 use Rattle.std.specs.Prelude.{MatchOption}
 use Rattle.serde_json.specs.Data.{Data, unsigned, null, boolean, number, string, array, object, Items, no_items, item, Members, no_members, member}
@@ -11,7 +11,7 @@ use Rattle.unl_documents.specs.Reads.{IsText, IsTruth, IsWhole, IsTextOrWhole, I
 use Rattle.unl_documents.specs.States.{no_meta}
 use Rattle.unl_documents.proofs.OneOrder.{one_sorting}
 
--- a value stands for at most one thing
+-- A value represents at most one thing.
 abbrev pub One : {T : Type 0} → (Data → T → Type 0) → Type 0
 One {T} Is = (value : Data) (a b : T) → Is value a → Is value b → a ≡ b
 

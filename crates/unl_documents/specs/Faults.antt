@@ -1,5 +1,5 @@
--- The faults of a value, key by key in the order of the table of its document: each key has its own fault, whatever stands at
--- the others. The first of them is the fault of the document.
+-- The faults of a value, listed by key in the order in which the keys are read. Each key has its own fault, whatever
+-- the other keys have. The fault of the document is the first in the list.
 use Rattle.std.specs.Prelude.{[], ◌∷◌, List, codes, true, false, Option, Some, None, Ok, Err, if◌then◌else◌}
 use Rattle.serde_json.specs.Data.{Data}
 use Rattle.unl_documents.specs.declared.fault.BadDocument.{BadDocument}
@@ -15,43 +15,43 @@ use Rattle.unl_documents.specs.Reading.{Reading, ◌>>=◌}
 use Rattle.unl_documents.specs.Sorting.{in_order}
 use Rattle.unl_documents.specs.States.{name_key, id_key, as_is, id_text, no_meta, meta_of}
 
--- the fault that a reading ends with, or none
+-- The fault of a failed reading; `None` for one that succeeded.
 abbrev pub fault_of : {T : Type 0} → Reading T → Option BadDocument
 fault_of (Ok x) = None
 fault_of (Err e) = Some e
 
--- the fault of what stands at a key, if it has one, before those of the keys behind it
+-- The fault of a reading, if it failed, followed by `others`.
 abbrev pub before : {T : Type 0} → Reading T → List BadDocument → List BadDocument
 before (Ok x) others = others
 before (Err e) others = e ∷ others
 
--- the first of some faults
+-- The first of a list of faults.
 abbrev pub first : List BadDocument → Option BadDocument
 first [] = None
 first (e ∷ es) = Some e
 
 -- ---- objects in documents
 
--- of an override
+-- The faults of an override.
 unfoldable pub faults_of_override : Data → List BadDocument
 faults_of_override value =
     before (required name field.ContextName value) (
     before (defaulted [] (texts 10000 4096) field.Values value) [])
 
--- of a dependency
+-- The faults of a dependency.
 unfoldable pub faults_of_dependency : Data → List BadDocument
 faults_of_dependency value =
     before (required name field.Feature value) (
     before (defaulted true truth field.Enabled value) (
     before (defaulted [] (names 100) field.Variants value) []))
 
--- of a payload
+-- The faults of a payload.
 unfoldable pub faults_of_payload : Data → List BadDocument
 faults_of_payload value =
     before (required any_text field.Kind value) (
     before (required (text_or_whole 65536) field.Value value) [])
 
--- of a variant
+-- The faults of a variant.
 unfoldable pub faults_of_variant : Data → List BadDocument
 faults_of_variant value =
     before (required name field.Name value) (
@@ -60,7 +60,7 @@ faults_of_variant value =
     before (optional (object_of payload_of) field.Payload value) (
     before (defaulted [] (objects 100 override_of) field.Overrides value) []))))
 
--- of a constraint
+-- The faults of a constraint.
 unfoldable pub faults_of_constraint : Data → List BadDocument
 faults_of_constraint value =
     before (required name field.ContextName value) (
@@ -70,7 +70,7 @@ faults_of_constraint value =
     before (defaulted false truth field.CaseInsensitive value) (
     before (defaulted false truth field.Inverted value) [])))))
 
--- of a strategy
+-- The faults of a strategy.
 unfoldable pub faults_of_strategy : Data → List BadDocument
 faults_of_strategy value =
     before (required name field.Name value) (
@@ -79,7 +79,7 @@ faults_of_strategy value =
     before (defaulted [] (numbers 1000) field.Segments value) (
     before (defaulted [] (objects 100 variant_of) field.Variants value) []))))
 
--- of what stands beside a feed's state
+-- The faults of a feed's `meta` object.
 unfoldable pub faults_of_meta : Data → List BadDocument
 faults_of_meta value =
     before (defaulted 0 any_whole field.Epoch value) (
@@ -87,13 +87,13 @@ faults_of_meta value =
 
 -- ---- documents
 
--- of a segment
+-- The faults of a segment.
 unfoldable pub faults_of_segment : Data → List BadDocument
 faults_of_segment value =
     before (required any_whole field.Id value) (
     before (defaulted [] (objects 100 constraint_of) field.Constraints value) [])
 
--- of a feature
+-- The faults of a feature.
 unfoldable pub faults_of_feature : Data → List BadDocument
 faults_of_feature value =
     before (required name field.Name value) (
@@ -107,38 +107,39 @@ faults_of_feature value =
     before (defaulted [] (objects 100 variant_of) field.Variants value) (
     before (defaulted [] (objects 100 dependency_of) field.Dependencies value) [])))))))))
 
--- of a state, before those of what stands beside it: a list's items come before the name or id that stands twice
+-- The faults of a state's lists, followed by `others`. In each list, the faults of the items come before a duplicate
+-- name or id.
 abbrev pub faults_of_lists : Data → List BadDocument → List BadDocument
 faults_of_lists value others =
     before (defaulted [] (objects 10000 feature_of) field.Features value >>= in_order name_key as_is field.Name) (
     before (defaulted [] (objects 1000 segment_of) field.Segments value >>= in_order id_key id_text field.Id) others)
 
--- of a state
+-- The faults of a state.
 unfoldable pub faults_of_state : Data → List BadDocument
 faults_of_state value = faults_of_lists value []
 
--- of a feed
+-- The faults of a feed.
 unfoldable pub faults_of_feed : Data → List BadDocument
 faults_of_feed value = faults_of_lists value (before (defaulted no_meta (object_of meta_of) field.Meta value) [])
 
 -- ---- the first fault of a whole document
 
--- what is no object has the one fault that it is none
+-- The faults of a whole document; `NotJson` alone if it isn't an object.
 abbrev pub faults_of_document : (Data → List BadDocument) → Data → List BadDocument
 faults_of_document faults value = if is_object value then faults value else NotJson ∷ []
 
--- of a value as a feature
+-- The first fault of a value that is read as a feature.
 unfoldable pub first_fault_of_feature : Data → Option BadDocument
 first_fault_of_feature value = first (faults_of_document faults_of_feature value)
 
--- of a value as a segment
+-- The first fault of a value that is read as a segment.
 unfoldable pub first_fault_of_segment : Data → Option BadDocument
 first_fault_of_segment value = first (faults_of_document faults_of_segment value)
 
--- of a value as a state
+-- The first fault of a value that is read as a state.
 unfoldable pub first_fault_of_state : Data → Option BadDocument
 first_fault_of_state value = first (faults_of_document faults_of_state value)
 
--- of a value as a feed
+-- The first fault of a value that is read as a feed.
 unfoldable pub first_fault_of_feed : Data → Option BadDocument
 first_fault_of_feed value = first (faults_of_document faults_of_feed value)

@@ -1,4 +1,4 @@
--- Segments written out in the strategies that name them, for those who don't know segments.
+-- Inlining segments into the strategies that refer to them, for readers that don't know segments.
 use Rattle.std.specs.Prelude.{ℕ, List, [], ◌∷◌, ◌++◌, map, length, flat_map, codes, false, Option, Some, None, Result, Ok, Err, nat_lt}
 use Rattle.std.specs.Prelude.{◌==◌}
 use Rattle.std.specs.List.{find}
@@ -12,23 +12,24 @@ use Rattle.unl_documents.specs.declared.segment.Segment.{Segment}
 use Rattle.unl_documents.specs.declared.state.State.{State}
 use Rattle.unl_documents.specs.declared.strategy.Strategy.{Strategy}
 
--- the segment of an id, if there is one: the first
+-- The first segment with this id, if there is one.
 abbrev pub segment_of : ℕ → List Segment → Option Segment
 segment_of id segments = find (λ s. s.id == id) segments
 
--- the constraint that holds for nobody: the userId is one of no values
+-- The constraint that holds for nobody: `userId` IN no values.
 abbrev pub holds_for_nobody : Constraint
 holds_for_nobody = record { field = codes "userId"; operator = In; values = []; value = None; caseless = false; inverted = false }
 
--- what is written out for an id: the constraints of its segment, or the one that holds for nobody where there is none
+-- The constraints inlined for an id: those of its segment, or the one that holds for nobody if there is no such
+-- segment.
 unfoldable pub constraints_for : List Segment → ℕ → List Constraint
 constraints_for segments id = option_map_or (λ s. s.constraints) (segment_of id segments) (holds_for_nobody ∷ [])
 
--- the strategy's own constraints, followed by those for each of its ids in order
+-- The strategy's own constraints, followed by those for each of its segment ids in order.
 unfoldable pub all_constraints : List Segment → Strategy → List Constraint
 all_constraints segments s = s.constraints ++ flat_map (constraints_for segments) s.segments
 
--- the strategy, with the constraints of its segments as its own
+-- The strategy with the constraints of its segments as its own.
 unfoldable pub inlined_strategy : List Segment → Strategy → Strategy
 inlined_strategy segments s = record {
   name = s.name;
@@ -38,7 +39,7 @@ inlined_strategy segments s = record {
   variants = s.variants;
 }
 
--- the feature, with each of its strategies so
+-- The feature with each of its strategies inlined.
 unfoldable pub inlined_feature : List Segment → Feature → Feature
 inlined_feature segments f = record {
   name = f.name;
@@ -53,23 +54,23 @@ inlined_feature segments f = record {
   dependencies = f.dependencies;
 }
 
--- the state without segments, which are written out in the strategies that name them
+-- The state with its segments inlined into the strategies that refer to them.
 unfoldable pub inlined : State → State
 inlined state = record { features = map (inlined_feature state.segments) state.features; segments = [] }
 
--- how many constraints each of the strategies would have
+-- The number of constraints that each strategy would have.
 abbrev pub counts : List Segment → List Strategy → List ℕ
 counts segments strategies = map (λ s. length (all_constraints segments s)) strategies
 
--- the count of the first strategy, in the order of features and strategies, that would have more than 100 constraints
+-- The constraint count of the first strategy that would have more than 100, in the order of features and strategies.
 unfoldable pub first_excess : State → Option ℕ
 first_excess state = find (nat_lt 100) (flat_map (λ f. counts state.segments f.strategies) state.features)
 
--- the state, unless there is an excess
+-- The state, or `TooMany` if there is an excess.
 abbrev pub unless_excess : Option ℕ → State → Result State InlineRefusal
 unless_excess None state = Ok state
 unless_excess (Some count) state = Err (TooMany count)
 
--- the inlined state, or the first excess
+-- The inlined state, or the first excess.
 unfoldable pub inlining_of : State → Result State InlineRefusal
 inlining_of state = unless_excess (first_excess state) (inlined state)

@@ -1,4 +1,4 @@
--- When a JSON value reads as a document: key by key and in no order, limits apart.
+-- Which document a JSON value represents: key by key, in no order, and ignoring limits.
 use Rattle.std.specs.Prelude.{◌≡◌, ℕ, List, [], ◌∷◌, codes, Bool, true, false, Option, None, Some, MatchOption}
 use Rattle.serde_json.specs.Data.{Data, unsigned, null, boolean, number, string, array, object, Items, no_items, item, Members}
 use Rattle.serde_json.specs.Data.{no_members, member}
@@ -24,21 +24,21 @@ use Rattle.unl_documents.specs.Operators.{operator_of}
 use Rattle.unl_documents.specs.Sorting.{IsSorting}
 use Rattle.unl_documents.specs.States.{name_key, id_key, no_meta}
 
--- ---- what a value stands for
+-- ---- values
 
--- the value is this text
+-- The value is this text.
 abbrev pub IsText : Data → List ℕ → Type 0
 IsText value bytes = value ≡ string bytes
 
--- the value is this boolean
+-- The value is this boolean.
 abbrev pub IsTruth : Data → Bool → Type 0
 IsTruth value b = value ≡ boolean b
 
--- the value is this whole number
+-- The value is this whole number.
 abbrev pub IsWhole : Data → ℕ → Type 0
 IsWhole value n = value ≡ number (unsigned n)
 
--- the value is this text; or an integer or a boolean, and this its text in JSON
+-- The value is this text; or it is an integer or a boolean, and this is its JSON text.
 abbrev pub IsTextOrWhole : Data → List ℕ → Type 0
 IsTextOrWhole null bytes = ⊥
 IsTextOrWhole (boolean b) bytes = bytes ≡ compact_text (boolean b)
@@ -47,77 +47,78 @@ IsTextOrWhole (string text) bytes = bytes ≡ text
 IsTextOrWhole (array values) bytes = ⊥
 IsTextOrWhole (object inside) bytes = ⊥
 
--- the value is the name of this operator
+-- The value is the name of this operator.
 abbrev pub IsOperator : Data → Operator → Type 0
 IsOperator value op = (name : List ℕ) × IsText value name × (op ≡ operator_of name)
 
--- the items stand for these, one for one
+-- The items represent these, one for one.
 abbrev pub AreEach : {T : Type 0} → (Data → T → Type 0) → Items → List T → Type 0
 AreEach Is no_items [] = Unit {0}
 AreEach Is no_items (x ∷ xs) = ⊥
 AreEach Is (item value values) [] = ⊥
 AreEach Is (item value values) (x ∷ xs) = Is value x × AreEach Is values xs
 
--- the value is a list, whose items stand for these
+-- The value is a list whose items represent these.
 abbrev pub IsList : {T : Type 0} → (Data → T → Type 0) → Data → List T → Type 0
 IsList Is value xs = (items : Items) × (value ≡ array items) × AreEach Is items xs
 
--- the value is an object, which reads as this
+-- The value is an object that represents this.
 abbrev pub IsObject : {T : Type 0} → (Data → T → Type 0) → Data → T → Type 0
 IsObject Reads value x = (is_object value ≡ true) × Reads value x
 
--- a pair for each member but those that are null, of its key and what its value stands for
+-- There is one pair for each member whose value isn't null, with the member's key and the text that its value
+-- represents.
 abbrev pub ArePairs : Members → List Pair → Type 0
 ArePairs no_members pairs = pairs ≡ []
 ArePairs (member name value inside) pairs =
     MatchOption (present value) (ArePairs inside pairs) (λ found. (text : List ℕ) × (others : List Pair)
     × (pairs ≡ record { key = name; value = text } ∷ others) × IsTextOrWhole found text × ArePairs inside others)
 
--- the value is an object, whose members stand for these pairs
+-- The value is an object whose members represent these pairs.
 abbrev pub IsParameters : Data → List Pair → Type 0
 IsParameters value pairs = (inside : Members) × (value ≡ object inside) × ArePairs inside pairs
 
--- ---- what stands at a key
+-- ---- keys
 
--- a value that stands for this
+-- The key has a value that represents this.
 abbrev pub Has : {T : Type 0} → (Data → T → Type 0) → Field → Data → T → Type 0
 Has Is field value x = MatchOption (at field value) ⊥ (λ found. Is found x)
 
--- a value that stands for this, or none and this is the default
+-- The key has a value that represents this, or it is absent and this is the default.
 abbrev pub HasOr : {T : Type 0} → T → (Data → T → Type 0) → Field → Data → T → Type 0
 HasOr default Is field value x = MatchOption (at field value) (x ≡ default) (λ found. Is found x)
 
--- a value that stands for this, or none and this is none
+-- The key has a value that represents this, or it is absent and this is `None`.
 abbrev pub MayHave : {T : Type 0} → (Data → T → Type 0) → Field → Data → Option T → Type 0
 MayHave {T} Is field value o = MatchOption (at field value) (o ≡ None) (λ found. (x : T) × (o ≡ Some x) × Is found x)
 
--- a list whose items stand for these, or none and these are none
+-- The key has a list whose items represent these, or it is absent and this list is empty.
 abbrev pub HasList : {T : Type 0} → (Data → T → Type 0) → Field → Data → List T → Type 0
 HasList Is = HasOr [] (IsList Is)
 
--- a list of objects that read as these, here by their keys
+-- The key has a list of objects that represent these, which are sorted by key here.
 abbrev pub HasSorted : {T : Type 0} → (T → List ℕ) → (Data → T → Type 0) → Field → Data → List T → Type 0
 HasSorted {T} by Reads field value ys = (xs : List T) × HasList (IsObject Reads) field value xs × IsSorting by xs ys
 
 -- ---- documents
 
--- the value reads as the override
+-- The value represents the override.
 pub record ReadsOverride (value : Data) (o : Override) : Type 0 where
   pub field : Has IsText key.ContextName value o.field
   pub values : HasList IsTextOrWhole key.Values value o.values
 
--- the value reads as the dependency
+-- The value represents the dependency.
 pub record ReadsDependency (value : Data) (d : Dependency) : Type 0 where
   pub feature : Has IsText key.Feature value d.feature
   pub enabled : HasOr true IsTruth key.Enabled value d.enabled
   pub variants : HasList IsText key.Variants value d.variants
 
--- the value reads as the payload
+-- The value represents the payload.
 pub record ReadsPayload (value : Data) (p : Payload) : Type 0 where
   pub kind : Has IsText key.Kind value p.kind
   pub inside : Has IsTextOrWhole key.Value value p.value
 
--- the value reads as the variant
+-- The value represents the variant.
 pub record ReadsVariant (value : Data) (v : Variant) : Type 0 where
   pub name : Has IsText key.Name value v.name
   pub weight : Has IsWhole key.Weight value v.weight
@@ -125,7 +126,7 @@ pub record ReadsVariant (value : Data) (v : Variant) : Type 0 where
   pub payload : MayHave (IsObject ReadsPayload) key.Payload value v.payload
   pub overrides : HasList (IsObject ReadsOverride) key.Overrides value v.overrides
 
--- the value reads as the constraint
+-- The value represents the constraint.
 pub record ReadsConstraint (value : Data) (c : Constraint) : Type 0 where
   pub field : Has IsText key.ContextName value c.field
   pub operator : Has IsOperator key.Operator value c.operator
@@ -134,12 +135,12 @@ pub record ReadsConstraint (value : Data) (c : Constraint) : Type 0 where
   pub caseless : HasOr false IsTruth key.CaseInsensitive value c.caseless
   pub inverted : HasOr false IsTruth key.Inverted value c.inverted
 
--- the value reads as the segment
+-- The value represents the segment.
 pub record ReadsSegment (value : Data) (s : Segment) : Type 0 where
   pub id : Has IsWhole key.Id value s.id
   pub constraints : HasList (IsObject ReadsConstraint) key.Constraints value s.constraints
 
--- the value reads as the strategy
+-- The value represents the strategy.
 pub record ReadsStrategy (value : Data) (s : Strategy) : Type 0 where
   pub name : Has IsText key.Name value s.name
   pub parameters : HasOr [] IsParameters key.Parameters value s.parameters
@@ -147,7 +148,7 @@ pub record ReadsStrategy (value : Data) (s : Strategy) : Type 0 where
   pub segments : HasList IsWhole key.Segments value s.segments
   pub variants : HasList (IsObject ReadsVariant) key.Variants value s.variants
 
--- the value reads as the feature
+-- The value represents the feature.
 pub record ReadsFeature (value : Data) (f : Feature) : Type 0 where
   pub name : Has IsText key.Name value f.name
   pub project : HasOr (codes "default") IsText key.Project value f.project
@@ -160,17 +161,17 @@ pub record ReadsFeature (value : Data) (f : Feature) : Type 0 where
   pub variants : HasList (IsObject ReadsVariant) key.Variants value f.variants
   pub dependencies : HasList (IsObject ReadsDependency) key.Dependencies value f.dependencies
 
--- the value reads as the state: features by their names, segments by their ids
+-- The value represents the state: features sorted by name, segments sorted by id.
 pub record ReadsState (value : Data) (s : State) : Type 0 where
   pub features : HasSorted name_key ReadsFeature key.Features value s.features
   pub segments : HasSorted id_key ReadsSegment key.Segments value s.segments
 
--- the value reads as an epoch, which is 0 where none is told, and a number where there is one
+-- The value represents an epoch, which is 0 if it is absent, and an optional number.
 pub record ReadsMeta (value : Data) (m : Meta) : Type 0 where
   pub epoch : HasOr 0 IsWhole key.Epoch value m.epoch
   pub number : MayHave IsWhole key.RevisionId value m.number
 
--- the value reads as the feed
+-- The value represents the feed.
 pub record ReadsFeed (value : Data) (f : Feed) : Type 0 where
   pub state : ReadsState value f.state
   pub meta : HasOr no_meta (IsObject ReadsMeta) key.Meta value (record { epoch = f.epoch; number = f.number })

@@ -1,36 +1,36 @@
--- Words for texts: trimmed, in parts, comma lists, names.
+-- Text helpers: trimming, splitting, comma-separated lists and names.
 use Rattle.std.specs.Prelude.{ℕ, ◌-◌, List, length, map, filter, take, drop, Bool, not, nat_lt, nat_le, ◌&&◌, ◌==◌}
 use Rattle.std.specs.Char.{is_ascii_whitespace}
 use Rattle.std.specs.List.{prefix_len, suffix_len, slice_split}
 
--- the text from its first byte that is no space
+-- The text from its first byte that isn't whitespace.
 abbrev pub without_leading_space : List ℕ → List ℕ
 without_leading_space text = drop (prefix_len is_ascii_whitespace text) text
 
--- the text up to its last byte that is no space
+-- The text up to its last byte that isn't whitespace.
 abbrev pub without_trailing_space : List ℕ → List ℕ
 without_trailing_space text = take (length text - suffix_len is_ascii_whitespace text) text
 
--- the text without the space at its ends: the bytes 9, 10, 12, 13 and 32
+-- The text without leading and trailing whitespace: the bytes 9, 10, 12, 13 and 32.
 unfoldable pub trimmed : List ℕ → List ℕ
 trimmed text = without_trailing_space (without_leading_space text)
 
--- the texts between these bytes, one more than there are of them
+-- The texts between the occurrences of `mark`: one more than there are occurrences.
 abbrev pub parts : ℕ → List ℕ → List (List ℕ)
 parts mark text = slice_split (λ byte. byte == mark) text
 
--- the text has bytes
+-- The text isn't empty.
 abbrev pub has_bytes : List ℕ → Bool
 has_bytes text = not (length text == 0)
 
--- the parts without the space at their ends, but for those of which nothing is left
+-- The texts trimmed, without those that are then empty.
 abbrev pub items_among : List (List ℕ) → List (List ℕ)
 items_among texts = filter has_bytes (map trimmed texts)
 
--- the items of a comma list: its parts, trimmed, without the empty ones
+-- The items of a comma-separated list: its parts, trimmed, without the empty ones.
 unfoldable pub comma_items : List ℕ → List (List ℕ)
 comma_items text = items_among (parts 44 text)
 
--- a name has 1 to 255 bytes
+-- A name has 1 to 255 bytes.
 abbrev pub is_name : List ℕ → Bool
 is_name text = nat_lt 0 (length text) && nat_le (length text) 255

@@ -1,4 +1,4 @@
--- What is printed as text, a token at a time.
+-- The tokens of JSON text.
 use Rattle.std.specs.Prelude.{◌≡◌, List, [], ◌∷◌, ◌++◌, Option, Some, None, flat_map}
 use Rattle.json.specs.Token.{Token, key, string}
 use Rattle.json.specs.Tree.{json_tokens}
@@ -9,33 +9,33 @@ use Rattle.unl_documents.specs.declared.field.Field.{Field}
 use Rattle.unl_documents.specs.declared.parameters.Pair.{Pair}
 use Rattle.unl_documents.specs.Key.{key_of}
 
--- the tokens of a value
+-- The tokens of a value.
 abbrev pub tokens_of : Data → List Token
 tokens_of d = json_tokens (outline d)
 
--- the tokens of values, one behind the other
+-- The tokens of several values in order.
 abbrev pub all_tokens : List Data → List Token
 all_tokens ds = flat_map tokens_of ds
 
--- the tokens of a value, where there is one
+-- The tokens of an optional value; none if it is absent.
 abbrev pub tokens_if : Option Data → List Token
 tokens_if None = []
 tokens_if (Some d) = tokens_of d
 
--- the tokens of a value at its key
+-- The tokens of a key and its value.
 abbrev pub tokens_at : Field → Data → List Token
 tokens_at field d = key (key_of field) ∷ tokens_of d
 
--- the tokens of a value at its key, where there is one
+-- The tokens of a key and its optional value; none if it is absent.
 abbrev pub tokens_at_some : Field → Option Data → List Token
 tokens_at_some field None = []
 tokens_at_some field (Some d) = tokens_at field d
 
--- the tokens of pairs, one behind the other
+-- The tokens of pairs as members of an object, in order.
 abbrev pub pair_tokens : List Pair → List Token
 pair_tokens pairs = flat_map (λ p. key p.key ∷ string p.value ∷ []) pairs
 
--- the tokens were written behind those that stood before
+-- The tokens `ts` were appended to those written before.
 pub record Wrote (ts : List Token) (old new : Written) : Type 0 where
   pub before : new.before ≡ old.before
   pub tokens : new.tokens ≡ old.tokens ++ ts

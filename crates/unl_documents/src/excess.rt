@@ -1,4 +1,4 @@
-//! How many constraints strategies would have, were their segments written out.
+//! Counting the constraints that strategies would have after their segments are inlined.
 ghost use Rattle.std.specs.Prelude.{◌≡◌, ◌+◌, IfOk, flat_map, length, nat_lt};
 ghost use Rattle.std.specs.List.{find};
 ghost use Rattle.unl_documents.specs.Inline.{all_constraints, constraints_for, counts, first_excess as first_excess_of};
@@ -14,7 +14,8 @@ use crate::shared::Shared;
 use crate::state::State;
 use crate::strategy::Strategy;
 
-/// The count of the first strategy that would have more than 100 constraints. Nothing is built for it.
+/// Returns the constraint count of the first strategy that would have more than 100, without building anything. The
+/// error means that a count doesn't fit into 64 bits.
 #[tactic(auto, unfolding(crate::specs::Inline::first_excess))]
 pub(crate) fn first_excess(state: &State) -> Result<Option<u64>, Memory>
     ensures { IfOk result (λ found. found ≡ first_excess_of state.now) }
@@ -69,7 +70,7 @@ fn excess_among(
     Ok(None)
 }
 
-/// How many constraints a strategy would have. More than memory holds count as want of it.
+/// Returns the number of constraints that a strategy would have. The error means that it doesn't fit into 64 bits.
 #[tactic(auto, unfolding(crate::specs::Inline::all_constraints))]
 fn count_of(strategy: &Strategy, segments: &List<Shared<Segment>>) -> Result<u64, Memory>
     ensures { IfOk result (λ count. count ≡ length (all_constraints segments.now strategy.now)) }
@@ -87,7 +88,7 @@ fn sum_of(count: u64, more: u64) -> Result<u64, Memory>
     count.checked_add(more).ok_or(Memory)
 }
 
-/// How many constraints are written out for an id.
+/// Returns the number of constraints inlined for a segment id.
 #[tactic(auto, unfolding(crate::specs::Inline::constraints_for))]
 fn count_for(segments: &List<Shared<Segment>>, id: u64) -> u64
     ensures { result ≡ length (constraints_for segments.now id) }

@@ -1,4 +1,4 @@
-//! How faults of documents are printed.
+//! The text of a document's faults.
 ghost use Rattle.std.specs.Prelude.{◌≡◌, ◌++◌, IfOk, string_bytes, codes, decimal};
 ghost use Rattle.serde_json.specs.Data.{string};
 ghost use Rattle.serde_json.specs.Written.{compact_text};
@@ -12,7 +12,8 @@ use crate::text::Text;
 use serde_json::Value;
 use std::alloc::Global;
 
-/// The text of a fault: its name, the key, and the number or the name that was found. Chosen by this project.
+/// Returns the text of a fault: its name, the key, and the number or the name that was found. Empty for `Memory`. The
+/// format is chosen by this project; the only error is out of memory.
 #[tactic(auto, unfolding(crate::specs::FaultText::fault_text))]
 pub fn fault_text(alloc: Global, fault: &BadDocument) -> Result<String, Memory>
     ensures { IfOk result (λ s. string_bytes s ≡ fault_text fault.now) }
@@ -28,7 +29,7 @@ pub fn fault_text(alloc: Global, fault: &BadDocument) -> Result<String, Memory>
     }
 }
 
-/// The name of a fault, followed by the key.
+/// Returns the name of a fault followed by the key.
 fn at_key(alloc: Global, name: &str, field: Field) -> Result<String, Memory>
     ensures { IfOk result (λ s. string_bytes s ≡ name.now ++ key_of field) }
 {
@@ -49,7 +50,7 @@ fn duplicate(alloc: Global, field: Field, name: &Text) -> Result<String, Memory>
     Ok(format!(in alloc; "DuplicateName {} {}", field.key(), name)?)
 }
 
-/// A text as a JSON string.
+/// Returns a text as a JSON string.
 fn json_text(alloc: Global, text: &Text) -> Result<String, Memory>
     ensures { IfOk result (λ s. string_bytes s ≡ compact_text (string text.now)) }
 {

@@ -1,4 +1,4 @@
-//! Segments written out in the strategies that name them, for those who don't know segments.
+//! Inlining segments into the strategies that refer to them, for readers that don't know segments.
 ghost use Rattle.std.specs.Prelude.{◌≡◌, ◌==◌, ◌++◌, IfOk, OnOk, length, map};
 ghost use Rattle.std.specs.List.{list_all};
 ghost use Rattle.unl_documents.specs.Inline.{all_constraints as constraints_of, constraints_for, holds_for_nobody as nobody_meets};
@@ -25,12 +25,12 @@ use crate::strategy::Strategy;
 use crate::text::Text;
 use std::alloc::Global;
 
-/// Why the segments of a state are not written out.
+/// Why the segments of a state couldn't be inlined.
 #[derive(Clone, Copy, Debug, PartialEq, Eq)]
 pub enum InlineRefusal {
-    /// A strategy would have so many constraints, more than 100.
+    /// A strategy would have this many constraints, more than 100.
     TooMany(u64),
-    /// Memory ran out.
+    /// Out of memory.
     Memory,
 }
 
@@ -42,13 +42,14 @@ impl From<Memory> for InlineRefusal {
     }
 }
 
-/// The state without segments: each strategy names none, and has the constraints of those that it named behind its own,
-/// in the order in which it named them. For an id that the state lacks it has one that holds for nobody: `userId` IN no
-/// values. So each feature is on for whom it was on.
+/// Returns the state with its segments inlined. Each strategy gets the constraints of its segments after its own, in
+/// the order in which it lists the segments, and then refers to no segments. An id that the state has no segment for
+/// becomes one constraint that holds for nobody: `userId` IN no values. So each feature is on for the same contexts as
+/// before.
 ///
 /// # Errors
-/// `TooMany(n)` exactly where a strategy would have n, more than 100, constraints, and is the first such in the order of
-/// features and strategies; or want of memory, as which also counts a count past 64 bits.
+/// `TooMany(n)` if a strategy would have more than 100 constraints; `n` is the count of the first such strategy, in the
+/// order of features and strategies. `Memory` if memory runs out or a count doesn't fit into 64 bits.
 #[tactic(auto, unfolding(crate::specs::Inline::inlining_of))]
 pub fn inline(alloc: Global, state: &State) -> Result<State, InlineRefusal>
     ensures gives { Gives memory result (inlining_of state.now) }
@@ -60,7 +61,7 @@ pub fn inline(alloc: Global, state: &State) -> Result<State, InlineRefusal>
     }
 }
 
-/// The state without segments, whatever the counts.
+/// Inlines the segments, without checking the counts.
 #[tactic(auto, unfolding(crate::specs::Inline::inlined))]
 fn inlined(alloc: Global, state: &State) -> Result<State, Memory>
     ensures { IfOk result (λ s. s ≡ inlined_state state.now) }
@@ -71,7 +72,7 @@ fn inlined(alloc: Global, state: &State) -> Result<State, Memory>
     })
 }
 
-/// The runs, of as many features each.
+/// Inlines the segments into the features of each chunk. The new chunks have as many features as the old ones.
 fn inlined_runs(
     alloc: Global,
     runs: &[Run<Feature>],
@@ -103,7 +104,7 @@ fn inlined_features(
     Ok(inlined)
 }
 
-/// The feature itself where none of its strategies names a segment.
+/// Inlines the segments into a feature. Shares the feature if none of its strategies refers to a segment.
 fn inlined_feature(
     alloc: Global,
     feature: &Shared<Feature>,
@@ -117,7 +118,7 @@ fn inlined_feature(
     Shared::new(alloc, feature_anew(alloc, feature.get(), segments)?)
 }
 
-/// Whether no strategy names a segment.
+/// Returns whether no strategy refers to a segment.
 fn names_none(strategies: &[Strategy]) -> bool
     ensures { result ≡ list_all (λ s. length s.segments == 0) strategies.now }
 {
@@ -177,7 +178,7 @@ fn all_constraints(
     Ok(constraints)
 }
 
-/// Adds what is written out for an id.
+/// Appends the constraints inlined for a segment id.
 #[tactic(auto, unfolding(crate::specs::Inline::constraints_for))]
 fn push_for(
     alloc: Global,

@@ -1,4 +1,4 @@
-//! What an object has at a key.
+//! Reading the value at a key of an object.
 ghost use Rattle.std.specs.Prelude.{◌≡◌, option_map, IfOk, IfSome};
 ghost use Rattle.serde_json.specs.View.{view};
 ghost use Rattle.unl_documents.specs.Reading.{Gives};
@@ -12,7 +12,7 @@ use crate::text::Text;
 use serde_json::Value;
 use std::alloc::Global;
 
-/// The value at a key; null counts as absent.
+/// Returns the value at a key; null counts as absent.
 #[tactic(auto, unfolding(crate::specs::Kinds::at))]
 pub fn value_at(field: Field, value: &Value) -> Option<&Value>
     ensures { option_map (λ found. view found.now) result ≡ at field (view value.now) }
@@ -23,10 +23,10 @@ pub fn value_at(field: Field, value: &Value) -> Option<&Value>
     }
 }
 
-/// What the value at a key is read as.
+/// Reads the value at a required key.
 ///
 /// # Errors
-/// `Missing` where the key is absent or null; else those of the kind.
+/// `Missing` if the key is absent or null; otherwise those of the kind.
 #[tactic(auto, unfolding(crate::specs::Kinds::required))]
 pub fn required<K: Kind>(alloc: Global, field: Field, value: &Value) -> Result<K::Out, BadDocument>
     ensures gives { Gives result (required_at K.reads field (view value.now)) }
@@ -38,7 +38,7 @@ pub fn required<K: Kind>(alloc: Global, field: Field, value: &Value) -> Result<K
     }
 }
 
-/// What the value at a key is read as, or none where the key is absent or null.
+/// Reads the value at an optional key. Returns `None` if the key is absent or null.
 ///
 /// # Errors
 /// Those of the kind.
@@ -57,7 +57,7 @@ pub fn optional<K: Kind>(
     }
 }
 
-/// What the value at a key is read as, or the default where the key is absent or null.
+/// Reads the value at an optional key. Returns the default if the key is absent or null.
 ///
 /// # Errors
 /// Those of the kind.
@@ -78,10 +78,10 @@ pub fn defaulted<K: Kind>(
     }
 }
 
-/// The name at a key, or a default name where the key is absent or null.
+/// Reads the name at an optional key. Returns the default name if the key is absent or null.
 ///
 /// # Errors
-/// Those of a name.
+/// Those of a name, or `Memory`: out of memory.
 #[tactic(auto, unfolding(crate::specs::Kinds::defaulted))]
 pub fn name_or(
     alloc: Global,

@@ -1,4 +1,4 @@
-//! What holds of the definitions of documents.
+//! Theorems about the definitions of documents. Each function here does nothing; its clauses are the theorem.
 ghost use Rattle.std.specs.Prelude.{◌≡◌, ◌↔◌, ◌≤◌, ℕ, List, Ok, Err, Some, None, length, map};
 ghost use Rattle.serde_json.specs.Data.{Data};
 ghost use Rattle.unl_documents.specs.declared.fault.BadDocument.{BadDocument};
@@ -22,36 +22,37 @@ ghost use Rattle.unl_documents.specs.States.{state_of, meta_of, feed_of, IsValid
 ghost use Rattle.unl_documents.specs.Valid.{IsValidFeature, IsValidSegment};
 ghost use Rattle.unl_documents.specs.Writing.{feature_data, segment_data, feed_data};
 
-/// A value is read as a feature exactly where it reads as it, key by key, and has no fault; else the first fault of its keys
-/// is named, in the order of their table.
+/// A value is read as a feature if and only if it represents that feature, key by key, and has no fault. Otherwise
+/// reading fails with the first fault of its keys, in the order in which they are read.
 pub fn features_are_read()
     ensures read { (value : Data) (f : Feature)
         → (document feature_of value ≡ Ok f) ↔ (ReadsFeature value f × (first_fault_of_feature value ≡ None)) }
     ensures fault { (value : Data) (e : BadDocument) → (document feature_of value ≡ Err e) ↔ (first_fault_of_feature value ≡ Some e) }
 {}
 
-/// The same of segments.
+/// As [`features_are_read`], for segments.
 pub fn segments_are_read()
     ensures read { (value : Data) (s : Segment)
         → (document segment_of value ≡ Ok s) ↔ (ReadsSegment value s × (first_fault_of_segment value ≡ None)) }
     ensures fault { (value : Data) (e : BadDocument) → (document segment_of value ≡ Err e) ↔ (first_fault_of_segment value ≡ Some e) }
 {}
 
-/// The same of states.
+/// As [`features_are_read`], for states.
 pub fn states_are_read()
     ensures read { (value : Data) (s : State)
         → (document state_of value ≡ Ok s) ↔ (ReadsState value s × (first_fault_of_state value ≡ None)) }
     ensures fault { (value : Data) (e : BadDocument) → (document state_of value ≡ Err e) ↔ (first_fault_of_state value ≡ Some e) }
 {}
 
-/// The same of feeds, and the fault of what stands beside a feed's state is the first of its keys' own.
+/// As [`features_are_read`], for feeds. The fault of a feed's `meta` object is the first of the faults of its keys.
 pub fn feeds_are_read()
     ensures read { (value : Data) (f : Feed) → (document feed_of value ≡ Ok f) ↔ (ReadsFeed value f × (first_fault_of_feed value ≡ None)) }
     ensures fault { (value : Data) (e : BadDocument) → (document feed_of value ≡ Err e) ↔ (first_fault_of_feed value ≡ Some e) }
     ensures beside { (value : Data) → fault_of (meta_of value) ≡ first (faults_of_meta value) }
 {}
 
-/// The fault of an object in a document is the first of its keys' own faults, in the order of its table.
+/// The fault of an object nested in a document is the first of the faults of its keys, in the order in which they are
+/// read.
 pub fn objects_have_their_first_fault()
     ensures overrides { (value : Data) → fault_of (override_of value) ≡ first (faults_of_override value) }
     ensures dependencies { (value : Data) → fault_of (dependency_of value) ≡ first (faults_of_dependency value) }
@@ -61,7 +62,8 @@ pub fn objects_have_their_first_fault()
     ensures strategies { (value : Data) → fault_of (strategy_of value) ≡ first (faults_of_strategy value) }
 {}
 
-/// What is written of a valid document is read as it. Of a state, where it has no more than the limits let in.
+/// A valid document that is written and read again is unchanged. For a feed this holds if its state has at most 10,000
+/// features and 1,000 segments.
 pub fn what_is_written_is_read()
     ensures feature { (f : Feature) → IsValidFeature f → document feature_of (feature_data f) ≡ Ok f }
     ensures segment { (s : Segment) → IsValidSegment s → document segment_of (segment_data s) ≡ Ok s }
@@ -69,8 +71,8 @@ pub fn what_is_written_is_read()
         → document feed_of (feed_data head s) ≡ Ok (record { epoch = head.epoch; state = s; number = Some head.number }) }
 {}
 
-/// The order of a list's items is the one sorting by their keys; where a key stands twice there is none, and the fault
-/// names the least such key.
+/// `in_order` returns the list sorted by key. If a key occurs twice there is no such list, and the fault names the
+/// least such key.
 pub fn order_is_the_sorting<T>()
     ensures sorting { (key : T → List ℕ) (spelled : List ℕ → List ℕ) (field : Field) (xs ys : List T)
         → (in_order key spelled field xs ≡ Ok ys) ↔ IsSorting key xs ys }
@@ -78,7 +80,7 @@ pub fn order_is_the_sorting<T>()
         → (in_order key spelled field xs ≡ Err e) ↔ ((k : List ℕ) × IsLeastTwice k (map key xs) × (e ≡ DuplicateName field (spelled k))) }
 {}
 
-/// The value that bytes spell is the one whose text in JSON they are.
+/// The value parsed from bytes is the one whose JSON text they are.
 pub fn spelled_is_json()
     ensures { (bytes : List ℕ) (value : Data) → (json_of bytes ≡ Some value) ↔ IsJson bytes value }
 {}

@@ -1,4 +1,4 @@
-//! JSON (RFC 8259) in bytes.
+//! Parsing JSON (RFC 8259).
 ghost use Rattle.std.specs.Prelude.{◌≡◌, IfOk, option_map};
 ghost use Rattle.serde_json.specs.View.{view};
 ghost use Rattle.unl_documents.specs.Results.{json_of, object_in};
@@ -7,7 +7,7 @@ use crate::memory::Memory;
 use serde_json::Value;
 use std::alloc::Global;
 
-/// The value that the bytes spell in JSON, or none where they are no UTF-8 or no JSON.
+/// Parses a JSON value. Returns `None` if the bytes aren't UTF-8 or aren't JSON. The only error is out of memory.
 pub fn read_json(alloc: Global, bytes: &[u8]) -> Result<Option<Value>, Memory>
     ensures { IfOk result (λ found. option_map view found ≡ json_of bytes.now) }
 {
@@ -18,7 +18,7 @@ pub fn read_json(alloc: Global, bytes: &[u8]) -> Result<Option<Value>, Memory>
     }
 }
 
-/// The object that the bytes spell in JSON, or none where they spell none.
+/// Parses a JSON object. Returns `None` if the bytes aren't one. The only error is out of memory.
 #[tactic(auto, unfolding(crate::specs::Results::object_in))]
 pub fn read_object(alloc: Global, bytes: &[u8]) -> Result<Option<Value>, Memory>
     ensures { IfOk result (λ found. option_map view found ≡ object_in bytes.now) }

@@ -1,7 +1,7 @@
-//! Printing documents as text, a token at a time.
+//! Writing documents as JSON text, token by token.
 //!
-//! What prints does so behind what the writer has. Its error is want of memory, after which a part may
-//! have been printed.
+//! The functions here append to the writer's output. Their only error is out of memory, after which a part of the
+//! tokens may have been written.
 ghost use Rattle.std.specs.Prelude.{◌≡◌, ◌∷◌, [], Some, All, IfOk, OnOk, map, option_map};
 ghost use Rattle.json.specs.Token.{key};
 ghost use Rattle.serde_json.specs.Written.{compact_text};
@@ -21,15 +21,15 @@ use crate::written::{Written, unless_zero};
 use json::Writer;
 use std::alloc::Global;
 
-/// The bytes for which there is room from the beginning.
+/// The initial capacity of an output buffer, in bytes.
 pub(crate) const ROOM: usize = 128;
 
-/// What is printed as the text of the value that it is written as.
+/// A type that writes itself as the JSON text of the value that it converts to.
 pub trait Printed: Written {
-    // Whether what it is made of stands in the order in which it is printed.
+    // Whether its parts are in the order in which the JSON text lists them.
     ghost is_printable: { Self → Type 0 };
 
-    /// Prints its text.
+    /// Writes its JSON text.
     fn print(&self, out: &mut Writer) -> Result<(), Memory>
         requires { is_printable self.now }
         ensures { OnOk result (Wrote (tokens_of (Self.written self.now)) out.old out.new) };
@@ -101,7 +101,7 @@ impl<P: Printed> Printed for Series<P> {
     }
 }
 
-/// Prints the items of the runs, one behind the other.
+/// Writes the items of the chunks in order.
 fn print_runs<P: Printed>(out: &mut Writer, runs: &[Run<P>]) -> Result<(), Memory>
     requires { All P.is_printable (joined runs.now) }
     ensures { OnOk result (Wrote (all_tokens (map P.written (joined runs.now))) out.old out.new) }
@@ -112,7 +112,7 @@ fn print_runs<P: Printed>(out: &mut Writer, runs: &[Run<P>]) -> Result<(), Memor
     Ok(())
 }
 
-/// Prints the items, one behind the other.
+/// Writes the items in order.
 pub fn print_each<P: Printed>(out: &mut Writer, items: &[P]) -> Result<(), Memory>
     requires { All P.is_printable items.now }
     ensures { OnOk result (Wrote (all_tokens (map P.written items.now)) out.old out.new) }
@@ -123,7 +123,7 @@ pub fn print_each<P: Printed>(out: &mut Writer, items: &[P]) -> Result<(), Memor
     Ok(())
 }
 
-/// Prints a key, behind which its value is to follow.
+/// Writes a key. Its value must be written next.
 #[inline]
 pub fn print_key(out: &mut Writer, field: Field) -> Result<(), Memory>
     ensures { OnOk result (Wrote (key (key_of field) ∷ []) out.old out.new) }
@@ -132,7 +132,7 @@ pub fn print_key(out: &mut Writer, field: Field) -> Result<(), Memory>
     Ok(())
 }
 
-/// Prints a value at its key.
+/// Writes a key and its value.
 #[inline]
 pub fn print_at<P: Printed>(out: &mut Writer, field: Field, value: &P) -> Result<(), Memory>
     requires { P.is_printable value.now }
@@ -142,7 +142,7 @@ pub fn print_at<P: Printed>(out: &mut Writer, field: Field, value: &P) -> Result
     value.print(out)
 }
 
-/// Prints a value at its key, where there is one.
+/// Writes a key and its value, if there is one.
 pub fn print_some<P: Printed>(
     out: &mut Writer,
     field: Field,
@@ -157,14 +157,14 @@ pub fn print_some<P: Printed>(
     }
 }
 
-/// Prints a number at its key, where it isn't 0.
+/// Writes a key and a number, unless the number is 0.
 pub fn print_unless_zero(out: &mut Writer, field: Field, number: u64) -> Result<(), Memory>
     ensures { OnOk result (Wrote (tokens_at_some field (option_map count (those_but_zero number))) out.old out.new) }
 {
     print_some(out, field, &unless_zero(number))
 }
 
-/// The text of what is printed.
+/// Returns the JSON text of a value.
 pub fn text_of<P: Printed>(alloc: Global, value: &P) -> Result<List<u8>, Memory>
     requires { P.is_printable value.now }
     ensures { IfOk result (λ text. text ≡ compact_text (P.written value.now)) }

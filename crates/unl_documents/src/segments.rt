@@ -1,4 +1,4 @@
-//! The segments that strategies name.
+//! Finding the segments that strategies refer to.
 ghost use Rattle.std.specs.Prelude.{◌≡◌, option_map};
 ghost use Rattle.unl_documents.specs.Inline.{segment_of as segment_with};
 
@@ -6,7 +6,7 @@ use crate::list::List;
 use crate::segment::Segment;
 use crate::shared::Shared;
 
-/// The first segment of an id, if the list has one. No more than one has it where the ids rise.
+/// Returns the first segment with this id, if there is one. If the ids increase strictly, it is the only one.
 pub fn segment_of(segments: &List<Shared<Segment>>, id: u64) -> Option<&Segment>
     ensures { option_map (λ s. s.now) result ≡ segment_with id segments.now }
 {

@@ -1,4 +1,4 @@
-//! Long lists that are cheap to copy: a copy shares all runs of items with its original.
+//! Long lists that are cheap to copy: a copy shares all chunks of items with its original.
 ghost use Rattle.std.specs.Prelude.{◌≡◌, ◌==◌, ◌+◌, ◌-◌, ◌<◌, ◌≤◌, [], ◌++◌, IfOk, IfSome, OnOk, All};
 ghost use Rattle.std.specs.Prelude.{length, option_map, slice_get, take, drop};
 ghost use Rattle.unl_documents.specs.Series.{joined, NoneIsEmpty};
@@ -10,15 +10,15 @@ use crate::shared::Shared;
 use std::alloc::Global;
 use std::marker::Model;
 
-/// How many items a run has at most.
+/// The maximum number of items in a chunk.
 const MOST: usize = 128;
 
-/// A run of items, each of which has many owners, as the run has.
+/// A chunk: a list of items. The chunk and each of its items are reference-counted.
 pub type Run<T> = Shared<List<Shared<T>>>;
 
-/// Items with many owners, in runs that have many owners too, which contracts see as the list of the items.
+/// A list of reference-counted items, stored in reference-counted chunks. Contracts see it as the list of the items.
 ///
-/// A run has 1 to 128 items where it was made here.
+/// Chunks built in this module have 1 to 128 items.
 #[derive(Drop)]
 pub struct Series<T> {
     runs: List<Run<T>>,
@@ -36,7 +36,7 @@ impl<T> Model for Series<T> {
 }
 
 impl<T: Drop> Series<T> {
-    /// A series of no items, which takes no memory.
+    /// An empty list, without allocating.
     pub fn new(alloc: Global) -> Series<T>
         ensures { result ≡ [] }
     {
@@ -45,7 +45,7 @@ impl<T: Drop> Series<T> {
         }
     }
 
-    /// These items, cut into runs.
+    /// A list of `items`, split into chunks.
     pub fn of_list(alloc: Global, items: &List<Shared<T>>) -> Result<Series<T>, Memory>
         ensures { IfOk result (λ s. s ≡ items.now) }
     {
@@ -54,7 +54,7 @@ impl<T: Drop> Series<T> {
         })
     }
 
-    /// The items of these runs.
+    /// A list with these chunks, none of which may be empty.
     pub fn of_runs(runs: List<Run<T>>) -> Series<T>
         requires { NoneIsEmpty runs }
         ensures { result ≡ joined runs }
@@ -62,7 +62,7 @@ impl<T: Drop> Series<T> {
         Series { runs }
     }
 
-    /// The runs in which the items stand.
+    /// Returns the chunks that hold the items.
     pub fn runs(&self) -> &[Run<T>]
         ensures items { joined result.now ≡ self.now }
         ensures full { NoneIsEmpty result.now }
@@ -70,28 +70,33 @@ impl<T: Drop> Series<T> {
         self.runs.as_slice()
     }
 
-    /// How many items there are. More than memory holds, of runs that stand here often, count as want of it.
+    /// Returns the number of items.
+    ///
+    /// # Errors
+    ///
+    /// `Memory`: the number doesn't fit into a `usize`. This is possible, since the same chunk can occur more than once.
     pub fn len(&self) -> Result<usize, Memory>
         ensures { IfOk result (λ count. count ≡ length self.now) }
     {
         count_of(self.runs.as_slice())
     }
 
-    /// Whether there are none.
+    /// Returns whether there are no items.
     pub fn is_empty(&self) -> bool
         ensures { result ≡ (length self.now == 0) }
     {
         self.runs.is_empty()
     }
 
-    /// The item at a place, from 0.
+    /// Returns the item at index `place`, counted from 0.
     pub fn get(&self, place: usize) -> Option<&T>
         ensures { option_map (λ x. x.now) result ≡ slice_get self.now place }
     {
         item_at(self.runs.as_slice(), place)
     }
 
-    /// These items, followed by others. All runs are shared, but the last where it stays a run with them.
+    /// Returns a list of these items followed by `items`. It shares all chunks, except that the last one is rebuilt if
+    /// it has room for `items`.
     pub fn append(&self, alloc: Global, items: &[Shared<T>]) -> Result<Series<T>, Memory>
         ensures { IfOk result (λ s. s ≡ self.now ++ items.now) }
     {
@@ -107,7 +112,8 @@ impl<T: Drop> Copied for Series<T> {
     }
 }
 
-/// The series of these runs with another run at a place: cut into more where it is long, and none where it is empty.
+/// Returns the list of `runs` with the chunk at index `place` replaced by `run`. `run` is split if it has more than 128
+/// items and left out if it is empty.
 pub fn with_run<T: Drop>(
     alloc: Global,
     runs: &[Run<T>],
@@ -139,7 +145,7 @@ fn behind<T>(runs: &[T], place: usize) -> &[T]
     &runs[place + 1..]
 }
 
-/// Adds another owner of each value.
+/// Appends another owner of each value.
 fn push_owners<T: Drop>(list: &mut List<Shared<T>>, more: &[Shared<T>]) -> Result<(), Memory>
     ensures { OnOk result (list.new ≡ list.old ++ more.now) }
 {
@@ -149,7 +155,7 @@ fn push_owners<T: Drop>(list: &mut List<Shared<T>>, more: &[Shared<T>]) -> Resul
     Ok(())
 }
 
-/// Adds a run that may be empty or long.
+/// Appends a chunk, which may be empty or too long: an empty one is left out, a long one split.
 fn push_run<T: Drop>(
     alloc: Global,
     runs: &mut List<Run<T>>,
@@ -165,7 +171,7 @@ fn push_run<T: Drop>(
     runs.push(Shared::new(alloc, run)?)
 }
 
-/// Adds items as runs of their own.
+/// Appends `items` as new chunks.
 fn push_cut<T: Drop>(
     alloc: Global,
     runs: &mut List<Run<T>>,
@@ -181,7 +187,7 @@ fn push_cut<T: Drop>(
     Ok(())
 }
 
-/// How long the runs of so many items are, so that all are of about one length.
+/// Returns the chunk size with which `count` items are split into chunks of about the same length.
 fn size_of_runs(count: usize) -> usize
     ensures { 0 < result }
 {
@@ -189,7 +195,7 @@ fn size_of_runs(count: usize) -> usize
     count / runs + 1
 }
 
-/// Other owners of these values.
+/// Returns a list with another owner of each value.
 fn owners<T: Drop>(alloc: Global, values: &[Shared<T>]) -> Result<List<Shared<T>>, Memory>
     ensures { IfOk result (λ list. list ≡ values.now) }
 {
@@ -198,7 +204,7 @@ fn owners<T: Drop>(alloc: Global, values: &[Shared<T>]) -> Result<List<Shared<T>
     Ok(list)
 }
 
-/// Items as runs.
+/// Splits items into chunks.
 fn cut<T: Drop>(alloc: Global, items: &[Shared<T>]) -> Result<List<Run<T>>, Memory>
     ensures items { IfOk result (λ runs. joined runs ≡ items.now) }
     ensures full { IfOk result NoneIsEmpty }
@@ -226,7 +232,7 @@ fn appended<T: Drop>(
     }
 }
 
-/// The last run, where it stays one with so many items more.
+/// Returns the last chunk, if it has room for `count` more items.
 fn last_with_room<T: Drop>(runs: &[Run<T>], count: usize) -> Option<&List<Shared<T>>>
     ensures inside { IfSome result (λ last. 0 < length runs.now) }
     ensures items { IfSome result (λ last. joined (take (length runs.now - 1) runs.now) ++ last.now ≡ joined runs.now) }
@@ -238,7 +244,7 @@ fn last_with_room<T: Drop>(runs: &[Run<T>], count: usize) -> Option<&List<Shared
     Some(last)
 }
 
-/// The series of these runs, followed by items as runs of their own.
+/// Returns the list of `runs`, followed by `items` in new chunks.
 fn with_runs<T: Drop>(
     alloc: Global,
     runs: &[Run<T>],
@@ -252,7 +258,7 @@ fn with_runs<T: Drop>(
     Ok(Series { runs: more })
 }
 
-/// How many items the runs have together.
+/// Returns the total number of items in the chunks.
 fn count_of<T: Drop>(runs: &[Run<T>]) -> Result<usize, Memory>
     ensures { IfOk result (λ count. count ≡ length (joined runs.now)) }
 {
@@ -269,7 +275,7 @@ fn sum_of(count: usize, more: usize) -> Result<usize, Memory>
     count.checked_add(more).ok_or(Memory)
 }
 
-/// The item at a place of all runs.
+/// Returns the item at index `place` of all chunks together.
 fn item_at<T: Drop>(runs: &[Run<T>], place: usize) -> Option<&T>
     ensures { option_map (λ x. x.now) result ≡ slice_get (joined runs.now) place }
 {

@@ -1,4 +1,4 @@
-//! Texts: trimmed, in parts, comma lists, names.
+//! Text helpers: trimming, splitting, comma-separated lists and names.
 ghost use Rattle.std.specs.Prelude.{◌≡◌, ◌<◌, ◌++◌, [], ◌∷◌, length, IfOk, IfSome, IfNone, OnOk};
 ghost use Rattle.unl_documents.specs.Texts.{trimmed, parts, items_among, comma_items, is_name};
 
@@ -7,28 +7,28 @@ use crate::memory::Memory;
 use crate::text::Text;
 use std::alloc::Global;
 
-/// The text without the space at its ends: the bytes 9, 10, 12, 13 and 32 (chosen by this project).
+/// Returns the text without leading and trailing whitespace: the bytes 9, 10, 12, 13 and 32 (chosen by this project).
 pub fn trimmed(text: &str) -> &str
     ensures { result.now ≡ trimmed text.now }
 {
     text.trim_ascii()
 }
 
-/// The bytes without the space at their ends, as [`trimmed`] drops it.
+/// Returns the bytes without leading and trailing whitespace, as [`trimmed`] defines it.
 pub fn trimmed_bytes(bytes: &[u8]) -> &[u8]
     ensures { result.now ≡ trimmed bytes.now }
 {
     bytes.trim_ascii()
 }
 
-/// Whether the text is a name: of 1 to 255 bytes (chosen by this project).
+/// Returns whether the text is a name: it has 1 to 255 bytes (chosen by this project).
 pub fn is_name(text: &str) -> bool
     ensures { result ≡ is_name text.now }
 {
     !text.is_empty() && text.len() <= 255
 }
 
-/// The texts before and after the first such character, which is of ASCII; none where it doesn't stand.
+/// Splits the text at the first `mark`, an ASCII character. Returns `None` if the text doesn't contain it.
 pub fn cut(text: &str, mark: char) -> Option<(&str, &str)>
     requires { mark < 128 }
     ensures parts { IfSome result (λ sides. parts mark text.now ≡ sides.0.now ∷ parts mark sides.1.now) }
@@ -38,7 +38,7 @@ pub fn cut(text: &str, mark: char) -> Option<(&str, &str)>
     text.split_once(mark)
 }
 
-/// The items of a comma list: its parts, each trimmed, without the empty ones (chosen by this project).
+/// Returns the items of a comma-separated list: its parts, trimmed, without the empty ones (chosen by this project).
 #[tactic(auto, unfolding(crate::specs::Texts::comma_items))]
 pub fn comma_items(alloc: Global, text: &str) -> Result<List<Text>, Memory>
     ensures { IfOk result (λ items. items ≡ comma_items text.now) }
@@ -53,7 +53,7 @@ pub fn comma_items(alloc: Global, text: &str) -> Result<List<Text>, Memory>
     Ok(items)
 }
 
-/// Adds a part as an item, unless nothing of it is left.
+/// Appends the trimmed part, unless it is empty.
 fn push_item(alloc: Global, items: &mut List<Text>, part: &str) -> Result<(), Memory>
     ensures { OnOk result (items.new ≡ items.old ++ items_among (part.now ∷ [])) }
 {

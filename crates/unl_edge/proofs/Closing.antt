@@ -1,4 +1,4 @@
--- How an edge ends that has taken its first draw and listened.
+-- How an edge ends after it took its first draw and tried to listen.
 use Rattle.std.proofs.Common.{◌≡◌, ◌≤◌, ◌∙◌, ℕ, Bool, List, length, Option, Some, None, Result, Ok, Err, IfSome, ap, arith, inl, inr, refl, sym, subst, true}
 use Rattle.std.specs.Prelude.{◌⊎◌, map}
 use Rattle.unl_base.specs.Draws.{TakesDraw}
@@ -24,7 +24,7 @@ use Rattle.unl_workers.specs.Accepting.{HandsOut}
 
 -- ---- the links
 
--- links that a door handed out once it listened
+-- links that a door handed out after it listened
 pub hands_links : (served port : ℕ) (could : Bool) (before after : Scene) (door : DoorState) → door ≡ listening_at port could before.door.state
     → HandsOut served door after.door.state → after.input.left ≡ before.input.left → HandsLinks served before after
 hands_links served port could before after door listens hands unread = record {
@@ -42,14 +42,14 @@ none_had : (links : Option (List (List ℕ))) → IfSome links (λ list. 0 ≤ l
 none_had None = tt
 none_had (Some list) = omega arith
 
--- they came at the port that was listened at
+-- they came at the port that the door listens at
 pub came_at : (served port : ℕ) (could : Bool) (before door after : DoorState) → could ≡ true → door ≡ listening_at port could before
     → HandsOut served door after → after.port ≡ Some port
 came_at served port could before door after did listens hands =
     ap (λ (d : DoorState). d.port) hands.door ∙ ap (λ (d : DoorState). d.port) listens
     ∙ ap (λ (b : Bool). (listening_at port b before).port) did
 
--- none was handed out
+-- no link was handed out
 pub hands_none : (port : ℕ) (could : Bool) (before after : Scene) → after.door.state ≡ listening_at port could before.door.state
     → after.input.left ≡ before.input.left → HandsLinks 0 before after
 hands_none port could before after listens unread = record {
@@ -60,7 +60,7 @@ hands_none port could before after listens unread = record {
   unread = unread;
 }
 
--- so a door that is closed then was closed there
+-- so a door that is then closed was closed there
 pub closes_at : (served port : ℕ) (could : Bool) (before door after : DoorState) → could ≡ true → door ≡ listening_at port could before
     → HandsOut served door after → IsClosed after → IsClosedAt port after
 closes_at served port could before door after did listens hands closed =
@@ -88,7 +88,7 @@ stops_at_once port before after middle same shut unread silent =
       unread = unread;
     }
 
--- how an edge ends that took a draw first
+-- how an edge ends after it took a draw
 runs_so : (words : EdgeWords) (end : ServingEnd) (before after : Scene) (draw : Draw) (coming : Coming) → TakesDraw before.draws draw coming
     → EdgeEnds (site_of words draw.word) words.port end (record before { draws = coming }) after → EdgeRuns words end before after
 runs_so words end before after draw coming taken ends = by_end end ends
@@ -102,7 +102,7 @@ runs_so words end before after draw coming taken ends = by_end end ends
     by_end DoorFault ends = runs DoorFault ends
     by_end OutOfMemory ends = (ends.0, from_draw {draws = coming} ends.1, ends.2, ends.3)
 
--- the same, where what stood before and what it serves by are known by their parts
+-- the same, with the state before and the edge service known by their parts
 pub begun_ends : (words : EdgeWords) (known : List (List ℕ)) (board : Board) (feeders : List Feeding) (end : ServingEnd) (before middle after : Scene)
     (draw : Draw) (coming : Coming) → known ≡ words.tokens → board ≡ begun_board draw.word words.host words.upstream_tokens
     → feeders ≡ feedings words.upstream words.delta words.upstream_tokens (map environment_of words.upstream_tokens)
@@ -127,7 +127,7 @@ closed_ends site port served before middle after same hands serves sent closed =
     ends : EdgeEnds site port Closed middle after
     ends = (served, hands, serves, sent, closed)
 
--- the door was closed, and a front of it was sent
+-- the door was closed, and a prefix of the line was sent
 pub broken_ends : (site : Site) (port served : ℕ) (before middle after : Scene) → before ≡ middle → HandsLinks served middle after
     → IsServed site middle after → SendsFront middle.output.sent (connections_line served) after.output.sent → IsClosedAt port after.door.state
     → EdgeEnds site port WriteFault before after
@@ -155,7 +155,7 @@ stopped_ends site port served before middle after same hands over silent =
     ends : EdgeEnds site port OutOfMemory middle after
     ends = (served, hands, over, silent)
 
--- the same, by how the line was sent
+-- the same, from the result of printing the line
 pub told_ends : (site : Site) (port served : ℕ) (told : Result Unit SayFault) (end : ServingEnd) (before middle after : Scene)
     → end ≡ line_end told → before ≡ middle → HandsLinks served middle after → IsServed site middle after
     → SaysLine told (connections_line served) middle.output.sent after.output.sent → IsClosedAt port after.door.state → EdgeEnds site port end before after

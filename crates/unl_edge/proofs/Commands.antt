@@ -1,4 +1,4 @@
--- How an upstream ends, from how its lines, its links and its keeper end.
+-- How an upstream ends, from the ends of its lines, its links and its keeper.
 use Rattle.std.proofs.Common.{◌≡◌, ◌≢◌, ◌≤◌, ◌∙◌, inl, inr, ℕ, zero, suc, List, [], ◌∷◌, ◌++◌, ◌&&◌, true, length, append-nil, Option, Some, None, IfSome, Ok, Err, refl, sym, ap, subst, arith}
 use Rattle.std.specs.Prelude.{option_and_then, option_map, slice_get, unwrap_or}
 use Rattle.std.specs.List.{list_all}
@@ -73,7 +73,7 @@ nothing_sent : (old mid : Option (List ℕ)) (text : List ℕ) → text ≡ [] �
 nothing_sent old mid text none sends =
     sends ∙ ap (λ (t : List ℕ). option_map (λ sent. sent ++ t) old) none ∙ sym (Sends_nothing old)
 
--- how an upstream ends whose lines were all taken, by what then stands
+-- how an upstream ends after all its lines were accepted, from the state after them
 pub after_lines : (opened kept : KeptState) (port : ℕ) (last : KeptState) (desk : Shelf) (end : ServingEnd) (left left_after : Option (List ℕ))
     (before after : Facing) (sent : Option (List ℕ)) → HasKept kept.keeper → shelf_of kept ≡ desk → AnswersAll keeping (shelf_of opened) desk left left_after before.sent sent
     → LinksEnd kept port end last (record before { sent = sent }) after
@@ -129,7 +129,7 @@ after_lines opened kept port last desk end left left_after before after sent has
 
 -- ---- the keeper
 
--- a row that is no command that is accepted, or isn't there
+-- a row that is missing or isn't an accepted command
 pub bad_row : (start reached : KeptState) (place : ℕ) (text : List ℕ) (fault : ReopenFault) → fault ≡ BadRow place text
     → IsSameKeeper start.keeper reached.keeper → Reopens start (Err fault) reached → RefusesRow start place
 bad_row start reached place text fault is same reopens = record {
@@ -150,16 +150,16 @@ no_row_there start reached place fault is same reopens = record {
   reopens = reopens;
 }
 
--- a count that rose later rose from before
+-- a count that rose from a later moment rose from an earlier one
 pub rose_before : (before middle after : ℕ) → before ≤ middle → Rose middle after → Rose before after
 rose_before before middle after later rose = omega (arith, later, rose)
 
--- a keeper without rows changes no upstream
+-- a keeper without rows doesn't change the upstream
 none_applied : (start up : UpstreamState) (texts : List (List ℕ)) → length texts ≡ 0 → rows_after texts start ≡ Some up → up ≡ start
 none_applied start up [] none leads = sym (ap (λ (o : Option UpstreamState). unwrap_or o start) leads)
 none_applied start up (text ∷ texts) none leads = absurd (omega (arith, none))
 
--- an upstream that was reopened on such a keeper is the opening one, and none is kept
+-- an upstream reopened on such a keeper is in its opening state, and no command is kept
 opens_empty : (start : UpstreamState) (made : KeeperState) (reopened : ℕ) (opened : KeptState) → made.rows ≡ Some [] → Opens (kept_state start made) reopened opened
     → shelf_of opened ≡ record { up = start; count = 0; commands = Some [] }
 opens_empty start made reopened opened empty opens =
@@ -170,7 +170,7 @@ opens_empty start made reopened opened empty opens =
     let count : opened.keeper.count ≡ 0 = sym opens.reopens.counted ∙ none in
     λ i. record { up = up i; count = count i; commands = option_map commands_in (kept (count i) (rows i)) }
 
--- so it is where the maker tells what came back
+-- the same, if what the maker holds is observable
 opens_plain : (start : UpstreamState) (made : KeeperState) (held : Option (List (List ℕ))) → IsMade held made → (reopened : ℕ) (opened : KeptState)
     → Opens (kept_state start made) reopened opened → IfSome held (λ _. shelf_of opened ≡ record { up = start; count = 0; commands = Some [] })
 opens_plain start made held is_made reopened opened opens = by_held held is_made.empty
@@ -186,7 +186,7 @@ none_kept : (start : UpstreamState) (opened : KeptState) (held : Option (List (L
 none_kept start opened None plain = tt
 none_kept start opened (Some rows) plain = ap (λ (s : Shelf). s.commands) plain
 
--- what a keeper keeps is what its maker holds, where it tells that and the keeper kept nothing at first
+-- the maker holds what the keeper keeps, if that is observable and the keeper kept nothing at first
 holds_kept : (last : KeeperState) (first : Option (List Command)) (held held_after : Option (List (List ℕ))) (commands : List Command)
     → IfSome held (λ _. first ≡ Some []) → held_after ≡ option_and_then (λ _. kept_rows last) held
     → kept_commands last ≡ option_map (λ kept. kept ++ commands) first → IfSome held_after (λ texts. commands_in texts ≡ commands)
@@ -204,7 +204,7 @@ pub never_failed : {R : Type 0} (faults : ℕ) → (faults ≢ 0 → R) → ¬ R
 never_failed zero rose none = refl
 never_failed (suc n) rose none = absurd (none (rose (λ is. cc)))
 
--- a keeper was made, and came back
+-- a keeper was created, and its maker got it back
 pub ends_kept : (start : UpstreamState) (port : ℕ) (end : UpstreamEnd) (made last : KeeperState) (before after : Scene) → IsMade before.keep.held made
     → KeeperEnd (kept_state start made) port end last before.input.left after.input.left (facing_of before) (facing_of after)
     → ComesBack last before.keep after.keep → UpstreamEnds start port end before after
@@ -234,7 +234,7 @@ ends_kept start port end made last before after is_made ends back = by_end end e
 
 -- ---- the draw before
 
--- how an upstream ends that took a draw first
+-- how an upstream ends after it took a draw
 pub runs_so : (words : UpstreamWords) (end : UpstreamEnd) (before after : Scene) (start : UpstreamState) (coming : Coming)
     → Begins words before.draws start coming → UpstreamEnds start words.port end (record before { draws = coming }) after
     → UpstreamRuns words end before after
@@ -254,13 +254,13 @@ runs_so words end before after start coming begins ends = by_end end ends
 
 -- ---- the environments
 
--- names that stand once are different
+-- the names in a list without duplicates differ
 environments_differ : (texts : List (List ℕ)) → are_different texts ≡ true → AreDifferent texts
 environments_differ [] differ = tt
 environments_differ (name ∷ texts) differ =
     let parts = others_differ name texts differ in (parts.0, environments_differ texts parts.1)
 
--- the environments of words are different names
+-- the environments of the arguments have different names
 pub words_differ : (environments : List (List ℕ)) → are_environments environments ≡ true → AreDifferent environments
 words_differ environments are =
     let parts = both (has_count 1 8 environments) (list_all is_name environments && are_different environments) are in
@@ -283,34 +283,34 @@ no_row start made place empty refuses = by_fault refuses.fault refuses.of_row re
     by_fault Fault of_row opens = of_row
     by_fault Memory of_row opens = of_row
 
--- ---- what decides
+-- ---- what determines the exit code
 
--- an input that was read to its end is what was read
+-- an input that was read to its end is the bytes read
 whole_read : (left left_after : Option (List ℕ)) (read : List ℕ) → Takes left read left_after → HasEnded left_after → IfSome left (λ bytes. bytes ≡ read)
 whole_read None left_after read took end = tt
 whole_read (Some bytes) None read took end = absurd (cc took)
 whole_read (Some bytes) (Some rest) read took end =
     ap (λ (o : Option (List ℕ)). unwrap_or o []) took ∙ ap (λ (r : List ℕ). read ++ r) end ∙ append-nil read
 
--- a line that is refused ends them so
+-- the status if a line is refused
 pub refused_is : (ending : Ending) → IsRefused ending → ending_status ending ≡ status.Refused
 refused_is done is = absurd is
 refused_is (refused k cause) is = refl
 
--- where lines of a told input are refused they decide that
+-- a refused line determines the exit code, if the input is observable
 told_decide : {D : Type 0} (outcome : List ℕ → Outcome D) (left old new : Option (List ℕ))
     → IfSome left (λ bytes. IsRefusing (outcome bytes) old new) → IfSome left (λ bytes. 3 ≡ code_of (ending_status (outcome bytes).ending))
 told_decide outcome None old new is = tt
 told_decide outcome (Some bytes) old new is = ap code_of (sym (refused_is (outcome bytes).ending is.ending))
 
--- where lines are refused they decide that
+-- a refused line determines the exit code
 pub refusing_decides : {D : Type 0} (outcome : List ℕ → Outcome D) (left left_after old new : Option (List ℕ))
     → StandsOfRead left left_after (λ bytes. IsRefusing (outcome bytes) old new)
     → IfSome left (λ bytes. 3 ≡ code_of (ending_status (outcome bytes).ending))
 refusing_decides outcome left left_after old new is =
     told_decide outcome left old new (stands_told (λ bytes. IsRefusing (outcome bytes) old new) left left_after is)
 
--- where the lines were all accepted they decide 0
+-- if all lines were accepted, the exit code by the lines is 0
 lines_decide : (opened : KeptState) (last : KeeperState) (left left_after : Option (List ℕ)) (before after : Facing) (served : ℕ)
     → ServesAfterLines opened last left left_after before after served → IfSome left (λ bytes. 0 ≡ lines_code keeping (shelf_of opened) bytes)
 lines_decide opened last left left_after before after served serves = of_read left (whole_read left left_after serves.read serves.took serves.end)
@@ -321,7 +321,7 @@ lines_decide opened last left left_after before after served serves = of_read le
         subst (λ (bs : List ℕ). 0 ≡ lines_code keeping (shelf_of opened) bs) (sym is)
         (ap (λ (o : Outcome Shelf). code_of (ending_status o.ending)) (sym serves.accepted))
 
--- the lines decide the number of an upstream that was reopened
+-- the lines determine the exit code of a reopened upstream
 by_lines : (start : UpstreamState) (made : KeeperState) (reopened : ℕ) (opened : KeptState) (code : ℕ) (held : Option (List (List ℕ))) (left : Option (List ℕ))
     → IsMade held made → Opens (kept_state start made) reopened opened → IfSome left (λ bytes. code ≡ lines_code keeping (shelf_of opened) bytes)
     → IsDecidedFrom (kept_state start made) code left × IfSome held (λ _. IfSome left (λ bytes. code ≡ lines_code obeying start bytes))
@@ -343,7 +343,7 @@ by_lines start made reopened opened code held left is_made opens decides = (inr 
     by_held None empty = tt
     by_held (Some rows) empty = by_left (opens_empty start made reopened opened empty opens) left decides
 
--- a row that is refused decides it
+-- a refused row determines the exit code
 by_row : (start : UpstreamState) (made : KeeperState) (place : ℕ) (held : Option (List (List ℕ))) (left : Option (List ℕ))
     → IsMade held made → RefusesRow (kept_state start made) place
     → IsDecidedFrom (kept_state start made) 3 left × IfSome held (λ _. IfSome left (λ bytes. 3 ≡ lines_code obeying start bytes))
@@ -354,7 +354,7 @@ by_row start made place held left is_made refuses = (inl (place, refuses, refl),
     by_held None empty = tt
     by_held (Some rows) empty = absurd (no_row start made place empty refuses)
 
--- the number of how an upstream ended that has a keeper
+-- the exit code of an upstream with a keeper
 kept_decided : {Read Write Door Keep : Type 0} (start : UpstreamState) (port : ℕ) (made last : KeeperState) (end : UpstreamEnd) (held : Option (List (List ℕ)))
     (left left_after : Option (List ℕ)) (before after : Facing) → IsMade held made → KeeperEnd (kept_state start made) port end last left left_after before after
     → Caused (upstream_status end) Read Write Door Keep → ¬ Read → ¬ Write → ¬ Door → ¬ Keep → code_of (upstream_status end) ≢ 6
@@ -381,7 +381,7 @@ kept_decided start port made last (Links WriteFault) held left left_after before
 kept_decided start port made last (Links DoorFault) held left left_after before after is_made ends caused read write door keep memory = absurd (door caused)
 kept_decided start port made last (Links OutOfMemory) held left left_after before after is_made ends caused read write door keep memory = absurd (memory refl)
 
--- the lines decide how an upstream ends
+-- the lines determine the exit code of an upstream
 pub upstream_decided : {Read Write Door Keep : Type 0} (words : UpstreamWords) (end : UpstreamEnd)
     (before after : Scene) → UpstreamRuns words end before after → Caused (upstream_status end) Read Write Door Keep
     → ¬ Read → ¬ Write → ¬ Door → ¬ Keep → code_of (upstream_status end) ≢ 6
@@ -411,7 +411,7 @@ upstream_decided {Read} {Write} {Door} {Keep} words end before after runs caused
     by_end (Lines fault) runs caused memory = decided (Lines fault) runs.start runs.coming runs.begins runs.ends caused memory
     by_end (Links end) runs caused memory = decided (Links end) runs.start runs.coming runs.begins runs.ends caused memory
 
--- an upstream that begins was given no command
+-- an upstream in its opening state has taken no command
 pub is_new : (up : UpstreamState) (boot : ℕ) (secret : List ℕ) (environments : List (List ℕ)) (book : List Token) (epoch : ℕ)
     → up ≡ opening boot secret environments book epoch → IsNew up
 is_new up boot secret environments book epoch is = record { opens = (boot, secret, environments, book, epoch, is) }

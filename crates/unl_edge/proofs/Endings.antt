@@ -1,4 +1,4 @@
--- How the program ends, from how its commands end.
+-- How the program ends, from the ends of its commands.
 use Rattle.std.proofs.Common.{◌≡◌, ◌≢◌, ℕ, ◌==◌, List, cond, Option, Some, None, IfSome, Result, Ok, Err, refl, sym, subst, ap, ◌∙◌}
 use Rattle.unl_base.specs.declared.draws.Draw.{Draw}
 use Rattle.unl_documents.specs.Reading.{Reading}
@@ -38,9 +38,9 @@ use Rattle.unl_words.specs.Words.{WordsReading}
 use Rattle.unl_words.specs.declared.refusal.WordsRefusal.TheVariants.{Bad, Memory}
 use Rattle.unl_words.specs.declared.words.Words.TheVariants.{Replay, Check, Edge, Explain, Follow, Load, Upstream}
 
--- ---- words
+-- ---- the arguments
 
--- want of memory, with which nothing was done, is an ending of all words
+-- out of memory, with no effect, is a possible end for all arguments
 at_memory : (reading : WordsReading) (scene : Scene) → Ends reading OutOfMemory scene scene
 at_memory (Ok Replay) scene = record { end = Err lines.Memory; is = refl; ends = tt }
 at_memory (Ok (Check now word)) scene = record { end = check.OutOfMemory; is = refl; ends = refl }
@@ -56,7 +56,7 @@ at_memory (Ok (Load seed count)) scene = record { end = Err load.Memory; is = re
 at_memory (Err Bad) scene = record { end = words.OutOfMemory; is = refl; ends = refl }
 at_memory (Err Memory) scene = refl
 
--- what was done by the words that were read was done by the words
+-- what was done for the arguments as read was done for the arguments
 pub ends_by : (given reading : WordsReading) (status : Status) (before after : Scene)
     → Gives Memory given reading → Ends given status before after → (given ≡ Err Memory → (status ≡ OutOfMemory) × (after ≡ before))
     → Ends reading status before after
@@ -68,7 +68,7 @@ ends_by (Err Memory) reading status before after gives ends none =
 
 -- ---- causes
 
--- the status of a number
+-- the status of an exit code
 status_of : ℕ → Status
 status_of n =
     cond (n == 0) Done (cond (n == 1) TestFailed (cond (n == 2) BadWords (cond (n == 3) Refused (cond (n == 4) ReadFault (
@@ -86,7 +86,7 @@ status_back OutOfMemory = refl
 status_back DoorFault = refl
 status_back KeeperFault = refl
 
--- each by its number
+-- the cause of each fault, by its exit code
 pub all_causes : (status : Status) (code : ℕ) (before after : Scene) → code ≡ code_of status → IsCaused status before after → HasCauses code before after
 all_causes status code before after is caused = record {
   read = by_number ReadFault;
@@ -99,9 +99,9 @@ all_causes status code before after is caused = record {
     by_number other number =
         subst (λ (s : Status). IsCaused s before after) (sym (status_back status) ∙ ap status_of (sym is ∙ number) ∙ status_back other) caused
 
--- ---- what decides, where nothing fails and memory is found
+-- ---- what determines the exit code if nothing fails and memory doesn't run out
 
--- what an input comes to decides what is told by it
+-- the result of processing an input determines what follows from it
 told_by : {T : Type 0} (reads : List ℕ → Reading T) (code : Outcome T → ℕ) (number : ℕ) (outcome : Outcome T) (left left_after : Option (List ℕ))
     → ComesTo reads outcome left left_after → number ≡ code outcome → IfSome left (λ bytes. number ≡ code (outcome_of reads bytes))
 told_by reads code number outcome left left_after comes is = at_each left (decides reads outcome left left_after comes)
@@ -110,7 +110,7 @@ told_by reads code number outcome left left_after comes is = at_each left (decid
     at_each None same = tt
     at_each (Some all) same = is ∙ sym (ap code same)
 
--- the lines decide how a replay ends
+-- the lines determine how a replay ends
 replay_decided : (Read Write Door Keep : Type 0) (end : Result Unit LinesFault) (left left_after old new : Option (List ℕ))
     → TakesLines line_answer opening end left left_after old new → Caused (lines_status end) Read Write Door Keep → ¬ Read → ¬ Write
     → code_of (lines_status end) ≢ 6 → IfSome left (λ bytes. code_of (lines_status end) ≡ code_of (ending_status (replay_of bytes).ending))
@@ -121,11 +121,11 @@ replay_decided Read Write Door Keep (Err lines.ReadFault) left left_after old ne
 replay_decided Read Write Door Keep (Err lines.WriteFault) left left_after old new ends caused read write memory = absurd (write caused)
 replay_decided Read Write Door Keep (Err lines.Memory) left left_after old new ends caused read write memory = absurd (memory refl)
 
--- the number of how a check ends by what its input comes to
+-- the exit code of a check, from the result of processing its input
 check_code : Outcome Report → ℕ
 check_code outcome = code_of (check_status (outcome_end outcome))
 
--- what was said of the input decides
+-- the text sent about the input determines the exit code
 said_decides : (draw : Draw) (end : CheckEnd) (left left_after old new : Option (List ℕ)) → SaysOfInput draw end left left_after old new
     → IfSome left (λ bytes. code_of (check_status end) ≡ code_of (check_status (outcome_end (report_of draw bytes))))
 unfolding check_code
@@ -133,7 +133,7 @@ said_decides draw end left left_after old new told =
     told_by (accepted draw) check_code (code_of (check_status end)) told.outcome left left_after told.says.comes
     (ap (λ (e : CheckEnd). code_of (check_status e)) told.ends)
 
--- the input decides how a check ends
+-- the input determines how a check ends
 check_decided : (Read Write Door Keep : Type 0) (draw : Draw) (end : CheckEnd) (left left_after old new : Option (List ℕ))
     → CheckEnds draw end left left_after old new → Caused (check_status end) Read Write Door Keep → ¬ Read → ¬ Write → code_of (check_status end) ≢ 6
     → IfSome left (λ bytes. code_of (check_status end) ≡ code_of (check_status (outcome_end (report_of draw bytes))))
@@ -144,11 +144,11 @@ check_decided Read Write Door Keep draw check.ReadFault left left_after old new 
 check_decided Read Write Door Keep draw check.WriteFault left left_after old new ends caused read write memory = absurd (write caused)
 check_decided Read Write Door Keep draw check.OutOfMemory left left_after old new ends caused read write memory = absurd (memory refl)
 
--- the number of how an explanation ends by what its input comes to
+-- the exit code of an explanation, from the result of processing its input
 explained_code : Outcome (List ℕ) → ℕ
 explained_code outcome = code_of (explained_status outcome)
 
--- the input decides how an explanation ends
+-- the input determines how an explanation ends
 explain_decided : (Read Write Door Keep : Type 0) (end : Result Unit ExplainFault) (left left_after old new : Option (List ℕ))
     → Explains end left left_after old new → Caused (explain_status end) Read Write Door Keep → ¬ Read → ¬ Write → code_of (explain_status end) ≢ 6
     → IfSome left (λ bytes. code_of (explain_status end) ≡ code_of (explained_status (outcome_of explained bytes)))
@@ -163,7 +163,7 @@ explain_decided Read Write Door Keep (Err explain.ReadFault) left left_after old
 explain_decided Read Write Door Keep (Err explain.WriteFault) left left_after old new ends caused read write memory = absurd (write caused)
 explain_decided Read Write Door Keep (Err explain.Memory) left left_after old new ends caused read write memory = absurd (memory refl)
 
--- bad words decide by themselves
+-- bad arguments determine the exit code alone
 bad_decided : (Read Write Door Keep : Type 0) (end : WordsEnd) → Caused (words_status end) Read Write Door Keep → ¬ Write → code_of (words_status end) ≢ 6
     → code_of (words_status end) ≡ 2
 bad_decided Read Write Door Keep words.Bad caused write memory = refl
@@ -178,21 +178,21 @@ edge_decided Read Write Door Keep serving.WriteFault caused write door memory = 
 edge_decided Read Write Door Keep serving.DoorFault caused write door memory = absurd (door caused)
 edge_decided Read Write Door Keep serving.OutOfMemory caused write door memory = absurd (memory refl)
 
--- turns end by themselves
+-- `follow` ends with status 0 unless something failed
 follow_decided : (Read Write Door Keep : Type 0) (end : Result Unit FollowFault) → Caused (follow_status end) Read Write Door Keep → ¬ Write
     → code_of (follow_status end) ≢ 6 → code_of (follow_status end) ≡ 0
 follow_decided Read Write Door Keep (Ok u) caused write memory = refl
 follow_decided Read Write Door Keep (Err follow.WriteFault) caused write memory = absurd (write caused)
 follow_decided Read Write Door Keep (Err follow.Memory) caused write memory = absurd (memory refl)
 
--- a load ends by itself
+-- a load ends with status 0 unless something failed
 load_decided : (Read Write Door Keep : Type 0) (end : Result Unit LoadFault) → Caused (load_status end) Read Write Door Keep → ¬ Write
     → code_of (load_status end) ≢ 6 → code_of (load_status end) ≡ 0
 load_decided Read Write Door Keep (Ok u) caused write memory = refl
 load_decided Read Write Door Keep (Err load.WriteFault) caused write memory = absurd (write caused)
 load_decided Read Write Door Keep (Err load.Memory) caused write memory = absurd (memory refl)
 
--- what stands of the status of a command's end stands of it
+-- a property of the status of a command's end is one of the program's status
 of_end : {E : Type 0} {status_of : E → Status} {EndsSo : E → Type 0} (status : Status) (Read Write Door Keep : Type 0) (P : ℕ → Type 0)
     (ended : Ended status_of EndsSo status) → Caused status Read Write Door Keep → code_of status ≢ 6
     → (Caused (status_of ended.end) Read Write Door Keep → code_of (status_of ended.end) ≢ 6 → P (code_of (status_of ended.end))) → P (code_of status)
@@ -200,7 +200,7 @@ of_end status Read Write Door Keep P ended caused memory then =
     subst (λ (s : Status). P (code_of s)) (sym ended.is)
     (then (subst (λ (s : Status). Caused s Read Write Door Keep) ended.is caused) (subst (λ (s : Status). code_of s ≢ 6) ended.is memory))
 
--- the words and the input decide how the program ends
+-- the arguments and the input determine how the program ends
 by_words : {Read Write Door : Type 0} (reading : WordsReading) (status : Status) (before after : Scene) → Ends reading status before after
     → Caused status Read Write Door (FailsToKeep before after) → ¬ Read → ¬ Write → ¬ Door → code_of status ≢ 6 → IsDecided reading (code_of status) before after
 by_words {Read} {Write} {Door} (Ok Replay) status before after ended caused read write door memory =
@@ -233,7 +233,7 @@ by_words {Read} {Write} {Door} (Err Bad) status before after ended caused read w
     (λ cause some. bad_decided Read Write Door (FailsToKeep before after) ended.end cause write some)
 by_words (Err Memory) status before after ends caused read write door memory = ap code_of ends
 
--- so they decide its number, where no count rose and memory was found
+-- so they determine its exit code, if no count rose and memory didn't run out
 pub decided : {Read Write Door : Type 0} (reading : WordsReading) (status : Status) (code : ℕ) (before after : Scene)
     → code ≡ code_of status → Ends reading status before after → Caused status Read Write Door (FailsToKeep before after)
     → ¬ Read → ¬ Write → ¬ Door → code ≢ 6 → IsDecided reading code before after

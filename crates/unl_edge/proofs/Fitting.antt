@@ -1,4 +1,4 @@
--- What is known of words in their ranges: their texts can stand in a line, and their environments differ.
+-- Properties of arguments in their ranges: their texts fit in a header line, and their environments differ.
 use Rattle.std.proofs.Common.{◌≡◌, ◌<◌, ◌≤◌, ◌+◌, ◌==◌, ◌&&◌, ◌||◌, ◌∙◌, ℕ, zero, suc, Bool, true, false, cond, not, List, [], ◌∷◌, drop, take, length, map, Option, Some, None, Err, refl, ap, subst, arith, nat_le, nat_lt}
 use Rattle.std.specs.Prelude.{All, IsTrue, is_ok, option_map, slice_index, unwrap_or}
 use Rattle.std.specs.Char.{is_ascii_digit}
@@ -22,7 +22,7 @@ use Rattle.unl_words.proofs.Known.{counted, others_differ}
 
 -- ---- texts
 
--- a byte that doesn't end a line can stand in one
+-- a byte that doesn't end a line fits in one
 byte_fits : (nul feed return : Bool) → (not return && (not feed && not nul)) ≡ true → not (nul || feed || return) ≡ true
 byte_fits true feed true is = absurd (cc is)
 byte_fits true true false is = absurd (cc is)
@@ -32,14 +32,14 @@ byte_fits false true false is = absurd (cc is)
 byte_fits false false true is = absurd (cc is)
 byte_fits false false false is = refl
 
--- a text of such bytes
+-- a text of such bytes fits in a line
 pub line_fits : (text : List ℕ) → is_line text ≡ true → IsTrue (fits_line text)
 line_fits [] is = refl
 line_fits (byte ∷ text) is =
     let parts = both (goes_on byte) (is_line text) is in
     rw (byte_fits (byte == 0) (byte == 10) (byte == 13) parts.0, line_fits text parts.1) refl
 
--- a token's text
+-- a token fits in a line
 pub token_fits : (text : List ℕ) → is_token true text ≡ true → IsTrue (fits_line text)
 token_fits text is =
     let parts = both (nat_le (length text) 512) (is_line text && is_named true (scope_of text)) is in
@@ -57,7 +57,7 @@ digits_go_on (byte ∷ text) are =
     let parts = both (is_ascii_digit byte) (list_all is_ascii_digit text) are in
     rw (digit_goes_on byte parts.0, digits_go_on text parts.1) refl
 
--- a port is of digits
+-- a port consists of digits
 port_is_line : (text : List ℕ) → is_port text ≡ true → is_line text ≡ true
 unfolding number_within
 port_is_line text is = by_number (is_number text) refl is
@@ -66,7 +66,7 @@ port_is_line text is = by_number (is_number text) refl is
     by_number true same is = digits_go_on text (both (nat_lt 0 (length text)) (list_all is_ascii_digit text) same).1
     by_number false same is = absurd (cc is)
 
--- a text whose bytes before and after a place go on, and the one there
+-- a text is a line if the parts before and after a place are, and the byte there goes on
 goes_on_around : (text : List ℕ) (place : ℕ) → place < length text → goes_on (slice_index text place) ≡ true → is_line (take place text) ≡ true
     → is_line (drop (suc place) text) ≡ true → is_line text ≡ true
 goes_on_around [] place inside here before after = refl
@@ -75,7 +75,7 @@ goes_on_around (byte ∷ text) (suc place) inside here before after =
     let parts = both (goes_on byte) (is_line (take place text)) before in
     rw (parts.0, goes_on_around text place (omega (arith, inside)) here parts.1 after) refl
 
--- the last of such bytes is one
+-- the last place of a byte below a bound
 record IsFound (byte : ℕ) (text : List ℕ) (most place : ℕ) : Type 0 where
   below : place < most
   here : slice_index text place ≡ byte
@@ -93,7 +93,7 @@ found_below byte text (suc most) place is = by_test (found_below byte text most 
         let found = before is in
         record { below = omega (arith, found.below); here = found.here }
 
--- an address can stand in a line
+-- an address fits in a line
 pub address_fits : (text : List ℕ) → is_address text ≡ true → IsTrue (fits_line text)
 unfolding is_address rsplit_once
 address_fits text is = by_place (rfind_below 58 text (length text)) refl is
@@ -112,18 +112,18 @@ address_fits text is = by_place (rfind_below 58 text (length text)) refl is
 
 -- ---- lists of tokens
 
--- texts of which each is a token can stand in lines
+-- each of a list of tokens fits in a line
 all_fit : (tokens : List (List ℕ)) → list_all (is_token true) tokens ≡ true → All (λ token. IsTrue (fits_line token)) tokens
 all_fit [] are = All-nil (λ (token : List ℕ). IsTrue (fits_line token))
 all_fit (token ∷ tokens) are =
     let parts = both (is_token true token) (list_all (is_token true) tokens) are in
     All-cons (λ (t : List ℕ). IsTrue (fits_line t)) token tokens (token_fits token parts.0) (all_fit tokens parts.1)
 
--- at most eight
+-- there are at most eight tokens
 pub few_tokens : (tokens : List (List ℕ)) → are_upstream_tokens tokens ≡ true → length tokens ≤ 8
 few_tokens tokens are = (counted 1 8 tokens (both (has_count 1 8 tokens) (list_all (is_token true) tokens && are_different (map environment_of tokens)) are).0).1
 
--- each of them can stand in a line
+-- each of them fits in a line
 pub tokens_fit : (tokens : List (List ℕ)) → are_upstream_tokens tokens ≡ true → All (λ token. IsTrue (fits_line token)) tokens
 tokens_fit tokens are =
     let parts = both (has_count 1 8 tokens) (list_all (is_token true) tokens && are_different (map environment_of tokens)) are in
@@ -139,7 +139,7 @@ names_differ tokens are =
     let parts = both (has_count 1 8 tokens) (list_all (is_token true) tokens && are_different (map environment_of tokens)) are in
     differ (map environment_of tokens) (both (list_all (is_token true) tokens) (are_different (map environment_of tokens)) parts.1).1
 
--- an empty slot for each of them is as many places
+-- an empty slot for each of them gives as many places
 pub opened_places : (tokens : List (List ℕ)) → length (map place_at (map empty_slot (map environment_of tokens))) ≡ length tokens
 opened_places tokens =
     length-map (map empty_slot (map environment_of tokens)) place_at ∙ length-map (map environment_of tokens) empty_slot ∙ length-map tokens environment_of

@@ -1,4 +1,4 @@
--- What keeping commands comes to, and the lines whose commands are kept.
+-- The effect of keeping commands, and the lines whose commands are kept.
 use Rattle.std.proofs.Common.{◌≡◌, ◌<◌, ◌≤◌, ◌+◌, ◌∙◌, ℕ, List, [], ◌∷◌, ◌++◌, Bool, true, false, cond, ltb, length, append-nil, Option, Some, None, Result, Ok, Err, refl, sym, ap, subst, arith}
 use Rattle.std.specs.Prelude.{codes, option_map}
 use Rattle.std.proofs.lemmas.Bool.Decides.{nat_tests}
@@ -42,16 +42,16 @@ pub silent : IsSilent keeping
 unfolding kept_line
 silent k shelf line taken is = read_silent shelf (command_in line) taken is
 
--- the lines of a whole input, all of which were taken
+-- the lines of a whole input, all of which were accepted
 pub all_taken : {D : Type 0} (taking : Taking D) (start last : D) (read : List ℕ) → IsSilent taking → (outcome_of taking start read).ending ≡ done
     → (outcome_of taking start read).desk ≡ last → outcome_of taking start read ≡ record { text = []; ending = done; desk = last }
 all_taken {D} taking start last read silent ending leaves =
     let text : (outcome_of taking start read).text ≡ [] = prints_cause_alone taking silent start read in
     λ i. record { text = text i; ending = ending i; desk = leaves i }
 
--- ---- the commands that lines spell
+-- ---- the commands in lines
 
--- a line spells a command that is accepted and kept
+-- a line holds a command that is accepted and kept
 record KeepsOne (shelf : Shelf) (line : List ℕ) (now : Shelf) : Type 0 where
   pub command : Command
   pub obeyed : Obeyed
@@ -59,7 +59,7 @@ record KeepsOne (shelf : Shelf) (line : List ℕ) (now : Shelf) : Type 0 where
   pub accepts : commanded command shelf.up ≡ Ok obeyed
   pub leads : with_command command obeyed shelf ≡ now
 
--- what stands after a line, if it isn't refused
+-- the state after a line, if it isn't refused
 abbrev desk_after : LineResult Shelf → Shelf → Shelf
 desk_after (Ok taken) shelf = taken.desk
 desk_after (Err cause) shelf = shelf
@@ -88,11 +88,11 @@ keeps_one shelf line taken is = decided (command_in line) refl is
     decided (Ok command) spelled is = keeps command (commanded command shelf.up) spelled refl is
     decided (Err fault) spelled is = absurd (cc is)
 
--- the lines from the line k on
+-- the lines from line `k` on
 abbrev rest_from : ℕ → List (List ℕ) → Shelf → Outcome Shelf
 rest_from k more shelf = take_from keeping k shelf more
 
--- a line that spells a command that is kept, before others that do
+-- a line with a command that is kept, before others like it
 keeps_more : (shelf : Shelf) (line : List ℕ) (more : List (List ℕ)) (now last : Shelf) → KeepsOne shelf line now → SpellKept now more last
     → SpellKept shelf (line ∷ more) last
 keeps_more shelf line more now last one others =
@@ -142,7 +142,7 @@ keeps_from [] k shelf ends = record {
     none (Some kept) = ap Some (sym (append-nil kept))
 keeps_from (line ∷ more) k shelf ends = keeps_step shelf k line more (take_line keeping k shelf line) refl (λ now. keeps_from more (k + 1) now) ends
 
--- lines that end well spell commands that are kept
+-- lines that are all accepted hold commands that are kept
 pub lines_keep : (start last : Shelf) (read : List ℕ) → outcome_of keeping start read ≡ record { text = []; ending = done; desk = last }
     → SpellKept start (lines read) last
 lines_keep start last read is =
@@ -159,7 +159,7 @@ same_name plain.NoSuchSegment = refl
 same_name (plain.TooMany n) = refl
 same_name plain.Memory = refl
 
--- the lines from the line k on, without a keeper
+-- the lines from line `k` on, without a keeper
 abbrev plain_from : ℕ → List (List ℕ) → UpstreamState → Outcome UpstreamState
 plain_from k more up = take_from obeying k up more
 
@@ -167,7 +167,7 @@ plain_from k more up = take_from obeying k up more
 abbrev GoesOnSame : ℕ → List (List ℕ) → Shelf → Type 0
 GoesOnSame k more shelf = (next : Shelf) → next.count ≡ shelf.count + 1 → (rest_from (k + 1) more next).ending ≡ (plain_from (k + 1) more next.up).ending
 
--- a line within the limits, where there is room
+-- a line ends as it does without a keeper, if the keeper has room
 line_same : (k : ℕ) (shelf : Shelf) (line : List ℕ) (more : List (List ℕ)) → shelf.count < most_rows → GoesOnSame k more shelf
     → (followed k shelf (kept_line shelf line) (rest_from (k + 1) more)).ending ≡ (followed k shelf.up (obeyed_line shelf.up line) (plain_from (k + 1) more)).ending
 unfolding kept_line obeyed_line
@@ -201,7 +201,7 @@ same_step k shelf line more few later = limited (ltb most_lines k) refl (ltb lon
     limited false is true = refl
     limited false is false = line_same k shelf line more (grind (arith, nat_tests, few, is)) later
 
--- lines that may be so many end as they do without a keeper, where fewer are kept before
+-- lines within the keeper's limit end as they do without a keeper
 same_from : (ls : List (List ℕ)) (k : ℕ) (shelf : Shelf) → shelf.count + 1 ≤ k → (rest_from k ls shelf).ending ≡ (plain_from k ls shelf.up).ending
 same_from [] k shelf few = refl
 same_from (line ∷ more) k shelf few =

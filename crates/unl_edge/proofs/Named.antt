@@ -1,4 +1,4 @@
--- What links hand on that were served by an upstream with its keeper: the commands that lead there, and that are kept.
+-- The commands that links bring to an upstream with its keeper, which are kept.
 use Rattle.std.proofs.Common.{◌≡◌, ℕ, ◌++◌, ◌∙◌, List, Some, None, refl, sym, ap, subst, arith}
 use Rattle.std.specs.Prelude.{option_map}
 use Rattle.unl_edge.specs.Upstreams.{Facing, NamesLinks}
@@ -11,12 +11,12 @@ use Rattle.unl_upstream.specs.Served.{draws_after}
 use Rattle.unl_upstream.proofs.Carrying.{both_behind, carries_all}
 use Rattle.unl_upstream.proofs.KeptNaming.{links_are_named}
 
--- none of the draws is gone
+-- no draw was used
 none_gone : (coming : Coming) → coming ≡ draws_after 0 coming
 none_gone None = refl
 none_gone (Some told) = refl
 
--- the links of a door that tells them
+-- the links of a door whose links are observable
 pub links_named : (opened kept last : KeptState) (commands : List Command) (before after : Facing) (served : ℕ) (links : List (List ℕ))
     (returned : List (List ℕ × ℕ)) → HasKept kept.keeper → kept_commands kept.keeper ≡ option_map (λ kept. kept ++ commands) (kept_commands opened.keeper)
     → IsNamed opened.up opened.keeper.count commands kept

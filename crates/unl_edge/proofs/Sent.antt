@@ -1,4 +1,4 @@
--- What may be handed to another thread, from what its parts may.
+-- Types are `Send` if their parts are.
 use denote.Param.Send.{IsSend, IsSync, sendable}
 use denote.Param.SendFields.{declared_send}
 use denote.RattleType.{RattleType}
@@ -14,7 +14,7 @@ use Rattle.unl_serve.specs.contracts.served.Served as Served
 pub desk_send : IsSend EdgeReader.the_row → IsSend ToldDesk.the_row
 desk_send reader = declared_send ToldDesk.the_type (reader, tt)
 
--- what serves at it, from this
+-- the state of a worker, from its parts
 pub attendant_send : (lifetime : NamedLft) (wait : RattleType) → IsSync wait → IsSend ToldDesk.the_row → IsSend MetricsBook.the_row
     → IsSend Served.the_row → IsSend (EdgeAttendant.the_row lifetime wait)
 attendant_send lifetime wait shared desk book notes =

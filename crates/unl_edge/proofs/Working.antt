@@ -1,4 +1,4 @@
--- What posts attended to, as what workers did.
+-- What happened at the worker slots, as the work of workers.
 use Rattle.std.proofs.Common.{◌≡◌, ◌≤◌, ◌+◌, ◌∙◌, ℕ, zero, suc, List, [], ◌∷◌, ◌++◌, length, map, Option, Some, Result, Ok, Err, ap, arith, subst, sym}
 use Rattle.std.specs.Prelude.{All, IfOk, OnOk}
 use Rattle.std.specs.List.{AllZip}
@@ -33,7 +33,7 @@ pub risen : (first last : ℕ) (ones : List ServedOne) → Rise first ones last 
 risen first last [] rise = rise
 risen first last (one ∷ ones) rise = let later = risen one.front last ones rise.1 in omega (arith, rise.0, later)
 
--- what serves by these
+-- the worker of a serving state
 works_by : {W : Type 0} → Serving (EdgeAttendant W) → Worker
 works_by serving = record { reader = serving.server.desk.reader; book = serving.server.book; coming = serving.coming }
 
@@ -46,7 +46,7 @@ links_served (suc n) before after many =
     let one = many.2 in
     (works_by many.0, links_served n before many.0 many.1, record { link = one.link; link_after = one.link_after; served = one.served })
 
--- a post that was attended to
+-- a slot that was served
 attended : {W R : Type 0} (coming_of : R → Coming) (before after : Post (EdgeAttendant W) R)
     → Attends ServesAt ReadsOnAt coming_of before after → Works (worker_of coming_of before) (worker_of coming_of after)
 unfolding works_by
@@ -61,7 +61,7 @@ all_attended coming_of [] (last ∷ after) all = absurd all
 all_attended coming_of (first ∷ before) [] all = absurd all
 all_attended coming_of (first ∷ before) (last ∷ after) all = (attended coming_of first last all.0, all_attended coming_of before after all.1)
 
--- what their readers were told of
+-- what their readers have learned
 all_told : {W R : Type 0} (coming_of : R → Coming) (known : Knowledge BoardAt Install) (posts : List (Post (EdgeAttendant W) R))
     → All (λ post. HasLearned known post.server.desk.reader) posts
     → All (λ worker. length known.installs ≤ told_to worker.reader) (map (worker_of coming_of) posts)
@@ -71,7 +71,7 @@ all_told {W} {R} coming_of known (post ∷ posts) learned =
     (All-head (λ (p : Post (EdgeAttendant W) R). HasLearned known p.server.desk.reader) post posts learned).least
     (all_told coming_of known posts (All-tail (λ (p : Post (EdgeAttendant W) R). HasLearned known p.server.desk.reader) post posts learned))
 
--- and with which board that began
+-- and the first board of that
 all_open : {W R : Type 0} (coming_of : R → Coming) (known : Knowledge BoardAt Install) (posts : List (Post (EdgeAttendant W) R))
     → All (λ post. HasLearned known post.server.desk.reader) posts
     → All (λ worker. (seen_by worker.reader).opening ≡ known.opening) (map (worker_of coming_of) posts)
@@ -81,7 +81,7 @@ all_open {W} {R} coming_of known (post ∷ posts) learned =
     (All-head (λ (p : Post (EdgeAttendant W) R). HasLearned known p.server.desk.reader) post posts learned).opens
     (all_open coming_of known posts (All-tail (λ (p : Post (EdgeAttendant W) R). HasLearned known p.server.desk.reader) post posts learned))
 
--- one post more has learned
+-- one more slot has learned
 pub learned_more : {W R : Type 0} (known now : Knowledge BoardAt Install) (posts longer : List (Post (EdgeAttendant W) R)) (post : Post (EdgeAttendant W) R)
     → now ≡ known → longer ≡ posts ++ post ∷ [] → All (λ post. HasLearned known post.server.desk.reader) posts → HasLearned now post.server.desk.reader
     → All (λ post. HasLearned known post.server.desk.reader) longer
@@ -90,13 +90,13 @@ learned_more {W} {R} known now posts longer post same more learned one =
     (All-push (λ (p : Post (EdgeAttendant W) R). HasLearned known p.server.desk.reader) posts post learned
     (subst (λ (k : Knowledge BoardAt Install). HasLearned k post.server.desk.reader) same one))
 
--- the readers behind one are of its origin
+-- the readers after the first are of its origin
 pub others_of : (known : Knowledge BoardAt Install) (readers rest : List EdgeReader) (reader : EdgeReader) → readers ≡ reader ∷ rest
     → All (IsOfOrigin known) readers → All (IsOfOrigin known) rest
 others_of known readers rest reader steps all =
     All-tail (IsOfOrigin known) reader rest (subst (λ (rs : List EdgeReader). All (IsOfOrigin known) rs) steps all)
 
--- so many workers worked beside one another
+-- the workers worked concurrently
 work_beside : {W R : Type 0} (coming_of : R → Coming) (known : Knowledge BoardAt Install) (before after : List (Post (EdgeAttendant W) R))
     (workers : ℕ) → length before ≡ workers → All (λ post. HasLearned known post.server.desk.reader) before
     → AllZip (Attends ServesAt ReadsOnAt coming_of) before after → WorkBeside workers known.opening (length known.installs)
@@ -109,7 +109,7 @@ work_beside coming_of known before after workers many learned all = record {
   worked = all_attended coming_of before after all;
 }
 
--- the same, where serving ended well
+-- the same, if serving ended well
 pub served_beside : {W R : Type 0} (coming_of : R → Coming) (known : Knowledge BoardAt Install) (before : List (Post (EdgeAttendant W) R)) (workers : ℕ)
     (served : Result (Beside (EdgeAttendant W) R) BesideFault) (result : Result ℕ BesideFault) → result ≡ links_of served → length before ≡ workers
     → All (λ post. HasLearned known post.server.desk.reader) before
@@ -120,9 +120,9 @@ served_beside coming_of known before workers (Ok beside) result is many learned 
 served_beside coming_of known before workers (Err fault) result is many learned all =
     subst (λ (r : Result ℕ BesideFault). OnOk r (WorkBeside workers known.opening (length known.installs))) (sym is) tt
 
--- ---- a site
+-- ---- an edge service
 
--- the upstream was asked in the first turn, and then perhaps again
+-- the upstream was polled in the first turn, and then perhaps again
 pub asked_first : (slots places : ℕ) {replies later : Option (List (List ℕ))} (last : Option (List (List ℕ))) {faults middle : ℕ} (after : ℕ) (served : Result ℕ BesideFault)
     → slots ≡ places → Connects (slots + 1) replies faults later middle → OnOk served (Connects 0 later middle last after)
     → OnOk served (Connects (places + 1) replies faults last after)
@@ -130,7 +130,7 @@ asked_first slots places {replies} last {faults} after (Ok links) count first th
     subst (λ (n : ℕ). Connects (n + 1) replies faults last after) count (connects_still first then)
 asked_first slots places last after (Err fault) count first then = tt
 
--- the first turn was made, and links were served behind it
+-- the first turn was made, and links were served after it
 pub site_served : (site : Site) (first : Installed) (replies later last : Option (List (List ℕ))) (faults middle after : ℕ)
     (served : Result ℕ BesideFault)
     → (¬ (Rose faults middle) → MakesTurn site.known site.feeders (upkept site.opening replies) (upkept first later))
@@ -140,7 +140,7 @@ site_served site first replies later last faults middle after (Ok links) turn th
     record { first = first; turn = λ none. (later, turn (none_before faults middle after then.later none)); work = work }
 site_served site first replies later last faults middle after (Err fault) turn then work = tt
 
--- the same site, by its parts
+-- the same edge service, by its parts
 pub same_site : (known : List (List ℕ)) (board : Board) (begun : Installed) (edition : Option BoardAt) (feeders : List Feeding)
     (workers readers : ℕ) (replies : Option (List (List ℕ))) (faults after : ℕ) (served : Result ℕ BesideFault)
     → begun ≡ opened board → edition ≡ Some (opening_at board) → readers ≡ workers

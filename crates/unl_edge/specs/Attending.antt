@@ -1,4 +1,4 @@
--- What a worker of an edge does: it serves a link over what is published, and hands on what was reported.
+-- What a worker of an edge does: it serves links over the published boards and passes on their metrics.
 use Rattle.std.specs.Prelude.{◌≡◌, ◌≤◌, ℕ, List, [], length, max, Some}
 use Rattle.unl_core.specs.Desk.{Keeps}
 use Rattle.unl_edge.specs.declared.attending.EdgeAttendant.{EdgeAttendant}
@@ -18,27 +18,27 @@ use Rattle.unl_serve.specs.Notes.{DrawsAtLeast, LooksFor, Notes, NotesNothing, R
 use Rattle.unl_serve.specs.declared.served.ServedOne.{ServedOne}
 use Rattle.unl_upkeep.specs.Handing.{IsHandedOn}
 
--- a reader knows of the writer of what is known, and of the board with which that began
+-- The reader's knowledge has the same origin as the writer's, and the same first board.
 pub record IsOfOrigin (known : Knowledge BoardAt Install) (reader : EdgeReader) : Type 0 where
   pub next : SameOrigin known (next_of reader)
   pub seen : (seen_by reader).opening ≡ known.opening
 
--- a reader was told of all that is known, so that it answers from no earlier board, and knows the board with which that began
+-- The reader has learned all that is known, so it answers from no earlier board; and it knows the same first board.
 pub record HasLearned (known : Knowledge BoardAt Install) (reader : EdgeReader) : Type 0 where
   pub least : length known.installs ≤ told_to reader
   pub opens : (seen_by reader).opening ≡ known.opening
 
--- a reader answers from no earlier front: it was told of so many publications, or saw so many
+-- a bound from below on the fronts that a reader answers from: the number of publications that it learned of or saw
 abbrev pub least_front : EdgeReader → ℕ
 least_front reader = max (told_to reader) (front_seen (seen_by reader))
 
--- what a reader knows goes on: that front does not fall, and the boards that were known still are
+-- A later state of a reader: its bound does not fall, and the boards that it knew are still known.
 pub record ReadsOn (before after : EdgeReader) : Type 0 where
   pub rises : least_front before ≤ least_front after
   pub keeps : Keeps (board_of (seen_by before)) (board_of (seen_by after))
 
--- A connection was served as that of a desk is: each request was answered over the board at the front of its note, and what
--- was reported was added to the book, which then was handed on.
+-- A connection was served over a reader: each request was answered over the board at the front in its note; the metrics
+-- reported were added to the book, which was then passed on, or kept if that wasn't possible.
 pub record ServesOver
     (before : EdgeReader) (book : Book) (coming : Coming) (link link_after : LinkState) (after : EdgeReader) (book_after : Book)
     (coming_after : Coming) : Type 0 where
@@ -52,12 +52,12 @@ pub record ServesOver
   pub drawn : DrawsAtLeast coming ones coming_after
   pub handed : IsHandedOn summed book_after
 
--- the same of what a worker serves by
+-- the same for a worker's state
 abbrev pub ServesAt :
     {W : Type 0} → EdgeAttendant W → Coming → LinkState → LinkState → EdgeAttendant W → Coming → Type 0
 ServesAt before coming link link_after after coming_after =
     ServesOver before.desk.reader before.book coming link link_after after.desk.reader after.book coming_after
 
--- what its reader knows goes on
+-- a later state of a worker's reader
 abbrev pub ReadsOnAt : {W : Type 0} → EdgeAttendant W → EdgeAttendant W → Type 0
 ReadsOnAt before after = ReadsOn before.desk.reader after.desk.reader

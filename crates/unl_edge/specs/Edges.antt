@@ -1,4 +1,4 @@
--- How an edge ends: it asks its upstream, and serves the links of its door.
+-- How an edge ends: it polls its upstream and serves the links of its door.
 use Rattle.std.specs.Prelude.{◌≡◌, ◌⊎◌, ℕ, ◌+◌, ◌≤◌, List, Option, option_map, drop, length, IfSome, Result, Ok, Err}
 use Rattle.unl_base.specs.Doors.{CameAt, DoorState, IsClosed, IsClosedAt}
 use Rattle.unl_base.specs.Draws.{TakesDraw}
@@ -17,30 +17,30 @@ use Rattle.unl_workers.specs.declared.serving.Beside.{Beside}
 use Rattle.unl_workers.specs.declared.serving.BesideFault.{BesideFault}
 use Rattle.unl_workers.specs.declared.serving.BesideFault.TheVariants.{Door, Spawner, Memory}
 
--- a peer that was connected to at least so often before it stood so was so too when it stands so
+-- If `Connects 0` holds from any earlier state to this one, it also holds to the later one.
 abbrev pub GoesOn : (replies : Option (List (List ℕ))) (faults : ℕ) (replies_after : Option (List (List ℕ))) (faults_after : ℕ) → Type 0
 GoesOn replies faults replies_after faults_after =
     (first : Option (List (List ℕ))) (faults_first : ℕ) → Connects 0 first faults_first replies faults
     → Connects 0 first faults_first replies_after faults_after
 
--- how often the peer was that the program finds outside
+-- at least `least` connections were made to the peer of the scene, unless it failed
 abbrev pub AsksPeer : ℕ → Scene → Scene → Type 0
 AsksPeer least before after = Connects least before.peer.state.replies before.peer.faults after.peer.state.replies after.peer.faults
 
--- how many links were handed out, or why serving ended
+-- the number of links handed out, or why serving ended
 abbrev pub links_of : {S R : Type 0} → Result (Beside S R) BesideFault → Result ℕ BesideFault
 links_of (Ok beside) = Ok beside.links
 links_of (Err fault) = Err fault
 
--- The door handed out as many links as are answered, and is closed; at a fault of its own it handed out some; and where no
--- thread could be started or memory ran out, it is as before. None comes back: each is let go by the worker that served it.
+-- `Ok`: the door handed out the number of links that is returned, and is closed. `Door`: it handed out some. If no thread could
+-- be started or memory ran out, the door is unchanged. No link comes back: the worker that served it drops it.
 abbrev pub HandsOver : {A : Type 0} → (A → ℕ) → Result A BesideFault → DoorState → DoorState → Type 0
 HandsOver links (Ok done) before after = HandsOut (links done) before after × IsClosed after
 HandsOver links (Err Door) before after = (n : ℕ) × HandsOut n before after
 HandsOver links (Err Spawner) before after = after ≡ before
 HandsOver links (Err Memory) before after = after ≡ before
 
--- so many links were handed out, of those that were to come, none came back, and nothing was read
+-- `served` of the links to come were handed out, none came back, and nothing of the input was read.
 pub record HandsLinks (served : ℕ) (before after : Scene) : Type 0 where
   pub given : after.door.state.given ≡ before.door.state.given + served
   pub had : IfSome before.door.state.links (λ list. served ≤ length list)
@@ -48,20 +48,20 @@ pub record HandsLinks (served : ℕ) (before after : Scene) : Type 0 where
   pub left : after.door.state.links ≡ option_map (λ list. drop served list) before.door.state.links
   pub unread : after.input.left ≡ before.input.left
 
--- the peer was asked for the book and for each slot at least, and links were served behind the first turn
+-- The peer was asked for the book and for each slot at least once, and links were served after the first turn.
 abbrev pub IsServed : Site → Scene → Scene → Type 0
 IsServed site before after = AsksPeer (length site.opening.places + 1) before after
     × ServesSite site before.peer.state.replies before.peer.faults after.peer.faults
 
--- memory ran out before the first link was handed out, or for the last line, once the door was closed; and nothing was sent
+-- Memory ran out before the first link was handed out, or for the last line once the door was closed; nothing was sent.
 abbrev pub StopsForMemory : ℕ → Scene → Scene → Type 0
 StopsForMemory port before after =
     (served : ℕ) × HandsLinks served before after × ((served ≡ 0) ⊎ IsClosedAt port after.door.state)
     × (after.output.sent ≡ before.output.sent)
 
--- How an edge ends whose door was to listen at this port: the door is closed there, and the last line was sent, or its front; or the
--- door failed or a thread could not be started, or memory ran out, and nothing was sent. Before the door is closed, the upstream was
--- asked for the book and for each slot at least once, and links were served behind that.
+-- How an edge ends, with a door that is to listen at this port. The door was closed there, and the last line or a prefix of it
+-- was sent; before that, the upstream was asked for the book and for each slot at least once, and then links were served. Or
+-- the door failed, a thread couldn't be started, or memory ran out, and nothing was sent.
 abbrev pub EdgeEnds : Site → ℕ → ServingEnd → Scene → Scene → Type 0
 EdgeEnds site port Closed before after =
     (served : ℕ) × HandsLinks served before after × IsServed site before after
@@ -73,14 +73,14 @@ EdgeEnds site port DoorFault before after =
     (served : ℕ) × HandsLinks served before after × CameAt port served after.door.state × (after.output.sent ≡ before.output.sent)
 EdgeEnds site port OutOfMemory before after = StopsForMemory port before after
 
--- an edge of these words took a draw for its boot number, and ended so
+-- an edge with these arguments takes a draw for its boot number, and ends like this
 pub record RunsEdge (words : EdgeWords) (end : ServingEnd) (before after : Scene) : Type 0 where
   pub draw : Draw
   pub coming : Coming
   pub taken : TakesDraw before.draws draw coming
   pub ends : EdgeEnds (site_of words draw.word) words.port end (record before { draws = coming }) after
 
--- how an edge of these words ends
+-- how an edge with these arguments ends
 abbrev pub EdgeRuns : EdgeWords → ServingEnd → Scene → Scene → Type 0
 EdgeRuns words Closed before after = RunsEdge words Closed before after
 EdgeRuns words WriteFault before after = RunsEdge words WriteFault before after

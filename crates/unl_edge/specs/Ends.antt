@@ -1,4 +1,4 @@
--- How the program ends, over what it finds outside, before and after.
+-- How the program ends, over its ends before and after.
 use Rattle.std.specs.Prelude.{◌≡◌, ℕ, ◌==◌, List, codes, Option, IfSome, Result, Ok, Err, if◌then◌else◌}
 use Rattle.unl_base.specs.Faults.{Rose}
 use Rattle.unl_base.specs.Streams.{Sends, SendsFront}
@@ -33,29 +33,29 @@ use Rattle.unl_words.specs.declared.words.Words.TheVariants.{Replay, Check, Edge
 
 -- ---- a check
 
--- how a check ends by how many tests failed
+-- the outcome of a check with this number of failed tests
 abbrev pub report_end : ℕ → CheckEnd
 report_end failed = if failed == 0 then Passed else TestsFailed
 
--- how a check ends by what its input comes to
+-- the outcome of a check, from the result of processing its input
 abbrev pub outcome_end : Outcome Report → CheckEnd
 outcome_end (Ok report) = report_end report.failed
 outcome_end (Err refusal) = Refused
 
--- how a check ends whose input is refused, by how that was said
+-- the outcome of a check with a refused input, from the result of printing the cause
 abbrev pub refused_end : Result (Unit {0}) SayFault → CheckEnd
 refused_end (Ok u) = Refused
 refused_end (Err say.WriteFault) = WriteFault
 refused_end (Err say.Memory) = OutOfMemory
 
--- The input was read, and all was sent that is said of it: its report, or why it is refused. So the check ended.
+-- The input was read, and its report or the cause of its refusal was sent in full. That determines the outcome.
 pub record SaysOfInput (draw : Draw) (end : CheckEnd) (left left_after old new : Option (List ℕ)) : Type 0 where
   pub outcome : Outcome Report
   pub says : Says (accepted draw) text_of outcome left left_after old new
   pub ends : end ≡ outcome_end outcome
 
--- How a check ends, also where the input tells no bytes. Where the input failed or memory ran out, nothing was sent; where the
--- output failed, a front was sent of what is said of the input.
+-- How a check ends, even if the input's bytes are not observable. If the input failed or memory ran out, nothing was sent; if the
+-- output failed, a prefix of the text was sent.
 abbrev pub CheckEnds : Draw → CheckEnd → Option (List ℕ) → Option (List ℕ) → Option (List ℕ) → Option (List ℕ) → Type 0
 CheckEnds draw Passed left left_after old new = SaysOfInput draw Passed left left_after old new
 CheckEnds draw TestsFailed left left_after old new = SaysOfInput draw TestsFailed left left_after old new
@@ -67,19 +67,19 @@ CheckEnds draw OutOfMemory left left_after old new = new ≡ old
 
 -- ---- a load
 
--- How a load of a seed and a count ends: its line was sent, or at a failed write a front of it, or nothing where memory ran out.
+-- How a load of a seed and a count ends: its line was sent; a prefix of it, if a write failed; or nothing, if out of memory.
 abbrev pub LoadEnds : ℕ → ℕ → Result (Unit {0}) LoadFault → Option (List ℕ) → Option (List ℕ) → Type 0
 LoadEnds seed count (Ok u) old new = Sends old (load_line seed count) new
 LoadEnds seed count (Err load.WriteFault) old new = SendsFront old (load_line seed count) new
 LoadEnds seed count (Err load.Memory) old new = new ≡ old
 
--- ---- bad words
+-- ---- bad arguments
 
--- the line that is said of bad words
+-- the line printed for bad arguments
 abbrev pub bad_words : List ℕ
 bad_words = codes "unl_edge: bad words\n"
 
--- it was sent, or a front of it, or memory ran out before the words were read, and nothing was sent
+-- It was sent, or a prefix of it; or memory ran out before the arguments were read, and nothing was sent.
 abbrev pub SaysBadWords : WordsEnd → Option (List ℕ) → Option (List ℕ) → Type 0
 SaysBadWords words.Bad old new = Sends old bad_words new
 SaysBadWords words.WriteFault old new = SendsFront old bad_words new
@@ -87,13 +87,13 @@ SaysBadWords words.OutOfMemory old new = new ≡ old
 
 -- ---- the program
 
--- a command ended so, and that gives this status
+-- a command ended with `end`, which gives this status
 pub record Ended {E : Type 0} (status_of : E → Status) (Ends : E → Type 0) (status : Status) : Type 0 where
   pub end : E
   pub is : status ≡ status_of end
   pub ends : Ends end
 
--- How the program ends, by what its words ask for.
+-- How the program ends, by the command of its arguments.
 abbrev pub Ends : WordsReading → Status → Scene → Scene → Type 0
 Ends (Ok Replay) status before after =
     Ended lines_status
@@ -116,27 +116,27 @@ Ends (Ok (Load seed count)) status before after =
 Ends (Err Bad) status before after = Ended words_status (λ end. SaysBadWords end before.output.sent after.output.sent) status
 Ends (Err Memory) s before after = s ≡ status.OutOfMemory
 
--- the number is that of a status, and so the program ended
+-- the exit code is that of a status with which the program ended
 abbrev pub Exits : ℕ → (Status → Type 0) → Type 0
 Exits code Ends = (status : Status) × (code ≡ code_of status) × Ends status
 
--- A fault of the input or the output is answered only where that has failed, one of serving only where the door failed or no job
--- could be started, and one of the keeper only where the count of the maker of keepers rose; then no link was handed out.
+-- The code of an input or output fault is returned only if that end failed; that of a door fault only if the door failed or no
+-- job could be started; that of a keeper fault only if the maker's fault count rose, and then no link was handed out.
 pub record HasCauses (code : ℕ) (before after : Scene) : Type 0 where
   pub read : code ≡ 4 → Rose before.input.faults after.input.faults
   pub write : code ≡ 5 → Rose before.output.faults after.output.faults
   pub serving : code ≡ 7 → ServingFailed before after
   pub keep : code ≡ 8 → FailsToKeep before after
 
--- ---- what decides, where nothing fails and memory is found
+-- ---- what determines the exit code if nothing fails and memory doesn't run out
 
--- how an explanation ends by what its input comes to
+-- the status of an explanation, from the result of processing its input
 abbrev pub explained_status : Outcome (List ℕ) → Status
 explained_status (Ok line) = status.Done
 explained_status (Err refusal) = status.Refused
 
--- The number is that of the ending that the words and the input tell. Bad words tell it by themselves. Of an upstream that
--- stands only where no count of its maker of keepers rose.
+-- The exit code is determined by the arguments and the input. Bad arguments determine it alone. For an upstream this holds only
+-- if the fault count of its maker of keepers didn't rise.
 abbrev pub IsDecided : WordsReading → ℕ → Scene → Scene → Type 0
 IsDecided (Ok Replay) code before after = IfSome before.input.left (λ bytes. code ≡ code_of (ending_status (replay_of bytes).ending))
 IsDecided (Ok (Check now word)) code before after =

@@ -1,4 +1,4 @@
--- How following a server ends.
+-- How the command `follow` ends.
 use Rattle.std.specs.Prelude.{None, Result}
 use Rattle.unl_edge.specs.Scene.{Scene}
 use Rattle.unl_follow.specs.Replica.{Subject}
@@ -12,17 +12,17 @@ abbrev pub ends_in : Scene → Ends
 ends_in scene =
     record { peer = scene.peer.state; faults = scene.peer.faults; coming = scene.draws; sent = scene.output.sent }
 
--- who is asked, with which token and for what, with no tag yet
+-- the ask of the arguments, without a tag
 abbrev pub ask_of : FollowWords → Ask
 ask_of words = record { host = words.upstream; token = words.token; delta = words.delta; tag = None }
 
--- the feature, and the context that it is evaluated in
+-- the feature and the context of the arguments
 abbrev pub subject_of : FollowWords → Subject
 subject_of words = record { feature = words.feature; context = words.context }
 
--- How following ends that is to ask an upstream for so many turns, and to tell of a feature: after as many as the pace allows,
--- with their requests sent to the peer and their text to the output, or after a failed write, with a front of that text, or for
--- want of memory, with whole lines of it.
+-- How `follow` ends with these arguments: after as many turns as the pace allows, with their requests sent to the peer and
+-- their text to the output; after a failed write, with a prefix of that text sent; or out of memory, with whole lines of it
+-- sent.
 abbrev pub FollowEnds : FollowWords → Result (Unit {0}) FollowFault → Scene → Scene → Type 0
 FollowEnds words end before after =
     Runs words.turns before.pace (ask_of words) (subject_of words) (ends_in before) end (ends_in after)

@@ -1,4 +1,4 @@
--- The lines of an upstream's input, each of whose commands is kept before it is published.
+-- The lines of an upstream's input; each command is kept before it is published.
 use Rattle.std.specs.Prelude.{◌≡◌, ⊤, ℕ, ◌+◌, List, [], ◌∷◌, ◌++◌, length, map, codes, Option, option_map, Result, Ok, Err}
 use Rattle.unl_documents.specs.FaultText.{fault_text}
 use Rattle.unl_documents.specs.Reading.{Reading}
@@ -12,17 +12,17 @@ use Rattle.unl_upstream.specs.declared.refusal.KeepCommandRefusal.{KeepCommandRe
 use Rattle.unl_upstream.specs.declared.refusal.KeepCommandRefusal.TheVariants.{NoSuchEnvironment, NoSuchFeature}
 use Rattle.unl_upstream.specs.declared.refusal.KeepCommandRefusal.TheVariants.{NoSuchSegment, TooMany, KeeperFull, KeeperFault, Memory}
 
--- what stands while lines are taken: the upstream, how many rows its keeper keeps, and the commands in them, where it tells its rows
+-- the state while lines are taken: the upstream, the number of its keeper's rows, and the commands in them, if observable
 pub record Shelf : Type 0 where
   pub up : UpstreamState
   pub count : ℕ
   pub commands : Option (List Command)
 
--- this of an upstream and its keeper
+-- the same for an upstream and its keeper
 abbrev pub shelf_of : KeptState → Shelf
 shelf_of state = record { up = state.up; count = state.keeper.count; commands = kept_commands state.keeper }
 
--- the name of a refusal; a fault of the keeper and want of memory refuse no line, and have none
+-- the name of a refusal; empty for a fault of the keeper and out of memory, which refuse no line
 abbrev pub refusal_name : KeepCommandRefusal → List ℕ
 refusal_name NoSuchEnvironment = codes "NoSuchEnvironment"
 refusal_name NoSuchFeature = codes "NoSuchFeature"
@@ -32,7 +32,7 @@ refusal_name (KeeperFull n) = codes "KeeperFull"
 refusal_name KeeperFault = []
 refusal_name Memory = []
 
--- one command more was accepted and is kept
+-- one more command was accepted and is kept
 abbrev pub with_command : Command → Obeyed → Shelf → Shelf
 with_command command obeyed shelf = record {
   up = obeyed.up;
@@ -45,31 +45,31 @@ abbrev pub kept_as : Command → Shelf → Result Obeyed KeepCommandRefusal → 
 kept_as command shelf (Ok obeyed) = Ok (record { text = []; desk = with_command command obeyed shelf })
 kept_as command shelf (Err refusal) = Err (refusal_name refusal)
 
--- what comes of a command that is to be kept, unless the keeper fails or memory is wanting
+-- the effect of keeping a command, unless the keeper fails or memory runs out
 abbrev pub kept_one : Command → Shelf → LineResult Shelf
 kept_one command shelf = kept_as command shelf (with_room shelf.count (commanded command shelf.up))
 
--- the command that a line spells is kept, if it spells one
+-- the command of a line is kept, if it can be read
 abbrev pub kept_by : Shelf → Reading Command → LineResult Shelf
 kept_by shelf (Ok command) = kept_one command shelf
 kept_by shelf (Err fault) = Err (fault_text fault)
 
--- what a line does, unless the keeper fails or memory is wanting
+-- the effect of a line, unless the keeper fails or memory runs out
 unfoldable pub kept_line : Shelf → List ℕ → LineResult Shelf
 kept_line shelf line = kept_by shelf (command_in line)
 
--- the same, whatever the line's number
+-- as `kept_line`, whatever the line's number
 abbrev pub keeping : Taking Shelf
 keeping number shelf line = kept_line shelf line
 
--- what keeping a command came to, as far as a line's result is told
+-- The effect of keeping a command. Nothing is claimed for a fault of the keeper or out of memory.
 abbrev pub KeepsIn : Command → Shelf → Result (Unit {0}) KeepCommandRefusal → Shelf → Type 0
 KeepsIn command before (Ok u) after = kept_one command before ≡ Ok (record { text = []; desk = after })
 KeepsIn command before (Err KeeperFault) after = ⊤
 KeepsIn command before (Err Memory) after = ⊤
 KeepsIn command before (Err refusal) after = kept_one command before ≡ Err (refusal_name refusal)
 
--- The lines spell these commands, one a line. All of them are accepted and lead there, and they are kept behind those before.
+-- The lines hold these commands, one each. All are accepted and lead to `after`, and they are kept after the earlier ones.
 pub record SpellKept (before : Shelf) (spelling : List (List ℕ)) (after : Shelf) : Type 0 where
   pub commands : List Command
   pub spelled : map command_in spelling ≡ map Ok commands

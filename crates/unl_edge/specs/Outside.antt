@@ -1,9 +1,9 @@
--- What the program makes of its words before it runs: what stands outside.
+-- The ends that the program creates from its arguments before it runs.
 use Rattle.std.specs.Prelude.{ℕ, ◌*◌, Bool, false, List, [], Option, Some, None, nat_lt, option_map, unwrap_or, if◌then◌else◌}
 use Rattle.unl_words.specs.declared.words.Words.{Words}
 use Rattle.unl_words.specs.declared.words.Words.TheVariants.{Replay, Check, Edge, Explain, Follow, Load, Upstream}
 
--- these words ask that commands are kept in a database
+-- these arguments ask that commands are kept in a database
 abbrev pub asks_for_database : Words → Bool
 asks_for_database Replay = false
 asks_for_database (Check now word) = false
@@ -13,11 +13,11 @@ asks_for_database (Follow replica) = false
 asks_for_database Explain = false
 asks_for_database (Load seed count) = false
 
--- so many links, where it is some
+-- the count, or none if it is 0
 abbrev pub if_any : ℕ → Option ℕ
 if_any count = if nat_lt 0 count then Some count else None
 
--- after how many links the door closes, where the words say so
+-- the number of links after which the door closes, if the arguments set one
 abbrev pub bound_asked : Words → Option ℕ
 bound_asked Replay = None
 bound_asked (Check now word) = None
@@ -27,7 +27,7 @@ bound_asked (Follow replica) = None
 bound_asked Explain = None
 bound_asked (Load seed count) = None
 
--- where the peer is, and nowhere where the words name none
+-- the address of the peer, empty if the arguments name none
 abbrev pub address_asked : Words → List ℕ
 address_asked Replay = []
 address_asked (Check now word) = []
@@ -37,7 +37,7 @@ address_asked (Follow replica) = replica.upstream
 address_asked Explain = []
 address_asked (Load seed count) = []
 
--- how many nanoseconds stand between two turns, where the words say so
+-- the nanoseconds between two turns, if the arguments set an interval
 abbrev pub interval_asked : Words → Option ℕ
 interval_asked Replay = None
 interval_asked (Check now word) = None
@@ -47,7 +47,7 @@ interval_asked (Follow replica) = Some (replica.interval * 1000000000)
 interval_asked Explain = None
 interval_asked (Load seed count) = None
 
--- how many links are served beside the thread that accepts them
+-- the number of links served at once on threads other than the accepting one
 abbrev pub workers_asked : Words → ℕ
 workers_asked Replay = 0
 workers_asked (Check now word) = 0
@@ -57,6 +57,6 @@ workers_asked (Follow replica) = 0
 workers_asked Explain = 0
 workers_asked (Load seed count) = 0
 
--- what is so of the words, where they could be read
+-- a value from the arguments, or this one if they could not be read
 abbrev pub of_words : {A : Type 0} → A → (Words → A) → Option Words → A
 of_words otherwise of words = unwrap_or (option_map of words) otherwise

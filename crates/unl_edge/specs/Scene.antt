@@ -1,36 +1,36 @@
--- What the program finds outside, and leaves there: the state of each of its ends. What is not told is none.
+-- The state of each of the program's ends. A field is `None` if it is not observable.
 use Rattle.std.specs.Prelude.{◌⊎◌, ℕ, List, Option}
 use Rattle.unl_base.specs.Doors.{DoorState}
 use Rattle.unl_base.specs.Faults.{Rose}
 use Rattle.unl_base.specs.Peers.{PeerState}
 use Rattle.unl_base.specs.declared.draws.Draw.{Draw}
 
--- the input: the bytes to come, and how often it has failed
+-- the input: the bytes to come, and the count of its faults
 pub record InputEnd : Type 0 where
   pub left : Option (List ℕ)
   pub faults : ℕ
 
--- the output: the bytes sent, and how often it has failed
+-- the output: the bytes sent, and the count of its faults
 pub record OutputEnd : Type 0 where
   pub sent : Option (List ℕ)
   pub faults : ℕ
 
--- the door: what it hands out and is handed back, and how often it has failed
+-- the door: what it handed out and got back, and the count of its faults
 pub record DoorEnd : Type 0 where
   pub state : DoorState
   pub faults : ℕ
 
--- the peer: its connection and what the next ones give, and how often it has failed
+-- the peer: its connection, what the next ones give, and the count of its faults
 pub record PeerEnd : Type 0 where
   pub state : PeerState
   pub faults : ℕ
 
--- the maker of keepers: what the keeper that came back last had kept, and how often it has failed
+-- the maker of keepers: the rows of the keeper that it got back last, and the count of its faults
 pub record KeepEnd : Type 0 where
   pub held : Option (List (List ℕ))
   pub faults : ℕ
 
--- all of them, the draws to come, how many turns the pace has, and how often no job could be started
+-- all of these, the draws to come, the turns left of the pace, and the count of the spawner's faults
 pub record Scene : Type 0 where
   pub input : InputEnd
   pub output : OutputEnd

@@ -1,4 +1,4 @@
--- How an edge serves links side by side, behind its first turn.
+-- How an edge serves links concurrently, after its first turn.
 use Rattle.std.specs.Prelude.{◌≡◌, ◌≤◌, ℕ, zero, suc, List, [], All, length, map, Option, Some}
 use Rattle.std.specs.List.{AllZip}
 use Rattle.unl_base.specs.Faults.{Rose}
@@ -20,8 +20,8 @@ use Rattle.unl_words.specs.Lists.{environment_of}
 use Rattle.unl_words.specs.declared.words.EdgeWords.{EdgeWords}
 use Rattle.unl_workers.specs.declared.worker.Post.{Post}
 
--- what an edge serves by: the texts of the tokens that may be known, what stands before the first turn and on which board, who is
--- asked for what stands in each slot, and how many workers there are
+-- what an edge service starts from: the texts of the tokens that may be known, what is installed before the first turn and on
+-- which board, the request parameters of each slot, and the number of workers
 pub record Site : Type 0 where
   pub known : List (List ℕ)
   pub opening : Installed
@@ -29,16 +29,16 @@ pub record Site : Type 0 where
   pub feeders : List Feeding
   pub workers : ℕ
 
--- what stands on a board before anything is published
+-- what is installed on a board before anything is published
 abbrev pub opened : Board → Installed
 opened board = record { places = map place_at board.slots; front = 0; book = board.book }
 
--- the board of a boot number and a host: a slot for each of the upstream's tokens, all of them empty, and no book
+-- the board of a boot number and a host: an empty slot for each of the upstream's tokens, and no book
 abbrev pub begun_board : ℕ → List ℕ → List (List ℕ) → Board
 begun_board boot host upstream_tokens =
     record { boot = boot; host = host; generation = 0; book = []; slots = map empty_slot (map environment_of upstream_tokens) }
 
--- what an edge serves by that begins with this board
+-- the edge service that begins with this board
 abbrev pub site_at : List (List ℕ) → Board → List Feeding → ℕ → Site
 site_at known board feeders workers = record {
   known = known;
@@ -48,19 +48,19 @@ site_at known board feeders workers = record {
   workers = workers;
 }
 
--- what the words ask for, at a boot number
+-- the edge service of the arguments, with a boot number
 abbrev pub site_of : EdgeWords → ℕ → Site
 site_of words boot =
     site_at words.tokens (begun_board boot words.host words.upstream_tokens)
     (feedings words.upstream words.delta words.upstream_tokens (map environment_of words.upstream_tokens)) words.workers
 
--- what a worker serves by: its reader, what was reported and is not handed on, and the draws to come
+-- a worker's state: its reader, the metrics not passed on yet, and the draws to come
 pub record Worker : Type 0 where
   pub reader : EdgeReader
   pub book : Book
   pub coming : Coming
 
--- that of a post
+-- the worker of a slot
 abbrev pub worker_of : {W R : Type 0} → (R → Coming) → Post (EdgeAttendant W) R → Worker
 worker_of coming_of post =
     record { reader = post.server.desk.reader; book = post.server.book; coming = coming_of post.draws }
@@ -71,17 +71,17 @@ pub record ServesALink (before after : Worker) : Type 0 where
   pub link_after : LinkState
   pub served : ServesOver before.reader before.book before.coming link link_after after.reader after.book after.coming
 
--- so many were, one after another
+-- `n` links were served, one after another
 abbrev pub ServesLinks : ℕ → Worker → Worker → Type 0
 ServesLinks zero before after = after ≡ before
 ServesLinks (suc n) before after = (middle : Worker) × ServesLinks n before middle × ServesALink middle after
 
--- as many as a worker took
+-- a worker served some number of links
 abbrev pub Works : Worker → Worker → Type 0
 Works before after = (links : ℕ) × ServesLinks links before after
 
--- So many workers served links side by side, over what was published behind this board. Before its first link each was told of at
--- least so many publications.
+-- `workers` workers served links concurrently, over what was published after this board. Each had learned of at least `front`
+-- publications before its first link.
 pub record WorkBeside (workers : ℕ) (edition : Option BoardAt) (front : ℕ) : Type 0 where
   pub begun : List Worker
   pub ended : List Worker
@@ -90,8 +90,8 @@ pub record WorkBeside (workers : ℕ) (edition : Option BoardAt) (front : ℕ) :
   pub told : All (λ worker. front ≤ told_to worker.reader) begun
   pub worked : AllZip Works begun ended
 
--- The first turn took what the upstream replied, in order, unless that failed; and the workers then served links over no board
--- before the one that this turn published last.
+-- Unless the peer failed, the first turn applied the upstream's replies in order. The workers then served links over no board
+-- earlier than the last one that this turn published.
 pub record ServesSite (site : Site) (replies : Option (List (List ℕ))) (faults faults_after : ℕ) : Type 0 where
   pub first : Installed
   pub turn : ¬ (Rose faults faults_after)

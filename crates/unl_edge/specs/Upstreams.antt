@@ -34,17 +34,17 @@ use Rattle.unl_upstream.specs.declared.reopening.ReopenFault.TheVariants.{BadRow
 use Rattle.unl_words.specs.OwnBook.{own_book}
 use Rattle.unl_words.specs.declared.words.UpstreamWords.{UpstreamWords}
 
--- ---- what is printed
+-- ---- the printed lines
 
--- what is printed once the door is closed
+-- the line printed once the door is closed
 abbrev pub connections_line : ℕ → List ℕ
 connections_line served = codes "connections " ++ (decimal served ++ codes "\n")
 
--- what is printed of a row that is refused
+-- the line printed for a row that is refused
 abbrev pub row_line : ℕ → List ℕ
 row_line place = codes "refused: row " ++ (decimal place ++ codes "\n")
 
--- how serving ends once the door is closed, by how the count of its links was said
+-- the outcome of serving once the door is closed, from the result of printing the count of its links
 abbrev pub line_end : Result (Unit {0}) SayFault → ServingEnd
 line_end (Ok u) = Closed
 line_end (Err say.WriteFault) = WriteFault
@@ -58,29 +58,29 @@ pub record Facing : Type 0 where
   pub door : DoorState
   pub coming : Coming
 
--- these together
+-- a constructor of `Facing`
 abbrev pub facing : Option (List ℕ) → DoorState → Coming → Facing
 facing sent door coming = record { sent = sent; door = door; coming = coming }
 
--- these of what the program finds outside
+-- these ends of the scene
 abbrev pub facing_of : Scene → Facing
 facing_of scene = facing scene.output.sent scene.door.state scene.draws
 
--- nothing was sent, and the door is as before
+-- nothing was sent, and the door is unchanged
 pub record IsUntouched (before after : Facing) : Type 0 where
   pub silent : after.sent ≡ before.sent
   pub shut : after.door ≡ before.door
 
 -- ---- the links
 
--- So many links were served by an upstream and its keeper. Whatever the door tells, what was to be kept of the links is all that
--- changed these.
+-- `served` links were served by an upstream and its keeper. Whether or not the door's links are observable, the upstream and
+-- keeper changed only by what was to be kept of the links.
 pub record ServesLinks (state last : KeptState) (before after : Facing) (served : ℕ) : Type 0 where
   pub hosts : Hosts (linking state before.coming before.door) (linking last after.coming after.door) served
   pub carries : HoldsOn state last
 
--- How the links of a door were served that was to listen at this port: until it was closed, and then the last line was sent, or its
--- front, or nothing where memory ran out; or until it failed.
+-- How serving ends at a door that is to listen at this port: the door was closed, and the last line was sent, or a
+-- prefix of it, or nothing if out of memory; or the door failed.
 abbrev pub LinksEnd : KeptState → ℕ → ServingEnd → KeptState → Facing → Facing → Type 0
 LinksEnd state port Closed last before after =
     (served : ℕ) × ServesLinks state last before after served × Sends before.sent (connections_line served) after.sent
@@ -93,9 +93,9 @@ LinksEnd state port DoorFault last before after =
 LinksEnd state port OutOfMemory last before after =
     (served : ℕ) × ServesLinks state last before after served × (after.sent ≡ before.sent) × IsClosedAt port after.door
 
--- The links of a door that tells them, by commands and draws from the opening on. The first is served after those of the lines,
--- and each adds the commands of its requests that were kept. So the keeper keeps all of them, behind those of the opening. Where
--- it has never failed, no reply is 503 `KeeperFault`.
+-- The links of a door whose links are observable, by commands and draws from the opening on. The first is served after the
+-- commands of the lines, and each adds the commands of its requests that were kept. So the keeper keeps all of them, after
+-- those of the opening. If the keeper never failed, no reply is 503 `KeeperFault`.
 pub record NamesLinks
     (opened : KeptState) (commands : List Command) (kept last : KeptState) (before after : Facing) (served : ℕ)
     (links : List (List ℕ)) (returned : List (List ℕ × ℕ)) : Type 0 where
@@ -107,13 +107,13 @@ pub record NamesLinks
 
 -- ---- the lines
 
--- what a line does to an upstream without a keeper, whatever its number
+-- the effect of a line on an upstream without a keeper, whatever its number
 abbrev pub obeying : Taking UpstreamState
 obeying number up line = obeyed_line up line
 
--- The input was read to its end, and the commands of all its lines were accepted and kept. Then so many links were handed
--- out, each was served from what the one before it left, and each was handed back. So the keeper keeps the commands of the
--- lines behind those of the opening, and behind these what was kept of the links.
+-- The input was read to its end, and the commands of all its lines were accepted and kept. Then `served` links were handed out;
+-- each was served over the state that the one before it left, and was handed back. So the keeper keeps the commands of the
+-- lines after those of the opening, and after them those of the links.
 pub record ServesAfterLines
     (opened : KeptState) (last : KeeperState) (left left_after : Option (List ℕ)) (before after : Facing) (served : ℕ) : Type 0 where
   pub read : List ℕ
@@ -130,8 +130,8 @@ pub record ServesAfterLines
       → before.door.returned ≡ Some returned
       → NamesLinks opened spelled.commands kept (kept_state up last) before after served links returned
 
--- How an upstream ends that was reopened, and whose door was to listen at this port. Where a line is refused, or the input or the
--- keeper fails, no link was handed out. It ends so for want of memory only where the keeper has never failed.
+-- How a reopened upstream ends, with a door that is to listen at this port. If a line is refused, or the input or the keeper
+-- fails, no link was handed out. The lines end out of memory only if the keeper never failed.
 abbrev pub LinesEnd : KeptState → ℕ → UpstreamEnd → KeeperState → Option (List ℕ) → Option (List ℕ) → Facing → Facing → Type 0
 LinesEnd opened port NoMemory last left left_after before after = ⊥
 LinesEnd opened port KeeperFault last left left_after before after = after.door ≡ before.door
@@ -154,36 +154,35 @@ LinesEnd opened port (Links OutOfMemory) last left left_after before after =
 
 -- ---- the keeper
 
--- A keeper was made that isn't opened and has counted no fault. Where its maker tells what came back, it has no rows.
+-- A new keeper: it isn't opened and has no faults. If what its maker holds is observable, it has no rows.
 pub record IsMade (held : Option (List (List ℕ))) (keeper : KeeperState) : Type 0 where
   pub unopened : keeper.opened ≡ false
   pub faultless : keeper.faults ≡ 0
   pub empty : IfSome held (λ _. keeper.rows ≡ Some [])
 
--- A keeper came back to its maker, which holds what that one kept, and has counted its faults: where its count didn't rise, the
--- keeper has never failed.
+-- The maker gets a keeper back: it holds the keeper's rows, and its fault count rose if the keeper ever failed.
 pub record ComesBack (keeper : KeeperState) (before after : KeepEnd) : Type 0 where
   pub held : after.held ≡ option_and_then (λ _. kept_rows keeper) before.held
   pub rose : keeper.faults ≢ 0 → Rose before.faults after.faults
   pub calm : ¬ (Rose before.faults after.faults) → keeper.faults ≡ 0
 
--- an upstream was given no command
+-- the upstream has taken no command
 pub record IsNew (up : UpstreamState) : Type 0 where
   pub opens : IsOpening up
 
--- an upstream was reopened on its keeper, which had so many rows
+-- the upstream was reopened on its keeper, which had `reopened` rows
 pub record Opens (start : KeptState) (reopened : ℕ) (opened : KeptState) : Type 0 where
   pub same : IsSameKeeper start.keeper opened.keeper
   pub reopens : Reopens start (Ok reopened) opened
 
--- the row of this place is why it was not
+-- the fault is that of the row at this place
 abbrev pub IsOfRow : ℕ → ReopenFault → Type 0
 IsOfRow place (BadRow at text) = place ≡ at
 IsOfRow place (NoRow at) = place ≡ at
 IsOfRow place Fault = ⊥
 IsOfRow place Memory = ⊥
 
--- it was not reopened for the row of this place
+-- reopening failed because of the row at this place
 pub record RefusesRow (start : KeptState) (place : ℕ) : Type 0 where
   pub fault : ReopenFault
   pub of_row : IsOfRow place fault
@@ -191,7 +190,7 @@ pub record RefusesRow (start : KeptState) (place : ℕ) : Type 0 where
   pub same : IsSameKeeper start.keeper reached.keeper
   pub reopens : Reopens start (Err fault) reached
 
--- an upstream was reopened, and ended so
+-- an upstream was reopened, and ended like this
 pub record EndsReopened
     (start : KeptState) (port : ℕ) (end : UpstreamEnd) (last : KeeperState) (left left_after : Option (List ℕ))
     (before after : Facing) : Type 0 where
@@ -200,8 +199,8 @@ pub record EndsReopened
   pub opens : Opens start reopened opened
   pub ends : LinesEnd opened port end last left left_after before after
 
--- How an upstream ends, with a keeper that was made. Where a row is refused that was said, and no link was handed out. Where memory
--- ran out before that, nothing was sent either.
+-- How an upstream ends once its keeper was created. If a row is refused, that was printed and no link was handed out. If memory
+-- ran out before, nothing was sent either.
 abbrev pub KeeperEnd : KeptState → ℕ → UpstreamEnd → KeeperState → Option (List ℕ) → Option (List ℕ) → Facing → Facing → Type 0
 KeeperEnd start port NoMemory last left left_after before after = IsUntouched before after
 KeeperEnd start port KeeperFault last left left_after before after = after.door ≡ before.door
@@ -211,9 +210,9 @@ KeeperEnd start port (Lines fault) last left left_after before after =
     EndsReopened start port (Lines fault) last left left_after before after
 KeeperEnd start port (Links end) last left left_after before after = EndsReopened start port (Links end) last left left_after before after
 
--- A keeper was made for an upstream, which ended so, and came back. Where its maker tells what comes back, to be reopened on it
--- changes no upstream, and nothing is kept then: all that its maker holds in the end is what was kept behind that. So where links
--- were served it holds the commands of the lines, and then those of the links.
+-- A keeper was created for an upstream, which ended like this, and its maker got the keeper back. If what the maker holds is
+-- observable, reopening on the new keeper changes nothing, and no command is kept then. So the maker holds in the end just the
+-- commands kept afterwards: those of the lines and then, if links were served, those of the links.
 pub record EndsKept (start : UpstreamState) (port : ℕ) (end : UpstreamEnd) (before after : Scene) : Type 0 where
   pub made : KeeperState
   pub is_made : IsMade before.keep.held made
@@ -226,8 +225,8 @@ pub record EndsKept (start : UpstreamState) (port : ℕ) (end : UpstreamEnd) (be
       → kept_commands last ≡ option_map (λ kept. kept ++ commands) (kept_commands opened.keeper)
       → IfSome after.keep.held (λ texts. commands_in texts ≡ commands)
 
--- How an upstream ends, from what it begins with, whose door was to listen at this port. Where no keeper could be made no link was
--- handed out, and where memory ran out nothing was sent either.
+-- How an upstream ends from its start state, with a door that is to listen at this port. If no keeper could be created, no link
+-- was handed out; if memory ran out, nothing was sent either.
 abbrev pub UpstreamEnds : UpstreamState → ℕ → UpstreamEnd → Scene → Scene → Type 0
 UpstreamEnds start port NoMemory before after = IsUntouched (facing_of before) (facing_of after)
 UpstreamEnds start port KeeperFault before after = after.door.state ≡ before.door.state
@@ -235,22 +234,22 @@ UpstreamEnds start port (Row told) before after = EndsKept start port (Row told)
 UpstreamEnds start port (Lines fault) before after = EndsKept start port (Lines fault) before after
 UpstreamEnds start port (Links end) before after = EndsKept start port (Links end) before after
 
--- ---- all of it
+-- ---- the command
 
--- an upstream of these words begins, and takes a draw for its boot number
+-- an upstream with these arguments begins, and takes a draw for its boot number
 pub record Begins (words : UpstreamWords) (coming : Coming) (start : UpstreamState) (coming_after : Coming) : Type 0 where
   pub draw : Draw
   pub taken : TakesDraw coming draw coming_after
   pub opens : start ≡ opening draw.word words.secret words.environments (own_book words.client_tokens words.frontend_tokens) words.epoch
 
--- an upstream of these words began, and ended so
+-- an upstream with these arguments began, and ended like this
 pub record RunsUpstream (words : UpstreamWords) (end : UpstreamEnd) (before after : Scene) : Type 0 where
   pub start : UpstreamState
   pub coming : Coming
   pub begins : Begins words before.draws start coming
   pub ends : UpstreamEnds start words.port end (record before { draws = coming }) after
 
--- how an upstream of these words ends; where memory ran out before it took lines nothing was sent, and no link was handed out
+-- how an upstream with these arguments ends; if memory ran out before it took lines, nothing was sent and no link was handed out
 abbrev pub UpstreamRuns : UpstreamWords → UpstreamEnd → Scene → Scene → Type 0
 UpstreamRuns words NoMemory before after = IsUntouched (facing_of before) (facing_of after)
 UpstreamRuns words KeeperFault before after = RunsUpstream words KeeperFault before after
@@ -258,21 +257,21 @@ UpstreamRuns words (Row told) before after = RunsUpstream words (Row told) befor
 UpstreamRuns words (Lines fault) before after = RunsUpstream words (Lines fault) before after
 UpstreamRuns words (Links end) before after = RunsUpstream words (Links end) before after
 
--- ---- what decides, where nothing fails and memory is found
+-- ---- what determines the exit code if nothing fails and memory doesn't run out
 
--- the number of how the lines end
+-- the exit code by how the lines end
 abbrev pub lines_code : {D : Type 0} → Taking D → D → List ℕ → ℕ
 lines_code taking desk bytes = code_of (ending_status (outcome_of taking desk bytes).ending)
 
--- the number is 3 where a row is refused, and else that of how the lines end
+-- the exit code is 3 if a row is refused, and otherwise that of how the lines end
 abbrev pub IsDecidedFrom : KeptState → ℕ → Option (List ℕ) → Type 0
 IsDecidedFrom start code left =
     ((place : ℕ) × RefusesRow start place × (code ≡ 3))
     ⊎ ((reopened : ℕ) × (opened : KeptState) × Opens start reopened opened
     × IfSome left (λ bytes. code ≡ lines_code keeping (shelf_of opened) bytes))
 
--- The number is that of how the lines end, from what an upstream of these words begins with and is reopened on. Where the
--- maker of keepers tells what came back, it is that of how they end without a keeper.
+-- The exit code is that of how the lines end, from the start state with these arguments, reopened on a new keeper. If what the
+-- maker holds is observable, it is that of how they end without a keeper.
 pub record IsDecidedByLines (words : UpstreamWords) (code : ℕ) (before : Scene) : Type 0 where
   pub start : UpstreamState
   pub coming : Coming

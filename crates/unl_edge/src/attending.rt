@@ -1,4 +1,4 @@
-//! What a worker of an edge serves links by.
+//! The state with which a worker of an edge serves links.
 ghost use Rattle.std.specs.Prelude.{◌≡◌, [], IfOk};
 
 use std::alloc::Global;
@@ -14,7 +14,7 @@ use unl_serve::{Served, serve_connection};
 use unl_upkeep::hand_on;
 use unl_workers::Attendant;
 
-/// A desk that answers from no earlier board than the last one that its reader was told of.
+/// A desk whose boards are never older than the last one its reader learned of.
 #[derive(Drop)]
 pub(crate) struct ToldDesk {
     pub reader: EdgeReader,
@@ -41,8 +41,8 @@ impl Desk for ToldDesk {
     }
 }
 
-/// Serves links over what is published, and hands on what they report: a desk, what was reported at it, room for the notes of
-/// one connection, and the book that it hands on to.
+/// Serves links over the published boards and passes on the metrics they report. It holds a desk, the metrics reported at it, a
+/// buffer for the notes of one connection, and the shared book that the metrics go to.
 #[derive(Drop)]
 pub(crate) struct EdgeAttendant<'a, W> {
     pub desk: ToldDesk,
@@ -53,7 +53,7 @@ pub(crate) struct EdgeAttendant<'a, W> {
 }
 
 impl<'a, W> EdgeAttendant<'a, W> {
-    /// One at a desk, at which nothing was reported yet.
+    /// Creates the state for one worker, with no metrics.
     pub fn new(
         alloc: Global,
         rt: &'a W,

@@ -1,5 +1,5 @@
-//! That the parts of what serves a worker's links may be handed to another thread. Shown at once for all that these are made of,
-//! it is past what one search may take.
+//! Proofs that the parts of a worker's state are `Send`. They are proved part by part, since one proof search over all of them
+//! times out.
 ghost use Rattle.std.specs.Thread.{IsSend};
 ghost use Rattle.unl_edge.specs.contracts.attending.ToldDesk as DeskType;
 ghost use Rattle.unl_metrics.specs.contracts.book.MetricsBook as BookType;
@@ -10,12 +10,12 @@ use unl_edge_state::readers_cross;
 use unl_metrics::MetricsBook;
 use unl_serve::Served;
 
-/// What its bound says of a type.
+/// States that `T` is `Send`.
 fn send_of<T: Send>()
     ensures { IsSend T.row }
 {}
 
-/// A desk may be handed to another thread.
+/// A desk is `Send`.
 fn desks_cross()
     ensures { IsSend DeskType.the_row }
 {
@@ -23,22 +23,22 @@ fn desks_cross()
     send_of::<ToldDesk>()
 }
 
-/// What was counted may be.
+/// A metrics book is `Send`.
 fn books_cross()
     ensures { IsSend BookType.the_row }
 {
     send_of::<MetricsBook>()
 }
 
-/// The notes of a connection may be.
+/// The notes of a connection are `Send`.
 fn notes_cross()
     ensures { IsSend NotesType.the_row }
 {
     send_of::<Served>()
 }
 
-/// What serves a worker's links is made of parts that may be handed to another thread: whoever hands one calls this first, and then has the
-/// facts at hand. It does nothing.
+/// The parts of a worker's state are `Send`. Callers that move one to another thread call this first, to have the facts. It does
+/// nothing at run time.
 pub(crate) fn attendants_cross()
     ensures desk { IsSend DeskType.the_row }
     ensures book { IsSend BookType.the_row }

@@ -1,4 +1,4 @@
-//! The command `edge`: it asks its upstream for what stands, and serves the links of its door over that.
+//! The command `edge`: polls its upstream, and serves the links of its door over the result.
 ghost use Rattle.std.specs.Prelude.{◌≡◌, ◌<◌, ◌≤◌, IfOk, length, map, true};
 ghost use Rattle.unl_base.specs.Faults.{Rose};
 ghost use Rattle.unl_core.specs.Board.{AreSlots};
@@ -24,8 +24,8 @@ use unl_upkeep::Upkeep;
 use unl_words::{EdgeWords, token_environments};
 use unl_workers::BesideFault;
 
-/// Begins a board, whose boot number is the word of a draw, asks the upstream for what stands, and then serves the links that come
-/// to the port of its words by so many workers, side by side. Beside them the upstream is asked again at a pace.
+/// Runs an edge. The boot number of its board is the word of a draw. The upstream is polled once; then the workers serve the
+/// links that come to the port, concurrently, while the upstream is polled again at a pace.
 pub fn run_edge<I: Source, O: Sink, D: Door, P, R, T, S: Spawner, Q: KeepMaker, W: Wait + Sync>(
     alloc: Global,
     words: &EdgeWords,
@@ -48,7 +48,7 @@ where
     }
 }
 
-/// A board with an empty slot for each of the upstream's tokens, and what keeps it up to date.
+/// Creates a board with an empty slot for each of the upstream's tokens, and the state that keeps it up to date.
 #[tactic(auto, using(crate::proofs::Fitting::address_fits, crate::proofs::Fitting::tokens_fit, crate::proofs::Fitting::opened_places))]
 fn begin_site(alloc: Global, boot: u64, words: &EdgeWords) -> Result<(Board, Upkeep), Memory>
     requires { IsEdge words.now }
@@ -78,7 +78,7 @@ fn begin_site(alloc: Global, boot: u64, words: &EdgeWords) -> Result<(Board, Upk
     Ok((board, upkeep))
 }
 
-/// A board with an empty slot for each of the environments of the upstream's tokens.
+/// Creates a board with an empty slot for each environment of the upstream's tokens.
 #[tactic(auto, using(crate::proofs::Fitting::few_tokens, crate::proofs::Fitting::names_differ))]
 fn board_of(
     alloc: Global,
@@ -95,7 +95,7 @@ fn board_of(
     Board::new(alloc, boot, host.as_str(), environments)
 }
 
-/// Listens at a port, serves the links of the door until it is closed, and says how many these were.
+/// Listens at a port, serves the links of the door until it is closed, and prints their count.
 fn serve_links<I: Source, O: Sink, D: Door, P, R, T, S: Spawner, Q: KeepMaker, W: Wait + Sync>(
     alloc: Global,
     port: u16,

@@ -1,18 +1,18 @@
-//! How a command ends.
+//! The outcomes of the commands.
 ghost use Rattle.std.specs.Prelude.{◌≡◌};
 ghost use Rattle.unl_edge.specs.Upstreams.{line_end};
 
 use unl_input::SayFault;
 use unl_lines::LinesFault;
 
-/// How a check ended.
+/// The outcome of a check.
 #[derive(Clone, Copy, Debug, PartialEq, Eq)]
 pub enum CheckEnd {
     /// All tests passed.
     Passed,
     /// A test failed.
     Failed,
-    /// The input is refused, and the cause was said.
+    /// The input is refused, and the cause was printed.
     Refused,
     /// The input failed.
     ReadFault,
@@ -22,21 +22,21 @@ pub enum CheckEnd {
     OutOfMemory,
 }
 
-/// How the links of a door were served.
+/// The outcome of serving the links of a door.
 #[derive(Clone, Copy, Debug, PartialEq, Eq)]
 pub enum ServingEnd {
-    /// Until the door was closed, and the count of the links was said.
+    /// The door was closed, and the count of the links was printed.
     Closed,
-    /// Until the door was closed, and then the output failed.
+    /// The door was closed, and then the output failed.
     WriteFault,
-    /// Until the door failed; or a thread couldn't be started.
+    /// The door failed, or a thread couldn't be started.
     DoorFault,
     /// Memory ran out.
     OutOfMemory,
 }
 
 impl ServingEnd {
-    /// That of a closed door, by how the count of its links was said.
+    /// Returns the outcome for a closed door, from the result of printing the count of its links.
     pub fn of_line(told: Result<(), SayFault>) -> ServingEnd
         ensures { result ≡ line_end told }
     {
@@ -48,25 +48,25 @@ impl ServingEnd {
     }
 }
 
-/// How an upstream ended.
+/// The outcome of an upstream.
 #[derive(Clone, Copy, Debug, PartialEq, Eq)]
 pub enum UpstreamEnd {
     /// Memory ran out before it took lines.
     OutOfMemory,
-    /// Its keeper failed, or none could be made.
+    /// Its keeper failed, or none could be created.
     KeeperFault,
-    /// A row of its keeper is no command that is accepted, or isn't there; and how that was said.
+    /// A row of its keeper is missing or isn't an accepted command; with the result of printing that.
     Row(Result<(), SayFault>),
-    /// Not all lines of its input were taken.
+    /// Not all lines of its input were accepted.
     Lines(LinesFault),
-    /// All lines were taken, and then links were served.
+    /// All lines were accepted, and then links were served.
     Links(ServingEnd),
 }
 
-/// How it ended that words ask for nothing.
+/// The outcome for arguments that name no command.
 #[derive(Clone, Copy, Debug, PartialEq, Eq)]
 pub enum WordsEnd {
-    /// The words are bad, and that was said.
+    /// The arguments are bad, and that was printed.
     Bad,
     /// The output failed.
     WriteFault,

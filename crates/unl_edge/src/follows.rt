@@ -1,4 +1,4 @@
-//! The command `follow`: a replica behind a server, which tells of a feature turn by turn.
+//! The command `follow`: a replica that follows a server and prints one feature's state turn by turn.
 ghost use Rattle.unl_base.specs.Faults.{Rose};
 ghost use Rattle.unl_edge.specs.Follows.{ask_of, subject_of};
 ghost use Rattle.unl_edge.specs.Status.{Caused, follow_status};
@@ -11,10 +11,10 @@ use unl_follow::{FollowFault, Subject, follow};
 use unl_upkeep::first_ask;
 use unl_words::FollowWords;
 
-/// Asks an upstream with a token turn by turn, and prints at each turn whether a feature is on in a context.
+/// Polls an upstream turn by turn with a token, and prints at each turn whether a feature is on in a context.
 ///
 /// # Errors
-/// `WriteFault` where the output fails, or want of memory. A fault of the peer ends nothing.
+/// `WriteFault` if the output fails; `Memory` if out of memory. A fault of the peer doesn't end the run.
 #[tactic(auto, using(crate::proofs::Fitting::address_fits, crate::proofs::Fitting::token_fits))]
 pub fn run_follow<P: Peer, R: Draws, T: Pace, O: Sink>(
     alloc: Global,

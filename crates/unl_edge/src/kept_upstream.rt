@@ -1,4 +1,4 @@
-//! An upstream and its keeper, as they take the lines of an input.
+//! An upstream and its keeper, while they take the lines of an input.
 ghost use Rattle.std.specs.Prelude.{◌≡◌, true, IfOk};
 ghost use Rattle.unl_documents.specs.Reading.{Gives};
 ghost use Rattle.unl_edge.specs.Keeping.{kept_one, refusal_name};
@@ -13,7 +13,7 @@ use unl_keeper::Keeper;
 use unl_lines::{LineRefusal, LineTaking};
 use unl_upstream::{Command, KeepCommandRefusal, Upstream, keep, read_command};
 
-/// An upstream, the keeper of its commands, which is opened, and whether that has failed at a line.
+/// An upstream, the opened keeper of its commands, and whether the keeper has failed at a line.
 #[derive(Drop)]
 pub(crate) struct KeptUpstream<K: Keeper> {
     pub up: Upstream,
@@ -34,9 +34,9 @@ impl<K: Keeper> Model for KeptUpstream<K> {
         × (kept.failed ≡ false → K.faults kept.keeper ≡ 0) };
 }
 
-/// Keeps the command of each line. One that is kept prints nothing; one that can't be read or is refused refuses its line, by
-/// the first fault of the document or by the name of the refusal. A fault of the keeper is noted, and ends the lines as want
-/// of memory does.
+/// Keeps the command of each line. A command that is kept prints nothing. A line whose command can't be read or is refused is
+/// refused; the cause is the first fault of the document or the name of the refusal. A fault of the keeper is noted in `failed`
+/// and ends the lines as out of memory does.
 impl<K: Keeper> LineTaking for KeptUpstream<K> {
     ghost use Rattle.unl_edge.specs.Keeping.{kept_line};
 
@@ -61,7 +61,7 @@ impl<K: Keeper> LineTaking for KeptUpstream<K> {
     }
 }
 
-/// The command that a line spells.
+/// Reads the command of a line.
 #[tactic(auto, unfolding(unl_upstream::specs::Command::command_in))]
 fn read_line(alloc: Global, line: &[u8]) -> Result<Command, BadDocument>
     ensures gives { Gives result (command_in line.now) }
@@ -73,7 +73,7 @@ fn read_line(alloc: Global, line: &[u8]) -> Result<Command, BadDocument>
     read_command(alloc, &value)
 }
 
-/// Keeps a command, and prints nothing. Notes whether the keeper failed.
+/// Keeps a command and prints nothing. Notes whether the keeper failed.
 fn take_command<K: Keeper>(
     alloc: Global,
     kept: &mut KeptUpstream<K>,
@@ -93,7 +93,7 @@ fn take_command<K: Keeper>(
     }
 }
 
-/// The name of a refusal.
+/// Returns the name of a refusal. It is empty for `KeeperFault` and `Memory`, which refuse no line.
 fn name_of(refusal: KeepCommandRefusal) -> &'static str
     ensures { result.now ≡ refusal_name refusal }
 {

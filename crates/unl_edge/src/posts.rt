@@ -1,4 +1,4 @@
-//! The posts of an edge's workers.
+//! The worker slots of an edge.
 ghost use Rattle.std.specs.Prelude.{◌≡◌, All, IfOk, length};
 ghost use Rattle.unl_edge.specs.Attending.{HasLearned, IsOfOrigin};
 
@@ -11,7 +11,7 @@ use unl_edge_state::{EdgeReader, EdgeWriter};
 use unl_metrics::MetricsBook;
 use unl_workers::Post;
 
-/// A post for each reader, which learns what the writer tells, with draws of its own.
+/// Returns a worker slot for each reader. The reader learns what the writer has published, and the slot has its own draws.
 pub(crate) fn posts_of<'a, R: Draws + Drop, W: Wait>(
     alloc: Global,
     rt: &'a W,
@@ -33,7 +33,7 @@ pub(crate) fn posts_of<'a, R: Draws + Drop, W: Wait>(
     Ok(posts)
 }
 
-/// A post for a reader.
+/// Returns the worker slot for a reader.
 fn post_of<'a, R: Draws + Drop, W: Wait>(
     alloc: Global,
     rt: &'a W,

@@ -1,4 +1,4 @@
-//! A turn by a writer that stays the one of its readers.
+//! Polling with a writer that keeps its origin.
 ghost use Rattle.std.specs.Prelude.{◌≡◌, ◌≤◌, ◌+◌, OnOk, length};
 ghost use Rattle.unl_base.specs.Faults.{Rose};
 ghost use Rattle.unl_edge_state.specs.Writing.{installed_by};
@@ -16,7 +16,7 @@ use unl_edge_state::EdgeWriter;
 use unl_tokens::Book;
 use unl_upkeep::Upkeep;
 
-/// What a writer knew once. Each call picks it.
+/// What a writer knew at some time. It is chosen at each call.
 pub(crate) trait Root {
     ghost use Rattle.unl_core.specs.declared.board.Install.{Install};
     ghost use Rattle.unl_edge_state.specs.Editions.{BoardAt};
@@ -31,7 +31,7 @@ impl Root for Brand {
     ghost known = { knows_nothing };
 }
 
-/// A writer of the same origin as what it knew once, whatever is installed by it.
+/// A writer with the same origin as `K`, whatever it installs.
 struct Rooted<'w, W: Wait, K: Root> {
     writer: EdgeWriter<'w, W>,
     root: PhantomData<K>,
@@ -66,10 +66,10 @@ impl<W: Wait, K: Root> Installer for Rooted<'_, W, K> {
     }
 }
 
-/// Makes a turn by a writer, and hands the writer back.
+/// Polls once with a writer, and returns the writer.
 ///
 /// # Errors
-/// Want of memory, with which the turn ends.
+/// `Memory` if out of memory. The turn ends then.
 pub(crate) fn turn_by<'w, W: Wait, P: Peer>(
     alloc: Global,
     upkeep: &mut Upkeep,
@@ -90,7 +90,7 @@ pub(crate) fn turn_by<'w, W: Wait, P: Peer>(
     turn_from::<W, P, Brand>(alloc, upkeep, writer, peer)
 }
 
-/// The same, where what the writer knows is picked.
+/// As `turn_by`, with the root chosen by the caller.
 fn turn_from<'w, W: Wait, P: Peer, K: Root>(
     alloc: Global,
     upkeep: &mut Upkeep,

@@ -1,4 +1,4 @@
-//! Serving the links of a door side by side, over what a writer publishes beside that.
+//! Serving the links of a door concurrently, over what a writer publishes meanwhile.
 ghost use Rattle.std.specs.Prelude.{◌≡◌, ◌<◌, ◌≤◌, ◌+◌, All, IfOk, OnOk, length};
 ghost use Rattle.std.specs.List.{AllZip};
 ghost use Rattle.unl_base.specs.Doors.{IsListening};
@@ -27,11 +27,13 @@ use unl_metrics::MetricsBook;
 use unl_upkeep::Upkeep;
 use unl_workers::{Beside, BesideFault, Post, serve_beside};
 
-/// Serves the links of a door that listens by so many workers, over a board that is kept up to date: a first turn is made before
-/// the first link is taken, and further ones at a pace beside the workers. Answers how many links the door handed out.
+/// Serves the links of a listening door with this many workers, over a board that is kept up to date. The upstream is polled
+/// once before the first link is accepted, and then at a pace, concurrently with the workers. Returns the number of links that
+/// the door handed out.
 ///
 /// # Errors
-/// `Door` where the door failed, `Spawner` where a thread couldn't be started, or want of memory, before the first link was taken.
+/// `Door` if the door failed. `Spawner` if a thread couldn't be started, and `Memory` if out of memory; in these two cases the
+/// door handed out no link.
 pub(crate) fn serve_site<D: Door, P, R, T, S: Spawner, W: Wait + Sync>(
     alloc: Global,
     rt: &W,
@@ -68,7 +70,7 @@ where
     }
 }
 
-/// The same by a writer that published nothing yet, and for its readers. The writer then ends.
+/// As `serve_site`, with a writer that has published nothing and its readers. Ends the writer.
 fn serve_from<D: Door, P, R, T, S: Spawner, W: Wait + Sync>(
     alloc: Global,
     rt: &W,
@@ -130,7 +132,7 @@ where
     }
 }
 
-/// The same after the first turn, of which each reader learns.
+/// As `serve_site`, after the first turn. Each reader learns what that turn published.
 fn serve_after<D: Door, P, R, T, S: Spawner, W: Wait + Sync>(
     alloc: Global,
     rt: &W,
@@ -165,7 +167,7 @@ where
     }
 }
 
-/// How many links were handed out.
+/// Returns the number of links that were handed out.
 fn links_of<S: Drop, R: Drop>(served: Result<Beside<S, R>, BesideFault>) -> Result<u64, BesideFault>
     ensures { result ≡ links_of served }
 {
@@ -175,7 +177,7 @@ fn links_of<S: Drop, R: Drop>(served: Result<Beside<S, R>, BesideFault>) -> Resu
     }
 }
 
-/// The same by these posts, each of which serves the links that it takes one after the other.
+/// As `serve_after`, with these worker slots. Each slot serves the links that it takes one after the other.
 fn serve_posts<'a, D: Door, P, R, T, S: Spawner, W: Wait + Sync>(
     alloc: Global,
     rt: &'a W,
@@ -210,7 +212,7 @@ where
     readers_cross();
     writers_cross::<W>();
     attendants_cross();
-    // Taken apart, since the turn is known to hold what it was lent only where all ended well.
+    // The result is matched, since it is known that the task still holds its references only if all ended well.
     match serve_beside(alloc, rt, spawner, door, pace, &mut turn, posts) {
         Ok(beside) => Ok(beside),
         Err(BesideFault::Door) => Err(BesideFault::Door),

@@ -1,4 +1,4 @@
-//! The number with which the program exits.
+//! The exit code of the program.
 ghost use Rattle.std.specs.Prelude.{◌≡◌};
 ghost use Rattle.unl_edge.specs.Status.{check_status, code_of, explain_status, follow_status, lines_status, load_status};
 ghost use Rattle.unl_edge.specs.Status.{row_status, serving_status, upstream_status, words_status};
@@ -13,11 +13,11 @@ use unl_load::LoadFault;
 /// How the program ends.
 #[derive(Clone, Copy, Debug, PartialEq, Eq)]
 pub enum Status {
-    /// The input was answered to its end; a check's tests all passed; a door was closed.
+    /// All of the input was processed; all tests of a check passed; a door was closed.
     Done,
     /// A test of a check failed.
     TestFailed,
-    /// The words name no command, or a value is outside its range.
+    /// The arguments name no command, or a value is outside its range.
     BadWords,
     /// The input is refused, or a line of it, or a row of a keeper.
     Refused,
@@ -29,12 +29,12 @@ pub enum Status {
     OutOfMemory,
     /// The door failed, or a thread couldn't be started.
     DoorFault,
-    /// The keeper failed before an upstream served a link, or none could be made.
+    /// The keeper failed before an upstream served a link, or none could be created.
     KeeperFault,
 }
 
 impl Status {
-    /// The number that the program exits with.
+    /// Returns the exit code.
     pub fn code(self) -> u8
         ensures { result ≡ code_of self }
     {
@@ -51,7 +51,7 @@ impl Status {
         }
     }
 
-    /// That of lines that were taken, or not.
+    /// Returns the status for a command that takes lines.
     pub fn of_lines(end: Result<(), LinesFault>) -> Status
         ensures { result ≡ lines_status end }
     {
@@ -64,7 +64,7 @@ impl Status {
         }
     }
 
-    /// That of a check.
+    /// Returns the status for a check.
     pub fn of_check(end: CheckEnd) -> Status
         ensures { result ≡ check_status end }
     {
@@ -78,7 +78,7 @@ impl Status {
         }
     }
 
-    /// That of an explanation.
+    /// Returns the status for an explanation.
     pub fn of_explanation(end: Result<(), ExplainFault>) -> Status
         ensures { result ≡ explain_status end }
     {
@@ -92,7 +92,7 @@ impl Status {
         }
     }
 
-    /// That of links that were served.
+    /// Returns the status for serving links.
     pub fn of_serving(end: ServingEnd) -> Status
         ensures { result ≡ serving_status end }
     {
@@ -104,7 +104,7 @@ impl Status {
         }
     }
 
-    /// That of turns that were made.
+    /// Returns the status for a run of turns.
     pub fn of_following(end: Result<(), FollowFault>) -> Status
         ensures { result ≡ follow_status end }
     {
@@ -115,7 +115,7 @@ impl Status {
         }
     }
 
-    /// That of a load.
+    /// Returns the status for a load.
     pub fn of_load(end: Result<(), LoadFault>) -> Status
         ensures { result ≡ load_status end }
     {
@@ -126,7 +126,7 @@ impl Status {
         }
     }
 
-    /// That of a keeper's row that is refused, by how that was said.
+    /// Returns the status for a refused row of a keeper, from the result of printing that.
     pub fn of_row(told: Result<(), SayFault>) -> Status
         ensures { result ≡ row_status told }
     {
@@ -137,7 +137,7 @@ impl Status {
         }
     }
 
-    /// That of an upstream.
+    /// Returns the status for an upstream.
     pub fn of_upstream(end: UpstreamEnd) -> Status
         ensures { result ≡ upstream_status end }
     {
@@ -150,7 +150,7 @@ impl Status {
         }
     }
 
-    /// That of words that ask for nothing.
+    /// Returns the status for arguments that name no command.
     pub fn of_words(end: WordsEnd) -> Status
         ensures { result ≡ words_status end }
     {

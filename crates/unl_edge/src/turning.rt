@@ -1,4 +1,4 @@
-//! The turns of an edge, beside its workers.
+//! The polls of an edge, concurrent with its workers.
 use std::alloc::Global;
 use std::sync::{Mutex, Wait};
 use unl_base::Peer;
@@ -7,7 +7,7 @@ use unl_metrics::MetricsBook;
 use unl_upkeep::Upkeep;
 use unl_workers::Turn;
 
-/// Asks the upstream again and again, publishes what it answers, and tells it what the workers counted.
+/// Polls the upstream at each turn, publishes its replies, and sends it the metrics of the workers.
 #[derive(Drop)]
 pub(crate) struct EdgeTurn<'u, 'e, 'p, 'a, 'w, W: Wait, P> {
     pub upkeep: &'u mut Upkeep,
@@ -32,7 +32,7 @@ impl<'u, 'e, 'p, 'a, 'w, W: Wait, P: Peer> Turn for EdgeTurn<'u, 'e, 'p, 'a, 'w,
         × GoesOn (P.state turn.peer.now).replies (P.Source.faults turn.peer.now)
         (P.state after.peer.now).replies (P.Source.faults after.peer.now) };
 
-    /// Takes over what was counted first, so that no lock is held while the upstream is asked.
+    /// Moves the shared metrics out first, so that no lock is held during the requests.
     fn turn(&mut self, alloc: Global) {
         self.upkeep.take_over(alloc, self.rt, self.shared);
         let _ = self.upkeep.turn(alloc, self.writer, self.peer);

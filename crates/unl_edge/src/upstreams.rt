@@ -1,4 +1,4 @@
-//! The command `upstream`: it is reopened on a keeper, takes the commands of its input, and then serves the links of its door.
+//! The command `upstream`: reopens an upstream on a keeper, takes the commands of the input, and then serves the links of a door.
 ghost use Rattle.std.specs.Prelude.{◌≡◌, ◌≢◌, true, IfOk, IsErrOf, string_bytes};
 ghost use Rattle.unl_base.specs.Faults.{Rose};
 ghost use Rattle.unl_edge.specs.Status.{Caused, IsCaused, row_status, serving_status, upstream_status};
@@ -25,8 +25,8 @@ use unl_lines::{LinesFault, take_lines};
 use unl_upstream::{ReopenFault, Upstream, host_kept, reopen};
 use unl_words::{UpstreamWords, own_book};
 
-/// Begins an upstream, whose boot number is the word of a draw, reopens it on a keeper, takes the commands of the input's
-/// lines, and then serves the links that come to the port of its words, one after the other.
+/// Runs an upstream. Its boot number is the word of a draw. It is reopened on a keeper, takes the commands of the input's lines,
+/// and then serves the links that come to its port, one after the other.
 pub fn run_upstream<
     I: Source,
     O: Sink,
@@ -49,7 +49,7 @@ pub fn run_upstream<
     }
 }
 
-/// An upstream that was given no command.
+/// An upstream that has taken no command.
 #[derive(Drop)]
 struct NewUpstream {
     up: Upstream,
@@ -67,7 +67,7 @@ impl Model for NewUpstream {
 }
 
 impl NewUpstream {
-    /// The upstream.
+    /// Returns the upstream.
     fn into_upstream(self) -> Upstream
         ensures same { result ≡ self }
         ensures new { IsNew result }
@@ -76,7 +76,7 @@ impl NewUpstream {
     }
 }
 
-/// An upstream that was given no command.
+/// Creates an upstream that has taken no command.
 fn begin(alloc: Global, boot: u64, words: &UpstreamWords) -> Result<NewUpstream, Memory>
     requires { IsUpstream words.now }
     ensures { IfOk result (λ fresh. fresh ≡ opening boot words.now.secret words.now.environments
@@ -95,7 +95,7 @@ fn begin(alloc: Global, boot: u64, words: &UpstreamWords) -> Result<NewUpstream,
     Ok(fresh)
 }
 
-/// Makes a keeper, runs an upstream with it, and hands it back.
+/// Creates a keeper, runs an upstream with it, and returns it to its maker.
 fn run_kept<
     I: Source,
     O: Sink,
@@ -137,7 +137,7 @@ fn run_kept<
     }
 }
 
-/// Reopens an upstream on its keeper, and runs it, or says which row is refused. The keeper comes back.
+/// Reopens an upstream on its keeper and runs it, or prints which row is refused. Returns the keeper.
 fn run_reopened<K: Keeper, I: Source, O: Sink, D: Door, R: Draws, W: Wait>(
     rt: &W,
     alloc: Global,
@@ -169,7 +169,7 @@ fn run_reopened<K: Keeper, I: Source, O: Sink, D: Door, R: Draws, W: Wait>(
     }
 }
 
-/// Keeps the commands of the input's lines, and then serves the links of the door. The keeper comes back.
+/// Keeps the commands of the input's lines, and then serves the links of the door. Returns the keeper.
 fn take_commands<K: Keeper, I: Source, O: Sink, D: Door, R: Draws, W: Wait>(
     rt: &W,
     alloc: Global,
@@ -211,7 +211,7 @@ fn take_commands<K: Keeper, I: Source, O: Sink, D: Door, R: Draws, W: Wait>(
     }
 }
 
-/// Listens at a port, serves the links of the door until it is closed, and says how many these were.
+/// Listens at a port, serves the links of the door until it is closed, and prints their count.
 fn serve_links<K: Keeper, O: Sink, D: Door, R: Draws, W: Wait>(
     rt: &W,
     alloc: Global,
@@ -243,10 +243,10 @@ fn serve_links<K: Keeper, O: Sink, D: Door, R: Draws, W: Wait>(
     }
 }
 
-/// Says which row of a keeper is refused, by its place.
+/// Prints which row of a keeper is refused, by its place.
 ///
 /// # Errors
-/// `WriteFault` where the output failed, and a front of the line was sent; `Memory` where memory ran out, and nothing was.
+/// `WriteFault` if the output failed: a prefix of the line was sent. `Memory` if out of memory: nothing was sent.
 fn say_row<O: Sink>(alloc: Global, output: &mut O, place: u64) -> Result<(), SayFault>
     ensures said { SaysLine result (row_line place) (O.sent output.old) (O.sent output.new) }
     ensures write { Caused (row_status result) ⊥ (Rose (O.faults output.old) (O.faults output.new)) ⊥ ⊥ }
@@ -266,10 +266,10 @@ fn row_line(alloc: Global, place: u64) -> Result<String, AllocError>
     format!(in alloc; "refused: row {place}\n")
 }
 
-/// Says how many links were served.
+/// Prints the count of links that were served.
 ///
 /// # Errors
-/// `WriteFault` where the output failed, and a front of the line was sent; `Memory` where memory ran out, and nothing was.
+/// `WriteFault` if the output failed: a prefix of the line was sent. `Memory` if out of memory: nothing was sent.
 pub(crate) fn say_connections<O: Sink>(
     alloc: Global,
     output: &mut O,

@@ -1,11 +1,11 @@
-//! What the program finds outside.
+//! The ends of the program.
 use std::marker::Model;
 use std::sync::Wait;
 use unl_base::{Door, Draws, Pace, Peer, Sink, Source, Spawner};
 use unl_keeper::KeepMaker;
 
-/// What the program reads and writes, the door whose links it serves, the peer that it asks, the draws that it answers with,
-/// the pace of its turns, what starts its jobs, what makes the keeper of its commands, and what it waits by.
+/// The ends that the program uses: its input and output, the door whose links it serves, the peer that it polls, the draws for
+/// its answers, the pace of its turns, the spawner of its jobs, the maker of its keeper, and the runtime that it waits with.
 #[derive(Drop)]
 pub struct World<
     I: Source,

@@ -32,7 +32,7 @@ not_below_both (Some a) None c ab bc = absurd ab
 not_below_both (Some a) (Some b) None ab bc = absurd bc
 not_below_both (Some a) (Some b) (Some c) ab bc = up_to_both (revision_of a) (revision_of b) (revision_of c) ab bc
 
--- ---- what applies is not below
+-- ---- a batch that applies leads to no older version
 
 hydrated : (version : Option EnvVersion) (held : Bool) (new : EnvVersion) → hydration_verdict version held new.epoch new.number ≡ Apply → IsNotBelow version (Some new)
 hydrated None held new is = tt

@@ -1,4 +1,4 @@
--- What may be handed to another thread, from what its parts may.
+-- Which types are `Send`, from their parts.
 use denote.Param.Send.{IsSend, IsSync, sendable, view_send}
 use denote.Param.SendFields.{declared_send}
 use denote.RattleType.{RattleType}
@@ -17,7 +17,7 @@ use Rattle.unl_published.specs.contracts.reader.Reader as Reader
 use Rattle.unl_published.specs.contracts.rule.Ruled as Ruled
 use Rattle.unl_published.specs.contracts.rule.RuledProtocolKnowledgeState.TheImpl as ruled
 
--- a reader, from its seat
+-- A reader, from its seat.
 reader_send : IsSend seat_type → IsSend reader_type
 reader_send seat =
     declared_send
@@ -25,11 +25,11 @@ reader_send seat =
     (ruled.ghosts Edition.the_row Install.the_row Edition.the_row counted.ghosts ruled.no_dict absorb.ghosts ruled.no_dict ruled.no_dict))
     (seat, (search (sendable, crosses) depth 20, (search sendable, (search sendable, tt))))
 
--- an edge's reader, from its seat
+-- An edge's reader, from its seat.
 pub edge_reader_send : IsSend seat_type → IsSend EdgeReader.the_row
 edge_reader_send seat = let reader : IsSend reader_type = reader_send seat in search (sendable, crosses) depth 20
 
--- a writer that changes in place, from what publishes and from what it waits by
+-- A publisher, from its writer and from what it waits by.
 publisher_send : (lifetime : NamedLft) (wait : RattleType) → IsSync wait → IsSend publishing_type → IsSend (publisher_type lifetime wait)
 publisher_send lifetime wait shared publishing =
     declared_send
@@ -37,7 +37,7 @@ publisher_send lifetime wait shared publishing =
     (ruled.ghosts Edition.the_row Install.the_row Edition.the_row counted.ghosts ruled.no_dict absorb.ghosts ruled.no_dict ruled.no_dict))
     (search (sendable, crosses) depth 20, (search (sendable, crosses) depth 20, tt))
 
--- an edge's writer, from these and from the places that it keeps
+-- An edge's writer, from these and from its places.
 pub edge_writer_send : (lifetime : NamedLft) (wait : RattleType) → IsSync wait → IsSend publishing_type → IsSend Place.the_row
     → IsSend (writer_type lifetime wait)
 edge_writer_send lifetime wait shared publishing place =

@@ -1,4 +1,4 @@
--- Each version that a slot has had stands for a line of histories.
+-- Each version that a slot has had is a revision of a line of histories.
 use Rattle.std.proofs.Common.{◌≡◌, ℕ, zero, suc, ◌<◌, ◌≤◌, List, [], ◌∷◌, ◌++◌, length, take, Option, Some, None, Result, Ok, Err, OnOk, OnErr, IfSome, refl, sym, ap, ◌∙◌, subst, arith, unwrap_or, is_some, true}
 use Rattle.std.specs.Prelude.{option_map}
 use Rattle.unl_core.specs.declared.board.Board.{Board}
@@ -22,19 +22,19 @@ use Rattle.unl_edge_state.specs.Writing.{Stays, Writing, after_batch, installed_
 use Rattle.unl_edge_state.proofs.Boards.{boards_are}
 use Rattle.unl_published.specs.declared.knowledge.Knowledge.{Knowledge}
 
--- the last board of all
+-- The last board of all.
 last_stands : (line : List Era) (sees : Sees) (slot : ℕ) (board : Board) (list : List Install) → HasStoodFrom line sees slot board list
     → SlotStands line sees slot (board_after board list)
 last_stands line sees slot board [] stood = stood
 last_stands line sees slot board (what ∷ more) stood = last_stands line sees slot (installed what board) more stood.1
 
--- one install more
+-- One install more.
 stood_more : (line : List Era) (sees : Sees) (slot : ℕ) (board : Board) (list : List Install) (what : Install) → HasStoodFrom line sees slot board list
     → SlotStands line sees slot (installed what (board_after board list)) → HasStoodFrom line sees slot board (list ++ what ∷ [])
 stood_more line sees slot board [] what stood new = (stood, new)
 stood_more line sees slot board (first ∷ more) what stood new = (stood.0, stood_more line sees slot (installed first board) more what stood.1 new)
 
--- a slot that takes a version, where there is one, has it
+-- A slot, if there is one, has the version it was given.
 taken_stands : (line : List Era) (sees : Sees) (slots : List Slot) (slot : ℕ) (v : EnvVersion) → StandsIn line sees v → IfSome (snapshot_at (taking slot v slots) slot) (StandsIn line sees)
 taken_stands line sees [] slot v stands = tt
 taken_stands line sees (s ∷ slots) zero v stands = stands
@@ -51,7 +51,7 @@ known_more line sees slot None list v stood stands = tt
 known_more line sees slot (Some opening) list v stood stands =
     stood_more line sees slot opening.board list (Env slot v) stood (taken_stands line sees (board_after opening.board list).slots slot v stands)
 
--- a batch that was sent of the line was published, or nothing was
+-- A batch that was sent of the line was published, or nothing was.
 pub batch_stood : {E : Type 0} (r : Result ℕ E) (w new : Writing) (slot : ℕ) (batch : Batch) → (place_of (installed_by w) slot).version ≡ snapshot_at (board_known w.known).slots slot
     → verdict_of (place_of (installed_by w) slot) batch ≡ Apply → OnOk r (new ≡ record (after_batch slot batch w) { closed = new.closed }) → OnErr r (Stays w new)
     → (line : List Era) (sees : Sees) → IsLine line → HasStood line sees slot w.known → IsSent line sees batch → HasStood line sees slot new.known
@@ -73,7 +73,7 @@ stood_at line sees slot board [] (suc k) stood = stood
 stood_at line sees slot board (what ∷ more) zero stood = stood.0
 stood_at line sees slot board (what ∷ more) (suc k) stood = stood_at line sees slot (installed what board) more k stood.1
 
--- the board at each front
+-- The board at each front.
 pub boards_stand : (line : List Era) (sees : Sees) (slot : ℕ) (known : Knowledge BoardAt Install) (opening : BoardAt) (k : ℕ) → known.opening ≡ Some opening → known.before ≡ []
     → k ≤ length known.installs → HasStood line sees slot known → IfSome (board_of known k) (SlotStands line sees slot)
 boards_stand line sees slot known opening k is none low stood =

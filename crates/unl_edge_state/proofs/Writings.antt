@@ -1,4 +1,4 @@
--- The places of a writer beside what it published.
+-- The places of a writer agree with what it published.
 use Rattle.std.proofs.Common.{◌≡◌, ℕ, ◌<◌, ◌+◌, List, [], ◌∷◌, ◌++◌, length, Bool, true, false, Some, Option, Result, Ok, Err, OnOk, OnErr, is_some, refl, sym, ap, ◌∙◌, subst, arith, length-append, get_or, map, All, unwrap_or}
 use Rattle.std.proofs.Math.ListN.{set}
 use Rattle.std.specs.Prelude.{slice_set, slice_get}
@@ -27,7 +27,7 @@ use Rattle.unl_tokens.specs.declared.token.Token.{Token}
 tokens_stand : (board : Board) (places : List Place) (book : List Token) → IsStanding board places → IsStanding (with_tokens book board) places
 tokens_stand board places book s = record { slots = s.slots; versions = s.versions; valid = s.valid }
 
--- an opening board, and the places of its slots
+-- An opening board, and the places of its slots.
 pub writing_begun : (board : Board) (known : Knowledge BoardAt Install) (table : ℕ) (places : List Place) → AreSlots board.slots → known ≡ knows_opening table (opening_at board)
     → places ≡ map place_at board.slots → All IsValidPlace places → IsWriting known places
 writing_begun board known table places slots is made valid = subst (λ (k : Knowledge BoardAt Install). IsWriting k places) (sym is) (record {
@@ -35,7 +35,7 @@ writing_begun board known table places slots is made valid = subst (λ (k : Know
   stands = standing_begun board places slots made valid;
 })
 
--- a book was published
+-- A book was published.
 pub writing_tokens : (known new : Knowledge BoardAt Install) (places : List Place) (book : List Token) → IsWriting known places
     → new ≡ with_installs (Tokens book ∷ []) known → IsWriting new places
 writing_tokens known new places book w is = subst (λ (k : Knowledge BoardAt Install). IsWriting k places) (sym is) (record {
@@ -43,7 +43,7 @@ writing_tokens known new places book w is = subst (λ (k : Knowledge BoardAt Ins
   stands = subst (λ (b : Board). IsStanding b places) (sym (known_more known (Tokens book) w.begun)) (tokens_stand (board_known known) places book w.stands);
 })
 
--- a version was published, and stands at its place
+-- A version was published, and is at its place.
 pub writing_version : (known new : Knowledge BoardAt Install) (places : List Place) (slot : ℕ) (v kept : EnvVersion) (held : Bool) → IsWriting known places
     → new ≡ with_installs (Env slot v ∷ []) known → kept ≡ v → IsValidVersion v → IsWriting new (set places slot (record { version = Some kept; held = held }))
 writing_version known new places slot v kept held w is kept_is valid =
@@ -54,7 +54,7 @@ writing_version known new places slot v kept held w is kept_is valid =
           (standing_taking (board_known known) places slot v (record { version = Some kept; held = held }) w.stands (ap Some kept_is) valid);
     })
 
--- a place is held
+-- A place is held or released, and keeps its version.
 pub writing_held : (known : Knowledge BoardAt Install) (places : List Place) (slot : ℕ) (place d : Place) → IsWriting known places → slot < length places
     → place.version ≡ (get_or places slot d).version → IsWriting known (set places slot place)
 writing_held known places slot place d w low same = record {
@@ -62,13 +62,13 @@ writing_held known places slot place d w low same = record {
   stands = standing_held (board_known known) places slot place d w.stands low same;
 }
 
--- the place of a slot, as it stands
+-- The place at an index.
 pub place_is : (known : Knowledge BoardAt Install) (places : List Place) (closed : Bool) (slot : ℕ) (p : Place) (w : Writing)
     → record { known = known; places = places; closed = closed } ≡ w → slot < length places → p ≡ get_or places slot p → place_of (installed_by w) slot ≡ p
 place_is known places closed slot p w same low is =
     ap (λ (x : Writing). place_of (installed_by x) slot) (sym same) ∙ ap (λ (o : Option Place). unwrap_or o empty_place) (slice_get-get_or places slot p low) ∙ sym is
 
--- a writer whose slot is held
+-- A writer after a slot is held.
 pub hold_is : (known : Knowledge BoardAt Install) (places : List Place) (closed : Bool) (slot : ℕ) (p : Place) (w : Writing)
     → record { known = known; places = places; closed = closed } ≡ w → slot < length places → p ≡ get_or places slot p
     → record { known = known; places = set places slot (record { version = p.version; held = true }); closed = closed } ≡ after_hold slot w
@@ -81,7 +81,7 @@ hold_is known places closed slot p w same low is =
     writing : Knowledge BoardAt Install → List Place → Bool → Writing
     writing k ps c = record { known = k; places = ps; closed = c }
 
--- a writer with the version after a batch
+-- A writer after a batch.
 pub batch_is : {E : Type 0} (r : Result ℕ E) (old new w : Writing) (slot : ℕ) (batch : Batch) (p : Place) (v shown : EnvVersion) → old ≡ w
     → place_of (installed_by w) slot ≡ p → v ≡ next_version p batch → shown ≡ v → OnOk r (new ≡ record (with_version slot shown false old) { closed = new.closed })
     → OnOk r (new ≡ record (after_batch slot batch w) { closed = new.closed })
@@ -90,9 +90,9 @@ batch_is (Ok front) old new w slot batch p v shown same here next shown_is publi
     let is : shown ≡ next_version (place_of (installed_by w) slot) batch = shown_is ∙ next ∙ ap (λ (q : Place). next_version q batch) (sym here) in
     published ∙ (λ i. record (with_version slot (is i) false (same i)) { closed = new.closed })
 
--- ---- what an installer sees
+-- ---- the writer as an installer
 
--- a batch was published
+-- A batch was published.
 pub batch_installed : (w new : Writing) (slot : ℕ) (batch : Batch) → is_some w.known.opening ≡ true → new ≡ record (after_batch slot batch w) { closed = new.closed }
     → installed_by new ≡ after_install slot batch (installed_by w)
 batch_installed w new slot batch begun is =
@@ -101,7 +101,7 @@ batch_installed w new slot batch begun is =
     let book : (board_known (with_installs (Env slot v ∷ []) w.known)).book ≡ (board_known w.known).book = ap (λ (b : Board). b.book) (known_more w.known (Env slot v) begun) in
     ap installed_by is ∙ (λ i. record { places = slice_set w.places slot (record { version = Some v; held = false }); front = front i; book = book i })
 
--- a book was published
+-- A book was published.
 pub book_installed : (w new : Writing) (tokens : List Token) → is_some w.known.opening ≡ true → new ≡ record (with_install (Tokens tokens) w) { closed = new.closed }
     → installed_by new ≡ record { places = w.places; front = length w.known.installs + 1; book = tokens }
 book_installed w new tokens begun is =
@@ -109,15 +109,15 @@ book_installed w new tokens begun is =
     let book : (board_known (with_installs (Tokens tokens ∷ []) w.known)).book ≡ tokens = ap (λ (b : Board). b.book) (known_more w.known (Tokens tokens) begun) in
     ap installed_by is ∙ (λ i. record { places = w.places; front = front i; book = book i })
 
--- a batch was published, or nothing was
+-- A batch was published, or nothing was.
 pub batch_told : {E : Type 0} (r : Result ℕ E) (w new : Writing) (slot : ℕ) (batch : Batch) → is_some w.known.opening ≡ true
     → OnOk r (new ≡ record (after_batch slot batch w) { closed = new.closed }) → OnOk r (installed_by new ≡ after_install slot batch (installed_by w))
 batch_told (Err e) w new slot batch begun published = tt
 batch_told (Ok front) w new slot batch begun published = batch_installed w new slot batch begun published
 
--- ---- what is orderly
+-- ---- orderly lists
 
--- a version that goes on, or nothing
+-- A version that follows the one at its slot, or nothing.
 pub batch_orderly : {E : Type 0} (r : Result ℕ E) (w new : Writing) (slot : ℕ) (batch : Batch) → (place_of (installed_by w) slot).version ≡ snapshot_at (board_known w.known).slots slot
     → verdict_of (place_of (installed_by w) slot) batch ≡ Apply → OnOk r (new ≡ record (after_batch slot batch w) { closed = new.closed }) → OnErr r (Stays w new)
     → KnowsOrderly w.known → KnowsOrderly new.known
@@ -127,10 +127,10 @@ batch_orderly (Ok front) w new slot batch stands applies published stays orderly
     (knows_more w.known (Env slot v) orderly (record { place = place_of (installed_by w) slot; stands = stands; batch = batch; applies = applies; next = refl }))
 batch_orderly (Err e) w new slot batch stands applies published stays orderly = subst (λ (x : Writing). KnowsOrderly x.known) (sym stays) orderly
 
--- a book, which goes on from any other
+-- A book, which can follow any other.
 pub book_orderly : (w new : Writing) (tokens : List Token) → new ≡ record (with_install (Tokens tokens) w) { closed = new.closed } → KnowsOrderly w.known → KnowsOrderly new.known
 book_orderly w new tokens published orderly = subst (λ (x : Writing). KnowsOrderly x.known) (sym published) (knows_more w.known (Tokens tokens) orderly tt)
 
--- a writer with a book more
+-- A writer after a book.
 abbrev pub book_told : Writing → List Token → Bool → Writing
 book_told w tokens closed = record (with_install (Tokens tokens) w) { closed = closed }

@@ -1,4 +1,4 @@
--- What it means of the parts of a reader that they may be handed to another thread.
+-- The types of the parts of readers and writers, to state that they can be sent to another thread.
 use denote.RattleType.{RattleType}
 use denote.Ref.{NamedLft}
 use Rattle.left_right.specs.contracts.reader.Reader as Seat
@@ -17,20 +17,20 @@ use Rattle.unl_published.specs.contracts.rule.Ruled as Ruled
 use Rattle.unl_published.specs.contracts.writer.Writer as Publishing
 use Rattle.unl_published.specs.contracts.rule.RuledProtocolKnowledgeState.TheImpl as ruled
 
--- the seat of a reader of editions, as the logic's type
+-- The type of a seat of a reader of editions.
 abbrev pub seat_type : RattleType
 seat_type =
     Seat.the_row Edition.the_row (Knowledge.the_row Edition.the_row Install.the_row) (Ruled.the_row Install.the_row) Global.the_row
     (ruled.ghosts Edition.the_row Install.the_row Edition.the_row counted.ghosts ruled.no_dict absorb.ghosts ruled.no_dict ruled.no_dict)
     global.ghosts
 
--- a reader of editions by installs, as the logic's type
+-- The type of a reader of editions.
 abbrev pub reader_type : RattleType
 reader_type =
     Reader.the_row Edition.the_row Install.the_row (Ruled.the_row Install.the_row) Edition.the_row counted.ghosts absorb.ghosts
     (ruled.ghosts Edition.the_row Install.the_row Edition.the_row counted.ghosts ruled.no_dict absorb.ghosts ruled.no_dict ruled.no_dict)
 
--- the sides of a writer of editions, as the logic's type
+-- The type of the sides of a writer of editions.
 abbrev pub sides_type : RattleType
 sides_type =
     Sides.the_row Edition.the_row Install.the_row (Knowledge.the_row Edition.the_row Install.the_row) (Ruled.the_row Install.the_row)
@@ -38,19 +38,19 @@ sides_type =
     (ruled.ghosts Edition.the_row Install.the_row Edition.the_row counted.ghosts ruled.no_dict absorb.ghosts ruled.no_dict ruled.no_dict)
     global.ghosts
 
--- a writer of editions by installs, as the logic's type
+-- The type of a writer of editions.
 abbrev pub publishing_type : RattleType
 publishing_type =
     Publishing.the_row Edition.the_row Install.the_row (Ruled.the_row Install.the_row) Edition.the_row counted.ghosts absorb.ghosts
     (ruled.ghosts Edition.the_row Install.the_row Edition.the_row counted.ghosts ruled.no_dict absorb.ghosts ruled.no_dict ruled.no_dict)
 
--- the same as one value that changes in place, and waits by this for so long
+-- The type of a publisher of editions, by the type and the lifetime of what it waits by.
 abbrev pub publisher_type : NamedLft → RattleType → RattleType
 publisher_type lifetime wait =
     Publisher.the_row lifetime wait Edition.the_row Install.the_row (Ruled.the_row Install.the_row) Edition.the_row counted.ghosts
     absorb.ghosts
     (ruled.ghosts Edition.the_row Install.the_row Edition.the_row counted.ghosts ruled.no_dict absorb.ghosts ruled.no_dict ruled.no_dict)
 
--- a writer of a board that waits by this for so long, as the logic's type
+-- The type of a board's writer, by the type and the lifetime of what it waits by.
 abbrev pub writer_type : NamedLft → RattleType → RattleType
 writer_type lifetime wait = Writer.the_row lifetime wait

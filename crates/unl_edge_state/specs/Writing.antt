@@ -1,4 +1,4 @@
--- What a writer of the board published, and the places that it keeps beside it.
+-- What a writer of the board has published, and the places that it keeps.
 use Rattle.std.specs.Prelude.{◌≡◌, ℕ, ◌<◌, [], ◌∷◌, List, length, Bool, true, ⊤, is_some, slice_set, Some, false}
 use Rattle.unl_core.specs.declared.board.Board.{Board}
 use Rattle.unl_core.specs.declared.board.Install.{Install}
@@ -14,26 +14,26 @@ use Rattle.unl_published.specs.declared.knowledge.Knowledge.{Knowledge}
 use Rattle.unl_published.specs.Rule.{with_installs}
 use Rattle.unl_tokens.specs.declared.token.Token.{Token}
 
--- what was published, the place of each slot, and whether nothing is published any more
+-- What was published, the place of each slot, and whether every later publication fails.
 pub record Writing : Type 0 where
   pub known : Knowledge BoardAt Install
   pub places : List Place
   pub closed : Bool
 
--- it began with a board, and each place has what stands on the board that is published
+-- It began with a board, and each place has the version of its slot on the published board.
 pub record IsWriting (known : Knowledge BoardAt Install) (places : List Place) : Type 0 where
   pub begun : is_some known.opening ≡ true
   pub stands : IsStanding (board_known known) places
 
--- what an installer is seen as: the places, how many installs were published, and the book of the board
+-- The writer as an installer: the places, the number of publications, and the board's token book.
 abbrev pub installed_by : Writing → Installed
 installed_by w = record { places = w.places; front = length w.known.installs; book = (board_known w.known).book }
 
--- an install is published
+-- The writer after an install is published.
 abbrev pub with_install : Install → Writing → Writing
 with_install what w = record w { known = with_installs (what ∷ []) w.known }
 
--- a version is published at a slot, which is held or not from then on
+-- The writer after a version is published at a slot, which is then held or not.
 abbrev pub with_version : ℕ → EnvVersion → Bool → Writing → Writing
 with_version slot version held w = record {
   known = with_installs (Env slot version ∷ []) w.known;
@@ -41,25 +41,25 @@ with_version slot version held w = record {
   closed = w.closed;
 }
 
--- an install is published, and each slot stays held or not
+-- The writer after an install is published. Whether a slot is held doesn't change.
 abbrev pub after_publish : Install → Writing → Writing
 after_publish (Tokens book) w = with_install (Tokens book) w
 after_publish (Env slot version) w = with_version slot version (place_of (installed_by w) slot).held w
 
--- a batch that applies is published at a slot, which is not held then
+-- The writer after a batch that applies is published at a slot, which is then not held.
 abbrev pub after_batch : ℕ → Batch → Writing → Writing
 after_batch slot batch w = with_version slot (next_version (place_of (installed_by w) slot) batch) false w
 
--- a slot is held from now on
+-- The writer after a slot is held.
 abbrev pub after_hold : ℕ → Writing → Writing
 after_hold slot w =
     record w { places = slice_set w.places slot (record { version = (place_of (installed_by w) slot).version; held = true }) }
 
--- nothing was published, though from now on nothing may be
+-- Nothing was published, though later publications may fail from now on.
 abbrev pub Stays : Writing → Writing → Type 0
 Stays old new = new ≡ record old { closed = new.closed }
 
--- the slot of an install is one of so many
+-- The slot of an install is below `slots`.
 abbrev pub IsWithin : Install → ℕ → Type 0
 IsWithin (Tokens book) slots = ⊤
 IsWithin (Env slot version) slots = slot < slots

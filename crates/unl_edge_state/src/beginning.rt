@@ -1,4 +1,4 @@
-//! How a writer of a board and its readers begin.
+//! Creates the writer of a board and its readers.
 ghost use Rattle.std.specs.Prelude.{◌≡◌, ℕ, ◌<◌, ◌≤◌, All, IfOk, IsTrue, false, length, map};
 ghost use Rattle.std.specs.Prelude.{is_some, true};
 ghost use Rattle.unl_core.specs.Board.{AreSlots};
@@ -17,12 +17,12 @@ use unl_core::{Board, Install, Slot, places_at};
 use unl_documents::{Copied, List, Memory, Text};
 use unl_published::{Ruled, Writer, new_reader};
 
-/// A writer of a board and so many readers of it, which know the opening board alone. There is room to tell each reader once at
-/// a time.
+/// Creates a writer of a board, and `readers` readers that know only the opening board. There is room for one list per
+/// reader that the writer has reported and the reader has not learned yet.
 ///
 /// # Errors
 ///
-/// Want of memory, or a reader that could not be made.
+/// Fails if it runs out of memory or a reader can't be made.
 pub fn begin<'a, W: Wait>(
     rt: &'a W,
     alloc: Global,
@@ -58,7 +58,7 @@ pub fn begin<'a, W: Wait>(
     }
 }
 
-/// So many readers, which know what the writer knows.
+/// `count` readers that know what the writer knows.
 fn readers_at(
     alloc: Global,
     writer: &mut Writer<Edition, Install, Ruled<Install>>,
@@ -77,7 +77,7 @@ fn readers_at(
     Ok(readers)
 }
 
-/// One more reader, which knows what the writer knows.
+/// Adds a reader that knows what the writer knows.
 fn reader_at(writer: &mut Writer<Edition, Install, Ruled<Install>>) -> Result<EdgeReader, Memory>
     requires { is_some (written writer.old).opening ≡ true }
     ensures same { written writer.new ≡ written writer.old }
@@ -88,7 +88,7 @@ fn reader_at(writer: &mut Writer<Edition, Install, Ruled<Install>>) -> Result<Ed
     Ok(EdgeReader::new(seat))
 }
 
-/// The same board once more. What it shares stays shared.
+/// Copies a board. What the board shares stays shared.
 fn copy_of(alloc: Global, board: &Board) -> Result<Board, Memory>
     ensures { IfOk result (λ copy. copy ≡ board.now) }
 {
@@ -101,7 +101,7 @@ fn copy_of(alloc: Global, board: &Board) -> Result<Board, Memory>
     })
 }
 
-/// The same slots once more.
+/// Copies slots.
 fn copies_of(alloc: Global, slots: &[Slot]) -> Result<Vec<Slot>, Memory>
     ensures { IfOk result (λ copies. copies.items ≡ slots.now) }
 {
@@ -112,7 +112,7 @@ fn copies_of(alloc: Global, slots: &[Slot]) -> Result<Vec<Slot>, Memory>
     Ok(copies)
 }
 
-/// The same slot once more.
+/// Copies a slot. The copy shares its snapshot.
 fn copy_of_slot(alloc: Global, slot: &Slot) -> Result<Slot, Memory>
     ensures { IfOk result (λ copy. copy ≡ slot.now) }
 {

@@ -1,5 +1,5 @@
-//! That a reader, and a writer, may be handed to another thread. Shown at once for all that a board is made of, it is past what
-//! one search may take, so it is shown for an edition, for a seat or the sides over editions, and then for a reader or a writer.
+//! Proofs that a reader and a writer can be sent to another thread. For all types that a board consists of, one proof
+//! search times out, so it goes in steps: an edition, then a seat or the sides over editions, then a reader or a writer.
 ghost use denote.Ref.{NamedLft};
 ghost use Rattle.std.specs.Thread.{IsSend, IsSync};
 ghost use Rattle.unl_core.specs.contracts.board.Install as InstallType;
@@ -17,45 +17,45 @@ use unl_core::Install;
 use unl_delta::Place;
 use unl_published::{Knowledge, Ruled, Writer as Publishing};
 
-/// What its bound says of a type.
+/// Turns the bound `Sync` into a fact.
 fn sync_of<T: Sync>()
     ensures { IsSync T.row }
 {}
 
-/// What its bound says of a type.
+/// Turns the bound `Send` into a fact.
 fn send_of<T: Send>()
     ensures { IsSend T.row }
 {}
 
-/// Threads may share an edition.
+/// Editions are `Sync`.
 fn edition_sync()
     ensures { IsSync EditionType.the_row }
 {
     sync_of::<Edition>()
 }
 
-/// An edition may be handed to another thread.
+/// Editions are `Send`.
 fn edition_send()
     ensures { IsSend EditionType.the_row }
 {
     send_of::<Edition>()
 }
 
-/// An install may be handed to another thread.
+/// Installs are `Send`.
 fn install_send()
     ensures { IsSend InstallType.the_row }
 {
     send_of::<Install>()
 }
 
-/// Threads may share an install.
+/// Installs are `Sync`.
 fn install_sync()
     ensures { IsSync InstallType.the_row }
 {
     sync_of::<Install>()
 }
 
-/// A seat may be handed to another thread.
+/// Seats are `Send`.
 fn seats_cross()
     ensures { IsSend seat_type }
 {
@@ -66,7 +66,8 @@ fn seats_cross()
     send_of::<Seat<Edition, Knowledge<Edition, Install>, Ruled<Install>>>()
 }
 
-/// A reader may be handed to another thread: whoever hands one calls this first, and then has the fact at hand. It does nothing.
+/// A reader can be sent to another thread. A caller that sends one calls this first, to have the fact. Does nothing at
+/// run time.
 pub fn readers_cross()
     ensures { IsSend ReaderType.the_row }
 {
@@ -74,7 +75,7 @@ pub fn readers_cross()
     send_of::<EdgeReader>()
 }
 
-/// The sides of a writer may be handed to another thread.
+/// The sides of a writer are `Send`.
 fn sides_cross()
     ensures { IsSend sides_type }
 {
@@ -85,7 +86,7 @@ fn sides_cross()
     send_of::<Sides<Edition, Install, Knowledge<Edition, Install>, Ruled<Install>>>()
 }
 
-/// What publishes editions may be handed to another thread.
+/// The writer of editions is `Send`.
 fn publishing_crosses()
     ensures { IsSend publishing_type }
 {
@@ -93,15 +94,15 @@ fn publishing_crosses()
     send_of::<Publishing<Edition, Install, Ruled<Install>>>()
 }
 
-/// What stands in a slot may be handed to another thread.
+/// The place of a slot is `Send`.
 fn place_send()
     ensures { IsSend PlaceType.the_row }
 {
     send_of::<Place>()
 }
 
-/// A writer may be handed to another thread, where threads may share what it waits by: whoever hands one calls this first, and
-/// then has the fact at hand. It does nothing.
+/// A writer can be sent to another thread, if threads can share what it waits by. A caller that sends one calls this
+/// first, to have the fact. Does nothing at run time.
 pub fn writers_cross<W: Wait + Sync>()
     ensures { (lifetime : NamedLft) → IsSend (writer_type lifetime W.row) }
 {

@@ -1,4 +1,4 @@
-//! What is published: a board and its number.
+//! The published value: a board and its number.
 ghost use Rattle.std.specs.Prelude.{◌≡◌, IfOk};
 ghost use Rattle.unl_core.specs.Board.{AreSlots};
 ghost use Rattle.unl_edge_state.specs.Editions.{opening_at};
@@ -29,7 +29,7 @@ impl Model for Edition {
 }
 
 impl Edition {
-    /// A board to which no install led yet.
+    /// An opening board, before any install.
     pub fn new(board: Board) -> Edition
         requires { AreSlots board.slots }
         ensures { result ≡ opening_at board }
@@ -87,7 +87,7 @@ impl Counted<Install> for Edition {
     ghost counts = { λ s what. refl };
 }
 
-/// The same install once more.
+/// Copies an install, which shares its book or snapshot.
 fn copy_of(what: &Install) -> Result<Install, Memory>
     ensures { IfOk result (λ copy. copy ≡ what.now) }
 {

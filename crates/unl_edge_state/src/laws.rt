@@ -1,4 +1,4 @@
-//! What holds of every list of installs.
+//! Laws of all lists of installs.
 ghost use Rattle.std.specs.Prelude.{◌≡◌, ◌≤◌, ℕ, List, [], IfSome, Some, length, take};
 ghost use Rattle.unl_core.specs.declared.board.Board.{Board};
 ghost use Rattle.unl_core.specs.declared.board.Install.{Install};
@@ -12,21 +12,22 @@ ghost use Rattle.unl_edge_state.specs.Orderly.{IsOrderly};
 ghost use Rattle.unl_edge_state.specs.Reading.{board_of};
 ghost use Rattle.unl_published.specs.declared.knowledge.Knowledge.{Knowledge};
 
-/// The board at a front is the opening board after so many of the installs that were seen, where the reader never went on from
-/// what it was told.
+/// The board at a front `k` is the opening board after the first `k` installs that were seen, if the reader never
+/// continued from a list that it learned.
 pub fn boards_are_after_installs()
     ensures { (known : Knowledge BoardAt Install) (opening : BoardAt) (k : ℕ) → known.opening ≡ Some opening → known.before ≡ []
         → k ≤ length known.installs → board_of known k ≡ Some (board_after opening.board (take k known.installs)) }
 {}
 
-/// Of an orderly list a larger front has at each slot no older version, and no slot is empty that was filled.
+/// In an orderly list, a larger front has no older version at any slot, and no slot becomes empty.
 pub fn fronts_only_go_on()
     ensures { (board : Board) (list : List Install) (j k slot : ℕ) → IsOrderly board list → j ≤ k
         → IsNotBelow (snapshot_at (board_after board (take j list)).slots slot) (snapshot_at (board_after board (take k list)).slots slot) }
 {}
 
-/// Where each version that a slot has had stands for a line of histories, as it is seen, so does what the slot has on the board at
-/// each front, where it has something, for a reader that never went on from what it was told.
+/// If each version that a slot has had is a revision of a line of histories, filtered by `sees`, so is the slot's
+/// version on the board at each front, if there is one. This is for a reader that never continued from a list that it
+/// learned.
 pub fn boards_stand_for_lines()
     ensures { (line : List Era) (sees : Sees) (slot : ℕ) (known : Knowledge BoardAt Install) (opening : BoardAt) (k : ℕ)
         → known.opening ≡ Some opening → known.before ≡ [] → k ≤ length known.installs → HasStood line sees slot known

@@ -1,5 +1,5 @@
-//! The board of an edge: one writer publishes what is installed on it, and desks in threads of their own answer over what was
-//! published, and never wait.
+//! The board of an edge. One writer publishes what is installed on it, and desks on other threads answer over what was
+//! published, without waiting.
 #![tactic(auto)]
 
 mod beginning;

@@ -1,4 +1,4 @@
-//! A desk that answers over what was published when it looked.
+//! A desk that answers over the board published when it looks.
 ghost use Rattle.std.specs.Prelude.{max, ◌≡◌, ◌≤◌, true, is_some, unwrap_or, option_map, IfSome};
 ghost use Rattle.unl_published.specs.Looking.{SameOrigin, goes_on};
 ghost use Rattle.unl_published.specs.Rule.{knows_nothing};
@@ -12,10 +12,10 @@ use unl_documents::Memory;
 use unl_http_api::Request;
 use unl_published::{Reader, Ruled};
 
-/// What a writer told, for one reader to learn.
+/// What a writer knew at one moment, for one reader to learn.
 pub type Told = unl_published::Told<Edition, Install, Ruled<Install>>;
 
-/// A desk over what one writer publishes. It looks once for each answer, and waits for nobody.
+/// A desk over what one writer publishes. It looks once for each answer, and never waits.
 #[derive(Drop)]
 pub struct EdgeReader {
     pub(crate) seat: Option<Reader<Edition, Install, Ruled<Install>>>,
@@ -25,7 +25,7 @@ pub struct EdgeReader {
 impl EdgeReader {
     ghost use Rattle.unl_edge_state.specs.Reading.{HasBegun, next_of, seen_by, told_to};
 
-    /// A desk at a seat that knows the opening board.
+    /// A desk over a reader that knows the opening board.
     pub(crate) fn new(seat: Reader<Edition, Install, Ruled<Install>>) -> EdgeReader
         requires { is_some (next seat).opening ≡ true }
         ensures { result.seat ≡ Some seat }
@@ -33,9 +33,9 @@ impl EdgeReader {
         EdgeReader { seat: Some(seat) }
     }
 
-    /// Learns what the writer told: each later front is at least the one that was told. What was known stays known. Where it was
-    /// told of more than it knew, the list that it takes next begins with the list that was told, where there was room to tell it.
-    /// Takes no memory.
+    /// Learns what the writer knew when it made `told`. Each later front is at least the one in `told`, and what was known
+    /// stays known. If `told` has more installs than the reader knows, and has their list, the list that the reader takes
+    /// next starts with that one. Doesn't allocate.
     pub fn learn(&mut self, told: Told)
         requires origin { IfSome (told_list told) (λ list. SameOrigin list (next_of self.old)) }
         ensures origin { SameOrigin (next_of self.new) (next_of self.old) }
@@ -73,8 +73,8 @@ impl Desk for EdgeReader {
     ///
     /// # Errors
     ///
-    /// Want of memory for the answer; or it did not look, for which `left_right` names no cause; or it came to fewer publications
-    /// than it was told of.
+    /// Fails if it runs out of memory for the answer, if it did not look, for which `left_right` gives no cause, or if it saw
+    /// fewer publications than it has learned of.
     fn answer(
         &mut self,
         alloc: Global,
@@ -90,10 +90,10 @@ impl Desk for EdgeReader {
         ensures entered { IfOk result (λ a. Enters (Some (seen_by self.old).fronts) (a.0 ∷ []) (Some (seen_by self.new).fronts)) }
         ensures unanswered { OnErr result (EntersAtMostOnce (Some (seen_by self.old).fronts) (Some (seen_by self.new).fronts)) }
 
-        // The answer is that over the opening board after all installs that it took, as many as its front says.
+        // The answer is over the opening board after all installs of the list that it took. The front is their number.
         ensures over { IfOk result (λ a. a.1 ≡ answer_of (board_known (seen_by self.new)) request.now draw.entry.now) }
 
-        // It took a list that begins with the one it goes on from, of no fewer than it was told of.
+        // The list that it took starts with the one it continues from, and has no fewer installs than it has learned of.
         ensures list { IfOk result (λ _. StartsWith (seen_by self.new).installs (next_of self.old).installs) }
         ensures told { IfOk result (λ a. told_to self.old ≤ a.0) }
         ensures next { IfOk result (λ _. next_of self.new ≡ seen_by self.new) }

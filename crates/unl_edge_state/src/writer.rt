@@ -1,4 +1,4 @@
-//! The one who publishes what is installed.
+//! The writer that publishes what is installed.
 ghost use Rattle.std.specs.Prelude.{◌≡◌, ◌-◌, ◌^◌, ◌<◌, ◌∷◌, [], List, true, false, length, IfOk, IfNone, IfSome, IsErr, OnErr, OnOk};
 ghost use Rattle.std.specs.Prelude.{OnSome};
 ghost use Rattle.unl_core.specs.declared.board.Install.TheVariants.{Env, Tokens};
@@ -29,8 +29,8 @@ use unl_documents::{Memory, Shared};
 use unl_published::{Counted, Publisher, Ruled, Writer};
 use unl_tokens::Book;
 
-/// Publishes what is installed on a board, and keeps the place of each slot beside it. It is not `Drop`: end it by `end`, once
-/// its readers have ended.
+/// Publishes what is installed on a board, and keeps the place of each slot: its version, and whether it is held. It
+/// isn't `Drop`: close it with `end`, once its readers have ended.
 pub struct EdgeWriter<'a, W: Wait> {
     publisher: Publisher<'a, W, Edition, Install, Ruled<Install>>,
     places: Vec<Place>,
@@ -52,7 +52,7 @@ impl<'a, W: Wait> Model for EdgeWriter<'a, W> {
 }
 
 impl<'a, W: Wait> EdgeWriter<'a, W> {
-    /// A writer over what was published, with these places.
+    /// A writer over a publication, with the places of its slots.
     pub(crate) fn over(
         rt: &'a W,
         writer: Writer<Edition, Install, Ruled<Install>>,
@@ -67,7 +67,7 @@ impl<'a, W: Wait> EdgeWriter<'a, W> {
         }
     }
 
-    /// The board that is published. Takes no memory.
+    /// The published board. Doesn't allocate.
     pub fn board(&self) -> &Board
         ensures board { result.now ≡ board_known self.now.known }
         ensures slots { AreSlots result.now.slots }
@@ -75,12 +75,13 @@ impl<'a, W: Wait> EdgeWriter<'a, W> {
         self.publisher.value().board()
     }
 
-    /// Publishes an install, and answers the new front. A slot that it names stays held or not. Waits for readers that still look
-    /// at an older board.
+    /// Publishes an install and returns the new front. Whether a slot is held doesn't change. Waits for readers that still
+    /// look at an older board.
     ///
     /// # Errors
     ///
-    /// Want of memory: nothing is published. Where it was found once the install was noted, no later one is published.
+    /// Fails if it runs out of memory. Nothing is published then. If this happens after the install was logged, every later
+    /// call fails too.
     pub fn publish(&mut self, alloc: Global, what: Install) -> Result<u64, Memory>
         requires front { length self.old.known.installs < 2 ^ 64 - 1 }
         requires within { IsWithin what (length self.old.places) }
@@ -98,7 +99,7 @@ impl<'a, W: Wait> EdgeWriter<'a, W> {
         }
     }
 
-    /// What the writer knows now, for one reader to learn. Changes nothing, and takes no memory.
+    /// What the writer knows now, for one reader to learn. Changes nothing, and doesn't allocate.
     pub fn tell(&mut self) -> Told
         ensures same { self.new ≡ self.old }
         ensures front { told_front result ≡ length self.old.known.installs }
@@ -107,7 +108,7 @@ impl<'a, W: Wait> EdgeWriter<'a, W> {
         self.publisher.tell()
     }
 
-    /// Waits for the readers that still look, and ends the publications. Takes no memory.
+    /// Waits for the readers that are still looking, and ends publication. Doesn't allocate.
     pub fn end(self) {
         let EdgeWriter {
             publisher,
@@ -116,7 +117,7 @@ impl<'a, W: Wait> EdgeWriter<'a, W> {
         publisher.end();
     }
 
-    /// Publishes a book.
+    /// Publishes a token book.
     fn publish_book(&mut self, book: Shared<Book>) -> Result<u64, Memory>
         requires front { length self.old.known.installs < 2 ^ 64 - 1 }
         ensures published { OnOk result (self.new ≡ record (with_install (Tokens book) self.old) { closed = self.new.closed }) }
@@ -127,7 +128,7 @@ impl<'a, W: Wait> EdgeWriter<'a, W> {
         Ok(self.publisher.publish(Install::Tokens(book))?)
     }
 
-    /// Publishes a version at a slot, which is held or not from then on.
+    /// Publishes a version at a slot, and sets whether the slot is held.
     fn publish_version(
         &mut self,
         alloc: Global,

@@ -1,4 +1,4 @@
--- The requests that a link asked.
+-- The requests that were read from a link.
 use Rattle.std.proofs.Common.{◌≡◌, ℕ, ◌+◌, ◌⊎◌, inl, inr, List, [], ◌∷◌, ◌++◌, Option, refl, sym, subst}
 use Rattle.unl_exchange.specs.Conversation.{Answered, Concludes, CutInRefusal, CutInReply, GivesUp, IsUnreplied, Serves}
 use Rattle.unl_http_api.specs.declared.end.End.{End}
@@ -8,7 +8,7 @@ use Rattle.unl_http_api.specs.declared.request.Request.{Request}
 use Rattle.unl_http_api.specs.Session.{Reads}
 use Rattle.unl_http_api.proofs.SessionLemmas.{Reads-append, Reads_more}
 
--- Some requests stand first among the bytes, and were answered. At want of memory one more may have taken a draw.
+-- The bytes begin with some requests, which were answered. If memory ran out, one more may have taken a draw.
 pub record Asks
     {S : Type 0} (Step : S → Request → Reply → S → Type 0) (Lacks : S → Request → S → Type 0) (bytes : List ℕ) (before : S)
     (end : End) (after : S) : Type 0 where
@@ -20,7 +20,7 @@ pub record Asks
   pub answered : Answered Step 0 before requests text reached
   pub next : (after ≡ reached) ⊎ ((end ≡ ends.Memory) × (request : Request) × Lacks reached request after)
 
--- of a session all requests were answered
+-- all requests of a session were answered
 by_session : {S : Type 0} {Step : S → Request → Reply → S → Type 0} {Lacks : S → Request → S → Type 0}
     (bytes : List ℕ) (before after : S) (end ending : End) (sent sent_after : Option (List ℕ)) → Serves Step bytes sent before ending after sent_after
     → Asks Step Lacks bytes before end after
@@ -34,7 +34,7 @@ by_session bytes before after end ending sent sent_after serves = record {
   next = inl refl;
 }
 
--- requests of a front of the bytes stand first among the bytes too
+-- requests that begin a prefix of the bytes begin the bytes
 by_front : {S : Type 0} {Step : S → Request → Reply → S → Type 0} {Lacks : S → Request → S → Type 0}
     (bytes read rest : List ℕ) (before after : S) (end : End) → bytes ≡ read ++ rest → Asks Step Lacks read before end after → Asks Step Lacks bytes before end after
 by_front bytes read rest before after end split asks = record {
@@ -124,7 +124,7 @@ by_memory {S} {Step} {Lacks} bytes before after sent sent_after faults faults_af
     by_next (inl same) = here (inl same)
     by_next (inr u) = by_unreplied u u.unreplied
 
--- the requests that a link asked
+-- the requests that were read from a link
 pub asks : {S : Type 0} {Step : S → Request → Reply → S → Type 0} {Lacks : S → Request → S → Type 0}
     (bytes : List ℕ) (before after : S) (end : End) (sent left_after sent_after : Option (List ℕ)) (faults faults_after : ℕ)
     → Concludes Step bytes sent before end after left_after sent_after

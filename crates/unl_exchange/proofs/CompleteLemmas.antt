@@ -1,4 +1,4 @@
--- Where nothing fails, a connection ends as the session of its bytes does.
+-- If nothing fails, a connection ends as the session of its bytes does.
 use Rattle.std.proofs.Common.{◌≡◌, ◌≢◌, ◌≤◌, ℕ, List, refl, sym, subst, arith, Option, Some}
 use Rattle.unl_base.specs.Faults.{Rose}
 use Rattle.unl_http_api.specs.declared.end.End.{End}
@@ -11,18 +11,18 @@ use Rattle.unl_http_api.proofs.WholeLemmas.{whole_session}
 use Rattle.unl_exchange.specs.Conversation.{Serves, Concludes, AnswersAll, Converses, GivesUp, Reaches}
 use Rattle.unl_exchange.specs.Links.{LinkState}
 
--- a count that rose later rose
+-- a count that rose from a later value rose from an earlier one
 pub Rose_earlier : (a b c : ℕ) → a ≤ b → Rose b c → Rose a c
 Rose_earlier a b c up rose = omega (arith, up, rose)
 
--- the connection ended so, and each of these requests was answered
+-- the connection has this end, and each of these requests was answered
 abbrev pub Completes :
     {S : Type 0} → (S → Request → Reply → S → Type 0) → List Request → Option (List ℕ) → S → End → End → S
     → Option (List ℕ) → Type 0
 Completes Step asked sent before result end after sent_after =
     (result ≡ end) × AnswersAll Step asked sent before end after sent_after
 
--- what was served is the one session
+-- the session that was served is the only one
 served_whole : {S : Type 0} (Step : S → Request → Reply → S → Type 0) (bytes : List ℕ) (asked : List Request) (end : End)
     (sent : Option (List ℕ)) (before : S) (result : End) (after : S) (sent_after : Option (List ℕ))
     → Session bytes asked end → Serves Step bytes sent before result after sent_after
@@ -35,7 +35,7 @@ served_whole Step bytes asked end sent before result after sent_after session se
           (record { text = serves.text; answered = serves.answered; sends = serves.sends })),
     )
 
--- each end but those of a fault and of want of memory is the session's
+-- every end is the session's, except those of a fault or of running out of memory
 pub completes : {S Failed : Type 0} (Step : S → Request → Reply → S → Type 0) (bytes : List ℕ) (asked : List Request)
     (end : End) (sent : Option (List ℕ)) (before : S) (result : End) (after : S) (left_after sent_after : Option (List ℕ))
     → Session bytes asked end → ¬ Failed → result ≢ Memory → (result ≡ ReadFault → Failed) → (result ≡ WriteFault → Failed)
@@ -58,7 +58,7 @@ completes Step bytes asked end sent before WriteFault after left_after sent_afte
 completes Step bytes asked end sent before Memory after left_after sent_after session none some read write concludes =
     absurd (some refl)
 
--- whole requests get exactly their answers
+-- complete requests get exactly their replies
 pub completes_whole : {S Failed : Type 0} (Step : S → Request → Reply → S → Type 0) (bytes : List ℕ)
     (asked : List Request) (sent : Option (List ℕ)) (before : S) (result : End) (after : S)
     (left_after sent_after : Option (List ℕ)) → AreWhole bytes asked → ¬ Failed → result ≢ Memory
@@ -73,7 +73,7 @@ completes_whole Step bytes asked sent before result after left_after sent_after 
       subst (λ (e : End). AnswersAll Step asked sent before e after sent_after) (sym all.0) all.1,
     )
 
--- all that a conversation says
+-- all clauses of a conversation
 pub converses_so : {S : Type 0} (Step : S → Request → Reply → S → Type 0) (Lacks : S → Request → S → Type 0) (link : LinkState)
     (before : S) (end : End) (after : S) (count : ℕ) (link_after : LinkState)
     → ((bytes : List ℕ) → link.left ≡ Some bytes → Concludes Step bytes link.sent before end after link_after.left link_after.sent)

@@ -1,4 +1,4 @@
--- A conversation goes on by one exchange, and ends as the session of its bytes does.
+-- A conversation continues by one exchange, and ends as the session of its bytes does.
 use Rattle.std.proofs.Common.{◌≡◌, ℕ, ◌+◌, ◌<◌, Bool, true, ◌||◌, List, [], ◌∷◌, ◌++◌, length, refl, sym, ap, ◌∙◌, subst, arith, append_assoc, append-nil, Option, Some, None, ◌⊎◌, inl, inr}
 use Rattle.std.specs.Prelude.{◌==◌}
 use Rattle.std.proofs.lemmas.Bool.Decides.{nat_tests}
@@ -55,7 +55,7 @@ pub record Talk {S : Type 0} (Step : S → Request → Reply → S → Type 0) (
   pub answered : Answered Step 0 start.state requests text now.state
   pub sends : Sends start.sent text now.sent
 
--- one more was asked
+-- one more request was read
 turn_reads : {S : Type 0} (Sent : Option (List ℕ) → List ℕ → Option (List ℕ) → Type 0) (Step : S → Request → Reply → S → Type 0)
     (start now new : Connection S) (requests : List Request) (last close : Bool) (talk : Talk Step start now requests)
     → (turn : Exchanges Sent Step last close now new)
@@ -64,7 +64,7 @@ turn_reads Sent Step start now new requests last close talk turn =
     Reads_more (talk.read ++ turn.read) requests turn.request (now.held ++ turn.read) new.held
     (Reads-append talk.read requests now.held turn.read talk.reads) turn.begins
 
--- and was answered
+-- and it was answered
 turn_answered : {S : Type 0} (Sent : Option (List ℕ) → List ℕ → Option (List ℕ) → Type 0)
     (Step : S → Request → Reply → S → Type 0) (start now new : Connection S) (requests : List Request) (last close : Bool)
     (talk : Talk Step start now requests) → last ≡ (length requests == 999) → (turn : Exchanges Sent Step last close now new)
@@ -74,7 +74,7 @@ turn_answered Sent Step start now new requests last close talk is turn =
     Answered_more Step 0 start.state now.state new.state requests talk.text turn.request turn.replies.reply last
     talk.answered turn.replies.steps (is ∙ ap (λ (n : ℕ). n == 999) (omega arith))
 
--- one more was asked and answered
+-- one more request was read and answered
 pub Talk_more : {S : Type 0} (Step : S → Request → Reply → S → Type 0) (start now new : Connection S)
     (requests : List Request) (last close : Bool) → Talk Step start now requests → last ≡ (length requests == 999)
     → (turn : Exchanges Sends Step last close now new) → Talk Step start new (requests ++ turn.request ∷ [])
@@ -88,7 +88,7 @@ Talk_more Step start now new requests last close talk is turn = record {
       (reply_text turn.replies.reply (turn.request.close || last)) talk.sends turn.replies.sends;
 }
 
--- what was taken of bytes that are told is their front
+-- the bytes read from observable bytes are a prefix of them
 pub Takes_told : (bytes read : List ℕ) (left : Option (List ℕ)) → Takes (Some bytes) read left
     → (rest : List ℕ) × (left ≡ Some rest) × (bytes ≡ read ++ rest)
 Takes_told bytes read None took = absurd (cc)
@@ -96,7 +96,7 @@ Takes_told bytes read (Some rest) took = (rest, refl, cc)
 
 -- ---- how it ends
 
--- it began with nothing held
+-- at the beginning nothing is held
 pub Talk_begin : {S : Type 0} (Step : S → Request → Reply → S → Type 0) (left sent : Option (List ℕ)) (state : S)
     → Talk Step (record { held = []; left = left; state = state; sent = sent })
     (record { held = []; left = left; state = state; sent = sent }) []
@@ -109,7 +109,7 @@ Talk_begin Step left sent state = record {
   sends = Sends_nothing sent;
 }
 
--- a conversation whose bytes end so is what that session asks
+-- a conversation with these requests and this end serves the session of the bytes
 concluded : {S : Type 0} (Step : S → Request → Reply → S → Type 0) (start now : Connection S) (requests : List Request)
     (bytes : List ℕ) (end : End) → Talk Step start now requests → Session bytes requests end
     → (sent_after : Option (List ℕ)) → Sends now.sent (farewell end) sent_after
@@ -122,7 +122,7 @@ concluded Step start now requests bytes end talk session sent_after goodbye = re
   sends = Sends_more start.sent now.sent sent_after talk.text (farewell end) talk.sends goodbye;
 }
 
--- the last request asked for the end
+-- the last request asked to close
 concludes_asked : {S : Type 0} (Step : S → Request → Reply → S → Type 0) (start now new : Connection S)
     (requests : List Request) (last : Bool) (bytes : List ℕ) → Talk Step start now requests
     → last ≡ (length requests == 999) → StayOpen requests → length requests < 1000 → start.left ≡ Some bytes
@@ -135,7 +135,7 @@ concludes_asked Step start now new requests last bytes talk is stay few told tur
     (Session-asked more.read front.0 requests turn.request new.held more.reads stay turn.closes few))
     new.sent (Sends_nothing new.sent)
 
--- as many requests as may be were answered
+-- the limit of requests was reached
 pub concludes_limit : {S : Type 0} (Step : S → Request → Reply → S → Type 0) (start now : Connection S)
     (requests : List Request) (bytes : List ℕ) → Talk Step start now requests → StayOpen requests
     → length requests ≡ 1000 → start.left ≡ Some bytes → Serves Step bytes start.sent start.state Limit now.state now.sent
@@ -146,7 +146,7 @@ concludes_limit Step start now requests bytes talk stay full told =
     (Session-limit talk.read front.0 requests now.held talk.reads stay full))
     now.sent (Sends_nothing now.sent)
 
--- what was read when the bytes stopped
+-- the bytes read when the connection stopped
 stopped : {S : Type 0} (Sent : Option (List ℕ) → List ℕ → Option (List ℕ) → Type 0)
     (P : List ℕ → Option (List ℕ) → Type 0) (goodbye : List ℕ) (Step : S → Request → Reply → S → Type 0)
     (start now new : Connection S) (requests : List Request) (bytes : List ℕ) → (talk : Talk Step start now requests)
@@ -159,14 +159,14 @@ stopped Sent P goodbye Step start now new requests bytes talk stop told =
     (subst (λ (l : Option (List ℕ)). Takes l (talk.read ++ stop.read) new.left) told took) in
     (front.0, front.1, front.2, Reads-append talk.read requests now.held stop.read talk.reads)
 
--- where the input has ended, all of the bytes were read
+-- if the input has ended, all bytes were read
 all_read : (bytes read rest : List ℕ) (left : Option (List ℕ)) → left ≡ Some rest → bytes ≡ read ++ rest → HasEnded left
     → read ≡ bytes
 all_read bytes read rest left told split ended =
     let empty : rest ≡ [] = subst HasEnded told ended in
     sym (split ∙ ap (λ (r : List ℕ). read ++ r) empty ∙ append-nil read)
 
--- the bytes stopped where their session ends
+-- the connection stopped where the session ends
 stops_serves : {S : Type 0} (P : List ℕ → Option (List ℕ) → Type 0) (goodbye : List ℕ)
     (Step : S → Request → Reply → S → Type 0) (start now new : Connection S) (requests : List Request) (bytes : List ℕ)
     (end : End) → Talk Step start now requests → Stops Sends P goodbye now new → goodbye ≡ farewell end
@@ -176,7 +176,7 @@ stops_serves {S} P goodbye Step start now new requests bytes end talk stop is se
     (concluded Step start now requests bytes end talk session new.sent
     (subst (λ (t : List ℕ). Sends now.sent t new.sent) is stop.sends))
 
--- bytes that are unfinished end as closed or as cut off
+-- unfinished bytes end as closed or as cut off
 either_end : {P Q : Type 0} (read : List ℕ) (requests : List Request) (rest : List ℕ) → Reads read requests rest
     → StayOpen requests → length requests < 1000 → IsUnfinished rest → (Session read requests Closed → P)
     → (Session read requests CutOff → Q) → P ⊎ Q
@@ -185,7 +185,7 @@ either_end read requests [] reads stay few unfinished closed cut_off =
 either_end read requests (b ∷ rest) reads stay few unfinished closed cut_off =
     inr (cut_off (Session-cut_off read requests (b ∷ rest) reads stay few (λ h. cc) unfinished))
 
--- the front of a text was sent after another text
+-- after a text, a prefix of another was sent
 SendsFront_after : (old mid new : Option (List ℕ)) (a b : List ℕ) → Sends old a mid → SendsFront mid b new
     → SendsFront old (a ++ b) new
 SendsFront_after old mid new a b sends front = record {
@@ -234,7 +234,7 @@ cut_in_refusal {S} Step start now new requests bytes status talk stay few told s
       sends = SendsFront_after start.sent now.sent new.sent talk.text (refusal_text status) talk.sends stop.sends;
     }
 
--- each end is the session's
+-- every end is the session's
 pub concludes : {S : Type 0} (Step : S → Request → Reply → S → Type 0) (Lacks : S → Request → S → Type 0)
     (start now new : Connection S) (requests : List Request) (last : Bool) (bytes : List ℕ) (end : End)
     → Talk Step start now requests → last ≡ (length requests == 999) → StayOpen requests → length requests < 1000
@@ -276,6 +276,6 @@ concludes Step Lacks start now new requests last bytes WriteFault talk is stay f
     inr (cut_in_refusal Step start now new requests bytes status talk stay few told stop)
 concludes Step Lacks start now new requests last bytes Memory talk is stay few told turn = tt
 
--- the 1,000th turn is the one after 999 requests
+-- the 1,000th turn comes after 999 requests
 pub last_turn : (n m : ℕ) → m ≡ n → (n + 1 == 1000) ≡ (m == 999)
 last_turn n m is = grind (arith, nat_tests)

@@ -11,7 +11,7 @@ use Rattle.unl_exchange.specs.declared.receive.Received.TheVariants.{Request as 
 use Rattle.unl_exchange.specs.Exchange.{Connection, Goes, Writes, Replies, Replied, Refuses}
 use Rattle.unl_exchange.specs.Receive.{Receives}
 
--- bad bytes end the connection, refused where their status was sent
+-- bad bytes end the connection, and are refused if the refusal was sent
 pub goes_refused : {S : Type 0} (Step : S → Request → Reply → S → Type 0) (Lacks : S → Request → S → Type 0) (last : Bool)
     (old new : Connection S) (status : ℕ) (end : End) (held : List ℕ) (left sent : Option (List ℕ))
     → Receives old.held old.left (Bad status) held left → new.left ≡ left → new.state ≡ old.state → sent ≡ old.sent
@@ -42,7 +42,7 @@ goes_refused Step Lacks last old new status Asked held left sent receives same s
 goes_refused Step Lacks last old new status Limit held left sent receives same same_state unsent refuses = absurd refuses
 goes_refused Step Lacks last old new status CutOff held left sent receives same same_state unsent refuses = absurd refuses
 
--- a refusal that was not all sent
+-- a refusal that was not sent in full
 pub refused_end : (status : ℕ) (sent sent_after : Option (List ℕ)) (text : List ℕ) (end : End) → text ≡ refusal_text status
     → Writes text sent (Some end) sent_after → Refuses status sent end sent_after
 refused_end status sent sent_after text WriteFault is writes =
@@ -55,7 +55,7 @@ refused_end status sent sent_after text Asked is writes = absurd writes
 refused_end status sent sent_after text Limit is writes = absurd writes
 refused_end status sent sent_after text CutOff is writes = absurd writes
 
--- a reply that was not all sent
+-- a reply that was not sent in full
 pub goes_cut : {S : Type 0} (Step : S → Request → Reply → S → Type 0) (Lacks : S → Request → S → Type 0)
     (last close : Bool) (old new : Connection S) (request : Request) (end : End) (held : List ℕ)
     (left sent : Option (List ℕ)) → Receives old.held old.left (Whole request) held left → new.left ≡ left
@@ -90,7 +90,7 @@ goes_cut Step Lacks last close old new request Asked held left sent receives sam
 goes_cut Step Lacks last close old new request Limit held left sent receives same same_held unsent is replied = absurd replied
 goes_cut Step Lacks last close old new request CutOff held left sent receives same same_held unsent is replied = absurd replied
 
--- what was sent of a reply to a request that was answered
+-- what was sent of the reply to an answered request
 pub replied_so : {S : Type 0} (Step : S → Request → Reply → S → Type 0) (Lacks : S → Request → S → Type 0)
     (request : Request) (close : Bool) (before after : S) (reply : Reply) (sent : Option (List ℕ)) (end : Option End)
     (sent_after : Option (List ℕ)) → Step before request reply after → Writes (reply_text reply close) sent end sent_after

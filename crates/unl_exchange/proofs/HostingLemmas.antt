@@ -1,4 +1,4 @@
--- Links that were served, one after another, and what that says of a door that tells its links.
+-- Links served one after another, and what that means for a door whose links are observable.
 use Rattle.std.proofs.Common.{◌≡◌, ℕ, zero, suc, ◌+◌, List, [], ◌∷◌, ◌++◌, Option, Some, refl, sym, ap, ◌∙◌, subst, arith, append_assoc, append-nil, length-append, ◌⊎◌, inl, inr}
 use Rattle.std.specs.Prelude.{drop, option_map}
 use Rattle.unl_base.specs.Doors.{DoorState, and_one, next_of, handing_out}
@@ -14,7 +14,7 @@ use Rattle.unl_exchange.specs.Links.{LinkState, link_state}
 
 -- ---- a chain
 
--- one link more
+-- one more link
 pub hosts_more : {S : Type 0} (Serves : S → Coming → LinkState → LinkState → S → Coming → Type 0) (n : ℕ) (before middle after : Hosting S)
     → Hosts Serves n before middle → HostsLink Serves middle after → Hosts Serves (n + 1) before after
 hosts_more {S} Serves n before middle after hosts link =
@@ -23,12 +23,12 @@ hosts_more {S} Serves n before middle after hosts link =
     both : Hosts Serves (suc n) before after
     both = (middle, hosts, link)
 
--- nothing more
+-- no more link
 pub hosts_still : {S : Type 0} (Serves : S → Coming → LinkState → LinkState → S → Coming → Type 0) (n : ℕ) (before middle after : Hosting S)
     → Hosts Serves n before middle → after ≡ middle → Hosts Serves n before after
 hosts_still Serves n before middle after hosts same = subst (Hosts Serves n before) (sym same) hosts
 
--- what holds of no link, and of one link more, holds of all
+-- a property that holds for no link, and is preserved by one more, holds for all
 pub hosts_all : {S : Type 0} (Serves : S → Coming → LinkState → LinkState → S → Coming → Type 0) (P : ℕ → Hosting S → Type 0) (before : Hosting S)
     → P 0 before → ((n : ℕ) (middle after : Hosting S) → P n middle → HostsLink Serves middle after → P (suc n) after)
     → (n : ℕ) (after : Hosting S) → Hosts Serves n before after → P n after
@@ -36,9 +36,9 @@ hosts_all Serves P before none more zero after hosts = subst (P 0) (sym hosts) n
 hosts_all Serves P before none more (suc n) after hosts =
     more n hosts.0 after (hosts_all Serves P before none more n hosts.0 hosts.1) hosts.2
 
--- ---- a door that tells its links
+-- ---- a door whose links are observable
 
--- what a link has sent is told, where it was told at first
+-- what a link sends stays observable if it was at first
 sent_at : {S : Type 0} {Step : S → Request → Reply → S → Type 0} {Lacks : S → Request → S → Type 0} (bytes : List ℕ) (before after : S) (end : End) (left_after sent_after : Option (List ℕ)) (faults_after : ℕ)
     → Concludes Step bytes (Some []) before end after left_after sent_after
     → (end ≡ ends.Memory → GivesUp Step Lacks bytes (Some []) 0 before after sent_after faults_after)
@@ -60,14 +60,14 @@ sent_at {S} {Step} {Lacks} bytes before after ends.Memory left_after sent_after 
     let gives : GivesUp Step Lacks bytes (Some []) 0 before after sent_after faults_after = memory refl in
     (_, gives.told.sends ∙ ap (λ (sent : Option (List ℕ)). option_map (λ text. text ++ gives.told.part) sent) gives.sends)
 
--- what a link has sent is told, where its bytes are
+-- what a link sends is observable if its bytes are
 pub sent_told : {S : Type 0} {Step : S → Request → Reply → S → Type 0} {Lacks : S → Request → S → Type 0} {before after : S} {end : End} {count : ℕ}
     (bytes : List ℕ) (link_after : LinkState) → Converses Step Lacks (link_state (Some bytes) (Some []) 0) before end after count link_after
     → (text : List ℕ) × (link_after.sent ≡ Some text)
 sent_told {before} {after} {end} bytes link_after said =
     sent_at bytes before after end link_after.left link_after.sent link_after.faults (said.session bytes refl) (said.memory bytes refl)
 
--- A link that gave these bytes and had neither sent nor failed came back with what it had sent, and was served.
+-- A link with these bytes, on which nothing was sent and nothing failed before, was served, and what it sent is observable.
 pub record TellsLink
     {S : Type 0} (LinkServed : S → Coming → List ℕ → List ℕ × ℕ → S → Coming → Type 0) (before : S) (coming : Coming)
     (bytes : List ℕ) (link_after : LinkState) (after : S) (coming_after : Coming) : Type 0 where
@@ -75,7 +75,7 @@ pub record TellsLink
   pub sent : link_after.sent ≡ Some text
   pub served : LinkServed before coming bytes (text, link_after.faults) after coming_after
 
--- what serving a link does tells this of each link
+-- serving a link implies this for each link
 abbrev pub Tells :
     {S : Type 0} → (S → Coming → LinkState → LinkState → S → Coming → Type 0) → (S → Coming → List ℕ → List ℕ × ℕ → S → Coming → Type 0) → Type 0
 Tells {S} Serves LinkServed = (before : S) (coming : Coming) (bytes : List ℕ) (link_after : LinkState) (after : S) (coming_after : Coming)
@@ -103,19 +103,19 @@ linked_more LinkServed server coming (l ∷ links) (b ∷ backs) middle coming_m
   linked_more LinkServed linked.0 linked.1 links backs middle coming_middle bytes back after coming_after linked.3 one,
 )
 
--- a door that tells what came back has one pair more
+-- a door whose returned links are observable has one more pair
 returns_one : (backs : List (List ℕ × ℕ)) (sent : Option (List ℕ)) (text : List ℕ) (faults : ℕ) (returned : Option (List (List ℕ × ℕ)))
     → sent ≡ Some text → returned ≡ Some backs → and_one sent faults returned ≡ Some (backs ++ (text, faults) ∷ [])
 returns_one backs sent text faults returned told told_back =
     ap (λ (r : Option (List (List ℕ × ℕ))). and_one sent faults r) told_back
     ∙ ap (λ (s : Option (List ℕ)). option_map (λ bytes. backs ++ (bytes, faults) ∷ []) s) told
 
--- the first of some links to come, and the others
+-- a list of coming links is its first and the others
 first_of : (links : List (List ℕ)) → ¬ (links ≡ []) → links ≡ next_of links ∷ drop 1 links
 first_of [] some = absurd (some refl)
 first_of (bytes ∷ links) some = refl
 
--- one link more was served
+-- one more link was served
 serves_more : {S : Type 0} (Serves : S → Coming → LinkState → LinkState → S → Coming → Type 0)
     (LinkServed : S → Coming → List ℕ → List ℕ × ℕ → S → Coming → Type 0) → Tells Serves LinkServed
     → (before middle after : Hosting S) (n : ℕ) (links : List (List ℕ)) (returned : List (List ℕ × ℕ))
@@ -150,7 +150,7 @@ serves_more {S} Serves LinkServed tells before middle after n links returned one
           after.server after.coming ones.linked told.served;
     }
 
--- the links of a door were served, as far as it tells them
+-- the links of a door were served, as far as they are observable
 pub hands_back : {S : Type 0} (Serves : S → Coming → LinkState → LinkState → S → Coming → Type 0)
     (LinkServed : S → Coming → List ℕ → List ℕ × ℕ → S → Coming → Type 0) → Tells Serves LinkServed
     → (n : ℕ) (before after : Hosting S) → Hosts Serves n before after

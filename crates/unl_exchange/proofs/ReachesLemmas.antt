@@ -1,4 +1,4 @@
--- What a conversation leaves where memory was wanting, and how many requests were answered in it.
+-- What a conversation leaves if memory runs out, and how many requests were answered in it.
 use Rattle.std.proofs.Common.{◌≡◌, ℕ, ◌+◌, ◌<◌, ◌≤◌, Bool, ◌||◌, List, [], ◌∷◌, ◌++◌, length, refl, sym, ap, ◌∙◌, subst, arith, append_assoc, length-append, Option, Some, ◌⊎◌, inl, inr}
 use Rattle.std.specs.Prelude.{◌==◌}
 use Rattle.unl_base.specs.declared.draws.Draw.{Draw}
@@ -18,9 +18,9 @@ use Rattle.unl_exchange.specs.Conversation.{IsUnreplied, GivesUp, Reaches}
 use Rattle.unl_exchange.specs.Exchange.{Connection, Unreplied, Breaks, Goes, Tells500}
 use Rattle.unl_exchange.proofs.ConversationLemmas.{Answered_more, Takes_told, Talk}
 
--- ---- want of memory
+-- ---- out of memory
 
--- a request that has no whole reply begins what was left
+-- a request without a complete reply begins the bytes that were left
 breaks_told : {S : Type 0} (Step : S → Request → Reply → S → Type 0) (Lacks : S → Request → S → Type 0)
     (now new : Connection S) (rest : List ℕ) → now.left ≡ Some rest → Breaks Step Lacks now new
     → IsUnreplied Step Lacks (now.held ++ rest) now.state new.state
@@ -36,7 +36,7 @@ breaks_told Step Lacks now new rest left broken =
       unreplied = broken.unreplied;
     }
 
--- what a turn without memory leaves
+-- what a turn leaves when memory runs out
 next_told : {S : Type 0} (Step : S → Request → Reply → S → Type 0) (Lacks : S → Request → S → Type 0)
     (now new : Connection S) (rest : List ℕ) → now.left ≡ Some rest
     → (new.state ≡ now.state) ⊎ Breaks Step Lacks now new
@@ -44,12 +44,12 @@ next_told : {S : Type 0} (Step : S → Request → Reply → S → Type 0) (Lack
 next_told Step Lacks now new rest left (inl same) = inl same
 next_told Step Lacks now new rest left (inr broken) = inr (breaks_told Step Lacks now new rest left broken)
 
--- what is whole, or cut where the count of faults rose later
+-- complete, or cut short where the fault count rose from a later value, hence from an earlier one
 rose_earlier : {P : Type 0} (a b c : ℕ) → a ≤ b → P ⊎ Rose b c → P ⊎ Rose a c
 rose_earlier a b c up (inl p) = inl p
 rose_earlier a b c up (inr rose) = inr (omega (arith, up, rose))
 
--- memory was wanting after these requests
+-- memory ran out after these requests
 pub gives_up : {S : Type 0} (Step : S → Request → Reply → S → Type 0) (Lacks : S → Request → S → Type 0)
     (start now new : Connection S) (requests : List Request) (last : Bool) (bytes : List ℕ) (end : End)
     (faults between faults_after : ℕ) → Talk Step start now requests → StayOpen requests → length requests < 1000
@@ -81,15 +81,15 @@ gives_up Step Lacks start now new requests last bytes end faults between faults_
       };
     }
 
--- ---- what was answered, whether or not the bytes are told
+-- ---- what was answered, whether or not the bytes are observable
 
--- each step notes one more, and want of memory none
+-- each step increments a count, and running out of memory doesn't
 pub record Counts
     {S : Type 0} (Step : S → Request → Reply → S → Type 0) (Lacks : S → Request → S → Type 0) (count : S → ℕ) : Type 0 where
   pub step : (s t : S) (q : Request) (r : Reply) → Step s q r t → count t ≡ count s + 1
   pub lack : (s t : S) (q : Request) → Lacks s q t → count t ≡ count s
 
--- so it is where what answers counts
+-- the handler's own count is such a count
 pub Answers_count : {S : Type 0} (gives : S → Request → Draw → Reply → S → Type 0) (gives_up : S → Request → Draw → S → Type 0)
     → Counts (Answers gives) (LacksMemory gives_up) (λ s. s.count)
 Answers_count gives gives_up = record {
@@ -112,7 +112,7 @@ reaches_more Step Lacks count counts start now after requests end request reply 
   next = inl refl;
 }
 
--- no more was answered
+-- no more requests were answered
 pub reaches_same : {S : Type 0} (Step : S → Request → Reply → S → Type 0) (Lacks : S → Request → S → Type 0)
     (count : S → ℕ) (start now : Connection S) (after : S) (requests : List Request) (end : End)
     → Talk Step start now requests → length requests ≡ count now.state → after ≡ now.state
@@ -126,7 +126,7 @@ reaches_same Step Lacks count start now after requests end talk counted same = r
   next = inl same;
 }
 
--- the last request was asked, and memory was wanting at its answer or behind it
+-- the last request was read, and memory ran out while it was answered or afterwards
 reaches_lacking : {S : Type 0} (Step : S → Request → Reply → S → Type 0) (Lacks : S → Request → S → Type 0)
     (count : S → ℕ) → Counts Step Lacks count → (start now : Connection S) (after : S) (requests : List Request)
     (request : Request) → Talk Step start now requests → length requests ≡ count now.state
@@ -142,7 +142,7 @@ reaches_lacking Step Lacks count counts start now after requests request talk co
 reaches_lacking Step Lacks count counts start now after requests request talk counted (inr (reply, step)) =
     reaches_more Step Lacks count counts start now after requests Memory request reply talk counted step
 
--- as many were answered as are noted, however the last turn ended
+-- as many requests were answered as were counted, however the last turn ended
 pub reaches : {S : Type 0} (Step : S → Request → Reply → S → Type 0) (Lacks : S → Request → S → Type 0)
     (count : S → ℕ) → Counts Step Lacks count → (start now new : Connection S) (requests : List Request) (last : Bool)
     (end : End) → Talk Step start now requests → length requests ≡ count now.state

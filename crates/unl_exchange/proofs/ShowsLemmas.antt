@@ -1,4 +1,4 @@
--- What a conversation says of the state of whoever answers it says of what is seen of that state.
+-- What a conversation says about the handler's state carries over to a view of that state.
 use Rattle.std.proofs.Common.{◌≡◌, ℕ, List, refl, ap, Option, ◌⊎◌, inl, inr}
 use Rattle.unl_http_api.specs.declared.end.End.{End}
 use Rattle.unl_http_api.specs.declared.end.End.TheVariants.{Closed, Asked, Limit, Refused, CutOff, ReadFault, WriteFault, Memory}
@@ -8,12 +8,12 @@ use Rattle.unl_exchange.specs.Conversation.{Answered, AnswersAll, Concludes, Con
 use Rattle.unl_exchange.specs.Exchange.{Unreplied}
 use Rattle.unl_exchange.specs.Links.{LinkState}
 
--- this state is the last one, or memory was wanting at one more request
+-- this state is the last one, or memory ran out at one more request
 abbrev pub IsNear :
     {S : Type 0} → (S → Request → Reply → S → Type 0) → (S → Request → S → Type 0) → S → S → Type 0
 IsNear Step Lacks state after = (after ≡ state) ⊎ ((q : Request) × Unreplied Step Lacks state q after)
 
--- what is seen of the states goes on by steps of its own
+-- the steps of the states are steps of their views
 pub record Shows
     {S T : Type 0} (Step : S → Request → Reply → S → Type 0) (Lacks : S → Request → S → Type 0)
     (Seen : T → Request → Reply → T → Type 0) (Misses : T → Request → T → Type 0) (view : S → T)
@@ -163,7 +163,7 @@ Reaches_seen {Step} {Lacks} {view} {after} end count shows reaches = record {
   next = reached_seen reaches.reached end shows reaches.next;
 }
 
--- all that a conversation says
+-- all clauses of a conversation
 pub Converses_seen : {S T : Type 0} {Step : S → Request → Reply → S → Type 0} {Lacks : S → Request → S → Type 0}
     {Seen : T → Request → Reply → T → Type 0} {Misses : T → Request → T → Type 0} {view : S → T} {before after : S}
     (link : LinkState) (end : End) (count : ℕ) (link_after : LinkState) → Shows Step Lacks Seen Misses view before after

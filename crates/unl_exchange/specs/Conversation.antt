@@ -1,6 +1,5 @@
--- What a whole connection was: its requests, the reply to each, and how it ended. `Step before request reply after` is
--- what one answer does with the state of whoever answers, and `Lacks before request after` what want of memory at a
--- request leaves of it.
+-- All of a connection: its requests, the reply to each, and how it ended. `Step before request reply after` is the effect
+-- of one answer on the handler's state, and `Lacks before request after` the effect of running out of memory at a request.
 use Rattle.std.specs.Prelude.{◌≡◌, ◌≢◌, ◌≤◌, ℕ, ◌+◌, ◌⊎◌, ◌==◌, ◌||◌, List, [], ◌∷◌, ◌++◌, length, Option, Some, ⊤}
 use Rattle.unl_base.specs.Faults.{Rose}
 use Rattle.unl_base.specs.Streams.{Sends, SendsFront}
@@ -14,8 +13,8 @@ use Rattle.unl_http_api.specs.Session.{AreWhole, IsOpen, IsRegular, Reads, Sessi
 use Rattle.unl_exchange.specs.Exchange.{Unreplied, Tells500}
 use Rattle.unl_exchange.specs.Links.{LinkState}
 
--- The text answers the requests, of which so many came before: each by one step, and the connection ends after one that
--- asks for it and after the 1,000th.
+-- The text is the replies to the requests, one step each, after `count` earlier requests. The connection ends after a reply
+-- to a request that asks for it, and after the 1,000th.
 abbrev pub Answered : {S : Type 0} → (S → Request → Reply → S → Type 0) → ℕ → S → List Request → List ℕ → S → Type 0
 Answered {S} Step count before [] text after = (text ≡ []) × (after ≡ before)
 Answered {S} Step count before (q ∷ qs) text after =
@@ -34,7 +33,7 @@ farewell ReadFault = []
 farewell WriteFault = []
 farewell Memory = []
 
--- the bytes' session ended so, and each of its requests was answered
+-- the session of the bytes has this end, each of its requests was answered, and all replies were sent
 pub record Serves
     {S : Type 0} (Step : S → Request → Reply → S → Type 0) (bytes : List ℕ) (sent : Option (List ℕ)) (before : S)
     (end : End) (after : S) (sent_after : Option (List ℕ)) : Type 0 where
@@ -44,7 +43,7 @@ pub record Serves
   pub answered : Answered Step 0 before requests text after
   pub sends : Sends sent (text ++ farewell end) sent_after
 
--- The bytes that were read before a read failed, all but those that are left, are a session of their own, whose requests
+-- A read failed. The bytes read until then, which are all but the bytes left, form a session of their own, whose requests
 -- were answered.
 pub record ServesFront
     {S : Type 0} (Step : S → Request → Reply → S → Type 0) (bytes : List ℕ) (sent : Option (List ℕ)) (before after : S)
@@ -55,8 +54,8 @@ pub record ServesFront
   pub left : left_after ≡ Some rest
   pub serves : Serves Step read sent before Closed after sent_after ⊎ Serves Step read sent before CutOff after sent_after
 
--- These requests were asked and answered, and of the replies' text only a front was sent: the last request may be one
--- that ends the connection.
+-- A write failed in a reply. These requests were read and answered, and only a prefix of the replies was sent. The last
+-- request may be one that ends the connection.
 pub record CutInReply
     {S : Type 0} (Step : S → Request → Reply → S → Type 0) (bytes : List ℕ) (sent : Option (List ℕ)) (before after : S)
     (sent_after : Option (List ℕ)) : Type 0 where
@@ -69,7 +68,7 @@ pub record CutInReply
   pub answered : Answered Step 0 before (earlier ++ request ∷ []) text after
   pub sends : SendsFront sent text sent_after
 
--- the session is refused there, and of the replies' and the refusal's text only a front was sent
+-- a write failed in a refusal: the session ends with it, and only a prefix of the replies and the refusal was sent
 pub record CutInRefusal
     {S : Type 0} (Step : S → Request → Reply → S → Type 0) (bytes : List ℕ) (sent : Option (List ℕ)) (before after : S)
     (sent_after : Option (List ℕ)) : Type 0 where
@@ -80,7 +79,7 @@ pub record CutInRefusal
   pub answered : Answered Step 0 before requests text after
   pub sends : SendsFront sent (text ++ refusal_text status) sent_after
 
--- a request begins the bytes, and has no whole reply
+-- a request begins the bytes, and its reply was not sent in full
 pub record IsUnreplied
     {S : Type 0} (Step : S → Request → Reply → S → Type 0) (Lacks : S → Request → S → Type 0) (bytes : List ℕ)
     (before after : S) : Type 0 where
@@ -89,8 +88,8 @@ pub record IsUnreplied
   pub begins : BeginsWith bytes request rest
   pub unreplied : Unreplied Step Lacks before request after
 
--- These requests were asked and answered before memory was wanting, and then its answer was sent. The next one may have
--- been asked too, and then its reply was not sent.
+-- Memory ran out after these requests were read and answered, and then the 500 reply was sent, as far as the link allowed.
+-- One more request may have been read; its reply was not sent.
 pub record GivesUp
     {S : Type 0} (Step : S → Request → Reply → S → Type 0) (Lacks : S → Request → S → Type 0) (bytes : List ℕ)
     (sent : Option (List ℕ)) (faults : ℕ) (before after : S) (sent_after : Option (List ℕ)) (faults_after : ℕ) : Type 0 where
@@ -106,7 +105,7 @@ pub record GivesUp
   pub sends : Sends sent text sent_before
   pub told : Tells500 sent_before faults sent_after faults_after
 
--- what stands at each end but at want of memory
+-- what holds for each end, other than running out of memory
 abbrev pub Concludes :
     {S : Type 0} → (S → Request → Reply → S → Type 0) → List ℕ → Option (List ℕ) → S → End → S → Option (List ℕ)
     → Option (List ℕ) → Type 0
@@ -130,8 +129,8 @@ pub record AnswersAll
   pub answered : Answered Step 0 before requests text after
   pub sends : Sends sent (text ++ farewell end) sent_after
 
--- So many requests were answered one after another, whether or not the bytes are told. At want of memory one more may
--- have been asked, and it was not answered.
+-- `count` requests were answered one after another, whether or not the bytes are observable. If memory ran out, one more
+-- may have been read, and it was not answered.
 pub record Reaches
     {S : Type 0} (Step : S → Request → Reply → S → Type 0) (Lacks : S → Request → S → Type 0) (before : S) (end : End)
     (after : S) (count : ℕ) : Type 0 where
@@ -142,27 +141,27 @@ pub record Reaches
   pub counted : length requests ≡ count
   pub next : (after ≡ reached) ⊎ ((end ≡ Memory) × (request : Request) × Lacks reached request after)
 
--- What a conversation on a link says, from its beginning to its end, at which so many requests were answered.
+-- A conversation on a link, from beginning to end, with `count` answered requests.
 pub record Converses
     {S : Type 0} (Step : S → Request → Reply → S → Type 0) (Lacks : S → Request → S → Type 0) (link : LinkState) (before : S)
     (end : End) (after : S) (count : ℕ) (link_after : LinkState) : Type 0 where
-  -- the end is the session's, and its requests were answered one after another
+  -- the end is that of the session, and its requests were answered one after another
   pub session : (bytes : List ℕ) → link.left ≡ Some bytes
       → Concludes Step bytes link.sent before end after link_after.left link_after.sent
-  -- where no call of the link failed and memory was found, that is the end, and each request has its answer
+  -- if no call of the link failed and memory didn't run out, the end is the session's, and each request was answered
   pub complete : (bytes : List ℕ) (asked : List Request) (ending : End) → link.left ≡ Some bytes → Session bytes asked ending
       → ¬ (Rose link.faults link_after.faults) → end ≢ Memory
       → (end ≡ ending) × AnswersAll Step asked link.sent before ending after link_after.sent
-  -- so whole requests, of which only the last may end the connection, get exactly their answers
+  -- so complete requests, of which only the last may end the connection, get exactly their replies
   pub whole : (bytes : List ℕ) (asked : List Request) → link.left ≡ Some bytes → AreWhole bytes asked
       → ¬ (Rose link.faults link_after.faults) → end ≢ Memory
       → IsRegular end × AnswersAll Step asked link.sent before end after link_after.sent
-  -- want of memory is told to the other side, after whole replies
+  -- if memory ran out, a 500 reply is sent after complete replies, as far as the link allows
   pub memory : (bytes : List ℕ) → link.left ≡ Some bytes → end ≡ Memory
       → GivesUp Step Lacks bytes link.sent link.faults before after link_after.sent link_after.faults
-  -- in every case so many requests were answered one after another
+  -- in every case, `count` requests were answered one after another
   pub answered : Reaches Step Lacks before end after count
-  -- a fault is told only where the link counted one
+  -- a fault is reported only if the link's fault count rose
   pub later : link.faults ≤ link_after.faults
   pub read_cause : end ≡ ReadFault → Rose link.faults link_after.faults
   pub write_cause : end ≡ WriteFault → Rose link.faults link_after.faults

@@ -9,7 +9,7 @@ use Rattle.unl_http_api.specs.declared.request.Request.{Request}
 use Rattle.unl_http_api.specs.Reply.{reply_text, refusal_text}
 use Rattle.unl_http_api.specs.Requests.{BeginsWith, IsBad, IsUnfinished}
 
--- the request was answered by a step, and the reply was sent, whole or its front
+-- the request was answered by a step, and the reply was sent, in full or in part
 pub record Replies
     {S : Type 0} (Sent : Option (List ℕ) → List ℕ → Option (List ℕ) → Type 0)
     (Step : S → Request → Reply → S → Type 0) (request : Request) (close : Bool) (before after : S)
@@ -18,20 +18,21 @@ pub record Replies
   pub steps : Step before request reply after
   pub sends : Sent sent (reply_text reply close) sent_after
 
--- the request has no whole reply, since memory was wanting at its answer or behind it
+-- the request has no complete reply, since memory ran out while it was answered or afterwards
 abbrev pub Unreplied :
     {S : Type 0} → (S → Request → Reply → S → Type 0) → (S → Request → S → Type 0) → S → Request → S → Type 0
 Unreplied Step Lacks before request after =
     Lacks before request after ⊎ ((reply : Reply) × Step before request reply after)
 
--- what a connection holds: the bytes that came, those to come, what it is answered by, and what was sent
+-- the state of a connection: the bytes received and not consumed, the bytes to come, the handler's state, and the bytes
+-- sent
 pub record Connection (S : Type 0) : Type 0 where
   pub held : List ℕ
   pub left : Option (List ℕ)
   pub state : S
   pub sent : Option (List ℕ)
 
--- a request was read and replied to
+-- a request was read and its reply sent
 pub record Exchanges
     {S : Type 0} (Sent : Option (List ℕ) → List ℕ → Option (List ℕ) → Type 0)
     (Step : S → Request → Reply → S → Type 0) (last close : Bool) (old new : Connection S) : Type 0 where
@@ -42,7 +43,7 @@ pub record Exchanges
   pub closes : request.close ≡ close
   pub replies : Replies Sent Step request (request.close || last) old.state new.state old.sent new.sent
 
--- the bytes ended the connection, and no reply was sent but what this end sends
+-- the bytes ended the connection, and nothing was sent except what this end sends
 pub record Stops
     {S : Type 0} (Sent : Option (List ℕ) → List ℕ → Option (List ℕ) → Type 0)
     (P : List ℕ → Option (List ℕ) → Type 0) (farewell : List ℕ) (old new : Connection S) : Type 0 where
@@ -52,7 +53,7 @@ pub record Stops
   pub same : new.state ≡ old.state
   pub sends : Sent old.sent farewell new.sent
 
--- a request was read that has no whole reply
+-- a request was read, and its reply was not sent in full
 pub record Breaks
     {S : Type 0} (Step : S → Request → Reply → S → Type 0) (Lacks : S → Request → S → Type 0)
     (old new : Connection S) : Type 0 where
@@ -62,8 +63,8 @@ pub record Breaks
   pub begins : BeginsWith (old.held ++ read) request new.held
   pub unreplied : Unreplied Step Lacks old.state request new.state
 
--- What one turn does: it goes on after a request that does not close, or it ends. Where memory is wanting, a request
--- was read that has no whole reply, or none was.
+-- The effect of one turn: the connection stays open after a request that does not close it, or it ends. If memory ran out,
+-- a request was read whose reply was not sent in full, or none was read.
 abbrev pub Goes :
     {S : Type 0} → (S → Request → Reply → S → Type 0) → (S → Request → S → Type 0) → Bool → Connection S → Option End
     → Connection S → Type 0
@@ -81,14 +82,14 @@ Goes Step Lacks last old (Some WriteFault) new =
     ⊎ ((status : ℕ) × Stops SendsFront (λ bytes left. IsBad bytes status) (refusal_text status) old new)
 Goes Step Lacks last old (Some Memory) new = (new.state ≡ old.state) ⊎ Breaks Step Lacks old new
 
--- what writing a text does: None where all of it was sent
+-- the effect of writing a text; `None` if all of it was sent
 abbrev pub Writes : List ℕ → Option (List ℕ) → Option End → Option (List ℕ) → Type 0
 Writes text sent None sent_after = Sends sent text sent_after
 Writes text sent (Some WriteFault) sent_after = SendsFront sent text sent_after
 Writes text sent (Some Memory) sent_after = ⊤
 Writes text sent (Some end) sent_after = ⊥
 
--- what replying does: None where the reply was sent
+-- the effect of replying; `None` if the reply was sent in full
 abbrev pub Replied :
     {S : Type 0} → (S → Request → Reply → S → Type 0) → (S → Request → S → Type 0) → Request → Bool → S → S
     → Option (List ℕ) → Option End → Option (List ℕ) → Type 0
@@ -99,14 +100,14 @@ Replied Step Lacks request close before after sent (Some WriteFault) sent_after 
 Replied Step Lacks request close before after sent (Some Memory) sent_after = Unreplied Step Lacks before request after
 Replied Step Lacks request close before after sent (Some end) sent_after = ⊥
 
--- what refusing does
+-- the effect of refusing
 abbrev pub Refuses : ℕ → Option (List ℕ) → End → Option (List ℕ) → Type 0
 Refuses status sent (Refused told) sent_after = (told ≡ status) × Sends sent (refusal_text status) sent_after
 Refuses status sent WriteFault sent_after = SendsFront sent (refusal_text status) sent_after
 Refuses status sent Memory sent_after = ⊤
 Refuses status sent end sent_after = ⊥
 
--- the text of the answer for want of memory was sent, or its front where the link has failed
+-- the 500 reply was sent after memory ran out, in full, or a prefix of it if the link failed
 pub record Tells500 (sent : Option (List ℕ)) (faults : ℕ) (sent_after : Option (List ℕ)) (faults_after : ℕ) : Type 0 where
   pub part : List ℕ
   pub after : List ℕ

@@ -1,5 +1,5 @@
--- Links that a door hands out, served one after another. `Serves before coming link link_after after coming_after` is what
--- serving one link does: from this server with these draws to come, the link stood so and then so, and this is left.
+-- The links of a door, served one after another. `Serves before coming link link_after after coming_after` is the effect of
+-- serving one link: the server and the coming draws before, the link before and after, the server and the draws after.
 use Rattle.std.specs.Prelude.{◌≡◌, ℕ, zero, suc, Bool, Result, Ok, Err}
 use Rattle.unl_base.specs.declared.Failed.{Failed}
 use Rattle.unl_base.specs.Doors.{DoorState, IsFresh, IsOpen, handing_out, taking_back}
@@ -8,17 +8,17 @@ use Rattle.unl_exchange.specs.declared.hosting.Hosted.TheVariants.{Served, Close
 use Rattle.unl_exchange.specs.Answering.{Coming}
 use Rattle.unl_exchange.specs.Links.{LinkState}
 
--- what serves the links of a door, the draws to come, and the door
+-- the server, the coming draws, and the door
 pub record Hosting (S : Type 0) : Type 0 where
   pub server : S
   pub coming : Coming
   pub door : DoorState
 
--- these together
+-- these three as a record
 abbrev pub hosting : {S : Type 0} → S → Coming → DoorState → Hosting S
 hosting server coming door = record { server = server; coming = coming; door = door }
 
--- a link was handed out, served and handed back
+-- a link was handed out, served and returned
 pub record HostsLink
     {S : Type 0} (Serves : S → Coming → LinkState → LinkState → S → Coming → Type 0) (before after : Hosting S) : Type 0 where
   pub link : LinkState
@@ -29,19 +29,19 @@ pub record HostsLink
   pub served : Serves before.server before.coming link link_after after.server after.coming
   pub door : after.door ≡ taking_back link_after.sent link_after.faults (handing_out closed before.door)
 
--- so many links were, one after another
+-- `n` links were handed out, served and returned, one after another
 abbrev pub Hosts : {S : Type 0} → (S → Coming → LinkState → LinkState → S → Coming → Type 0) → ℕ → Hosting S → Hosting S → Type 0
 Hosts Serves zero before after = after ≡ before
 Hosts {S} Serves (suc n) before after = (middle : Hosting S) × Hosts Serves n before middle × HostsLink Serves middle after
 
--- one link was, or none where the door is closed or failed
+-- one link was served, or none if the door is closed or failed
 abbrev pub HostsNext :
     {S : Type 0} → (S → Coming → LinkState → LinkState → S → Coming → Type 0) → Result Hosted Failed → Hosting S → Hosting S → Type 0
 HostsNext Serves (Ok Served) before after = HostsLink Serves before after
 HostsNext Serves (Ok Closed) before after = after ≡ before
 HostsNext Serves (Err failed) before after = after ≡ before
 
--- as many links as are answered were, or at a fault of the door some
+-- as many links as the result says were served; if the door failed, some number of them
 abbrev pub HostsAll :
     {S : Type 0} → (S → Coming → LinkState → LinkState → S → Coming → Type 0) → Result ℕ Failed → Hosting S → Hosting S → Type 0
 HostsAll Serves (Ok served) before after = Hosts Serves served before after

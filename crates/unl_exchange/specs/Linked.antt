@@ -1,11 +1,12 @@
--- Links of a door that tells its links, served one after another. `LinkServed before coming bytes back after coming_after`
--- is what serving one link did that gave these bytes and came back with what it had sent and how often it had failed.
+-- The links of a door whose links are observable, served one after another.
+-- `LinkServed before coming bytes back after coming_after` is the effect of serving one link with these bytes, which came
+-- back with what it had sent and its fault count.
 use Rattle.std.specs.Prelude.{◌≡◌, ℕ, ◌+◌, List, [], ◌∷◌, ◌++◌, length, Option, Some}
 use Rattle.unl_base.specs.Doors.{DoorState}
 use Rattle.unl_exchange.specs.Answering.{Coming}
 
--- Links that gave these bytes were served one after another, the first by this server with these draws to come, and each
--- had then sent and failed so often.
+-- Links with these bytes were served one after another, beginning with this server and these coming draws, and came back
+-- with these sent bytes and fault counts.
 abbrev pub Linked :
     {S : Type 0} → (S → Coming → List ℕ → List ℕ × ℕ → S → Coming → Type 0) → S → Coming → List (List ℕ) → List (List ℕ × ℕ)
     → S → Coming → Type 0
@@ -16,7 +17,7 @@ Linked {S} LinkServed server coming (bytes ∷ links) (back ∷ backs) after com
     (middle : S) × (coming_middle : Coming) × LinkServed server coming bytes back middle coming_middle
     × Linked LinkServed middle coming_middle links backs after coming_after
 
--- what stands while links are served: the server, the draws to come, and the door's links
+-- the state while links are served: the server, the coming draws, and what the door records about its links
 pub record Linking (S : Type 0) : Type 0 where
   pub server : S
   pub coming : Coming
@@ -25,7 +26,7 @@ pub record Linking (S : Type 0) : Type 0 where
   pub links : Option (List (List ℕ))
   pub returned : Option (List (List ℕ × ℕ))
 
--- these of a server, the draws to come and a door
+-- these, from a server, the coming draws and a door
 abbrev pub linking : {S : Type 0} → S → Coming → DoorState → Linking S
 linking server coming door = record {
   server = server;
@@ -36,7 +37,7 @@ linking server coming door = record {
   returned = door.returned;
 }
 
--- of these links to come so many were handed out, served, and handed back in order after those from before
+-- the first `served` of these links were handed out, served, and returned in order, behind the links returned before
 pub record ServesLinks
     {S : Type 0} (LinkServed : S → Coming → List ℕ → List ℕ × ℕ → S → Coming → Type 0) (before after : Linking S)
     (served : ℕ) (links : List (List ℕ)) (returned : List (List ℕ × ℕ)) : Type 0 where
@@ -49,7 +50,7 @@ pub record ServesLinks
   pub counted : length given_links ≡ served
   pub linked : Linked LinkServed before.server before.coming given_links backs after.server after.coming
 
--- So many links were handed out, and as many were handed back. Where a door tells its links, each was served.
+-- `served` links were handed out, and as many were returned. If the door's links are observable, each was served.
 pub record HandsBack
     {S : Type 0} (LinkServed : S → Coming → List ℕ → List ℕ × ℕ → S → Coming → Type 0) (before after : Linking S)
     (served : ℕ) : Type 0 where

@@ -1,4 +1,4 @@
--- What was read of a link, and what then stood next.
+-- The bytes read from a link, and the item found in them.
 use Rattle.std.specs.Prelude.{◌≡◌, ◌≢◌, ℕ, ◌<◌, List, [], ◌++◌, length, Option, Some, None, ⊤}
 use Rattle.unl_base.specs.Streams.{Takes, HasEnded}
 use Rattle.http.specs.StatusCode.{IsStatusCode}
@@ -6,7 +6,7 @@ use Rattle.unl_http_api.specs.Requests.{BeginsWith, IsBad, IsUnfinished}
 use Rattle.unl_exchange.specs.declared.receive.Received.{Received}
 use Rattle.unl_exchange.specs.declared.receive.Received.TheVariants.{Request as Whole, Bad, Closed, CutOff, ReadFault, Memory}
 
--- what stood next in the bytes, of which the held ones are left
+-- the next item in the bytes, after which the held bytes are left
 abbrev pub Stands : List ℕ → Option (List ℕ) → Received → List ℕ → Type 0
 Stands bytes left (Whole request) held = BeginsWith bytes request held
 Stands bytes left (Bad status) held = IsBad bytes status × IsStatusCode status
@@ -15,7 +15,7 @@ Stands bytes left CutOff held = (bytes ≢ []) × IsUnfinished bytes × HasEnded
 Stands bytes left ReadFault held = IsUnfinished bytes
 Stands bytes left Memory held = ⊤
 
--- Bytes were taken from the link and added to the held ones, and then this stood next.
+-- Bytes were read from the link and appended to those held, and then this item was next.
 pub record Receives
     (held : List ℕ) (left : Option (List ℕ)) (found : Received) (held_after : List ℕ)
     (left_after : Option (List ℕ)) : Type 0 where
@@ -23,7 +23,7 @@ pub record Receives
   pub took : Takes left read left_after
   pub stands : Stands (held ++ read) left_after found held_after
 
--- a piece was taken from the link and added to the held bytes, which were not too many
+-- bytes were read from the link and appended to those held, which were not too many
 pub record TakesPiece
     (held : List ℕ) (left : Option (List ℕ)) (held_after : List ℕ) (left_after : Option (List ℕ)) : Type 0 where
   pub piece : List ℕ
@@ -32,7 +32,7 @@ pub record TakesPiece
   pub added : held_after ≡ held ++ piece
   pub room : length held < 1056768
 
--- one turn: what stands next was found, or a piece was taken
+-- one turn: the next item was found, or more bytes were read
 abbrev pub Turns :
     List ℕ → Option (List ℕ) → Option Received → List ℕ → Option (List ℕ) → Type 0
 Turns held left (Some found) held_after left_after = Receives held left found held_after left_after

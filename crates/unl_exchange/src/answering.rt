@@ -1,4 +1,4 @@
-//! Whoever answers the requests of a connection.
+//! The handler for the requests of a connection.
 ghost use Rattle.std.specs.Prelude.{◌≡◌, ◌<◌, ◌+◌, ℕ, IfOk, OnErr, OnOk};
 ghost use Rattle.http.specs.StatusCode.{IsStatusCode};
 ghost use Rattle.unl_base.specs.declared.draws.Draw.{Draw};
@@ -10,30 +10,30 @@ use unl_base::Draw;
 use unl_documents::Memory;
 use unl_http_api::{Reply, Request};
 
-/// As many requests are answered on a connection.
+/// The most requests that are answered on one connection.
 pub const MOST_REQUESTS: usize = 1000;
 
-/// Answers the requests of a connection, and notes what it must of each.
+/// Handles the requests of a connection, and records what it must about each.
 pub trait Answering {
-    /// What answers, and may change by it: with all that it notes and sums.
+    /// The state of the handler, which a request may change, with all that it records and sums up.
     type State;
 
-    /// What an answer may ask of the state, where so many requests of the connection were answered before it.
+    /// The precondition of `answer`: the state and the number of requests answered before on the connection.
     ghost fits: { ℕ → Self.State → Type 0 };
 
-    /// What no answer changes: at least which references the state holds.
+    /// The relation that every call preserves: at least, the state holds the same references.
     ghost keeps: { Self.State → Self.State → Type 0 };
 
-    /// The request, with its draw, is given this reply, and this is the state then.
+    /// The effect of a successful answer: the state before, the request, its draw, the reply, and the state after.
     ghost gives: { Self.State → Request → Draw → Reply → Self.State → Type 0 };
 
-    /// Memory was wanting at the request, with its draw, and this is the state then.
+    /// The effect of running out of memory at a request: the state before, the request, its draw, and the state after.
     ghost gives_up: { Self.State → Request → Draw → Self.State → Type 0 };
 
-    /// Answers a request before which so many were answered on its connection.
+    /// Handles a request. `count` requests were answered on its connection before.
     ///
     /// # Errors
-    /// Memory was wanting. The request then counts as not answered.
+    /// `Memory`: out of memory. The request then counts as not answered.
     fn answer(
         alloc: Global,
         state: &mut Self::State,
@@ -50,7 +50,9 @@ pub trait Answering {
         ensures still_fits { OnErr result (fits count state.new) }
         ensures keeps { keeps state.old state.new };
 
+    // `keeps` is reflexive.
     ghost keeps_itself: { (state : Self.State) → keeps state state };
 
+    // `keeps` is transitive.
     ghost keeps_on: { (first next last : Self.State) → keeps first next → keeps next last → keeps first last };
 }

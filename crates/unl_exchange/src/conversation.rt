@@ -1,4 +1,4 @@
-//! Conversing on a whole connection.
+//! Serves the requests of one connection.
 ghost use Rattle.unl_exchange.specs.Answering.{Answers, LacksMemory, answerer};
 ghost use Rattle.unl_exchange.specs.Conversation.{Converses};
 ghost use Rattle.unl_exchange.specs.Links.{link_state};
@@ -10,8 +10,8 @@ use std::alloc::Global;
 use unl_base::{Draws, Link};
 use unl_http_api::{End, Reader};
 
-/// Converses on a connection: each request is answered with a draw of its own, and replied to, until the connection ends.
-/// It answers how many requests it answered, and how the connection ended.
+/// Serves the requests of a connection until it ends. Each request gets a draw of its own, and a reply. Returns how many
+/// requests were answered, and why the connection ended.
 pub fn converse<A: Answering, L: Link, R: Draws>(
     alloc: Global,
     state: &mut A::State,
@@ -27,7 +27,7 @@ pub fn converse<A: Answering, L: Link, R: Draws>(
     ensures keeps { A.keeps state.old state.new }
 {
     let mut reader = Reader::new(alloc);
-    // One room for the whole connection: to make it anew costs more than most requests do.
+    // One buffer for the whole connection: filling a new one costs more than most requests do.
     let mut room = [0; PIECE];
     let mut count = 0;
     for turn in 0..MOST_REQUESTS {

@@ -1,4 +1,4 @@
-//! Links that a door hands out, served one after another.
+//! Serves the links of a door, one after another.
 ghost use Rattle.std.specs.Prelude.{◌≡◌, ◌<◌, IfOk, OnOk};
 ghost use Rattle.unl_base.specs.Doors.{IsClosed, IsListening, taking_back};
 ghost use Rattle.unl_base.specs.Faults.{HasCause};
@@ -12,16 +12,17 @@ use unl_base::{Door, Draws, Failed, Link};
 
 /// Serves links, one after another.
 pub trait Server {
-    /// What a server asks before each link, and is behind it.
+    /// The precondition of `serve_link`, which also holds after it.
     ghost fits: { Self → Type 0 };
 
-    /// What serving no link changes: at least which references the server holds.
+    /// The relation that every call preserves: at least, the server holds the same references.
     ghost keeps: { Self → Self → Type 0 };
 
-    /// A link was served that stood so and then so: from this server, with these draws to come, to this, with these.
+    /// The effect of serving a link: the server and the coming draws before, the link before and after, the server and the
+    /// draws after.
     ghost serves: { Self → Coming → LinkState → LinkState → Self → Coming → Type 0 };
 
-    /// Serves a link, and does what comes between two. A fault of the link, and want of memory, end this link alone.
+    /// Serves a link, and does what is due between two links. If the link fails, or memory runs out, only this link ends.
     fn serve_link<L: Link, R: Draws>(&mut self, alloc: Global, link: &mut L, draws: &mut R)
         requires { fits self.old }
         ensures serves { serves self.old (R.coming draws.old)
@@ -30,25 +31,27 @@ pub trait Server {
         ensures fits { fits self.new }
         ensures keeps { keeps self.old self.new };
 
+    // `keeps` is reflexive.
     ghost keeps_itself: { (server : Self) → keeps server server };
 
+    // `keeps` is transitive.
     ghost keeps_on: { (first next last : Self) → keeps first next → keeps next last → keeps first last };
 }
 
-/// What came of waiting for a link.
+/// The outcome of waiting for a link.
 #[derive(Clone, Copy, Debug, PartialEq, Eq)]
 pub(crate) enum Hosted {
-    /// A link came, was served and was handed back.
+    /// A link came, was served and was returned to the door.
     Served,
     /// The door is closed.
     Closed,
 }
 
-/// Serves one link after the other and hands each back, until the door is closed, and answers how many these were. A
-/// fault of a link, and want of memory in it, end that link alone.
+/// Serves the links of a door, one after another, and returns each to it, until the door is closed. Returns how many links
+/// were served. If a link fails, or memory runs out while it is served, only that link ends.
 ///
 /// # Errors
-/// `Failed`: the door could hand out no link, which it counted.
+/// `Failed`: the door could not hand out a link. The door increments its fault count.
 pub fn host<S: Server, D: Door, R: Draws, W: Wait>(
     rt: &W,
     alloc: Global,
@@ -76,7 +79,7 @@ pub fn host<S: Server, D: Door, R: Draws, W: Wait>(
     wait_for_ever(rt)
 }
 
-/// Waits for the next link, serves it, and hands it back.
+/// Waits for the next link, serves it, and returns it to the door.
 fn serve_next<S: Server, D: Door, R: Draws>(
     alloc: Global,
     server: &mut S,
@@ -102,7 +105,7 @@ fn serve_next<S: Server, D: Door, R: Draws>(
     }
 }
 
-/// Serves a link, and hands it back.
+/// Serves a link and returns it to the door.
 fn serve_and_return<S: Server, D: Door, R: Draws>(
     alloc: Global,
     server: &mut S,
@@ -124,7 +127,7 @@ fn serve_and_return<S: Server, D: Door, R: Draws>(
     door.give_back(link);
 }
 
-/// Never returns: no run of the program serves so many links.
+/// Never returns. It is reached after `u64::MAX` links, which no run of the program serves.
 fn wait_for_ever<T, W: Wait>(rt: &W) -> T
     ensures { ⊥ }
 {

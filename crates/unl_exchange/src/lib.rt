@@ -1,5 +1,5 @@
-//! One server. On a connection its requests are read from a link, answered one after another by whoever answers, and
-//! replied to in their order ([`converse`]); of a door its links are served one after another ([`host`]).
+//! The server. [`converse`] reads the requests of one connection from a link, passes each to the handler, and sends the
+//! replies in order. [`host`] serves the links of a door, one after another.
 #![tactic(auto)]
 
 mod answering;

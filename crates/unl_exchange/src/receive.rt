@@ -1,4 +1,4 @@
-//! Receiving requests from a link.
+//! Receives requests from a link.
 ghost use Rattle.std.specs.Prelude.{◌≡◌, ◌<◌, ◌≤◌, ◌==◌, if◌then◌else◌, length};
 ghost use Rattle.unl_base.specs.Faults.{Rose};
 ghost use Rattle.unl_http_api.specs.Requests.{IsUnfinished};
@@ -9,24 +9,27 @@ use unl_base::{Failed, Link};
 use unl_documents::Memory;
 use unl_http_api::{Next, Reader, Request};
 
-/// So many bytes are read at a time.
+/// The most bytes per read.
 pub(crate) const PIECE: usize = 16_384;
 
-/// What was received.
+/// The outcome of receiving.
 #[derive(Drop)]
 pub(crate) enum Received {
+    /// A complete request.
     Request(Request),
-    /// Bytes that are answered with this status.
+    /// Invalid bytes. The reply has this status.
     Bad(u16),
-    /// The input ended, and no byte was left.
+    /// The input ended, and no bytes were left.
     Closed,
     /// The input ended inside a request.
     CutOff,
+    /// A read failed.
     ReadFault,
+    /// Out of memory.
     Memory,
 }
 
-/// Receives the next request, or tells why none comes. What is read goes through this room, whose bytes say nothing.
+/// Receives the next request, or returns why there is none. `room` is the read buffer; its contents don't matter.
 pub(crate) fn receive<L: Link>(
     alloc: Global,
     reader: &mut Reader,
@@ -45,7 +48,7 @@ pub(crate) fn receive<L: Link>(
     }
 }
 
-/// Looks at what stands next, and where that is unfinished reads a piece.
+/// Takes the next request. If it is incomplete, reads more bytes and returns `None`.
 fn turn<L: Link>(
     alloc: Global,
     reader: &mut Reader,
@@ -66,7 +69,7 @@ fn turn<L: Link>(
     }
 }
 
-/// Reads a piece of a request that is not whole yet.
+/// Reads more bytes of an incomplete request.
 fn read_piece<L: Link>(reader: &mut Reader, link: &mut L, room: &mut [u8]) -> Option<Received>
     requires room { 0 < length room.old }
     requires unfinished { IsUnfinished reader.old }
@@ -86,7 +89,7 @@ fn read_piece<L: Link>(reader: &mut Reader, link: &mut L, room: &mut [u8]) -> Op
     }
 }
 
-/// How the input ended, before a request that is not whole.
+/// How the input ended, given the bytes that are left.
 fn ended(reader: &Reader) -> Received
     ensures { result ≡ (if length reader.now == 0 then Received.Closed else Received.CutOff) }
 {

@@ -1,4 +1,4 @@
-//! One exchange on a connection: a request is received, answered, counted and replied to.
+//! One exchange on a connection: receives a request, passes it to the handler, counts it, and sends the reply.
 ghost use Rattle.std.specs.Prelude.{◌≡◌, ◌<◌, ◌≤◌, if◌then◌else◌};
 ghost use Rattle.http.specs.StatusCode.{IsStatusCode};
 ghost use Rattle.unl_base.specs.Faults.{Rose};
@@ -13,7 +13,7 @@ use unl_base::{Draws, Link};
 use unl_documents::{List, Memory};
 use unl_http_api::{End, Reader, Reply, Request, WriteRefusal, write_500, write_reply};
 
-/// Serves one request. None: it was answered, and the connection goes on.
+/// Serves one request. Returns `None` if it was answered and the connection stays open.
 pub(crate) fn serve_request<A: Answering, L: Link, R: Draws>(
     alloc: Global,
     reader: &mut Reader,
@@ -71,7 +71,7 @@ fn asked(close: bool) -> Option<End>
     if close { Some(End::Asked) } else { None }
 }
 
-/// Answers a request, and sends the reply. None: the reply was sent.
+/// Passes a request to the handler and sends the reply. Returns `None` if the whole reply was sent.
 fn reply_to<A: Answering, L: Link, R: Draws>(
     alloc: Global,
     state: &mut A::State,
@@ -103,7 +103,7 @@ fn reply_to<A: Answering, L: Link, R: Draws>(
     send(alloc, &reply, close, link)
 }
 
-/// Answers bad bytes by their status.
+/// Refuses invalid bytes with their status.
 fn refuse<L: Link>(alloc: Global, link: &mut L, status: u16) -> End
     requires { IsStatusCode status }
     ensures refuses { Refuses status (L.sent link.old) result (L.sent link.new) }
@@ -125,7 +125,7 @@ fn refuse<L: Link>(alloc: Global, link: &mut L, status: u16) -> End
     }
 }
 
-/// Sends a reply. None: all of it was sent.
+/// Sends a reply. Returns `None` if all of it was sent.
 fn send<L: Link>(alloc: Global, reply: &Reply, close: bool, link: &mut L) -> Option<End>
     requires { IsStatusCode reply.now.status }
     ensures writes { Writes (reply_text reply.now close) (L.sent link.old) result (L.sent link.new) }
@@ -142,7 +142,7 @@ fn send<L: Link>(alloc: Global, reply: &Reply, close: bool, link: &mut L) -> Opt
     }
 }
 
-/// Tries to tell the other side that memory is wanting.
+/// Tries to send a 500 reply after memory ran out.
 fn give_up<L: Link>(link: &mut L) -> End
     ensures end { result ≡ End.Memory }
     ensures told { Tells500 (L.sent link.old) (L.Source.faults link.old) (L.sent link.new) (L.Source.faults link.new) }

@@ -1,4 +1,4 @@
--- An explanation's parts, taken together, are its evaluation.
+-- The parts of an explanation together determine its evaluation.
 use Rattle.std.proofs.Common.{◌≡◌, ℕ, ◌+◌, suc, Bool, true, false, cond, List, [], ◌∷◌, length, map, Option, Some, None, refl, ap, ◌∙◌}
 use Rattle.std.specs.Prelude.{All, IfSome, ◌&&◌, ◌||◌, ◌==◌, is_some, option_map}
 use Rattle.std.specs.List.{list_all}

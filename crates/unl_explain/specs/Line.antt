@@ -1,4 +1,4 @@
--- The line of JSON that tells an explanation.
+-- The JSON form of an explanation, and its line.
 use Rattle.std.specs.Prelude.{ℕ, List, ◌++◌, codes, Option, Some, None, option_map}
 use Rattle.std.specs.Option.{option_map_or}
 use Rattle.serde_json.specs.Data.{Data, boolean, no_members, null, object, put, string}
@@ -16,7 +16,7 @@ use Rattle.unl_explain.specs.declared.reason.Reason.{Reason}
 use Rattle.unl_explain.specs.declared.reason.SegmentReason.{SegmentReason}
 use Rattle.unl_explain.specs.declared.reason.StrategyReason.{StrategyReason}
 
--- the variant of an evaluation
+-- The JSON form of the variant of an evaluation.
 unfoldable pub variant_data : VariantAnswer → Data
 variant_data v = object (
     with_some field.Payload (option_map payload_data v.payload) (
@@ -24,28 +24,28 @@ variant_data v = object (
     with field.Name (string v.name)
     no_members)))
 
--- an evaluation
+-- The JSON form of an evaluation.
 unfoldable pub evaluation_data : Evaluation → Data
 evaluation_data e = object (
     put (codes "on") (boolean e.on) (
     put (codes "variant") (variant_data e.variant)
     no_members))
 
--- the word for what a parent is
+-- The word for the status of a parent.
 abbrev pub cause_text : ParentCause → List ℕ
 cause_text cause.Absent = codes "absent"
 cause_text cause.HasParents = codes "has-parents"
 cause_text (cause.On variant) = codes "on"
 cause_text cause.Off = codes "off"
 
--- the name of a parent's variant, where it is on
+-- The name of a parent's variant, if the parent is on.
 abbrev pub variant_in : ParentCause → Option (List ℕ)
 variant_in (cause.On variant) = Some variant
 variant_in cause.Absent = None
 variant_in cause.HasParents = None
 variant_in cause.Off = None
 
--- a parent
+-- The JSON form of a parent.
 unfoldable pub parent_data : ParentReason → Data
 parent_data p = object (
     with_some field.Variant (option_map string (variant_in p.cause)) (
@@ -54,7 +54,7 @@ parent_data p = object (
     put (codes "met") (boolean p.met)
     no_members))))
 
--- a segment that a strategy names
+-- The JSON form of a segment that a strategy refers to.
 unfoldable pub segment_data : SegmentReason → Data
 segment_data s = object (
     with field.Constraints (list boolean s.constraints) (
@@ -62,7 +62,7 @@ segment_data s = object (
     with field.Id (count s.id)
     no_members)))
 
--- a strategy
+-- The JSON form of a strategy.
 unfoldable pub strategy_data : StrategyReason → Data
 strategy_data s = object (
     put (codes "active") (boolean s.active) (
@@ -72,18 +72,18 @@ strategy_data s = object (
     with field.Segments (list segment_data s.segments)
     no_members)))))
 
--- the word for where a variant comes from
+-- The word for where a variant comes from.
 abbrev pub origin_text : Origin → List ℕ
 origin_text origin.NoVariant = codes "none"
 origin_text origin.Strategy = codes "strategy"
 origin_text origin.Own = codes "own"
 
--- the place of the first active strategy, or null
+-- The JSON form of the index of the first active strategy, or null if there is none.
 abbrev pub first_data : Option ℕ → Data
 first_data None = null
 first_data (Some place) = count place
 
--- an explanation
+-- The JSON form of an explanation.
 unfoldable pub reason_data : Reason → Data
 reason_data r = object (
     with field.Enabled (boolean r.enabled) (
@@ -94,10 +94,10 @@ reason_data r = object (
     with field.Strategies (list strategy_data r.strategies)
     no_members))))))
 
--- an explanation, or null where the state lacks the feature
+-- The JSON form of an explanation, or null if the state lacks the feature.
 unfoldable pub explanation_data : Option Reason → Data
 explanation_data reason = option_map_or reason_data reason null
 
--- the line that tells it
+-- The line with the JSON text of an explanation.
 unfoldable pub explanation_line : Option Reason → List ℕ
 explanation_line reason = compact_text (explanation_data reason) ++ codes "\n"

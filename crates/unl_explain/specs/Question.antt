@@ -1,4 +1,5 @@
--- What is asked: a feature of a state, for a context at a moment. Each key in order, with its kind.
+-- How a question is read: each key in order, with its kind. It asks why a feature of a state is on or off for a context at a
+-- moment.
 use Rattle.std.specs.Prelude.{ℕ, List, Result, Ok, Err, ok_or}
 use Rattle.serde_json.specs.Data.{Data}
 use Rattle.unl_documents.specs.declared.fault.BadDocument.TheVariants.{NotJson}
@@ -10,11 +11,11 @@ use Rattle.unl_documents.specs.States.{IsValidState, state_of}
 use Rattle.unl_explain.specs.declared.question.Question.{Question}
 use Rattle.unl_input.specs.Contexts.{context_in}
 
--- the last moment
+-- The latest moment, in milliseconds since 1970.
 abbrev pub last_moment : ℕ
 last_moment = 100000000000000
 
--- a question
+-- The question that a JSON object spells.
 unfoldable pub question_of : Data → Reading Question
 question_of value = do
   state ← required (object_of state_of) field.State value
@@ -24,10 +25,10 @@ question_of value = do
   word ← defaulted 0 any_whole field.Word value
   Ok (record { state = state; feature = feature; context = context; now = now; word = word })
 
--- the question that an input spells
+-- The question that an input spells.
 unfoldable pub question_in : List ℕ → Reading Question
 question_in bytes = ok_or (json_of bytes) NotJson >>= document question_of
 
--- the state of a question is within its limits
+-- The state of the question is within its limits.
 abbrev pub IsValidQuestion : Question → Type 0
 IsValidQuestion question = IsValidState question.state

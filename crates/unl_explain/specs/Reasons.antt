@@ -1,4 +1,5 @@
--- Why a feature is on or off for a context at a moment: the truth of each part of its evaluation, in the words that define the evaluation.
+-- Why a feature is on or off for a context at a moment: the result of each part of its evaluation, in terms of the
+-- definitions of the evaluation itself.
 use Rattle.std.specs.Prelude.{ℕ, ◌+◌, List, [], ◌∷◌, map, length, Bool, true, false, ◌==◌, Option, is_some, option_map, option_and_then}
 use Rattle.std.specs.Prelude.{if◌then◌else◌}
 use Rattle.std.specs.Option.{option_map_or}
@@ -27,20 +28,20 @@ use Rattle.unl_explain.specs.declared.reason.StrategyReason.{StrategyReason}
 
 -- ---- parents
 
--- what an evaluation is to a feature that depends on it: off, or on with the name of its variant
+-- The status of a parent by its evaluation: off, or on with the name of its variant.
 abbrev pub cause_by : Evaluation → ParentCause
 cause_by e = if e.on then cause.On e.variant.name else cause.Off
 
--- what a parent that the state has is: one that has parents itself, or its evaluation
+-- The status of a parent that the state has: `HasParents` if it has dependencies of its own, otherwise by its evaluation.
 unfoldable pub cause_of : List Segment → Fields → Moment → Feature → ParentCause
 cause_of segments context moment parent =
     if length parent.dependencies == 0 then cause_by (evaluation_where true parent segments context moment) else cause.HasParents
 
--- what the parent of a name is, which the state may lack
+-- The status of the parent with the given name, which the state may lack.
 unfoldable pub cause_in : State → Fields → Moment → List ℕ → ParentCause
 cause_in state context moment name = option_map_or (cause_of state.segments context moment) (feature_named name state.features) cause.Absent
 
--- the parent that a dependency names: what it is, and whether it meets the dependency
+-- The parent of a dependency: its status, and whether it satisfies the dependency.
 unfoldable pub parent_reason : State → Fields → Moment → Dependency → ParentReason
 parent_reason state context moment d = record {
   feature = d.feature;
@@ -50,23 +51,24 @@ parent_reason state context moment d = record {
 
 -- ---- strategies
 
--- whether each of the constraints holds, in their order
+-- Whether each of the constraints holds, in their order.
 unfoldable pub truths_of : List Constraint → Fields → ℕ → List Bool
 truths_of constraints context now = map (λ c. constraint_holds c context now) constraints
 
--- a segment that there is: whether each of its constraints holds
+-- A segment that was found, with whether each of its constraints holds.
 abbrev pub found_reason : Fields → ℕ → ℕ → Segment → SegmentReason
 found_reason context now id s = record { id = id; found = true; constraints = truths_of s.constraints context now }
 
--- a segment that there is not
+-- A segment that was not found.
 abbrev pub missing_reason : ℕ → SegmentReason
 missing_reason id = record { id = id; found = false; constraints = [] }
 
--- the segment of an id that a strategy names
+-- The segment with the given id, to which a strategy refers.
 unfoldable pub segment_reason : List Segment → Fields → ℕ → ℕ → SegmentReason
 segment_reason segments context now id = option_map_or (found_reason context now id) (segment_of id segments) (missing_reason id)
 
--- a strategy at its place in the feature of a name: its constraints, its segments, its own rule, and whether it is active
+-- A strategy at its index in the feature with the given name: its constraints, its segments, its own rule, and whether it is
+-- active.
 unfoldable pub strategy_reason : List ℕ → List Segment → Fields → Moment → ℕ → Strategy → StrategyReason
 strategy_reason feature segments context moment place s = record {
   name = s.name;
@@ -76,7 +78,7 @@ strategy_reason feature segments context moment place s = record {
   active = is_active s feature place segments context moment;
 }
 
--- the strategies in their order, the first of them at this place
+-- The strategies in their order, the first of which has the index `place`.
 abbrev pub reasons_from : ℕ → List Strategy → List ℕ → List Segment → Fields → Moment → List StrategyReason
 reasons_from place [] feature segments context moment = []
 reasons_from place (s ∷ ss) feature segments context moment =
@@ -84,18 +86,19 @@ reasons_from place (s ∷ ss) feature segments context moment =
 
 -- ---- features
 
--- where the variant of a feature that is on comes from: the first active strategy, or else the feature's own list, or neither
+-- Where the variant of a feature that is on comes from: the first active strategy, or else the feature's own variants, or
+-- neither.
 abbrev pub origin_on : Feature → Fields → Moment → Option ℕ → Origin
 origin_on f context moment first =
     if is_some (option_and_then (strategy_variant f context moment) first) then origin.Strategy else (
     if is_some (own_variant f context moment) then origin.Own else
     origin.NoVariant)
 
--- where the variant comes from, which a feature that is off doesn't have
+-- Where a feature's variant comes from. A feature that is off has none.
 unfoldable pub origin_of : Bool → Feature → Fields → Moment → Option ℕ → Origin
 origin_of on f context moment first = if on then origin_on f context moment first else origin.NoVariant
 
--- a feature of the state: its evaluation with all its parts, also of a feature that is off
+-- The explanation of a feature of the state, with all parts of its evaluation, even if the feature is off.
 unfoldable pub reason_of : State → Fields → Moment → Feature → Reason
 reason_of state context moment f = record {
   evaluation = feature_evaluation state f context moment;
@@ -106,6 +109,6 @@ reason_of state context moment f = record {
   source = origin_of (feature_evaluation state f context moment).on f context moment (first_active f state.segments context moment);
 }
 
--- the feature of a name, or none where the state lacks it
+-- The explanation of the feature with the given name, or none if the state lacks it.
 unfoldable pub reasons_of : State → List ℕ → Fields → Moment → Option Reason
 reasons_of state name context moment = option_map (reason_of state context moment) (feature_named name state.features)

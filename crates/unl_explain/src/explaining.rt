@@ -1,4 +1,4 @@
-//! The explanation of a feature.
+//! Explains a feature.
 ghost use Rattle.std.specs.Prelude.{◌≡◌, IfOk};
 ghost use Rattle.unl_documents.specs.States.{IsValidState};
 ghost use Rattle.unl_documents.specs.Valid.{IsValidFeature};
@@ -14,9 +14,10 @@ use unl_dependencies::{evaluate_feature, feature_named, first_active};
 use unl_documents::{Feature, Memory, State};
 use unl_strategies::Moment;
 
-/// Why the feature of a name is on or off for a context at a moment, over a state whose documents are within their limits.
-/// Ok(None) exactly where the state lacks the name. The evaluation is that of `evaluate`, and each dependency and each
-/// strategy is explained, also where the feature is off. The error is want of memory.
+/// Explains why the feature with the given name is on or off for a context at a moment, in a state whose documents are
+/// within their limits. Returns `Ok(None)` exactly if the state has no feature with that name. The evaluation is that of
+/// `evaluate`. Every dependency and every strategy is explained, even if the feature is off. The only error is out of
+/// memory.
 #[tactic(auto, unfolding(crate::specs::Reasons::reasons_of))]
 pub fn explain(
     alloc: Global,
@@ -34,7 +35,7 @@ pub fn explain(
     }
 }
 
-/// Why a feature of the state is on or off.
+/// Explains why a feature of the state is on or off.
 #[tactic(auto, unfolding(crate::specs::Reasons::reason_of))]
 fn explain_feature(
     alloc: Global,

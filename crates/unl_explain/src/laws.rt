@@ -1,19 +1,19 @@
-//! What the parts of an explanation say of its evaluation.
+//! Laws that relate the parts of an explanation to its evaluation. Each is the contract of an empty function.
 ghost use Rattle.unl_explain.specs.Laws.{ActiveIsExplained, EvaluationIsExplained, OnIsExplained};
 
-/// What is explained is the evaluation of the name, and there is an explanation exactly where there is an evaluation.
+/// The explained evaluation is the feature's evaluation, and there is an explanation exactly if there is an evaluation.
 pub fn evaluation_is_explained()
     ensures { EvaluationIsExplained }
 {}
 
-/// In each explanation the feature is on exactly where it is enabled, each parent is met, and there are no strategies or
-/// there is a first one that is active.
+/// In each explanation the feature is on exactly if it is enabled, each parent satisfies its dependency, and there is an
+/// active strategy or there are no strategies.
 pub fn on_is_explained()
     ensures { OnIsExplained }
 {}
 
-/// In each explanation a strategy is active exactly where each of its constraints is true, each of its segments is found
-/// with its constraints true, and its own rule holds.
+/// In each explanation a strategy is active exactly if each of its constraints holds, each of its segments is found and has
+/// only constraints that hold, and its own rule holds.
 pub fn active_is_explained()
     ensures { ActiveIsExplained }
 {}

@@ -1,5 +1,5 @@
-//! Why a feature is on or off for a context at a moment: its evaluation, with the truth of each of its parts; and the line
-//! of JSON that tells it of an input.
+//! Explains why a feature is on or off for a context at a moment: its evaluation, with the result of each of its parts. Also
+//! reads such a question as an input and writes the explanation as a line of JSON.
 #![tactic(auto)]
 
 mod explaining;

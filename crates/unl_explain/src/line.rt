@@ -1,4 +1,4 @@
-//! The line of JSON that tells an explanation.
+//! The line of JSON that an explanation is written as.
 ghost use Rattle.std.specs.Prelude.{◌≡◌, ◌++◌, false, codes, IfOk, OnOk, option_map, string_bytes};
 ghost use Rattle.serde_json.specs.Data.{put as with_key, string};
 ghost use Rattle.serde_json.specs.View.{members_view, view};
@@ -15,8 +15,7 @@ use unl_dependencies::{Evaluation, VariantAnswer};
 use unl_documents::written::{Written, put, put_some};
 use unl_documents::{Field, List, Memory};
 
-/// The line that tells an explanation: an object of JSON with its keys in byte order, or `null` where the state lacks the
-/// feature.
+/// Returns the line for an explanation: a JSON object with its keys in byte order, or `null` if the state lacks the feature.
 #[tactic(auto, unfolding(crate::specs::Line::explanation_line))]
 pub(crate) fn explanation_line(alloc: Global, reason: &Option<Reason>) -> Result<List<u8>, Memory>
     ensures { IfOk result (λ line. line ≡ explanation_line reason.now) }
@@ -37,7 +36,7 @@ fn explanation_value(alloc: Global, reason: &Option<Reason>) -> Result<Value, Me
     }
 }
 
-/// The text of a value that has no number with a point.
+/// Returns the JSON text of a value that contains no floating-point number.
 fn plain_text(alloc: Global, value: &Value) -> Result<String, Memory>
     requires { has_float (view value.now) ≡ false }
     ensures { IfOk result (λ s. string_bytes s ≡ compact_text (view value.now)) }
@@ -51,7 +50,7 @@ fn ended(alloc: Global, text: &str) -> Result<String, AllocError>
     format!(in alloc; "{text}\n")
 }
 
-/// Puts a value at a key.
+/// Inserts a value at a key.
 fn put_at(
     members: &mut Map<String, Value>,
     alloc: Global,
@@ -64,7 +63,7 @@ fn put_at(
     Ok(())
 }
 
-/// An explanation, as it is written.
+/// Converts an explanation to JSON.
 #[tactic(auto, unfolding(crate::specs::Line::reason_data))]
 fn reason_value(alloc: Global, reason: &Reason) -> Result<Value, Memory>
     ensures { IfOk result (λ v. view v ≡ reason_data reason.now) }
@@ -89,7 +88,7 @@ fn reason_value(alloc: Global, reason: &Reason) -> Result<Value, Memory>
     Ok(Value::Object(members))
 }
 
-/// A place, or null where there is none.
+/// Converts the index of a strategy to JSON: a number, or null if there is none.
 fn first_value(first: Option<u32>) -> Value
     ensures { view result ≡ first_data first }
 {
@@ -99,7 +98,7 @@ fn first_value(first: Option<u32>) -> Value
     }
 }
 
-/// The word for where a variant comes from.
+/// Converts the source of a variant to JSON.
 fn origin_value(alloc: Global, origin: Origin) -> Result<Value, Memory>
     ensures { IfOk result (λ v. view v ≡ string (origin_text origin)) }
 {
@@ -110,14 +109,14 @@ fn origin_value(alloc: Global, origin: Origin) -> Result<Value, Memory>
     }
 }
 
-/// A word as a string of JSON.
+/// Converts a word to a JSON string.
 fn word(alloc: Global, text: &str) -> Result<Value, Memory>
     ensures { IfOk result (λ v. view v ≡ string text.now) }
 {
     Ok(Value::try_from_str(alloc, text)?)
 }
 
-/// An evaluation, as it is written.
+/// Converts an evaluation to JSON.
 #[tactic(auto, unfolding(crate::specs::Line::evaluation_data))]
 fn evaluation_value(alloc: Global, evaluation: &Evaluation) -> Result<Value, Memory>
     ensures { IfOk result (λ v. view v ≡ evaluation_data evaluation.now) }
@@ -129,7 +128,7 @@ fn evaluation_value(alloc: Global, evaluation: &Evaluation) -> Result<Value, Mem
     Ok(Value::Object(members))
 }
 
-/// The variant of an evaluation, as it is written.
+/// Converts the variant of an evaluation to JSON.
 #[tactic(auto, unfolding(crate::specs::Line::variant_data))]
 fn variant_value(alloc: Global, variant: &VariantAnswer) -> Result<Value, Memory>
     ensures { IfOk result (λ v. view v ≡ variant_data variant.now) }
@@ -160,7 +159,7 @@ impl Written for ParentReason {
     }
 }
 
-/// The word for what a parent is.
+/// Converts the status of a parent to JSON.
 fn cause_value(alloc: Global, cause: &ParentCause) -> Result<Value, Memory>
     ensures { IfOk result (λ v. view v ≡ string (cause_text cause.now)) }
 {
@@ -172,7 +171,7 @@ fn cause_value(alloc: Global, cause: &ParentCause) -> Result<Value, Memory>
     }
 }
 
-/// Puts the variant of a parent that is on.
+/// Inserts the variant of a parent that is on.
 fn put_variant(
     members: &mut Map<String, Value>,
     alloc: Global,

@@ -1,4 +1,4 @@
-//! The parents of a feature's dependencies.
+//! Explains the dependencies of a feature.
 ghost use Rattle.std.specs.Prelude.{◌≡◌, IfOk, map};
 ghost use Rattle.unl_documents.specs.States.{IsValidState};
 ghost use Rattle.unl_documents.specs.Valid.{IsValidFeature};
@@ -11,7 +11,7 @@ use unl_dependencies::{evaluate_where, feature_named, is_met};
 use unl_documents::{Copied, Dependency, Feature, List, Memory, State};
 use unl_strategies::Moment;
 
-/// Whether each of the dependencies is met, and why.
+/// Explains for each dependency whether it is met, and why.
 pub(crate) fn explain_parents(
     alloc: Global,
     dependencies: &[Dependency],
@@ -29,7 +29,7 @@ pub(crate) fn explain_parents(
     Ok(parents)
 }
 
-/// Whether a dependency is met, and why.
+/// Explains whether a dependency is met, and why.
 #[tactic(auto, unfolding(crate::specs::Reasons::parent_reason))]
 fn explain_parent(
     alloc: Global,
@@ -49,7 +49,7 @@ fn explain_parent(
     })
 }
 
-/// What the parent of a name is, which the state may lack.
+/// Returns the status of the parent with the given name, which the state may lack.
 #[tactic(auto, unfolding(crate::specs::Reasons::cause_in))]
 fn cause_in(
     alloc: Global,
@@ -67,7 +67,7 @@ fn cause_in(
     }
 }
 
-/// What a parent is. Its evaluation is not looked at where it has dependencies itself.
+/// Returns the status of a parent. A parent that has dependencies of its own is not evaluated.
 #[tactic(auto, unfolding(crate::specs::Reasons::cause_of))]
 fn cause_of(
     alloc: Global,

@@ -1,4 +1,4 @@
-//! What is asked: a feature of a state, for a context at a moment.
+//! A question: why a feature of a state is on or off for a context at a moment.
 ghost use Rattle.std.specs.Prelude.{IfOk};
 ghost use Rattle.unl_documents.specs.Reading.{Gives};
 ghost use Rattle.unl_documents.specs.States.{IsValidState};
@@ -14,21 +14,21 @@ use unl_documents::parsing::read_json;
 use unl_documents::{BadDocument, Field, State, Text};
 use unl_input::context_in;
 
-/// The last moment: the milliseconds since 1970 have this limit.
+/// The latest moment, in milliseconds since 1970.
 const LAST_MOMENT: u64 = 100_000_000_000_000;
 
-/// What is asked: why a feature of a state is on or off.
+/// A question: why a feature of a state is on or off.
 #[derive(Drop)]
 pub(crate) struct Question {
-    /// What the feature is a part of.
+    /// The state that contains the feature.
     pub(crate) state: State,
     /// The feature's name.
     pub(crate) feature: Text,
-    /// What it is evaluated for.
+    /// The context that the feature is evaluated for.
     pub(crate) context: Context,
     /// Milliseconds since 1970.
     pub(crate) now: u64,
-    /// The word that random numbers come from.
+    /// The word from which random numbers are derived.
     pub(crate) word: u64,
 }
 
@@ -54,10 +54,10 @@ impl Document for Question {
     }
 }
 
-/// The question that an input spells.
+/// Reads the question that an input spells.
 ///
 /// # Errors
-/// `NotJson` where the bytes spell no object of JSON; else the first fault of its keys; or want of memory.
+/// `NotJson` if the bytes don't spell a JSON object, otherwise the first fault of its keys; or `Memory` if memory ran out.
 #[tactic(auto, unfolding(crate::specs::Question::question_in))]
 pub(crate) fn question_in(alloc: Global, bytes: &[u8]) -> Result<Question, BadDocument>
     ensures gives { Gives result (question_in bytes.now) }

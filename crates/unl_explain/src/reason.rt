@@ -1,80 +1,81 @@
+//! The parts of an explanation.
 use unl_dependencies::Evaluation;
 use unl_documents::{List, Text};
 
-/// Why a feature is on or off. Each of its dependencies and strategies is explained, also where the feature is off.
+/// Why a feature is on or off. Every dependency and every strategy is explained, even if the feature is off.
 #[derive(Debug, Drop)]
 pub struct Reason {
-    /// What the feature is.
+    /// The feature's evaluation.
     pub evaluation: Evaluation,
-    /// Whether the feature is on at all, as its document says.
+    /// Whether the feature is enabled in its document.
     pub enabled: bool,
-    /// The parents of its dependencies, in their order.
+    /// The parents of the feature's dependencies, in the order of the dependencies.
     pub parents: List<ParentReason>,
-    /// Its strategies, in their order.
+    /// The feature's strategies, in their order.
     pub strategies: List<StrategyReason>,
-    /// The place, from 0, of the first strategy that is active, if one is.
+    /// The index, from 0, of the first active strategy, if there is one.
     pub first: Option<u32>,
-    /// Where the variant comes from.
+    /// Where the feature's variant comes from.
     pub source: Origin,
 }
 
-/// Whether the parent of a dependency meets it, and why.
+/// Whether the parent of a dependency satisfies it, and why.
 #[derive(Debug, Drop)]
 pub struct ParentReason {
-    /// The name of the parent.
+    /// The parent's name.
     pub feature: Text,
-    /// What the parent is.
+    /// The parent's status.
     pub cause: ParentCause,
-    /// Whether it meets the dependency.
+    /// Whether the parent satisfies the dependency.
     pub met: bool,
 }
 
-/// What a parent is to a feature that depends on it.
+/// The status of a parent, as it matters to a feature that depends on it.
 #[derive(Debug, Drop)]
 pub enum ParentCause {
-    /// The state lacks it. It meets no dependency.
+    /// The state lacks the parent. It satisfies no dependency.
     Absent,
-    /// It has dependencies itself. It meets no dependency.
+    /// The parent has dependencies of its own. It satisfies no dependency.
     HasParents,
-    /// It is on, with the variant of this name: `disabled` where it has none.
+    /// The parent is on, with the variant of this name: `disabled` if it has none.
     On(Text),
-    /// It is off.
+    /// The parent is off.
     Off,
 }
 
 /// Whether a strategy is active, and why.
 #[derive(Debug, Drop)]
 pub struct StrategyReason {
-    /// The name of its rule.
+    /// The strategy's name, which selects its rule.
     pub name: Text,
-    /// Whether each of its own constraints holds, in their order.
+    /// Whether each of the strategy's own constraints holds, in their order.
     pub constraints: List<bool>,
-    /// The segments that it names, in their order.
+    /// The segments that the strategy refers to, in their order.
     pub segments: List<SegmentReason>,
-    /// Whether its rule holds, whatever constraints and segments say.
+    /// Whether the strategy's rule holds, regardless of constraints and segments.
     pub rule: bool,
-    /// Whether it is active.
+    /// Whether the strategy is active.
     pub active: bool,
 }
 
-/// What is found of a segment that a strategy names.
+/// The result for a segment that a strategy refers to.
 #[derive(Debug, Drop)]
 pub struct SegmentReason {
-    /// Its number.
+    /// The segment's id.
     pub id: u64,
-    /// Whether the state has it.
+    /// Whether the state has the segment.
     pub found: bool,
-    /// Whether each of its constraints holds, in their order: none where it is not found.
+    /// Whether each of the segment's constraints holds, in their order. Empty if the segment was not found.
     pub constraints: List<bool>,
 }
 
 /// Where the variant of a feature comes from.
 #[derive(Clone, Copy, PartialEq, Eq, Debug)]
 pub enum Origin {
-    /// There is no variant.
+    /// The feature has no variant.
     NoVariant,
-    /// From the variants of the first strategy that is active.
+    /// The variants of the first active strategy.
     Strategy,
-    /// From the feature's own variants.
+    /// The feature's own variants.
     Own,
 }

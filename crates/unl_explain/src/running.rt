@@ -1,4 +1,4 @@
-//! The explanation that an input asks for.
+//! Reads a question as an input and writes its explanation.
 ghost use Rattle.std.specs.Prelude.{◌≡◌, ◌≢◌, ◌≤◌, Err, IfOk, IsErrOf};
 ghost use Rattle.unl_base.specs.Faults.{Rose};
 ghost use Rattle.unl_documents.specs.Reading.{Gives};
@@ -15,10 +15,10 @@ use unl_documents::{BadDocument, List, Memory};
 use unl_input::{AnswerFault, InputAnswer, InputRefusal, SayFault, answer_input, say_refusal};
 use unl_strategies::Moment;
 
-/// Why an input isn't explained.
+/// Why an input was not explained.
 #[derive(Debug, Drop, PartialEq)]
 pub enum ExplainFault {
-    /// The input's first fault. It is never want of memory.
+    /// The input has this fault, its first. It is never `Memory`.
     BadInput(BadDocument),
     /// The input has more than 16,777,216 bytes.
     TooLarge,
@@ -26,32 +26,37 @@ pub enum ExplainFault {
     ReadFault,
     /// The sink failed.
     WriteFault,
-    /// Memory ran out.
+    /// Out of memory.
     Memory,
 }
 
-/// Reads one object to the end of the source, which holds a state, the name of one of its features, and what that is evaluated
-/// for; and writes one line of JSON that says why the feature is on or off, or `null` where the state lacks it. The moment has
-/// no host. An input that is refused is said to be: `refused: <cause>`.
+/// Explains the question that the source spells.
+///
+/// Reads the source to its end: one object with a state, the name of a feature, and the context and moment to evaluate it
+/// for. Writes one line of JSON that explains why the feature is on or off, or `null` if the state lacks it. The moment has
+/// no host name. If the input is refused, the line `refused: <cause>` is written instead.
 ///
 /// # Errors
-/// `TooLarge` exactly where the input has more than 16,777,216 bytes, and then `BadInput` exactly where it has a fault, its
-/// first: the line `refused: <cause>` was written. `ReadFault` where the source failed: nothing was written. `WriteFault` where
-/// the sink failed: a front of the one line or the other was written. `Memory` where memory ran out: nothing was written.
+/// - `TooLarge` if the input has more than 16,777,216 bytes. The line `refused: <cause>` was written.
+/// - `BadInput` if the input is not too large but has a fault; this is its first fault. The line `refused: <cause>` was
+///   written.
+/// - `ReadFault` if the source failed. Nothing was written.
+/// - `WriteFault` if the sink failed. A prefix of the explanation or of the line `refused: <cause>` was written.
+/// - `Memory` if memory ran out. Nothing was written.
 pub fn explain_run<S: Source, K: Sink>(
     alloc: Global,
     source: &mut S,
     sink: &mut K,
 ) -> Result<(), ExplainFault>
     ensures explains { Explains result (S.left source.old) (S.left source.new) (K.sent sink.old) (K.sent sink.new) }
-    // Want of memory is no fault of the input.
+    // Out of memory is not a fault of the input.
     ensures named { result ≢ Err (ExplainFault.BadInput BadDocument.Memory) }
-    // It doesn't give up by itself.
+    // A read or write fault is returned only if the stream failed.
     ensures read { IsErrOf result ExplainFault.ReadFault → Rose (S.faults source.old) (S.faults source.new) }
     ensures write { IsErrOf result ExplainFault.WriteFault → Rose (K.faults sink.old) (K.faults sink.new) }
     ensures source_later { S.faults source.old ≤ S.faults source.new }
     ensures sink_later { K.faults sink.old ≤ K.faults sink.new }
-    // A failed read is never told as want of memory.
+    // A failed read is never returned as out of memory.
     ensures untouched { IsErrOf result ExplainFault.Memory → S.faults source.new ≡ S.faults source.old }
 {
     match answer_input::<Explaining, S, K>(alloc, &Explaining, source, sink) {
@@ -67,7 +72,7 @@ pub fn explain_run<S: Source, K: Sink>(
     }
 }
 
-/// A refusal that was said.
+/// Converts a refusal that was reported.
 fn fault_of(refusal: InputRefusal) -> ExplainFault
     ensures { result ≡ fault_of refusal }
 {
@@ -77,7 +82,7 @@ fn fault_of(refusal: InputRefusal) -> ExplainFault
     }
 }
 
-/// Answers an input with the line that explains what it asks.
+/// The computation that turns an input into the line with its explanation.
 struct Explaining;
 
 impl InputAnswer for Explaining {
@@ -98,7 +103,7 @@ impl InputAnswer for Explaining {
     }
 }
 
-/// The line that answers a question.
+/// Returns the line with the explanation for a question.
 fn answer_line(alloc: Global, question: &Question) -> Result<List<u8>, Memory>
     requires { IsValidQuestion question.now }
     ensures { IfOk result (λ line. line ≡ line_of (answer_to question.entry.now)) }

@@ -1,4 +1,4 @@
-//! Where the variant of a feature comes from.
+//! Finds where the variant of a feature comes from.
 ghost use Rattle.std.specs.Prelude.{◌≡◌, is_some, option_and_then};
 ghost use Rattle.unl_documents.specs.Valid.{IsValidFeature};
 ghost use Rattle.unl_dependencies.specs.Evaluation.{own_variant as own_variant_of, strategy_variant as variant_of_strategy};
@@ -10,8 +10,8 @@ use unl_dependencies::{own_variant, strategy_variant};
 use unl_documents::Feature;
 use unl_strategies::Moment;
 
-/// Where the variant of a feature within its limits comes from, where it is known whether it is on, and which strategy is
-/// the first that is active.
+/// Returns where the variant of a feature comes from, given whether the feature is on and the index of its first active
+/// strategy. The feature is within its limits.
 #[tactic(auto, unfolding(crate::specs::Reasons::origin_of))]
 pub(crate) fn source_of(
     on: bool,
@@ -51,7 +51,7 @@ fn is_given_by_first(
     }
 }
 
-/// Whether a variant is chosen among those of the strategy at a place.
+/// Whether a variant is chosen among those of the strategy at the index `place`.
 fn is_given_at(feature: &Feature, context: &Context, moment: &Moment, place: u32) -> bool
     requires valid { IsValidFeature feature.now }
     ensures { result ≡ is_some (variant_of_strategy feature.now context.now moment.entry.now place) }

@@ -1,4 +1,4 @@
-//! The strategies of a feature.
+//! Explains the strategies of a feature.
 ghost use Rattle.std.specs.Prelude.{◌≡◌, ◌≤◌, IfOk, length, map};
 ghost use Rattle.unl_documents.specs.Valid.{IsValidFeature};
 ghost use Rattle.unl_explain.specs.Reasons.{reasons_from, segment_reason, strategy_reason, truths_of};
@@ -12,7 +12,7 @@ use unl_documents::{
 };
 use unl_strategies::{Moment, active, rule};
 
-/// Whether each strategy of a feature within its limits is active, and why.
+/// Explains for each strategy of a feature whether it is active, and why. The feature is within its limits.
 pub(crate) fn explain_strategies(
     alloc: Global,
     feature: &Feature,
@@ -48,7 +48,7 @@ fn explain_each(
     Ok(reasons)
 }
 
-/// Whether the strategy at a place of the feature of a name is active, and why.
+/// Explains whether the strategy at the index `place` of a feature is active, and why.
 #[tactic(auto, unfolding(crate::specs::Reasons::strategy_reason))]
 fn explain_strategy(
     alloc: Global,
@@ -72,7 +72,7 @@ fn explain_strategy(
     })
 }
 
-/// What is found of the segment of each id. `now` is in milliseconds since 1970.
+/// Explains the segments with the given ids. `now` is in milliseconds since 1970.
 fn explain_segments(
     alloc: Global,
     ids: &[u64],
@@ -89,7 +89,7 @@ fn explain_segments(
     Ok(reasons)
 }
 
-/// What is found of the segment of an id.
+/// Explains the segment with the given id.
 #[tactic(auto, unfolding(crate::specs::Reasons::segment_reason))]
 fn explain_segment(
     alloc: Global,
@@ -114,7 +114,7 @@ fn explain_segment(
     }
 }
 
-/// Whether each of the constraints holds.
+/// Returns for each constraint whether it holds.
 #[tactic(auto, unfolding(crate::specs::Reasons::truths_of))]
 fn truths(
     alloc: Global,

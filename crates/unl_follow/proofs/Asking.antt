@@ -1,4 +1,4 @@
--- What one ask comes to, by the reply that was read or the fault.
+-- The effect of one request, by the reply that was read or the fault.
 use Rattle.std.proofs.Common.{◌≡◌, ◌≤◌, ℕ, List, Option, Some, None, ap, subst, sym}
 use Rattle.unl_base.specs.Faults.{Rose}
 use Rattle.unl_base.specs.Doors.{next_of}
@@ -12,14 +12,14 @@ use Rattle.unl_follow.specs.Replica.{Kept, installed_by}
 use Rattle.unl_follow.specs.Run.{AsksOnce}
 use Rattle.unl_follow.specs.Turns.{Stand, request_at, turned_by, turned_to}
 
--- what is so of the bytes sent is so of what the peer tells of them
+-- a relation of the bytes sent carries over to the peer's view of them
 told : (Holds : Option (List ℕ) → Option (List ℕ) → Type 0) (sent sent_after : Option (List ℕ)) (peer peer_after : PeerState)
     → peer.sent ≡ sent → peer_after.sent ≡ sent_after → Holds sent sent_after → Holds peer.sent peer_after.sent
 told Holds sent sent_after peer peer_after same same_after holds =
     subst (λ (o : Option (List ℕ)). Holds peer.sent o) (sym same_after)
     (subst (λ (o : Option (List ℕ)). Holds o sent_after) (sym same) holds)
 
--- what is kept, and the tag of the next ask
+-- what is kept, and the tag of the next request
 abbrev standing : Kept → Option (List ℕ) → Stand
 standing kept tag = record { installed = installed_by kept; tag = tag }
 

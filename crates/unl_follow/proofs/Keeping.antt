@@ -1,4 +1,4 @@
--- What a refresh leaves of a replica.
+-- What a refresh preserves of a replica.
 use Rattle.std.proofs.Common.{◌≡◌, ◌≤◌, ◌+◌, ℕ, List, Option, Some, None, Result, Ok, Err, IfOk, OnErr, ap, arith}
 use Rattle.std.specs.Option.{option_map}
 use Rattle.std.specs.Prelude.{IfSome}
@@ -19,11 +19,11 @@ use Rattle.unl_refresh.specs.Refresh.{Refreshes, after_verdict}
 use Rattle.unl_refresh.proofs.Leaving.{refreshed_leaves}
 use Rattle.unl_follow.specs.Replica.{Kept, installed_by}
 
--- what is kept, of what is known of one who keeps places
+-- the replica's view, from its view as an installer
 abbrev kept_by : Installed → Kept
 kept_by now = record { place = place_of now 0; front = now.front; book = now.book }
 
--- as one who keeps places it is known whole
+-- the view as an installer determines the replica's view
 pub same_kept : (one other : Kept) → installed_by one ≡ installed_by other → one ≡ other
 same_kept one other same = ap kept_by same
 
@@ -42,7 +42,7 @@ verdict_rises before batch tag Old = omega arith
 verdict_rises before batch tag Gap = omega arith
 verdict_rises before batch tag Held = omega arith
 
--- one version at most is published
+-- at most one version is published
 pub front_rises : (result : Result Outcome RefreshFault) (ask : Ask) (before after : Kept) (tag coming : Option (List ℕ))
     → IfOk result (λ outcome. Refreshes 0 ask (installed_by before) coming (record { outcome = outcome; installed = installed_by after; tag = tag }))
     → OnErr result (installed_by after ≡ installed_by before) → after.front ≤ before.front + 1
@@ -52,7 +52,7 @@ front_rises result ask before after tag coming takes fault =
 
 -- ---- lines of histories
 
--- the state of a version that stands for the line is one revision of it
+-- the state of a version that represents the line is one revision of it
 pub state_where : (line : List Era) (sees : Sees) (version : Option EnvVersion) → IfSome version (StandsIn line sees)
     → IfSome version (λ v. option_map (view_of sees) (revision_in line (revision_of v)) ≡ Some v.state)
 state_where line sees None stands = tt

@@ -39,7 +39,7 @@ front_more old mid new a b first next = record {
   sends = Sends_more old mid new a next.part first next.sends;
 }
 
--- ---- replies that are taken
+-- ---- replies that are used up
 
 taken_more : (replies : Option (List (List ℕ))) (j : ℕ)
     → option_map (λ list. drop 1 list) (option_map (λ list. drop j list) replies) ≡ option_map (λ list. drop (j + 1) list) replies
@@ -53,9 +53,9 @@ next_is : (replies : Option (List (List ℕ))) (j : ℕ) → option_map next_of 
 next_is None j = refl
 next_is (Some list) j = refl
 
--- ---- one turn more
+-- ---- one more turn
 
--- the turn of what came, after turns that took so many replies and had so many faults
+-- a turn that received this, after turns that used up `i` replies and had `k` faults
 record Came_on (came : Came) (replies : Option (List (List ℕ))) (i k before : ℕ) (replies_after : Option (List (List ℕ))) (after : ℕ) : Type 0 where
   taken : ℕ
   failed : ℕ
@@ -102,7 +102,7 @@ asked_on None request peer peer_after faults faults_after meets = ⊎_elim (λ k
 
 -- ---- the run so far
 
--- so many turns were made, and this stands after them
+-- `count` turns were made, and this is the state after them
 pub record Reached (ask : Ask) (subject : Subject) (start : Ends) (count : ℕ) (stand : Stand) (now : Ends) : Type 0 where
   pub turns : List Turn
   pub many : length turns ≡ count
@@ -132,7 +132,7 @@ Reached_begin ask subject start stand first = record {
     same_replies None = refl
     same_replies (Some list) = refl
 
--- the turns with one more, of which a text was sent by a relation that goes on after what was sent whole
+-- one more turn, with its text sent by a relation that continues after what was sent in full
 turns_more : (Sent : Option (List ℕ) → List ℕ → Option (List ℕ) → Type 0)
     → ((old mid new : Option (List ℕ)) (a b : List ℕ) → Sends old a mid → Sent mid b new → Sent old (a ++ b) new)
     → (ask : Ask) (subject : Subject) (start mid now : Ends) (count : ℕ) (stand next : Stand) (reached : Reached ask subject start count stand mid)
@@ -159,7 +159,7 @@ turns_more Sent goes_on ask subject start mid now count stand next reached takes
           (subst (λ (s : Stand). Sent mid.sent (turn_line subject (count + 1) takes.turn.draw (turned_to ask.delta s takes.turn.came)) now.sent) reached.stands takes.sends));
     }
 
--- one turn more
+-- one more turn
 pub Reached_more : (ask : Ask) (subject : Subject) (start mid now : Ends) (count : ℕ) (stand next : Stand) → Reached ask subject start count stand mid
     → TakesTurn Sends ask subject (count + 1) stand mid next now → Reached ask subject start (count + 1) next now
 unfolding stand_after
@@ -170,7 +170,7 @@ Reached_more ask subject start mid now count stand next reached takes = record {
   follows = turns_more Sends Sends_more ask subject start mid now count stand next reached takes;
 }
 
--- one turn more, of whose line a front was sent
+-- one more turn, with a prefix of its line sent
 pub Reached_cut : (ask : Ask) (subject : Subject) (start mid now : Ends) (count : ℕ) (stand next : Stand) → Reached ask subject start count stand mid
     → TakesTurn SendsFront ask subject (count + 1) stand mid next now → (turns : List Turn) × Follows SendsFront ask subject start turns now
 Reached_cut ask subject start mid now count stand next reached takes =
@@ -178,7 +178,7 @@ Reached_cut ask subject start mid now count stand next reached takes =
 
 -- ---- the pace
 
--- so many turns were made at this pace: each but the first took one of its own
+-- `made` turns were made, and each but the first used up one of the pace
 pub record Paced (start now : Option ℕ) (made : ℕ) : Type 0 where
   pub left : now ≡ option_map (λ n. n - (made - 1)) start
   pub most : IfSome start (λ n. made ≤ n + 1)
@@ -208,7 +208,7 @@ pub all_made : (asked made : ℕ) (start now : Option ℕ) (turns : List Turn) �
 all_made asked made None now turns paced many all = omega (arith, many, all)
 all_made asked made (Some n) now turns paced many all = omega (arith, many, all, paced.most)
 
--- the pace had no more
+-- the pace had no more turns
 pub pace_ended : (asked made : ℕ) (start mid : Option ℕ) (turns : List Turn) → Paced start mid made → length turns ≡ made → made < asked
     → 0 < made → IfSome mid (λ n. false ≡ nat_lt 0 n) → AreAsMany asked start turns
 pace_ended asked made None mid turns paced many few later told = omega (arith, many, few)
@@ -218,14 +218,14 @@ pace_ended asked made (Some n) mid turns paced many few later told =
     let over : n + 1 ≤ made = grind (arith, nat_tests) in
     omega (arith, many, few, most, over)
 
--- each turn but the first had one of the pace
+-- each turn but the first used up one of the pace
 pub went_on : (start mid now : Option ℕ) (made : ℕ) → Paced start mid made → (made ≡ 0 → (true ≡ true) × (now ≡ mid))
     → (0 < made → now ≡ option_map (λ n. n - 1) mid) → (0 < made → IfSome mid (λ n. true ≡ nat_lt 0 n)) → Paced start now (made + 1)
 went_on start mid now zero paced first takes told = Paced_first start mid now zero paced refl (first refl).1
 went_on start mid now (suc made) paced first takes told =
     let later : 0 < suc made = omega arith in Paced_more start mid now (suc made) paced later (takes later) (told later)
 
--- the run stopped where the pace had no more
+-- the run stopped because the pace had no more turns
 pub stopped : (asked made : ℕ) (start mid now : Option ℕ) (turns : List Turn) → Paced start mid made → length turns ≡ made → made < asked
     → (made ≡ 0 → (false ≡ true) × (now ≡ mid)) → (0 < made → IfSome mid (λ n. false ≡ nat_lt 0 n)) → AreAsMany asked start turns
 stopped asked zero start mid now turns paced many few first told = absurd (true≢false (sym (first refl).0))
@@ -249,7 +249,7 @@ turn_taken Sent ask subject number stand next before after draw outcome line dra
       (same ∙ ap (λ (t : Turned). turn_line subject number draw t) asks.turned_so) sends;
 }
 
--- a turn's own ask, which differs from the run's in its tag, is asked as the run's at the tag that stands
+-- the ask of a turn differs from the run's only in its tag, and makes the request that the run's makes with the current tag
 of_the_run : (Sent : Option (List ℕ) → List ℕ → Option (List ℕ) → Type 0) (ask asked : Ask) → asked ≡ with_tag asked.tag ask
     → (subject : Subject) (number : ℕ) (stand next : Stand) (before after : Ends)
     → TakesTurn Sent asked subject number stand before next after → TakesTurn Sent ask subject number stand before next after
@@ -261,7 +261,7 @@ of_the_run Sent ask asked same subject number stand next before after takes =
     at_tag tag turn =
         record { turn = turn.turn; drawn = turn.drawn; meets = turn.meets; stands = turn.stands; sends = turn.sends }
 
--- one turn more, which asked as the run does
+-- one more turn, with an ask that differs from the run's only in its tag
 pub Reached_next : (ask asked : Ask) → asked ≡ with_tag asked.tag ask → (subject : Subject) (start mid now : Ends) (count : ℕ)
     (stand next : Stand) → Reached ask subject start count stand mid → TakesTurn Sends asked subject (count + 1) stand mid next now
     → Reached ask subject start (count + 1) next now
@@ -281,7 +281,7 @@ cut_runs ask asked same subject start mid now count stand next most pace result 
 cut_runs ask asked same subject start mid now count stand next most pace result Memory reached is cut silent =
     (reached.turns, silent is ∙ reached.follows.sends)
 
--- a run of no turn, for want of memory, with which nothing was done
+-- out of memory before the first turn: nothing was sent
 pub none_made : {T : Type 0} (most : ℕ) (pace : Option ℕ) (ask : Ask) (subject : Subject) (ends : Ends) (result : Result T FollowFault)
     → result ≡ Err Memory → Runs {T = T} most pace ask subject ends result ends
 unfolding follow_text

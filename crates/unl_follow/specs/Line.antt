@@ -6,7 +6,7 @@ use Rattle.unl_refresh.specs.declared.outcome.Outcome.{Outcome}
 use Rattle.unl_refresh.specs.declared.outcome.Outcome.TheVariants.{Published, Unchanged, Repeat, Old, Gap, Held, Refused, BadAnswer}
 use Rattle.unl_follow.specs.declared.fault.ReplicaRefusal.{ReplicaRefusal}
 
--- the word of what came of a turn: of a fault of the peer there is no outcome
+-- the word for the outcome of a turn; without an outcome, the peer failed
 abbrev pub word_of : Option Outcome → List ℕ
 word_of None = codes "fault"
 word_of (Some (Published front)) = codes "published"
@@ -18,22 +18,22 @@ word_of (Some Held) = codes "held"
 word_of (Some (Refused status)) = codes "refused " ++ decimal status
 word_of (Some (BadAnswer bad)) = codes "bad"
 
--- a number, after its epoch and a point where the epoch isn't 0
+-- a number, preceded by its epoch and a dot unless the epoch is 0
 abbrev pub revision_text : ℕ → ℕ → List ℕ
 revision_text epoch number = if epoch == 0 then decimal number else decimal epoch ++ (codes "." ++ decimal number)
 
--- where a place stands, or a dash where it has no version
+-- the number of a version, or a dash if there is none
 abbrev pub number_text : Option EnvVersion → List ℕ
 number_text None = codes "-"
 number_text (Some version) = revision_text version.epoch version.number
 
--- whether the feature is on, or a dash where there is no version or no such feature
+-- whether the feature is on, or a dash if there is no version or no such feature
 abbrev pub on_text : Result (Option Evaluation) ReplicaRefusal → List ℕ
 on_text (Ok (Some evaluation)) = if evaluation.on then codes "true" else codes "false"
 on_text (Ok None) = codes "-"
 on_text (Err refusal) = codes "-"
 
--- a turn's number, the word of what came of it, where the place stands then, and whether the feature is on there
+-- the line of turn `k`: the word for its outcome, the number of the version after it, and whether the feature is on
 unfoldable pub line_of : ℕ → List ℕ → List ℕ → List ℕ → List ℕ
 line_of k word number on =
     codes "turn " ++ (decimal k ++ (codes " " ++ (word ++ (codes " number " ++ (number ++ (codes " on " ++ (on ++ codes "\n")))))))

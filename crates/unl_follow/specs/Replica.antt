@@ -1,4 +1,4 @@
--- What is known of a replica, and what it evaluates.
+-- The view of a replica, and what it evaluates to.
 use Rattle.std.specs.Prelude.{ℕ, List, [], ◌∷◌, Option, Some, None, Result, Ok, Err}
 use Rattle.unl_context.specs.Context.{Fields}
 use Rattle.unl_delta.specs.declared.version.EnvVersion.{EnvVersion}
@@ -18,20 +18,20 @@ pub record Kept : Type 0 where
   pub front : ℕ
   pub book : List Token
 
--- what a replica keeps before its first ask
+-- a replica before its first request
 abbrev pub new_replica : Kept
 new_replica = record { place = empty_place; front = 0; book = [] }
 
--- the same as of one who keeps places: the slot 0 alone
+-- the same as the view of an installer with only slot 0
 abbrev pub installed_by : Kept → Installed
 installed_by kept = record { places = kept.place ∷ []; front = kept.front; book = kept.book }
 
--- the feature that a run tells of, and the context that it is evaluated in
+-- the feature that a run evaluates, and the context of the evaluation
 pub record Subject : Type 0 where
   pub feature : List ℕ
   pub context : Fields
 
--- the evaluation over the state of a version; without a version there is none
+-- the evaluation over the state of a version; `NotReady` without a version
 abbrev pub found_in : Option EnvVersion → List ℕ → Fields → Moment → Result (Option Evaluation) ReplicaRefusal
 found_in None name context moment = Err NotReady
 found_in (Some version) name context moment = Ok (evaluation_of version.state name context moment)

@@ -1,4 +1,4 @@
--- What a run does with the ends that it is handed.
+-- The effect of a run on the ends that it is given.
 use Rattle.std.specs.Prelude.{◌≡◌, ◌≤◌, ℕ, ◌+◌, ◌-◌, ◌^◌, min, List, drop, length, Option, Some, None, option_map}
 use Rattle.std.specs.Prelude.{Result, Ok, Err}
 use Rattle.unl_base.specs.declared.draws.Draw.{Draw}
@@ -15,8 +15,8 @@ use Rattle.unl_follow.specs.Replica.{Subject}
 use Rattle.unl_follow.specs.Turns.{Came, HaveAsked, HaveDrawn, HaveTurned, Stand, Turn, Turned, follow_text, request_at, turn_line}
 use Rattle.unl_follow.specs.Turns.{turned_to}
 
--- The ends of a run: the peer, with what it was sent on its last connection and what its next ones give to read, and how often
--- it has failed; the draws to come; and what the sink was sent.
+-- The ends of a run: the peer (what it was sent on its last connection, and what its next ones give to read) with its count of
+-- faults; the draws to come; and what the sink was sent.
 pub record Ends : Type 0 where
   pub peer : PeerState
   pub faults : ℕ
@@ -25,7 +25,7 @@ pub record Ends : Type 0 where
 
 -- ---- one turn
 
--- by what came, the peer was sent the request and took one reply, or failed and was asked once at most
+-- The peer was sent the request and used up one reply; or it failed, with at most one connection.
 abbrev pub Meets : Came → List ℕ → PeerState → ℕ → PeerState → ℕ → Type 0
 Meets (Some reading) request peer faults peer_after faults_after =
     IsRead (option_map next_of peer.replies) reading × Asks request peer.replies peer.sent peer_after.replies peer_after.sent
@@ -33,7 +33,7 @@ Meets (Some reading) request peer faults peer_after faults_after =
 Meets None request peer faults peer_after faults_after =
     AsksAtMostOnce request peer.replies peer.sent peer_after.replies peer_after.sent × Rose faults faults_after
 
--- an ask was made where this stood, and the outcome and what stands are what comes of it
+-- One request was made in state `stand`, and it had this outcome and effect.
 pub record AsksOnce
     (ask : Ask) (stand : Stand) (peer : PeerState) (faults : ℕ) (turned : Turned) (peer_after : PeerState) (faults_after : ℕ)
     : Type 0 where
@@ -41,7 +41,7 @@ pub record AsksOnce
   pub meets : Meets came (request_at ask stand) peer faults peer_after faults_after
   pub turned_so : turned ≡ turned_to ask.delta stand came
 
--- the turn of a number was made, and its line was sent, whole or its front
+-- Turn `number` was made, and its line was sent, as `Sent` says (in full, or a prefix).
 pub record TakesTurn
     (Sent : Option (List ℕ) → List ℕ → Option (List ℕ) → Type 0) (ask : Ask) (subject : Subject) (number : ℕ)
     (stand : Stand) (before : Ends) (stand_after : Stand) (after : Ends) : Type 0 where
@@ -53,12 +53,12 @@ pub record TakesTurn
 
 -- ---- the run
 
--- the count has risen by so many at least, or stands at its end
+-- the count rose by at least `m`, or is at its maximum
 abbrev pub RoseBy : ℕ → ℕ → ℕ → Type 0
 RoseBy m before now = min (before + m) (2 ^ 64 - 1) ≤ now
 
--- these turns of an ask were made of the replies and draws that came, the peer was sent their requests, and their text was sent,
--- whole or its front
+-- These turns of an ask used the replies and draws to come, the peer was sent their requests, and their text was sent, as `Sent`
+-- says (in full, or a prefix).
 pub record Follows
     (Sent : Option (List ℕ) → List ℕ → Option (List ℕ) → Type 0) (ask : Ask) (subject : Subject) (before : Ends)
     (turns : List Turn) (after : Ends) : Type 0 where
@@ -71,13 +71,14 @@ pub record Follows
   pub drawn : HaveDrawn before.coming turns after.coming
   pub sends : Sent before.sent (follow_text ask.delta subject turns) after.sent
 
--- as many turns as were asked for, unless the pace had no more: then the first one, and one for each of the pace
+-- The number of turns is the smaller of `asked` and what the pace allowed: the first turn, and one for each of the pace.
+-- If the pace is not observable, it is at most `asked`.
 abbrev pub AreAsMany : ℕ → Option ℕ → List Turn → Type 0
 AreAsMany asked None turns = length turns ≤ asked
 AreAsMany asked (Some more) turns = length turns ≡ min asked (more + 1)
 
--- how a run of an ask ends: after its turns, or after a failed write, with the front of some turns' text, or for want of memory,
--- with the whole lines of some turns
+-- How a run ends: after its turns; after a failed write, with a prefix of some turns' text sent; or out of memory, with the whole
+-- lines of some turns sent.
 abbrev pub Runs : {T : Type 0} → ℕ → Option ℕ → Ask → Subject → Ends → Result T FollowFault → Ends → Type 0
 Runs asked pace ask subject before (Ok done) after =
     (turns : List Turn) × AreAsMany asked pace turns × Follows Sends ask subject before turns after

@@ -1,4 +1,4 @@
--- What a replica prints of its turns. Turns stand with the last one first.
+-- The turns of a replica and what it prints. A list of turns has the last one first.
 use Rattle.std.specs.Prelude.{◌≡◌, ℕ, ◌+◌, ◌⊎◌, Bool, List, [], ◌∷◌, ◌++◌, drop, length, Option, Some, None, option_map, Result}
 use Rattle.unl_base.specs.declared.draws.Draw.{Draw}
 use Rattle.unl_base.specs.Doors.{next_of}
@@ -16,39 +16,39 @@ use Rattle.unl_strategies.specs.Moment.{Moment}
 use Rattle.unl_follow.specs.Line.{line_of, number_text, on_text, word_of}
 use Rattle.unl_follow.specs.Replica.{Subject, found_in, installed_by, new_replica}
 
--- what came of an ask: a reply, by what it was read as, or a fault of the peer
+-- what a request received: a reply, as it was parsed, or nothing if the peer failed
 abbrev pub Came : Type 0
 Came = Option (Result Got BadReply)
 
--- a turn: its draw, and what came
+-- a turn: its draw, and what its request received
 pub record Turn : Type 0 where
   pub draw : Draw
   pub came : Came
 
--- what stands between two turns: what is kept, and the tag of the next ask
+-- the state between two turns: what is installed, and the tag of the next request
 pub record Stand : Type 0 where
   pub installed : Installed
   pub tag : Option (List ℕ)
 
--- what a turn comes to: its outcome, or none at a fault, and what stands then
+-- the effect of a turn: its outcome (none if the peer failed) and the state after it
 pub record Turned : Type 0 where
   pub outcome : Option Outcome
   pub stand : Stand
 
--- what stands before the first turn
+-- the state before the first turn
 abbrev pub first_stand : Stand
 first_stand = record { installed = installed_by new_replica; tag = None }
 
--- what a refresh comes to
+-- the effect of a refresh
 abbrev pub turned_by : Refreshed → Turned
 turned_by after = record { outcome = Some after.outcome; stand = record { installed = after.installed; tag = after.tag } }
 
--- by what came: a fault takes nothing, and the next ask has no tag
+-- the effect of what was received; after a fault nothing is applied, and the next request has no tag
 unfoldable pub turned_to : Bool → Stand → Came → Turned
 turned_to delta before None = record { outcome = None; stand = record { installed = before.installed; tag = None } }
 turned_to delta before (Some reading) = turned_by (after_reading 0 delta before.tag before.installed reading)
 
--- what stands after these turns
+-- the state after these turns
 unfoldable pub stand_after : Bool → List Turn → Stand
 stand_after delta [] = first_stand
 stand_after delta (turn ∷ earlier) = (turned_to delta (stand_after delta earlier) turn.came).stand
@@ -61,48 +61,48 @@ version_in stand = (place_of stand.installed 0).version
 abbrev pub moment_of : Draw → Moment
 moment_of draw = record { now = draw.now; word = draw.word; host = [] }
 
--- the line of the turn of a number, by its draw and what it came to
+-- the line of turn `k`, by its draw and effect
 unfoldable pub turn_line : Subject → ℕ → Draw → Turned → List ℕ
 turn_line subject k draw turned =
     line_of k (word_of turned.outcome) (number_text (version_in turned.stand))
     (on_text (found_in (version_in turned.stand) subject.feature subject.context (moment_of draw)))
 
--- what is printed of these turns, asked for deltas or for whole feeds: one line for each, in order
+-- the text printed for these turns, with deltas or whole feeds requested: one line for each, in order
 unfoldable pub follow_text : Bool → Subject → List Turn → List ℕ
 follow_text delta subject [] = []
 follow_text delta subject (turn ∷ earlier) =
     follow_text delta subject earlier
     ++ turn_line subject (length earlier + 1) turn.draw (turned_to delta (stand_after delta earlier) turn.came)
 
--- ---- where the turns come from, and what they ask
+-- ---- the replies, requests and draws of the turns
 
--- what the connect after so many others gives to read, where it is told
+-- what connection number `j`, counted from 0, gives to read, if that is observable
 abbrev pub reply_at : Option (List (List ℕ)) → ℕ → Option (List ℕ)
 reply_at replies j = option_map (λ list. next_of (drop j list)) replies
 
--- A turn came after others that took so many replies and had so many faults. A reply is the next one, and takes it. A fault
--- is one more, and may have taken one.
+-- What a turn received, after turns that used up `i` replies and had `k` faults; with it these are `j` and `m`. A reply is the
+-- next one of the list and is used up. A fault counts as one more, and may have used up a reply.
 abbrev pub Comes : Option (List (List ℕ)) → Came → ℕ → ℕ → ℕ → ℕ → Type 0
 Comes replies (Some reading) i k j m = IsRead (reply_at replies i) reading × (j ≡ i + 1) × (m ≡ k)
 Comes replies None i k j m = ((j ≡ i) ⊎ (j ≡ i + 1)) × (m ≡ k + 1)
 
--- these turns took j of the replies and had m faults
+-- these turns used up `j` of the replies and had `m` faults
 abbrev pub HaveTurned : Option (List (List ℕ)) → List Turn → ℕ → ℕ → Type 0
 HaveTurned replies [] j m = (j ≡ 0) × (m ≡ 0)
 HaveTurned replies (turn ∷ earlier) j m =
     (i : ℕ) × (k : ℕ) × HaveTurned replies earlier i k × Comes replies turn.came i k j m
 
--- the request of a turn: of the ask's host and with its token, in its mode, and with the tag that stands before the turn
+-- the request of a turn: for the ask's host, token and mode, with the tag before the turn
 abbrev pub request_at : Ask → Stand → List ℕ
 request_at ask stand = refresh_request ask.delta ask.host ask.token stand.tag
 
--- What a turn leaves on the peer's last connection, by what came: its request, sent on a new one. At a fault the front of that,
--- which may be all of it, or still what was sent before.
+-- The bytes sent on the peer's last connection after a turn: the turn's request, on a new connection. If the peer failed: a
+-- prefix of the request, perhaps all of it, or the bytes of before.
 abbrev pub IsAsked : Came → List ℕ → Option (List ℕ) → Option (List ℕ) → Type 0
 IsAsked (Some reading) request asked asked_after = asked_after ≡ option_map (λ _. request) asked
 IsAsked None request asked asked_after = (asked_after ≡ asked) ⊎ SendsFront (option_map (λ _. []) asked) request asked_after
 
--- what these turns of an ask, one after another, leave on the peer's last connection
+-- the bytes sent on the peer's last connection after these turns
 abbrev pub HaveAsked : Ask → Option (List ℕ) → List Turn → Option (List ℕ) → Type 0
 HaveAsked ask asked [] asked_after = asked_after ≡ asked
 HaveAsked ask asked (turn ∷ earlier) asked_after =

@@ -1,4 +1,4 @@
-//! Why a replica evaluates nothing, and why a run ended early.
+//! The errors of a replica's evaluation and of a run.
 ghost use Rattle.std.specs.Prelude.{◌≡◌};
 ghost use Rattle.unl_follow.specs.declared.fault.FollowFault.TheVariants.{Memory as want, WriteFault as write_fault};
 ghost use Rattle.unl_follow.specs.declared.fault.ReplicaRefusal.TheVariants.{Memory as no_memory};
@@ -8,7 +8,7 @@ use thiserror::Error;
 use unl_base::Failed;
 use unl_documents as documents;
 
-/// Why a replica evaluates nothing.
+/// Why a replica can't evaluate.
 #[derive(Clone, Copy, Debug, PartialEq, Eq, Error)]
 pub enum ReplicaRefusal {
     /// The place has no version yet.
@@ -27,10 +27,10 @@ impl From<documents::Memory> for ReplicaRefusal {
     }
 }
 
-/// Why a run ended before its last turn was told.
+/// Why a run ended before the line of its last turn was sent.
 #[derive(Clone, Copy, Debug, PartialEq, Eq, Error)]
 pub enum FollowFault {
-    /// The sink failed, which has counted it.
+    /// The sink failed and incremented its fault count.
     #[error("the output failed")]
     WriteFault,
     /// Memory ran out.

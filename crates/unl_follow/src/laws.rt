@@ -1,4 +1,4 @@
-//! What holds of a replica behind a replica.
+//! A law on a replica that follows a replica.
 ghost use Rattle.std.specs.Prelude.{◌≡◌, ◌++◌, List, Some, IfSome, option_map};
 ghost use Rattle.std.specs.List.{AllByRecursion};
 ghost use Rattle.unl_delta.specs.declared.batch.Batch.{Batch};
@@ -9,8 +9,9 @@ ghost use Rattle.unl_delta.specs.View.{Sees, both, view_of};
 
 use unl_delta::laws;
 
-/// A second place that takes what a first one answered to one who sees some projects, dropped, doubled and in any order: a
-/// version that it has holds one revision of the line as both see it, and its epoch and number never fall.
+/// A second place applies the answers that a first one gives to a reader who sees some projects. The answers may be dropped,
+/// duplicated and reordered. If the second place has a version, its state is one revision of the line as both see it. Its
+/// epoch and number never fall.
 pub fn two_hops()
     ensures state { (line : List Era) (sees projects : Sees) (batches answers : List Batch) → IsLine line
         → AllByRecursion (IsSent line sees) batches → AllByRecursion (IsAnswerAfter batches projects) answers

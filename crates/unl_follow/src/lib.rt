@@ -1,5 +1,5 @@
-//! A replica behind a server: one place, fed by a server's deltas or feeds, with an evaluation of its own; and the run
-//! that tells of one feature, turn by turn.
+//! A replica that follows a server: one place, fed by the server's deltas or feeds, with an evaluation over it ([`Replica`]).
+//! [`follow`] prints one feature's evaluation turn by turn.
 #![tactic(auto)]
 
 mod fault;

@@ -1,4 +1,4 @@
-//! The line of a turn.
+//! The line that a turn prints.
 ghost use Rattle.std.specs.Prelude.{◌≡◌, ◌++◌, IfOk, codes, decimal, option_map, string_bytes};
 ghost use Rattle.unl_follow.specs.Line.{line_of, number_text, on_text, revision_text, word_of};
 ghost use Rattle.unl_follow.specs.Replica.{found_in};
@@ -12,7 +12,7 @@ use unl_documents::Memory;
 use unl_refresh::Outcome;
 use unl_strategies::Moment;
 
-/// The line of a turn: its number, what came of it, where the place stands then, and whether the feature is on there.
+/// Returns the line of a turn: its number, its outcome, the number of the place's version, and whether the feature is on.
 pub(crate) fn line(
     alloc: Global,
     number: u32,
@@ -32,7 +32,7 @@ pub(crate) fn line(
     Ok(line)
 }
 
-/// A line of these parts.
+/// Returns the line with these parts.
 #[tactic(auto, unfolding(crate::specs::Line::line_of))]
 fn line_of(
     alloc: Global,
@@ -47,7 +47,7 @@ fn line_of(
     format!(in alloc; "turn {number} {word} number {stands} on {on}\n")
 }
 
-/// The word of what came of a turn.
+/// Returns the word for the outcome of a turn.
 fn word(alloc: Global, outcome: &Option<Outcome>) -> Result<String, AllocError>
     ensures { IfOk result (λ word. string_bytes word ≡ word_of outcome.now) }
 {
@@ -70,7 +70,7 @@ fn refused(alloc: Global, status: u16) -> Result<String, AllocError>
     format!(in alloc; "refused {status}")
 }
 
-/// Where a place stands, as it is printed.
+/// Returns the printed number of a version, or a dash if there is none.
 fn number_text(alloc: Global, version: Option<&EnvVersion>) -> Result<String, AllocError>
     ensures { IfOk result (λ text. string_bytes text ≡ number_text (option_map (λ v. v.now) version.entry)) }
 {
@@ -89,7 +89,7 @@ fn revision_text(alloc: Global, epoch: u64, number: u64) -> Result<String, Alloc
     format!(in alloc; "{epoch}.{number}")
 }
 
-/// Whether the feature is on, in a word, or a dash where that can't be said.
+/// Returns whether the feature is on as a word, or a dash if there is no version or no such feature.
 fn on_word(
     alloc: Global,
     replica: &Replica,

@@ -1,4 +1,4 @@
-//! One ask for a replica.
+//! One refresh of a replica.
 ghost use Rattle.std.specs.Prelude.{◌≡◌, ◌≢◌, ◌<◌, ◌≤◌, ◌+◌, ◌-◌, ◌^◌, List, ℕ, Some, None, Ok, Err, Result, IfOk, OnOk, OnErr, IsTrue};
 ghost use Rattle.std.specs.Prelude.{drop, option_map};
 ghost use Rattle.unl_base.specs.Doors.{next_of};
@@ -23,11 +23,10 @@ use std::alloc::Global;
 use unl_base::Peer;
 use unl_refresh::{Ask, Outcome, RefreshFault, refresh_once};
 
-/// Asks a server once for what is new, and takes what it answers for the place of a replica, as `refresh_once` does for
-/// a slot.
+/// Makes one request for what is new, and applies the reply to the replica's place, as `refresh_once` does for a slot.
 ///
 /// # Errors
-/// `PeerFault` where the peer can't be connected to, written to or read, or want of memory. Nothing is taken then.
+/// `PeerFault` if the peer can't be connected to, written to or read; `Memory` if out of memory. Nothing is applied then.
 pub fn follow_once<P: Peer>(
     alloc: Global,
     replica: &mut Replica,
@@ -39,17 +38,17 @@ pub fn follow_once<P: Peer>(
     requires token { IsTrue (fits_line ask.old.token) }
     requires tag { IsTrue (fits_if_any ask.old.tag) }
 
-    // A reply was read, and the outcome, what is kept and the tag are what comes of it.
+    // A reply is read, and it determines the outcome, what the replica keeps, and the tag.
     ensures takes { IfOk result (λ outcome. Refreshes 0 ask.old (installed_by replica.old) (option_map next_of (P.state peer.old).replies)
         (record { outcome = outcome; installed = installed_by replica.new; tag = ask.new.tag })) }
 
-    // Where the peer tells its replies, this is so of the next one and in no other way.
+    // If the peer's replies are observable, the reply is the next one of them.
     ensures told { (list : List (List ℕ)) (reading : Result Got BadReply) → (P.state peer.old).replies ≡ Some list
         → IsReply (next_of list) reading
         → IfOk result (λ outcome. record { outcome = outcome; installed = installed_by replica.new; tag = ask.new.tag }
         ≡ after_reading 0 ask.old.delta ask.old.tag (installed_by replica.old) reading) }
 
-    // So a batch that applies there is published, where no call of the peer failed and memory was found.
+    // So a batch that applies is published, unless the peer failed or memory ran out.
     ensures complete { (list : List (List ℕ)) (got : Got) (batch : Batch) → (P.state peer.old).replies ≡ Some list
         → IsReply (next_of list) (Ok got)
         → got.status ≡ 200 → batch_in ask.old.delta (number_held replica.old.place) got.body ≡ Ok batch
@@ -58,37 +57,37 @@ pub fn follow_once<P: Peer>(
         → (result ≡ Ok (Outcome.Published (replica.old.front + 1)))
         × (installed_by replica.new ≡ after_install 0 batch (installed_by replica.old)) }
 
-    // Whatever is lost, doubled or out of order: behind a server that sends of a line of histories, the place has one
-    // revision of it, as it is seen, and its epoch and number don't fall.
+    // Batches may be lost, duplicated or out of order: if the server sends batches from a line of histories, the place has one
+    // revision of that line, as seen through the projects, and its epoch and number don't fall.
     ensures delivery { (line : List Era) (sees : Sees) → IsLine line → PlaceStandsFor line sees replica.old.place
         → Brings line sees ask.old.delta replica.old.place (option_map next_of (P.state peer.old).replies)
         → PlaceStandsFor line sees replica.new.place × IsNotBelow replica.old.place.version replica.new.place.version }
 
-    // Want of memory stands in no outcome.
+    // No outcome reports an allocation failure.
     ensures named { IfOk result IsNamedOutcome }
 
-    // A fault takes nothing, and leaves the ask without its tag.
+    // On an error nothing is applied, and the ask has no tag.
     ensures fault { OnErr result (replica.new ≡ replica.old) }
     ensures no_tag { OnErr result (ask.new.tag ≡ None) }
 
-    // The ask changes in its tag alone, which may be sent in the next request.
+    // Only the ask's tag changes, and the new tag is fit to be sent in the next request.
     ensures same_ask { ask.new ≡ with_tag ask.new.tag ask.old }
     ensures next_tag { IsTrue (fits_if_any ask.new.tag) }
 
     // At most one version is published.
     ensures next_front { replica.new.front ≤ replica.old.front + 1 }
 
-    // One connect was made, and one request was sent on it.
+    // One connection is made, and one request is sent on it.
     ensures asks { OnOk result (Asks (refresh_request ask.old.delta ask.old.host ask.old.token ask.old.tag)
         (P.state peer.old).replies (P.Sink.sent peer.old) (P.state peer.new).replies (P.Sink.sent peer.new)) }
     ensures once { AsksAtMostOnce (refresh_request ask.old.delta ask.old.host ask.old.token ask.old.tag)
         (P.state peer.old).replies (P.Sink.sent peer.old) (P.state peer.new).replies (P.Sink.sent peer.new) }
 
-    // Where no call of the peer failed and memory was found, one reply was taken.
+    // Unless the peer failed or memory ran out, exactly one reply is used up.
     ensures one_reply { ¬ (Rose (P.Source.faults peer.old) (P.Source.faults peer.new)) → result ≢ Err RefreshFault.Memory
         → (P.state peer.new).replies ≡ option_map (λ list. drop 1 list) (P.state peer.old).replies }
 
-    // A fault is told only where the peer counted one.
+    // `PeerFault` is returned only if the peer's fault count rose.
     ensures later { P.Source.faults peer.old ≤ P.Source.faults peer.new }
     ensures cause { result ≡ Err RefreshFault.PeerFault → Rose (P.Source.faults peer.old) (P.Source.faults peer.new) }
 {

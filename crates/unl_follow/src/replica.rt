@@ -14,7 +14,7 @@ use unl_documents::{Memory, Shared};
 use unl_strategies::Moment;
 use unl_tokens::Book;
 
-/// One place, a book, and how often one of them was published. Its one slot is 0.
+/// One place, a book, and the number of publications. The place is slot 0, the only slot.
 #[derive(Drop)]
 pub struct Replica {
     place: Place,
@@ -34,7 +34,7 @@ impl Model for Replica {
 }
 
 impl Replica {
-    /// An empty place and an empty book, at front 0. Takes no memory.
+    /// Returns an empty place and an empty book, at front 0. Doesn't allocate.
     pub fn new(alloc: Global) -> Replica
         ensures { result ≡ new_replica }
     {
@@ -48,12 +48,12 @@ impl Replica {
         }
     }
 
-    /// The evaluation of the feature of a name for a context at a moment, over the state of the place. `Ok(None)` exactly
-    /// where that state lacks the name.
+    /// Evaluates a feature by name, for a context at a moment, over the state of the place. Returns `Ok(None)` exactly if that
+    /// state has no feature of this name.
     ///
     /// # Errors
     ///
-    /// `NotReady` exactly where the place has no version, or want of memory.
+    /// `NotReady` exactly if the place has no version; `Memory` if out of memory.
     pub fn evaluate(
         &self,
         alloc: Global,
@@ -69,7 +69,7 @@ impl Replica {
         Ok(evaluate(alloc, &version.get().state, name, context, moment)?)
     }
 
-    /// The version of the place, where there is one.
+    /// Returns the version of the place, if it has one.
     pub fn version(&self) -> Option<&EnvVersion>
         ensures { option_map (λ version. version.now) result ≡ self.now.place.version }
     {
@@ -95,7 +95,7 @@ impl Installer for Replica {
         &self.place
     }
 
-    /// Publishes by counting.
+    /// Applies the batch to the place and increments the front.
     fn install(&mut self, alloc: Global, _slot: usize, batch: &Batch) -> Result<u64, Memory> {
         let version = apply(alloc, &self.place, batch)?;
         let version = Shared::new(alloc, version)?;
@@ -121,7 +121,7 @@ impl Installer for Replica {
     }
 }
 
-/// How many places one place is.
+/// Returns the number of slots, which is 1.
 fn count_of(_place: &Place) -> usize
     ensures { result ≡ 1 }
 {

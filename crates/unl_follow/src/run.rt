@@ -1,4 +1,4 @@
-//! Turn by turn.
+//! A run of turns.
 ghost use Rattle.std.specs.Prelude.{◌≡◌, ◌<◌, ◌≤◌, ◌-◌, true, None, IfSome, IsTrue, Err, nat_lt, option_map};
 ghost use Rattle.unl_base.specs.Faults.{Rose};
 ghost use Rattle.unl_follow.specs.Run.{Runs};
@@ -12,15 +12,16 @@ use std::alloc::Global;
 use unl_base::{Draws, Pace, Peer, Sink};
 use unl_refresh::Ask;
 
-/// Follows a server with a new replica for so many turns, and tells of a feature at each. Each turn but the first waits
-/// for the pace; where that has no further turn, the run ends. A turn takes one draw, asks once, and prints
-/// `turn K W number N on B`: K counts from 1; W is `published`, `unchanged`, `repeat`, `old`, `gap`, `held`, `refused` and
-/// a status, `bad` or `fault`; N is where the place stands then, or `-`; B is `true`, `false`, or `-` where there is no
-/// version or no such feature. The evaluation is at the draw's moment, on a host without a name.
+/// Follows a server with a new replica for at most `turns` turns, and prints one line about a feature after each. Each turn but
+/// the first waits for the pace; if the pace has no more turns, the run ends. A turn takes one draw, makes one request, and
+/// prints `turn K W number N on B`. K counts from 1. W is the outcome: `published`, `unchanged`, `repeat`, `old`, `gap`,
+/// `held`, `refused` and a status, `bad`, or `fault` if the peer failed. N is the number of the place's version after the turn
+/// (preceded by its epoch and a dot, unless the epoch is 0), or `-`. B is `true`, `false`, or `-` if there is no version or no
+/// such feature. The evaluation is at the draw's moment, on a host without a name.
 ///
 /// # Errors
-/// `WriteFault` where the sink fails, after a front of the turns' text, or want of memory, after whole lines. A fault of the
-/// peer ends no run.
+/// `WriteFault` if the sink fails; a prefix of the text was sent then. `Memory` if out of memory; whole lines were sent then. A
+/// fault of the peer doesn't end the run.
 pub fn follow<P: Peer, R: Draws, T: Pace, K: Sink>(
     alloc: Global,
     subject: &Subject<'_>,
@@ -34,9 +35,9 @@ pub fn follow<P: Peer, R: Draws, T: Pace, K: Sink>(
     requires host { IsTrue (fits_line ask.host) }
     requires token { IsTrue (fits_line ask.token) }
     requires new { ask.tag ≡ None }
-    // As many turns were made as were asked for and the pace had, of the replies and draws that came. Each with a reply sent
-    // the ask's request, with the tag that stood, on a connection of its own. Their text was sent; at a failed write a front
-    // of it, and for want of memory whole lines.
+    // The number of turns is the smaller of what was asked for and what the pace allowed; they used the replies and draws to
+    // come. Each turn with a reply sent the ask's request, with the current tag, on a new connection. The text of the turns was
+    // sent: a prefix of it if a write failed, and whole lines if out of memory.
     ensures runs { Runs turns (T.turns pace.old) ask subject.now
         (record {
           peer = P.state peer.old;
@@ -76,7 +77,7 @@ pub fn follow<P: Peer, R: Draws, T: Pace, K: Sink>(
     Ok(())
 }
 
-/// Whether there is a turn after so many: there is a first one, and each other one waits for the pace.
+/// Returns whether there is a turn after `made` turns. There is a first one; each later one waits for the pace.
 fn goes_on<T: Pace>(made: u32, pace: &mut T) -> bool
     ensures first { made ≡ 0 → (result ≡ true) × (T.turns pace.new ≡ T.turns pace.old) }
     ensures takes { 0 < made → T.turns pace.new ≡ option_map (λ n. n - 1) (T.turns pace.old) }

@@ -1,13 +1,13 @@
-//! What a run tells of.
+//! The feature and context that a run evaluates.
 use std::marker::Model;
 use unl_context::Context;
 
-/// The feature that a run tells of, and the context that it is evaluated in.
+/// The feature that a run evaluates, and the context of the evaluation.
 #[derive(Debug, Drop)]
 pub struct Subject<'a> {
     /// The name of the feature.
     pub feature: &'a str,
-    /// The context, in its environment.
+    /// The context, with its environment.
     pub context: &'a Context,
 }
 

@@ -1,4 +1,4 @@
-//! One turn: an ask, and the line that tells of it.
+//! One turn: a request, and the line that reports it.
 ghost use Rattle.std.specs.Prelude.{◌≡◌, ℕ, ◌<◌, ◌≤◌, ◌+◌, ◌-◌, ◌^◌, List, Option, Err, IfOk, IsTrue, OnOk, string_bytes};
 ghost use Rattle.unl_base.specs.Faults.{Rose};
 ghost use Rattle.unl_base.specs.Streams.{Sends, SendsFront};
@@ -19,7 +19,7 @@ use unl_documents::Memory;
 use unl_refresh::{Ask, Outcome, RefreshFault};
 use unl_strategies::Moment;
 
-/// Makes the turn of a number: takes one draw, asks once, and sends the line of what came of it.
+/// Makes one turn: takes one draw, makes one request, and sends the line of its outcome.
 pub(crate) fn turn<P: Peer, R: Draws, K: Sink>(
     alloc: Global,
     number: u32,
@@ -78,7 +78,7 @@ pub(crate) fn turn<P: Peer, R: Draws, K: Sink>(
     Ok(())
 }
 
-/// Asks once. A fault of the peer has no outcome, and want of memory is the one fault that is told.
+/// Makes one request. Returns no outcome if the peer failed; the only error is out of memory.
 fn ask_once<P: Peer>(
     alloc: Global,
     replica: &mut Replica,
@@ -105,7 +105,7 @@ fn ask_once<P: Peer>(
     }
 }
 
-/// The line of a turn, by its draw.
+/// Returns the line of a turn with this draw.
 #[tactic(auto, unfolding(crate::specs::Turns::turn_line))]
 fn told(
     alloc: Global,

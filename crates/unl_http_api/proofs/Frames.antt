@@ -1,4 +1,4 @@
--- A reader takes what is framed.
+-- A reader consumes exactly the frame.
 use Rattle.std.proofs.Common.{List, ℕ, drop, refl, sym}
 use Rattle.unl_http_api.specs.declared.frame.Frame.{Frame}
 use Rattle.unl_http_api.specs.declared.frame.Frame.TheVariants.{Whole, More, Bad}
@@ -8,7 +8,7 @@ use Rattle.unl_http_api.specs.Frames.{IsFrame, TakesFrame}
 use Rattle.unl_http_api.specs.Requests.{Gives}
 use Rattle.unl_http_api.proofs.RequestLemmas.{Gives_unique}
 
--- what comes next is the only thing that can
+-- the next item is unique
 pub frame_is_taken : (bytes : List ℕ) (frame : Frame) (next : Next) (rest : List ℕ)
     → IsFrame bytes frame → Gives bytes next rest → TakesFrame bytes frame next rest
 frame_is_taken bytes (Whole count) next rest framed gives =

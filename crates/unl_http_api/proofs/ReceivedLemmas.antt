@@ -1,4 +1,4 @@
--- Bytes are read as a reply in one way, and when enough have come more of them change nothing.
+-- Bytes parse as a reply in exactly one way, and after enough bytes, more of them change nothing.
 use Rattle.std.proofs.Common.{◌≡◌, ℕ, ◌<◌, ◌≤◌, Bool, true, false, cond, List, [], ◌∷◌, ◌++◌, length, take, drop, map, refl, sym, ap, ◌∙◌, subst, arith, length-append, Option, Some, None, Result, Ok, Err, inl, inr, IsTrue}
 use Rattle.std.proofs.lemmas.Bool.{cases_lt}
 use Rattle.std.proofs.lemmas.Bool.Decides.{nat_tests}
@@ -25,15 +25,15 @@ use Rattle.unl_http_api.proofs.FindLemmas.{after_front}
 use Rattle.unl_http_api.proofs.RequestLemmas.{window-append-drop, window-append, front_of_window}
 use Rattle.unl_http_api.proofs.RoomLemmas.{window_fits}
 
--- ---- what a call answers
+-- ---- what a call returns
 
--- what gives a reading answers by what the reading is
+-- a call that gives a reading returns by what the reading is
 pub Answers-from_gives : {T E : Type 0} (memory : E) (P : Result T E → Type 0) (result reading : Result T E)
     → Gives memory result reading → P reading → Answers memory P result
 Answers-from_gives memory P (Ok x) reading gives is = subst P gives is
 Answers-from_gives memory P (Err e) reading gives is = λ other. subst P (gives other) is
 
--- what answers by a relation gives the one thing that it has
+-- a call that returns a value in a relation gives the only value that the relation allows
 pub Gives-from_answers : {T E : Type 0} (memory : E) (P : Result T E → Type 0) (result reading : Result T E)
     → ((r s : Result T E) → P r → P s → r ≡ s) → Answers memory P result → P reading → Gives memory result reading
 Gives-from_answers memory P (Ok x) reading unique answers is = unique reading (Ok x) is answers
@@ -67,7 +67,7 @@ HasReplyHead-append bytes head rest more has = record {
   few = has.few;
 }
 
--- where no head of few fields is in the window, none is in the bytes
+-- if the window has no head of few fields, the bytes have none
 pub no_reply_head : (bytes front : List ℕ) → front ≡ window bytes
     → ((head : ResponseHead) (rest : List ℕ) → ReadsResponse front head rest → length head.fields ≤ 64 → ⊥)
     → HasNoReplyHead bytes
@@ -77,7 +77,7 @@ no_reply_head bytes front is none head rest has =
 
 -- ---- one reading
 
--- bytes are read in one way
+-- bytes parse in at most one way
 pub IsReply_unique : (bytes : List ℕ) (r s : Result Got BadReply) → IsReply bytes r → IsReply bytes s → r ≡ s
 IsReply_unique bytes r s (inl x) (inl y) =
     let same = response_unique bytes x.0 y.0 x.1 y.1 x.2.reads y.2.reads in
@@ -86,7 +86,7 @@ IsReply_unique bytes r s (inl x) (inr y) = absurd (y.0 x.0 x.1 x.2)
 IsReply_unique bytes r s (inr x) (inl y) = absurd (x.0 y.0 y.1 y.2)
 IsReply_unique bytes r s (inr x) (inr y) = x.1 ∙ sym y.1
 
--- so a way in which they are read is the only one
+-- so a way in which they parse is the only one
 pub one_reply_of : (bytes : List ℕ) (reading : Result Got BadReply) → IsReply bytes reading → HasOneReply bytes
 one_reply_of bytes reading is = record {
   reading = reading;
@@ -94,7 +94,7 @@ one_reply_of bytes reading is = record {
   only = λ other it. IsReply_unique bytes reading other is it;
 }
 
--- a head in the window, by its spans
+-- a head in the window, from its spans
 pub record HasReplyAt (bytes : List ℕ) (r : ResponseSpans) (fields : List (List ℕ × List ℕ)) : Type 0 where
   pub head : ResponseHead
   pub has_head : HasReplyHead bytes head (drop r.len bytes)
@@ -120,7 +120,7 @@ reply_at bytes front spans r is fits room within (h, at) =
       fields_are = at.fields;
     }
 
--- what is read by the spans is what is read of the bytes
+-- what is read from the spans is what is read from the bytes
 pub reads_at : (bytes : List ℕ) (r : ResponseSpans) (fields : List (List ℕ × List ℕ)) → HasReplyAt bytes r fields
     → IsReply bytes (reading_with r.code fields (drop r.len bytes))
 reads_at bytes r fields at = inl (
@@ -138,7 +138,7 @@ test_passes a b less = grind (arith, nat_tests)
 test_fails : (a b : ℕ) → b ≤ a → nat_lt a b ≡ false
 test_fails a b not_less = grind (arith, nat_tests)
 
--- past the limit it doesn't matter how many bytes follow
+-- past the limit, the number of bytes that follow doesn't matter
 size_stays : (stated : Option ℕ) (n m : ℕ) → 16777216 < n → n ≤ m → size_among stated n ≡ size_among stated m
 size_stays None n m many more =
     rw (test_passes 16777216 n many, test_passes 16777216 m (omega (arith, many, more))) refl
@@ -148,12 +148,12 @@ size_stays (Some k) n m many more =
       | inr small ↦ rw (test_fails n k (omega (arith, small, many)), test_fails m k (omega (arith, small, many, more))) refl
     ]
 
--- the same by what the head says
+-- as above, with the head given
 body_size_stays : (status : ℕ) (fields : List (List ℕ × List ℕ)) (n m : ℕ) → 16777216 < n → n ≤ m
     → body_size status fields n ≡ body_size status fields m
 body_size_stays status fields n m many more = rw (size_stays (stated_length fields) n m many more) refl
 
--- a body is among the bytes that follow
+-- a body lies within the bytes that follow
 among_fits : (stated : Option ℕ) (following n : ℕ) → size_among stated following ≡ Ok n → n ≤ following
 among_fits None following n is = by_test (nat_lt 16777216 following) is
   where
@@ -179,7 +179,7 @@ body_fits status fields following n is =
     by_tests false true is = let same : 0 ≡ n = cc in omega (arith, same)
     by_tests false false is = among_fits (stated_length fields) following n is
 
--- the body stays where more bytes follow it
+-- the body is unchanged when more bytes follow
 taken_stays : (status : ℕ) (fields : List (List ℕ × List ℕ)) (rest more : List ℕ) (size : Result ℕ BadReply)
     → body_size status fields (length rest) ≡ size
     → (size >>= λ n. Ok (got_with status fields (take n rest)))
@@ -188,7 +188,7 @@ taken_stays status fields rest more (Ok n) is =
     ap (λ body. Ok (got_with status fields body)) (sym (take-append-le n rest more (body_fits status fields (length rest) n is)))
 taken_stays status fields rest more (Err e) is = refl
 
--- what is read after a head stays where enough bytes follow it
+-- what is read after a head is unchanged once enough bytes follow
 reading_stays : (status : ℕ) (fields : List (List ℕ × List ℕ)) (rest more : List ℕ) → 16777216 < length rest
     → reading_with status fields rest ≡ reading_with status fields (rest ++ more)
 reading_stays status fields rest more many =
@@ -196,7 +196,7 @@ reading_stays status fields rest more many =
     ∙ ap (λ size. size >>= λ n. Ok (got_with status fields (take n (rest ++ more))))
     (body_size_stays status fields (length rest) (length (rest ++ more)) many (omega (arith, length-append rest more)))
 
--- once enough bytes have come, more of them change nothing
+-- once enough bytes have arrived, more of them change nothing
 pub IsReply-append : (bytes more : List ℕ) (reading : Result Got BadReply) → 16785409 ≤ length bytes
     → IsReply bytes reading → IsReply (bytes ++ more) reading
 IsReply-append bytes more reading many (inl x) =
@@ -221,17 +221,17 @@ IsReply-append bytes more reading many (inr x) =
 
 -- ---- the tag
 
--- a byte of a value is none that breaks a line
+-- a value byte never breaks a line
 value_byte_fits : (b : ℕ) → IsTrue (is_value_byte b) → IsTrue (not (b == 0 || b == 10 || b == 13))
 value_byte_fits b is = grind (arith, nat_tests)
 
--- the value of a field can stand in a line
+-- the value of a field fits in a header line
 value_fits : (f : Field) → IsField f → IsTrue (fits_line (field_value f))
 value_fits f is =
     list_all-from_AllPass (λ b. not (b == 0 || b == 10 || b == 13)) (field_value f)
     (All-weaker (λ b. IsTrue (is_value_byte b)) _ value_byte_fits (field_value f) (AllPass-trim_ows is_value_byte f.raw is.raw))
 
--- so can that of the first field of a name
+-- so does that of the first field with a name
 first_fits : (name : List ℕ) (fields : List Field) → All IsField fields
     → IsTrue (fits_if_any (first_value name (map name_and_value fields)))
 first_fits name [] all = refl
@@ -245,20 +245,20 @@ first_fits name (f ∷ fields) all =
     by_name true here later = here
     by_name false here later = later
 
--- the tag is that of the head's fields
+-- the tag is one of the head's field values
 tag_of : (size : Result ℕ BadReply) (status : ℕ) (fields : List (List ℕ × List ℕ)) (rest : List ℕ) (got : Got)
     → Ok got ≡ (size >>= λ n. Ok (got_with status fields (take n rest))) → got.tag ≡ first_value (codes "etag") fields
 tag_of (Ok n) status fields rest got is = let same : got ≡ got_with status fields (take n rest) = cc in ap (λ g. g.tag) same
 tag_of (Err e) status fields rest got is = absurd (cc)
 
--- the tag of a reply can stand in a line
+-- the tag of a reply fits in a header line
 pub tag_fits : (bytes : List ℕ) (got : Got) → IsReply bytes (Ok got) → IsTrue (fits_if_any got.tag)
 tag_fits bytes got (inl x) =
     let is = tag_of (body_size (status_code x.0) (reply_fields x.0) (length x.1)) (status_code x.0) (reply_fields x.0) x.1 got x.3 in
     subst (λ tag. IsTrue (fits_if_any tag)) (sym is) (first_fits (codes "etag") x.0.fields x.2.reads.0.fields)
 tag_fits bytes got (inr x) = absurd (cc)
 
--- so can that of one that a call answered
+-- so does the tag of a reply that a call returned
 pub tag_fits_if_ok : (bytes : List ℕ) (result : Result Got BadReply) → Answers Memory (IsReply bytes) result
     → IfOk result (λ got. IsTrue (fits_if_any got.tag))
 tag_fits_if_ok bytes (Ok got) is = tag_fits bytes got is

@@ -1,4 +1,4 @@
--- Whole requests are a session.
+-- Complete requests form a session.
 use Rattle.std.proofs.Common.{◌≡◌, ℕ, ◌≤◌, suc, zero, Bool, true, false, List, [], ◌∷◌, length, refl, ap, arith}
 use Rattle.unl_http_api.specs.declared.request.Request.{Request}
 use Rattle.unl_http_api.specs.declared.end.End.{End}
@@ -6,7 +6,7 @@ use Rattle.unl_http_api.specs.declared.end.End.TheVariants.{Closed, Asked, Limit
 use Rattle.unl_http_api.specs.Session.{IsOpen, EndsSo, Session, HasOneSession, OnlyLastCloses, AreWhole, IsRegular, IsRegularSession}
 use Rattle.unl_http_api.proofs.SessionLemmas.{Session_unique}
 
--- a list of bytes has one session and no other
+-- every byte string has exactly one session
 pub has_one_of : (bytes : List ℕ) → (asked : List Request) × (end : End) × Session bytes asked end → HasOneSession bytes
 has_one_of bytes (asked, end, session) = record {
   requests = asked;
@@ -18,7 +18,7 @@ has_one_of bytes (asked, end, session) = record {
 open_longer : (n : ℕ) (q : Request) (qs : List Request) → q.close ≡ false → IsOpen n qs → IsOpen (suc n) (q ∷ qs)
 open_longer n q qs stays x = record { few = omega (arith, x.few); open_all = (stays, x.open_all) }
 
--- a request that stays open comes before
+-- a request that stays open can be prepended
 ends_longer : (n : ℕ) (q : Request) (qs : List Request) (rest : List ℕ) (e : End) → q.close ≡ false → EndsSo n qs rest e
     → EndsSo (suc n) (q ∷ qs) rest e
 ends_longer n q qs rest Asked stays x = (
@@ -69,7 +69,7 @@ ends_regularly (suc n) (q ∷ []) order few = last_left n q q.close refl
 ends_regularly (suc n) (q ∷ (p ∷ qs)) order few =
     more_left n q (p ∷ qs) order.0 (ends_regularly n (p ∷ qs) order.1 (omega (arith, few)))
 
--- whole requests are a session that ends behind the last of them
+-- complete requests form a session that ends after the last of them
 pub whole_session : (bytes : List ℕ) (asked : List Request) → AreWhole bytes asked → IsRegularSession bytes asked
 unfolding EndsRegularly
 whole_session bytes asked whole =

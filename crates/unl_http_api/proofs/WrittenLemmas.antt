@@ -1,4 +1,4 @@
--- A request that is written is read again.
+-- A written request is read back.
 use Rattle.std.proofs.Common.{◌≡◌, ◌≢◌, ℕ, ◌<◌, ◌≤◌, true, false, List, [], ◌∷◌, ◌++◌, length, map, reverse, refl, sym, ap, ◌∙◌, arith, append_assoc, append-nil, length-append, Option, Some, None, codes}
 use Rattle.std.proofs.lemmas.Bool.Decides.{nat_tests}
 use Rattle.std.proofs.lemmas.Fmt.{decimal_is_IsNumeral, length-decimal-le}
@@ -23,18 +23,18 @@ use Rattle.unl_http_api.specs.Reply.{header}
 use Rattle.unl_http_api.specs.Requests.{IsRequest, request_with}
 use Rattle.unl_http_api.specs.RequestText.{body_headers, method_name, request_text, CanBeRead, request_read}
 
--- ---- the head that is written
+-- ---- the written head
 
--- a field whose value stands behind a space
+-- a field whose value is preceded by a space
 abbrev field : List ℕ → List ℕ → Field
 field name value = record { name = name; raw = 32 ∷ value; end = crlf }
 
--- a field before others, if it has a value
+-- an optional field before the others
 abbrev with_field : List ℕ → Option (List ℕ) → List Field → List Field
 with_field name None fields = fields
 with_field name (Some value) fields = field name value ∷ fields
 
--- the fields on the body before others
+-- the fields for the body before the others
 abbrev with_body : Method → List ℕ → List Field → List Field
 with_body Get digits fields = fields
 with_body Post digits fields =
@@ -98,7 +98,7 @@ print_written_fields method host token tag body =
     (append-nil (print_field (field (codes "Connection") (codes "close")))
     ∙ print_written (codes "Connection") (codes "close"))))
 
--- the head that is written, and then the body, are the text of the request
+-- the written head followed by the body is the text of the request
 print_head : (method : Method) (target host : List ℕ) (token tag : Option (List ℕ)) (body : List ℕ)
     → request_text method target host token tag body
     ≡ print_request (written_head method target host token tag (decimal (length body))) ++ body
@@ -118,7 +118,7 @@ print_head method target host token tag body =
         ≡ l ++ 32 ∷ (t ++ 32 ∷ (v ++ (e ++ (((h ++ (a ++ (i ++ (b ++ c)))) ++ e) ++ r))))
     regroup l t v e h a i b c r = simp (append_assoc, cons-append)
 
--- ---- its parts are of the grammar
+-- ---- its parts are valid in the grammar
 
 named : (name value : List ℕ) → IsToken name → AllPass is_value_byte value → IsField (field name value)
 named name value token pass = record { name = token; raw = All-cons (λ b. is_value_byte b ≡ true) 32 value refl pass }
@@ -171,9 +171,9 @@ written_fields_are method host token tag digits host_is token_is tag_is digits_a
     (named (codes "Connection") (codes "close") (token_of (codes "Connection") (omega arith) refl) close)
     (All-nil IsField)))))
 
--- ---- how long it says that its body is
+-- ---- the stated length of the body
 
--- a digit is a byte of a value and no white space
+-- a digit is a value byte and not white space
 digit_is_value : (b : ℕ) → is_ascii_digit b ≡ true → is_value_byte b ≡ true
 digit_is_value b is = grind (arith, nat_tests)
 
@@ -203,7 +203,7 @@ plain_of ds n some few all value =
     let second : nat_le (length ds) 19 ≡ true = grind (arith, nat_tests) in
     rw (first, second, all, value) refl
 
--- the number is read of its digits
+-- the number is read back from its digits
 number_read : (n : ℕ) → n ≤ 1048576 → plain_number (trim_ows (32 ∷ decimal n)) ≡ Some n
 number_read n fits =
     let numeral = decimal_is_IsNumeral n (omega (arith, fits)) in
@@ -212,7 +212,7 @@ number_read n fits =
     ∙ plain_of (decimal n) n numeral.0.0 (length-decimal-le 19 n (omega arith) (omega (arith, fits)) (omega (arith, fits)))
     (list_all-from_AllPass is_ascii_digit (decimal n) all) numeral.1
 
--- ---- what is read of it
+-- ---- what is read back
 
 -- no rule is broken
 no_fault : (method : Method) (host : List ℕ) (token tag : Option (List ℕ)) (digits : List ℕ) (n : ℕ)
@@ -231,7 +231,7 @@ no_fault Other host None (Some tag) digits n said fits = refl
 no_fault Other host (Some token) None digits n said fits = refl
 no_fault Other host (Some token) (Some tag) digits n said fits = refl
 
--- the body is as long as a POST says, and a GET says nothing
+-- the body has the length that a POST states, and a GET has none
 length_told : (method : Method) (host : List ℕ) (token tag : Option (List ℕ)) (digits : List ℕ) (n : ℕ) → method ≢ Other
     → plain_number (trim_ows (32 ∷ digits)) ≡ Some n → (method ≡ Get → n ≡ 0)
     → n ≡ unwrap_or (body_length (map name_and_value (written_fields method host token tag digits))) 0
@@ -260,7 +260,7 @@ parts_read Post target host (Some token) None digits body known = refl
 parts_read Post target host (Some token) (Some tag) digits body known = refl
 parts_read Other target host token tag digits body known = absurd (known refl)
 
--- a request that is written is read as the request of its parts
+-- a written request is read back as the request with its parts
 pub written_is_read : (method : Method) (target host : List ℕ) (token tag : Option (List ℕ)) (body : List ℕ)
     → CanBeRead method target host token tag body
     → IsRequest (request_text method target host token tag body) (request_read method target token tag body)

@@ -1,4 +1,4 @@
--- The reply that bytes are: a head by the grammar of httparse, and the body after it.
+-- How bytes parse as a reply: a head in the grammar of httparse, and the body after it.
 use Rattle.std.specs.Prelude.{◌≡◌, ℕ, ◌≤◌, ◌⊎◌, ◌==◌, nat_lt, ◌||◌, if◌then◌else◌, List, length, take, map, Option, Some, None, is_none}
 use Rattle.std.specs.Prelude.{option_and_then, Result, Ok, Err, codes}
 use Rattle.httparse.specs.Grammar.{ResponseHead, print_response, ReadsResponse, status_code}
@@ -9,59 +9,59 @@ use Rattle.unl_http_api.specs.declared.got.BadReply.{BadReply}
 use Rattle.unl_http_api.specs.declared.got.BadReply.TheVariants.{Head, Short, TooLarge}
 use Rattle.unl_http_api.specs.Fields.{body_length, count_of, first_value, plain_number}
 
--- a reply's head stands at the front, ends in the first 8,192 bytes and has at most 64 fields
+-- a reply head begins the bytes, ends within the first 8,192 of them, and has at most 64 fields
 pub record HasReplyHead (bytes : List ℕ) (head : ResponseHead) (rest : List ℕ) : Type 0 where
   pub reads : ReadsResponse bytes head rest
   pub short : length (print_response head) ≤ 8192
   pub few : length head.fields ≤ 64
 
--- no such head stands at the front
+-- no such head begins the bytes
 abbrev pub HasNoReplyHead : List ℕ → Type 0
 HasNoReplyHead bytes = (head : ResponseHead) (rest : List ℕ) → ¬ (HasReplyHead bytes head rest)
 
--- the names and the values of a reply head's fields
+-- the names and values of a reply head's fields
 abbrev pub reply_fields : ResponseHead → List (List ℕ × List ℕ)
 reply_fields head = map name_and_value head.fields
 
--- how long the fields say that the body is, if they do
+-- the length that the `content-length` field states, if it does
 abbrev pub stated_length : List (List ℕ × List ℕ) → Option ℕ
 stated_length fields = option_and_then plain_number (first_value (codes "content-length") fields)
 
--- How many of the bytes that follow the head are the body: as many as are stated, or all of them. A body has at most
--- 16,777,216 bytes, and no fewer than are stated.
+-- The number of bytes after the head that are the body: the stated length, or all bytes. A body has at most 16,777,216
+-- bytes, and not fewer than stated.
 abbrev pub size_among : Option ℕ → ℕ → Result ℕ BadReply
 size_among (Some stated) following =
     if nat_lt 16777216 stated then Err TooLarge else if nat_lt following stated then Err Short else Ok stated
 size_among None following = if nat_lt 16777216 following then Err TooLarge else Ok following
 
--- The same by what the head says. A body comes in one piece, and its length is stated once at most and in 1 to 19
--- digits alone. A reply of the status 304 has no body, whatever length it states.
+-- The size of the body, from the head. A body has no transfer encoding, and its length is stated at most once, in 1 to 19
+-- digits. A reply with status 304 has no body, whatever length it states.
 abbrev pub body_size : ℕ → List (List ℕ × List ℕ) → ℕ → Result ℕ BadReply
 body_size status fields following =
     if nat_lt 0 (count_of (codes "transfer-encoding") fields) || is_none (body_length fields) then Err Head
     else if status == 304 then Ok 0
     else size_among (stated_length fields) following
 
--- the reply of a status, fields and a body
+-- the reply with this status, these fields and this body
 abbrev pub got_with : ℕ → List (List ℕ × List ℕ) → List ℕ → Got
 got_with status fields body = record { status = status; tag = first_value (codes "etag") fields; body = body }
 
--- what a status, fields and the bytes after the head are read as
+-- how a status, fields and the bytes after the head parse
 abbrev pub reading_with : ℕ → List (List ℕ × List ℕ) → List ℕ → Result Got BadReply
 reading_with status fields rest =
     body_size status fields (length rest) >>= λ size. Ok (got_with status fields (take size rest))
 
--- what a head and the bytes after it are read as
+-- how a head and the bytes after it parse
 abbrev pub reading_of : ResponseHead → List ℕ → Result Got BadReply
 reading_of head rest = reading_with (status_code head) (reply_fields head) rest
 
--- What whole bytes are read as: by their head, or as a fault where they have none.
+-- How complete bytes parse: by their head, or as a fault if they have none.
 abbrev pub IsReply : List ℕ → Result Got BadReply → Type 0
 IsReply bytes reading =
     ((head : ResponseHead) × (rest : List ℕ) × HasReplyHead bytes head rest × (reading ≡ reading_of head rest))
     ⊎ (HasNoReplyHead bytes × (reading ≡ Err Head))
 
--- the bytes are read in one way and no other
+-- the bytes parse in exactly one way
 pub record HasOneReply (bytes : List ℕ) : Type 0 where
   pub reading : Result Got BadReply
   pub is_reply : IsReply bytes reading

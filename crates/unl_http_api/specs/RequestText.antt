@@ -1,4 +1,4 @@
--- The text of a request that this client asks.
+-- The text of a request that this client sends.
 use Rattle.std.specs.Prelude.{◌≡◌, ◌≢◌, ℕ, ◌+◌, ◌<◌, ◌≤◌, List, [], ◌++◌, Bool, true, not, ◌==◌, ◌||◌, length, Option, None, IfSome}
 use Rattle.std.specs.Prelude.{IsUtf8, codes}
 use Rattle.std.specs.List.{list_all}
@@ -12,37 +12,37 @@ use Rattle.unl_http_api.specs.declared.request.Request.{Request}
 use Rattle.unl_http_api.specs.Fields.{without_prefix}
 use Rattle.unl_http_api.specs.Reply.{header}
 
--- the text can stand in a line: it has no CR, LF or NUL
+-- the text fits in a header line: it has no CR, LF or NUL
 abbrev pub fits_line : List ℕ → Bool
 fits_line text = list_all (λ byte. not (byte == 0 || byte == 10 || byte == 13)) text
 
--- the text can stand in a line, if there is one
+-- the text, if there is one, fits in a header line
 abbrev pub fits_if_any : Option (List ℕ) → Bool
 fits_if_any text = option_map_or fits_line text true
 
--- the name of a method, which requests of this client have
+-- the name of a method; requests of this client are never `Other`
 abbrev pub method_name : Method → List ℕ
 method_name Get = codes "GET"
 method_name Post = codes "POST"
 method_name Other = []
 
--- the first line; the version is 1.0, so that the reply ends with the connection and is not sent in pieces
+-- the request line; the version is 1.0, so the reply ends with the connection and is not chunked
 abbrev pub request_line : Method → List ℕ → List ℕ
 request_line method target = method_name method ++ codes " " ++ target ++ codes " HTTP/1.0" ++ crlf_bytes
 
--- that the body is a document of JSON, and how long it is
+-- the JSON content type and the content length
 abbrev pub json_headers : List ℕ → List ℕ
 json_headers body =
     header (codes "Content-Type") (codes "application/json")
     ++ header (codes "Content-Length") (decimal (length body))
 
--- the headers on the body, which a POST has
+-- the headers for the body, which only a POST has
 abbrev pub body_headers : Method → List ℕ → List ℕ
 body_headers Get body = []
 body_headers Post body = json_headers body
 body_headers Other body = []
 
--- the text of a request of these parts, after which the connection ends
+-- the text of a request with these parts, after which the connection ends
 unfoldable pub request_text : Method → List ℕ → List ℕ → Option (List ℕ) → Option (List ℕ) → List ℕ → List ℕ
 request_text method target host token tag body =
     request_line method target
@@ -54,8 +54,8 @@ request_text method target host token tag body =
     ++ crlf_bytes
     ++ body
 
--- A request of these parts can be read again: the target is one of the grammar, no value has a control byte but the
--- tab, the head and the body are within their limits, and only a POST has a body.
+-- The server can read a request with these parts: the target is valid in the grammar, no value has a control byte other
+-- than tab, head and body are within their limits, and only a POST has a body.
 pub record CanBeRead
     (method : Method) (target host : List ℕ) (token tag : Option (List ℕ)) (body : List ℕ) : Type 0 where
   pub method_is : method ≢ Other
@@ -69,7 +69,7 @@ pub record CanBeRead
   pub body_fits : length body ≤ 1048576
   pub body_told : method ≡ Get → body ≡ []
 
--- what a server reads of such a request; of a token and of a tag it takes no white space around them
+-- what the server reads from such a request; it trims the white space around the token and the tag
 abbrev pub request_read : Method → List ℕ → Option (List ℕ) → Option (List ℕ) → List ℕ → Request
 request_read method target token tag body = record {
   method = method;

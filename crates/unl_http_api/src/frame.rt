@@ -1,4 +1,4 @@
-//! The length of the request at the front of bytes, without the request itself: what a door needs to know of bytes that it hands on.
+//! The length of the first request in a buffer, without the request itself. A door needs it to forward requests.
 ghost use Rattle.httparse.specs.Grammar.{HasNoRequest};
 ghost use Rattle.std.specs.Prelude.{◌≡◌, ◌≢◌, ◌≤◌, IfOk, IfSome, None, length};
 ghost use Rattle.unl_http_api.specs.Finds.{HasParts};
@@ -12,22 +12,23 @@ use httparse::spans::{EMPTY_HEADER_SPAN, HeaderSpan};
 use std::alloc::Global;
 use unl_documents::Memory;
 
-/// What is at the front of bytes.
+/// The first request in a buffer, by length.
 #[derive(Clone, Copy, Debug, PartialEq, Eq)]
 pub enum Frame {
-    /// A whole request, of this many bytes.
+    /// A complete request of this many bytes.
     Whole(usize),
-    /// No request yet, and more bytes may make one.
+    /// The request is incomplete. More bytes may complete it.
     More,
-    /// No request will come, and this status is the answer.
+    /// The bytes are refused, whatever follows them. The reply has this status.
     Bad(u16),
 }
 
-/// Measures the request at the front of bytes: a [`Reader`](crate::Reader) that holds these bytes takes exactly as many for its
-/// next request, asks for more, or refuses them with the same status (RFC 9112, and the limits on heads and bodies).
+/// Measures the first request in a buffer. A [`Reader`](crate::Reader) that holds these bytes agrees: it takes exactly that
+/// many bytes for its next request, asks for more, or refuses with the same status (RFC 9112, and the limits on heads and
+/// bodies).
 ///
 /// # Errors
-/// `Memory`, and only where a head has more than 64 fields.
+/// `Memory`: out of memory. It only occurs if a head has more than 64 fields.
 pub fn request_frame(alloc: Global, bytes: &[u8]) -> Result<Frame, Memory>
     ensures { IfOk result (IsFrame bytes.now) }
 {
@@ -41,7 +42,7 @@ pub fn request_frame(alloc: Global, bytes: &[u8]) -> Result<Frame, Memory>
     }
 }
 
-/// The same with room for all spans that a head may have.
+/// As `request_frame`, with as many spans as a head can have.
 fn frame_among_many(alloc: Global, bytes: &[u8]) -> Result<Frame, Memory>
     ensures { IfOk result (IsFrame bytes.now) }
 {
@@ -52,7 +53,7 @@ fn frame_among_many(alloc: Global, bytes: &[u8]) -> Result<Frame, Memory>
     }
 }
 
-/// The same with this room for the spans of its head. None: the room is too small.
+/// As `request_frame`, with the given spans. `None` if they are too few.
 fn frame_by(bytes: &[u8], spans: &mut [HeaderSpan]) -> Option<Frame>
     ensures frame { IfSome result (IsFrame bytes.now) }
     ensures room { MOST_SPANS ≤ length spans.old → result ≢ None }
@@ -68,7 +69,7 @@ fn frame_by(bytes: &[u8], spans: &mut [HeaderSpan]) -> Option<Frame>
     }
 }
 
-/// Judges bytes whose window has no head yet.
+/// Frames bytes whose window holds no complete head yet.
 fn not_yet(bytes: &[u8]) -> Frame
     requires none { HasNoRequest (window bytes.now) }
     requires hopeful { IsHopeless (window bytes.now) → ⊥ }
@@ -81,7 +82,7 @@ fn not_yet(bytes: &[u8]) -> Frame
     }
 }
 
-/// Judges bytes that begin with a whole head of `len` bytes.
+/// Frames bytes that begin with a complete head of `len` bytes.
 fn framed(bytes: &[u8], len: usize, parts: &Parts) -> Frame
     requires { HasParts bytes.now len parts.now }
     ensures { IsFrame bytes.now result }

@@ -1,32 +1,33 @@
-//! What a server replied to this client.
+//! Replies that this client receives from a server.
 ghost use Rattle.std.specs.Prelude.{◌≡◌};
 ghost use Rattle.unl_http_api.specs.declared.got.BadReply.TheVariants.{Memory as memory};
 
 use crate::request::Bytes;
 use unl_documents::Memory as NoMemory;
 
-/// A reply that was read.
+/// A parsed reply.
 #[derive(Debug, Drop)]
 pub struct Got {
-    /// The three digits of the first line.
+    /// The three-digit status code of the status line.
     pub status: u16,
-    /// The value of the first field `ETag` as it stands, none where there is no such field.
+    /// The value of the first `ETag` field, verbatim. `None` if there is no such field.
     pub tag: Option<Bytes>,
-    /// At most 16,777,216 bytes: as many as `Content-Length` says, or all that follow the head. None at 304.
+    /// At most 16,777,216 bytes: as many as `Content-Length` states, or else all bytes after the head. Empty for a 304.
     pub body: Bytes,
 }
 
-/// Why bytes are no reply: the first of these that fits, or want of memory.
+/// Why bytes are not a valid reply: the first of these that applies, except that a stated length above the limit is
+/// reported before `Short`; or out of memory.
 #[derive(Clone, Copy, Debug, PartialEq, Eq)]
 pub enum BadReply {
-    /// No head of at most 64 fields ends in the first 8,192 bytes; or it has a field `Transfer-Encoding`, or more than
-    /// one `Content-Length`, or one that isn't 1 to 19 digits.
+    /// No head of at most 64 fields ends within the first 8,192 bytes; or the head has a `Transfer-Encoding` field, more
+    /// than one `Content-Length`, or a `Content-Length` that isn't 1 to 19 digits.
     Head,
-    /// The bytes end before the body does.
+    /// The bytes end before the end of the body.
     Short,
-    /// A length above 16,777,216 is stated, or none is and more bytes than that follow the head.
+    /// The stated length is above 16,777,216; or no length is stated and more than 16,777,216 bytes follow the head.
     TooLarge,
-    /// Memory ran out.
+    /// Out of memory.
     Memory,
 }
 

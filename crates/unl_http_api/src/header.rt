@@ -1,4 +1,4 @@
-//! Lines of a head.
+//! Writes header lines.
 ghost use Rattle.std.specs.Prelude.{◌≡◌, ◌++◌, OnOk, codes};
 ghost use Rattle.std.specs.Fmt.{decimal};
 ghost use Rattle.unl_http_api.specs.Reply.{header};
@@ -6,7 +6,7 @@ ghost use Rattle.unl_http_api.specs.Reply.{header};
 use itoa::Buffer;
 use unl_documents::Memory;
 
-/// Adds a header.
+/// Appends a header line.
 pub(crate) fn push_header(text: &mut Vec<u8>, name: &str, value: &[u8]) -> Result<(), Memory>
     ensures { OnOk result (text.new.items ≡ text.old.items ++ header name.now value.now) }
 {
@@ -17,7 +17,7 @@ pub(crate) fn push_header(text: &mut Vec<u8>, name: &str, value: &[u8]) -> Resul
     Ok(())
 }
 
-/// Adds the digits of a number.
+/// Appends a number in decimal.
 pub(crate) fn push_number(text: &mut Vec<u8>, number: usize) -> Result<(), Memory>
     ensures { OnOk result (text.new.items ≡ text.old.items ++ decimal number) }
 {
@@ -26,7 +26,7 @@ pub(crate) fn push_number(text: &mut Vec<u8>, number: usize) -> Result<(), Memor
     Ok(())
 }
 
-/// Adds how long a body is.
+/// Appends the `Content-Length` header.
 pub(crate) fn push_length(text: &mut Vec<u8>, length: usize) -> Result<(), Memory>
     ensures { OnOk result (text.new.items ≡ text.old.items ++ header (codes "Content-Length") (decimal length)) }
 {

@@ -1,4 +1,4 @@
-//! The head of a reply, and what it makes of the bytes after it.
+//! Parses the head of a reply, and derives the body from the bytes after it.
 ghost use Rattle.std.specs.Prelude.{◌≡◌, ◌≤◌, ℕ, List, length, drop, IfOk, IfSome, IfNone};
 ghost use Rattle.httparse.specs.Grammar.{ResponseHead, ReadsResponse};
 ghost use Rattle.httparse.specs.Spans.{IsResponseWithin, IsResponseOf};
@@ -15,13 +15,13 @@ use httparse::spans::{EMPTY_HEADER_SPAN, HeaderSpan, ResponseSpans, parse_respon
 use std::alloc::Global;
 use unl_documents::List;
 
-/// The head of a reply has at most so many fields.
+/// The most fields that a reply's head may have.
 pub(crate) const MOST_FIELDS: usize = 64;
 
-/// The body of a reply has at most so many bytes.
+/// The most bytes that a reply's body may have.
 const MOST_BODY: u64 = 16_777_216;
 
-/// The head at the front of the window, if one of few fields stands there.
+/// Parses the head at the start of the window, if there is a complete one that fits the spans.
 fn see_reply(window: &[u8], spans: &mut [HeaderSpan]) -> Option<ResponseSpans>
     ensures some { IfSome result (λ head. IsResponseWithin window.now spans.new head × IsResponseOf window.now spans.new head) }
     ensures none { IfNone result ((head : ResponseHead) (rest : List ℕ) → ReadsResponse window.now head rest
@@ -33,7 +33,7 @@ fn see_reply(window: &[u8], spans: &mut [HeaderSpan]) -> Option<ResponseSpans>
     }
 }
 
-/// How many of the bytes after the head are the body.
+/// The number of bytes after the head that are the body.
 fn body_size(status: u16, fields: &Fields, following: usize) -> Result<usize, BadReply>
     ensures size { result ≡ body_size status fields.now following }
     ensures fits { IfOk result (λ size. size ≤ following) }
@@ -47,7 +47,7 @@ fn body_size(status: u16, fields: &Fields, following: usize) -> Result<usize, Ba
     size_among(fields.stated_length(), following)
 }
 
-/// How many of the bytes after the head are the body, by the length that is stated.
+/// The number of bytes after the head that are the body, given the stated length.
 fn size_among(stated: Option<u64>, following: usize) -> Result<usize, BadReply>
     ensures size { result ≡ size_among stated following }
     ensures fits { IfOk result (λ size. size ≤ following) }
@@ -61,7 +61,7 @@ fn size_among(stated: Option<u64>, following: usize) -> Result<usize, BadReply>
     }
 }
 
-/// The reply of a status, fields and the bytes after the head.
+/// The reply with this status and these fields, given the bytes after the head.
 fn reply_with(alloc: Global, status: u16, fields: &Fields, rest: &[u8]) -> Result<Got, BadReply>
     ensures { Gives BadReply.Memory result (reading_with status fields.now rest.now) }
 {
@@ -73,7 +73,7 @@ fn reply_with(alloc: Global, status: u16, fields: &Fields, rest: &[u8]) -> Resul
     })
 }
 
-/// Reads bytes as a reply, with room for the spans of its head.
+/// Parses bytes as a reply. The spans of its head are stored in `spans`.
 pub(crate) fn read_reply(
     alloc: Global,
     bytes: &[u8],
@@ -92,8 +92,8 @@ pub(crate) fn read_reply(
     }
 }
 
-/// Each list of bytes is read as a reply in exactly one way. That there is one is told by looking for its head, which
-/// takes no memory but the stack's.
+/// Every byte string parses as a reply in exactly one way. To show this, the function looks for the head, which needs no
+/// memory beyond the stack.
 pub fn has_one_reply(bytes: &[u8])
     ensures { HasOneReply bytes.now }
 {

@@ -1,4 +1,4 @@
-//! A reply that comes in any pieces.
+//! Reads a reply that arrives in pieces.
 ghost use Rattle.std.specs.Prelude.{◌≡◌, ◌++◌, [], length, Result, IfOk, OnOk, OnErr, IsTrue};
 ghost use Rattle.unl_documents.specs.Results.{Answers, Gives};
 ghost use Rattle.unl_http_api.specs.declared.got.Got.{Got};
@@ -13,7 +13,7 @@ use std::alloc::Global;
 use std::marker::Model;
 use unl_documents::Memory;
 
-/// The bytes of a reply that have come.
+/// The bytes of a reply received so far.
 #[derive(Drop)]
 pub struct ReplyReader {
     bytes: Vec<u8>,
@@ -28,7 +28,7 @@ impl Model for ReplyReader {
 }
 
 impl ReplyReader {
-    /// A reader that holds no bytes. Takes no memory.
+    /// Creates an empty reader. Allocates nothing.
     pub fn new(alloc: Global) -> Self
         ensures { result ≡ [] }
     {
@@ -37,14 +37,17 @@ impl ReplyReader {
         }
     }
 
-    /// How many bytes are held. Once they are 16,785,409, more of them change nothing of the reply. Takes no memory.
+    /// The number of bytes held. From 16,785,409 on, further bytes don't change how the reply is read. Allocates nothing.
     pub fn held(&self) -> usize
         ensures { result ≡ length self.now }
     {
         self.bytes.len()
     }
 
-    /// Adds the next piece. Where memory runs out, what is held stays as it was.
+    /// Appends the next piece. If memory runs out, the held bytes are unchanged.
+    ///
+    /// # Errors
+    /// `Memory`: out of memory.
     pub fn feed(&mut self, piece: &[u8]) -> Result<(), Memory>
         ensures ok { OnOk result (self.new ≡ self.old ++ piece.now) }
         ensures err { OnErr result (self.new ≡ self.old) }
@@ -53,14 +56,17 @@ impl ReplyReader {
         Ok(())
     }
 
-    /// Reads the bytes that are held as a whole reply.
+    /// Parses the held bytes as a complete reply.
+    ///
+    /// # Errors
+    /// The fault of the bytes, see [`BadReply`], or `BadReply::Memory`: out of memory.
     pub fn finish(self, alloc: Global) -> Result<Got, BadReply>
         ensures read { Answers BadReply.Memory (IsReply self) result }
 
-        // Nothing else is read, so it doesn't matter in which pieces the bytes came.
+        // The result depends on the bytes alone, not on the pieces in which they arrived.
         ensures only { (reading : Result Got BadReply) → IsReply self reading → Gives BadReply.Memory result reading }
 
-        // The next request may carry the tag.
+        // The tag fits in a header line, so the next request can carry it.
         ensures tag { IfOk result (λ got. IsTrue (fits_if_any got.tag)) }
     {
         let mut spans = [EMPTY_HEADER_SPAN; MOST_FIELDS];

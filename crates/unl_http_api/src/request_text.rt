@@ -1,4 +1,4 @@
-//! Requests that this client asks, and how they are written.
+//! Writes the requests of this client.
 ghost use Rattle.std.specs.Prelude.{◌≡◌, ◌≢◌, ◌++◌, [], IfOk, OnOk, IsTrue, codes, option_copied};
 ghost use Rattle.std.specs.Option.{option_map_or};
 ghost use Rattle.unl_http_api.specs.declared.request.Method.{Method};
@@ -11,15 +11,18 @@ use crate::request::{Bytes, Method};
 use std::alloc::Global;
 use unl_documents::{List, Memory};
 
-/// Whether a text can stand in a line: it has no CR, LF or NUL.
+/// Whether text fits in a header line: it has no CR, LF or NUL.
 pub fn fits_line(text: &[u8]) -> bool
     ensures { result ≡ fits_line text.now }
 {
     text.iter().all(|byte| !matches!(*byte, 0 | b'\n' | b'\r'))
 }
 
-/// The text of a request of version 1.0 by GET or POST, after which the connection ends. A token stands in the field
-/// `Authorization`, a tag in `If-None-Match`, and a POST tells what its body is and how long.
+/// The text of an HTTP/1.0 request by GET or POST, with `Connection: close`. The token becomes the `Authorization` field,
+/// the tag the `If-None-Match` field. A POST also has `Content-Type` and `Content-Length` fields.
+///
+/// # Errors
+/// `Memory`: out of memory.
 #[tactic(auto, unfolding(crate::specs::RequestText::request_text))]
 pub fn write_request(
     alloc: Global,
@@ -61,7 +64,7 @@ fn method_name(method: Method) -> &'static str
     }
 }
 
-/// Adds the first line.
+/// Appends the request line.
 fn push_request_line(text: &mut Vec<u8>, method: Method, target: &str) -> Result<(), Memory>
     ensures { OnOk result (text.new.items ≡ text.old.items ++ request_line method target.now) }
 {
@@ -72,7 +75,7 @@ fn push_request_line(text: &mut Vec<u8>, method: Method, target: &str) -> Result
     Ok(())
 }
 
-/// Adds the token, where there is one.
+/// Appends the token, if there is one.
 fn push_token(text: &mut Vec<u8>, token: Option<&str>) -> Result<(), Memory>
     ensures { OnOk result (text.new.items
         ≡ text.old.items ++ option_map_or (header (codes "Authorization")) (option_copied token.entry) []) }
@@ -83,7 +86,7 @@ fn push_token(text: &mut Vec<u8>, token: Option<&str>) -> Result<(), Memory>
     }
 }
 
-/// Adds the tag, where there is one.
+/// Appends the tag, if there is one.
 fn push_tag(text: &mut Vec<u8>, tag: Option<&[u8]>) -> Result<(), Memory>
     ensures { OnOk result (text.new.items
         ≡ text.old.items ++ option_map_or (header (codes "If-None-Match")) (option_copied tag.entry) []) }
@@ -94,7 +97,7 @@ fn push_tag(text: &mut Vec<u8>, tag: Option<&[u8]>) -> Result<(), Memory>
     }
 }
 
-/// Adds what the body is and how long, at POST.
+/// Appends the content type and length, for a POST.
 fn push_body_headers(text: &mut Vec<u8>, method: Method, body: &[u8]) -> Result<(), Memory>
     ensures { OnOk result (text.new.items ≡ text.old.items ++ body_headers method body.now) }
 {
@@ -105,7 +108,7 @@ fn push_body_headers(text: &mut Vec<u8>, method: Method, body: &[u8]) -> Result<
     }
 }
 
-/// Adds that the body is a document of JSON, and how long it is.
+/// Appends the JSON content type and the content length.
 fn push_json_headers(text: &mut Vec<u8>, body: &[u8]) -> Result<(), Memory>
     ensures { OnOk result (text.new.items ≡ text.old.items ++ json_headers body.now) }
 {

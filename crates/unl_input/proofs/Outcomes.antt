@@ -1,4 +1,4 @@
--- What an input comes to, by how much of it was read.
+-- The outcome of an input, by how much of it was read.
 use Rattle.std.proofs.Common.{◌≡◌, ◌<◌, ◌≤◌, ℕ, List, [], ◌++◌, length, Option, Some, None, refl, sym, ap, ◌∙◌, false, arith, ltb, append-nil, length-append}
 use Rattle.std.proofs.lemmas.Bool.{lt-ltb}
 use Rattle.std.proofs.lemmas.Bool.Decides.{nat_tests}
@@ -15,18 +15,18 @@ use Rattle.unl_input.specs.Input.{HasRead, longest}
 not_longer : (n : ℕ) → n ≤ longest → ltb 16777216 n ≡ false
 not_longer n short = grind (arith, nat_tests)
 
--- an input that isn't too long comes to what its bytes are read as
+-- The outcome of an input that is not too long is the result of the computation.
 within : {T : Type 0} (reads : List ℕ → Reading T) (bytes : List ℕ) (reading : Reading T) → length bytes ≤ longest → reads bytes ≡ reading
     → outcome_of reads bytes ≡ or_bad_input reading
 unfolding outcome_of
 within reads bytes reading short is = rw (not_longer (length bytes) short) (ap or_bad_input is)
 
--- an input that is too long is refused for that
+-- An input that is too long is refused as `TooLarge`.
 pub refused_as_too_large : {T : Type 0} (reads : List ℕ → Reading T) (bytes : List ℕ) → longest < length bytes → outcome_of reads bytes ≡ Err TooLarge
 unfolding outcome_of
 refused_as_too_large reads bytes long = rw (lt-ltb 16777216 (length bytes) long) refl
 
--- too many bytes were read
+-- The case that too many bytes were read.
 pub ends_too_large : {T : Type 0} (reads : List ℕ → Reading T) (says : T → List ℕ) (left left_after old : Option (List ℕ))
     → HasRead (Err input.TooLarge) left left_after → Answers reads says (Err (Refused TooLarge)) left left_after old old
 ends_too_large reads says left left_after old read = record {
@@ -34,7 +34,7 @@ ends_too_large reads says left left_after old read = record {
   silent = refl;
 }
 
--- the input has a fault
+-- The case that the input has a fault.
 pub ends_refused : {T : Type 0} (fault : BadDocument) (reads : List ℕ → Reading T) (says : T → List ℕ) (left left_after old : Option (List ℕ)) (bytes : List ℕ)
     → HasRead (Ok bytes) left left_after → reads bytes ≡ Err fault → Answers reads says (Err (Refused (BadInput fault))) left left_after old old
 ends_refused fault reads says left left_after old bytes read is = record {
@@ -42,7 +42,7 @@ ends_refused fault reads says left left_after old bytes read is = record {
   silent = refl;
 }
 
--- the whole text was sent
+-- The case that the whole text was sent.
 pub ends_answered : {T : Type 0} (answer : T) (reads : List ℕ → Reading T) (says : T → List ℕ) (left left_after old new : Option (List ℕ)) (bytes : List ℕ)
     → HasRead (Ok bytes) left left_after → reads bytes ≡ Ok answer → Sends old (says answer) new → Answers reads says (Ok answer) left left_after old new
 ends_answered answer reads says left left_after old new bytes read is sent = record {
@@ -50,7 +50,7 @@ ends_answered answer reads says left left_after old new bytes read is sent = rec
   sent = sent;
 }
 
--- a front of the text was sent
+-- The case that a prefix of the text was sent.
 pub ends_broken : {T : Type 0} (answer : T) (reads : List ℕ → Reading T) (says : T → List ℕ) (left left_after old new : Option (List ℕ)) (bytes : List ℕ)
     → HasRead (Ok bytes) left left_after → reads bytes ≡ Ok answer → SendsFront old (says answer) new → Answers reads says (Err WriteFault) left left_after old new
 ends_broken answer reads says left left_after old new bytes read is sent = record {
@@ -58,22 +58,21 @@ ends_broken answer reads says left left_after old new bytes read is sent = recor
   front = record { comes = record { bytes = bytes; read = read.0; is = within reads bytes (Ok answer) read.1 is }; sent = sent };
 }
 
--- ---- the refusal said
 
--- ---- what all bytes to come decide
+-- ---- all remaining bytes determine the outcome
 
--- all that were to come are those that were read and the rest
+-- All remaining bytes are those that were read, then the rest.
 all_are : (all bytes more : List ℕ) → Takes (Some all) bytes (Some more) → all ≡ bytes ++ more
 all_are all bytes more took = ap (λ (o : Option (List ℕ)). unwrap_or o []) took
 
--- all of them come to what those come to that were read to the end
+-- If the source was read to its end, all of its bytes have the outcome of those that were read.
 at_end : {T : Type 0} (reads : List ℕ → Reading T) (outcome : Outcome T) (all bytes : List ℕ) (rest : Option (List ℕ))
     → outcome_of reads bytes ≡ outcome → Takes (Some all) bytes rest → HasEnded rest → outcome_of reads all ≡ outcome
 at_end reads outcome all bytes None is took end = absurd (cc took)
 at_end reads outcome all bytes (Some more) is took end =
     ap (outcome_of reads) (all_are all bytes more took ∙ ap (λ (m : List ℕ). bytes ++ m) end ∙ append-nil bytes) ∙ is
 
--- all of them are too many where those were that were read
+-- If too many bytes were read, all of the source's bytes are too many.
 past_end : {T : Type 0} (reads : List ℕ → Reading T) (all bytes : List ℕ) (rest : Option (List ℕ)) → Takes (Some all) bytes rest
     → longest < length bytes → outcome_of reads all ≡ Err TooLarge
 past_end reads all bytes None took long = absurd (cc took)
@@ -81,7 +80,7 @@ past_end reads all bytes (Some more) took long =
     let longer : longest < length all = omega (arith, ap length (all_are all bytes more took), length-append bytes more, long) in
     refused_as_too_large reads all longer
 
--- the bytes that were to come decide what the input comes to
+-- The bytes that remained before the read determine the outcome.
 pub decides : {T : Type 0} (reads : List ℕ → Reading T) (outcome : Outcome T) (left left_after : Option (List ℕ)) → ComesTo reads outcome left left_after
     → IfSome left (λ all. outcome_of reads all ≡ outcome)
 decides reads outcome None left_after comes = tt

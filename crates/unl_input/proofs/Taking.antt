@@ -9,11 +9,11 @@ then_taken : (xs ys : List ℕ) (c : Option (List ℕ))
 then_taken xs ys None = refl
 then_taken xs ys (Some z) = ap Some (sym (append_assoc xs ys z))
 
--- one piece after another
+-- One piece after another.
 pub takes_more : (a b c : Option (List ℕ)) (xs ys : List ℕ) → Takes a xs b → Takes b ys c → Takes a (xs ++ ys) c
 takes_more a b c xs ys one two = one ∙ ap (option_map (λ rest. xs ++ rest)) two ∙ then_taken xs ys c
 
--- no piece
+-- An empty piece.
 pub takes_none : (a : Option (List ℕ)) → Takes a [] a
 takes_none None = refl
 takes_none (Some x) = refl
@@ -22,7 +22,7 @@ nothing_taken : (room : List ℕ) (c : Option (List ℕ)) → option_map (λ res
 nothing_taken room None = refl
 nothing_taken room (Some z) = refl
 
--- a read of no bytes is the end
+-- A read of no bytes marks the end.
 pub takes_end : (a b c : Option (List ℕ)) (xs room : List ℕ) (n : ℕ) → n ≡ 0 → Takes a xs b → Takes b (take n room) c → HasEnded b → IsWhole a xs c
 takes_end a b c xs room n none took last end =
     let same : b ≡ c = last ∙ ap (λ k. option_map (λ rest. take k room ++ rest) c) none ∙ nothing_taken room c in

@@ -1,24 +1,24 @@
--- What reading a whole input says of the bytes that were to come.
+-- Reading a whole input, in terms of the source's remaining bytes.
 use Rattle.std.specs.Prelude.{◌<◌, ◌≤◌, ⊤, ℕ, List, length, Option, Result, Ok, Err}
 use Rattle.unl_base.specs.Streams.{Takes, HasEnded}
 use Rattle.unl_input.specs.declared.reading.InputFault.{InputFault}
 use Rattle.unl_input.specs.declared.reading.InputFault.TheVariants.{TooLarge, ReadFault, Memory}
 
--- the most bytes that an input may have
+-- The largest allowed size of an input, in bytes.
 abbrev pub longest : ℕ
 longest = 16777216
 
--- these bytes were read, and no more were to come
+-- These bytes were read, and no more remained.
 pub record IsWhole (left : Option (List ℕ)) (bytes : List ℕ) (left_after : Option (List ℕ)) : Type 0 where
   pub took : Takes left bytes left_after
   pub end : HasEnded left_after
 
--- these bytes were read, which are more than an input may have
+-- These bytes were read, and they are more than an input may have.
 pub record IsTooLong (left : Option (List ℕ)) (bytes : List ℕ) (left_after : Option (List ℕ)) : Type 0 where
   pub took : Takes left bytes left_after
   pub long : longest < length bytes
 
--- the whole input was read, or more bytes than it may have
+-- The whole input was read, or more bytes than an input may have.
 abbrev pub HasRead : Result (List ℕ) InputFault → Option (List ℕ) → Option (List ℕ) → Type 0
 HasRead (Ok bytes) left left_after = IsWhole left bytes left_after × (length bytes ≤ longest)
 HasRead (Err TooLarge) left left_after = (bytes : List ℕ) × IsTooLong left bytes left_after

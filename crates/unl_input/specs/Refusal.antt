@@ -1,4 +1,4 @@
--- Why an input is refused, and the line that says so.
+-- Why an input is refused, and the line that reports it.
 use Rattle.std.specs.Prelude.{◌≡◌, ℕ, List, ◌++◌, codes, Option, Result, Ok, Err}
 use Rattle.unl_base.specs.Streams.{Sends, SendsFront}
 use Rattle.unl_documents.specs.FaultText.{fault_text}
@@ -7,16 +7,16 @@ use Rattle.unl_input.specs.declared.refusal.InputRefusal.TheVariants.{BadInput, 
 use Rattle.unl_input.specs.declared.refusal.SayFault.{SayFault}
 use Rattle.unl_input.specs.declared.refusal.SayFault.TheVariants.{WriteFault, Memory}
 
--- the text of the cause
+-- The text of the cause.
 abbrev pub refusal_text : InputRefusal → List ℕ
 refusal_text (BadInput fault) = fault_text fault
 refusal_text TooLarge = codes "TooLarge"
 
--- the line that says why an input is refused
+-- The line that reports why an input is refused.
 abbrev pub refusal_line : InputRefusal → List ℕ
 refusal_line refusal = codes "refused: " ++ (refusal_text refusal ++ codes "\n")
 
--- A line was said: all of it was sent, or at a failed write a front of it, or at want of memory nothing.
+-- How writing a line ends: all of it was sent, a prefix of it if a write failed, or nothing if memory ran out.
 abbrev pub SaysLine : Result (Unit {0}) SayFault → List ℕ → Option (List ℕ) → Option (List ℕ) → Type 0
 SaysLine (Ok u) line old new = Sends old line new
 SaysLine (Err WriteFault) line old new = SendsFront old line new

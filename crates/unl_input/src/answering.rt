@@ -1,4 +1,4 @@
-//! What is answered of a whole input.
+//! Processes a whole input: reads it, computes an answer and writes the answer's text.
 ghost use Rattle.std.specs.Prelude.{◌≡◌, ◌≢◌, ◌≤◌, ℕ, List, Err, IsErrOf, Result};
 ghost use Rattle.unl_base.specs.Faults.{Rose};
 ghost use Rattle.unl_documents.specs.Reading.{Gives};
@@ -11,30 +11,30 @@ use std::alloc::Global;
 use unl_base::{Sink, Source, write_all};
 use unl_documents::BadDocument;
 
-/// What is made of the bytes of a whole input.
+/// A computation on the bytes of a whole input.
 pub trait InputAnswer {
-    /// What they are answered with.
+    /// The result of the computation.
     type Answer: Drop;
 
-    // What the bytes are answered with, or their first fault.
+    // The result for the given bytes, or their first fault.
     ghost reads: { Self → List ℕ → Result Self.Answer BadDocument };
 
-    // The text of an answer.
+    // The text of a result.
     ghost says: { Self.Answer → List ℕ };
 
-    /// Answers the bytes of an input.
+    /// Computes the result for the bytes of an input.
     ///
     /// # Errors
-    /// Their first fault; or want of memory.
+    /// The first fault of the bytes, or `Memory` if memory ran out.
     fn answer(&self, alloc: Global, bytes: &[u8]) -> Result<Self::Answer, BadDocument>
         ensures { Gives result (reads self.now bytes.now) };
 
-    /// The text of an answer.
+    /// Returns the text of a result.
     fn text(answer: &Self::Answer) -> &[u8]
         ensures { result.now ≡ says answer.now };
 }
 
-/// Why a whole input isn't answered.
+/// Why a whole input was not answered.
 #[derive(Debug, Drop, PartialEq)]
 pub enum AnswerFault {
     /// The input is refused.
@@ -43,17 +43,19 @@ pub enum AnswerFault {
     ReadFault,
     /// The sink failed.
     WriteFault,
-    /// Memory ran out.
+    /// Out of memory.
     Memory,
 }
 
-/// Reads an input to its end, answers it, and writes the answer's text. Nothing is written before the whole input is read
-/// and accepted.
+/// Reads an input to its end, computes its answer and writes the answer's text. Nothing is written before the whole input is
+/// read and accepted.
 ///
 /// # Errors
-/// `Refused` with `TooLarge` exactly where the input has more than 16,777,216 bytes, and then with `BadInput` exactly where it
-/// has a fault, its first: nothing is written. `ReadFault` where the source failed: nothing is written. `WriteFault` where the
-/// sink failed: a front of the text was written. `Memory` where memory ran out: nothing is written.
+/// - `Refused` with `TooLarge` if the input has more than 16,777,216 bytes. Nothing is written.
+/// - `Refused` with `BadInput` if the input is not too large but has a fault; this is its first fault. Nothing is written.
+/// - `ReadFault` if the source failed. Nothing is written.
+/// - `WriteFault` if the sink failed. A prefix of the text was written.
+/// - `Memory` if memory ran out. Nothing is written.
 pub fn answer_input<A: InputAnswer, S: Source, K: Sink>(
     alloc: Global,
     asked: &A,
@@ -62,14 +64,14 @@ pub fn answer_input<A: InputAnswer, S: Source, K: Sink>(
 ) -> Result<A::Answer, AnswerFault>
     ensures answers { Answers (A.reads asked.now) A.says result
         (S.left source.old) (S.left source.new) (K.sent sink.old) (K.sent sink.new) }
-    // Want of memory is no fault of the input.
+    // Out of memory is not a fault of the input.
     ensures named { result ≢ Err (AnswerFault.Refused (InputRefusal.BadInput BadDocument.Memory)) }
-    // It doesn't give up by itself.
+    // A read or write fault is returned only if the stream failed.
     ensures read { IsErrOf result AnswerFault.ReadFault → Rose (S.faults source.old) (S.faults source.new) }
     ensures write { IsErrOf result AnswerFault.WriteFault → Rose (K.faults sink.old) (K.faults sink.new) }
     ensures source_later { S.faults source.old ≤ S.faults source.new }
     ensures sink_later { K.faults sink.old ≤ K.faults sink.new }
-    // A failed read is told as nothing else.
+    // A failed read is never returned as anything but `ReadFault`.
     ensures untouched { result ≢ Err AnswerFault.ReadFault → S.faults source.new ≡ S.faults source.old }
 {
     let bytes = match read_input(alloc, source) {

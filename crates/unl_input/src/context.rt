@@ -1,4 +1,4 @@
-//! The context that stands at its key.
+//! Reads the context at the key `context` of an input.
 ghost use Rattle.std.specs.Prelude.{◌≡◌};
 ghost use Rattle.serde_json.specs.View.{view};
 ghost use Rattle.unl_context.specs.Json.{json_context};
@@ -11,10 +11,11 @@ use unl_context::{BadContext, Context};
 use unl_documents::keys::value_at;
 use unl_documents::{BadDocument, Field};
 
-/// The context at the key `context` of an object, which says nothing where the key is absent or null.
+/// Reads the context at the key `context` of an object. If the key is absent or null, the context is empty.
 ///
 /// # Errors
-/// `WrongKind` and `TooLarge` at the key, whatever part of the context they are of; or want of memory.
+/// `WrongKind` or `TooLarge` with the field `Context`, whichever part of the context is at fault, or `Memory` if memory ran
+/// out.
 #[tactic(auto, unfolding(crate::specs::Contexts::context_in))]
 pub fn context_in(alloc: Global, value: &Value) -> Result<Context, BadDocument>
     ensures { Gives result (context_in (view value.now)) }
@@ -34,7 +35,7 @@ fn context_of(alloc: Global, value: &Value) -> Result<Context, BadDocument>
     }
 }
 
-/// The fault of a context, which is named at its key alone.
+/// Converts the fault of a context, keeping only that it is at the key `context`.
 fn context_fault(fault: BadContext) -> BadDocument
     ensures { result ≡ context_fault fault }
 {

@@ -1,5 +1,5 @@
-//! Inputs that are read whole: all bytes of a source up to a limit, what is answered of them, and why one is refused. Beside
-//! that the context that stands at its key in such an input.
+//! Inputs that are read whole: reading all bytes of a source up to a limit, computing an answer from them, and reporting why
+//! an input is refused. Also reads the context at its key in such an input.
 #![tactic(auto)]
 
 mod answering;

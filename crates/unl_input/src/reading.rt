@@ -1,4 +1,4 @@
-//! Reading a whole input.
+//! Reads a whole input.
 ghost use Rattle.std.specs.Prelude.{◌≡◌, ◌≢◌, ◌<◌, ◌≤◌, ◌++◌, length, take, Err, IfOk, IsErrOf, OnOk};
 ghost use Rattle.unl_base.specs.Faults.{Rose};
 ghost use Rattle.unl_input.specs.Input.{HasRead};
@@ -7,20 +7,20 @@ use std::alloc::{AllocError, Global};
 use unl_base::Source;
 use unl_documents::{List, Memory};
 
-/// How many bytes are read at once.
+/// The number of bytes requested by each read.
 const ROOM: usize = 65_536;
 
-/// The most bytes that an input may have.
+/// The largest allowed size of an input, in bytes.
 const LONGEST: usize = 16_777_216;
 
-/// Why an input isn't read whole.
+/// Why an input could not be read whole.
 #[derive(Clone, Copy, Debug, PartialEq, Eq)]
 pub enum InputFault {
-    /// It has more than 16,777,216 bytes.
+    /// The input has more than 16,777,216 bytes.
     TooLarge,
     /// The source failed.
     ReadFault,
-    /// Memory ran out.
+    /// Out of memory.
     Memory,
 }
 
@@ -46,11 +46,11 @@ impl From<Memory> for InputFault {
     }
 }
 
-/// All bytes to come, where they are at most 16,777,216.
+/// Reads all remaining bytes of the source, if there are at most 16,777,216.
 ///
 /// # Errors
-/// `TooLarge` exactly where more bytes come, of which not all are read; `ReadFault` where the source failed; `Memory` where
-/// memory ran out.
+/// `TooLarge` if there are more bytes, not all of which are read; `ReadFault` if the source failed; `Memory` if memory ran
+/// out.
 pub fn read_input<S: Source>(alloc: Global, source: &mut S) -> Result<List<u8>, InputFault>
     ensures read { HasRead result (S.left source.old) (S.left source.new) }
     ensures failed { IsErrOf result InputFault.ReadFault → Rose (S.faults source.old) (S.faults source.new) }
@@ -61,7 +61,7 @@ pub fn read_input<S: Source>(alloc: Global, source: &mut S) -> Result<List<u8>, 
     read_to_end(alloc, source, &mut room)
 }
 
-/// All bytes to come, which are read through a room.
+/// Reads all remaining bytes through the buffer `room`.
 fn read_to_end<S: Source>(
     alloc: Global,
     source: &mut S,
@@ -84,14 +84,14 @@ fn read_to_end<S: Source>(
     Err(InputFault::TooLarge)
 }
 
-/// Room for the bytes that are read at once.
+/// Allocates the read buffer.
 fn new_room(alloc: Global) -> Result<Vec<u8>, AllocError>
     ensures { IfOk result (λ room. 0 < length room.items) }
 {
     vec![in alloc; 0u8; ROOM]
 }
 
-/// Adds the first bytes of a room.
+/// Appends the first `count` bytes of the read buffer.
 fn take_front(bytes: &mut Vec<u8>, room: &[u8], count: usize) -> Result<(), Memory>
     requires { count ≤ length room.now }
     ensures { OnOk result (bytes.new.items ≡ bytes.old.items ++ take count room.now) }

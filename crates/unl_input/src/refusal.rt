@@ -1,4 +1,4 @@
-//! Why an input is refused, and the line that says so.
+//! Why an input is refused, and the line that reports it.
 ghost use Rattle.std.specs.Prelude.{◌≡◌, ◌≤◌, ◌++◌, codes, IfOk, IsErrOf, string_bytes};
 ghost use Rattle.unl_base.specs.Faults.{Rose};
 ghost use Rattle.unl_input.specs.Refusal.{SaysLine, refusal_line};
@@ -10,25 +10,25 @@ use unl_documents::{BadDocument, Memory, fault_text};
 /// Why an input is refused.
 #[derive(Debug, Drop, PartialEq)]
 pub enum InputRefusal {
-    /// Its first fault. It is never want of memory.
+    /// The input has this fault, its first. It is never `Memory`.
     BadInput(BadDocument),
-    /// It has more than 16,777,216 bytes.
+    /// The input has more than 16,777,216 bytes.
     TooLarge,
 }
 
-/// Why a line isn't said.
+/// Why a line could not be written.
 #[derive(Clone, Copy, Debug, PartialEq, Eq)]
 pub enum SayFault {
-    /// The sink failed. A front of the line was sent.
+    /// The sink failed. A prefix of the line was sent.
     WriteFault,
-    /// Memory ran out. Nothing was sent.
+    /// Out of memory. Nothing was sent.
     Memory,
 }
 
-/// Says why an input is refused: the line `refused: <cause>`.
+/// Writes the line `refused: <cause>`, which reports why an input is refused.
 ///
 /// # Errors
-/// `WriteFault` where the sink failed, and a front of the line was sent; `Memory` where memory ran out, and nothing was.
+/// `WriteFault` if the sink failed; a prefix of the line was sent. `Memory` if memory ran out; nothing was sent.
 pub fn say_refusal<K: Sink>(
     alloc: Global,
     sink: &mut K,
@@ -47,7 +47,7 @@ pub fn say_refusal<K: Sink>(
     }
 }
 
-/// The line that says why an input is refused.
+/// Returns the line that reports why an input is refused.
 fn line_of(alloc: Global, refusal: &InputRefusal) -> Result<String, Memory>
     ensures { IfOk result (λ line. string_bytes line ≡ refusal_line refusal.now) }
 {

@@ -1,25 +1,25 @@
--- What contracts see of a keeper and of a maker in memory.
+-- The model of a keeper and of a maker in memory, as contracts see them.
 use Rattle.std.specs.Prelude.{◌≡◌, Result, Ok, Err, None, Some, IsSome, true, false, [], ◌∷◌, ℕ, ◌+◌, ◌-◌, ◌^◌, ◌==◌, min, Bool, List}
 use Rattle.std.specs.Prelude.{Option, option_map, unwrap_or, is_some, find, if◌then◌else◌, ◌++◌, option_to_list}
 use Rattle.unl_keeper.specs.declared.refusal.KeepRefusal.{KeepRefusal}
 use Rattle.unl_keeper.specs.declared.refusal.KeepRefusal.TheVariants.{Fault, Memory}
 use Rattle.unl_keeper.specs.declared.memory_keeper.KeepFail.{KeepFail}
 
--- the calls that fail, how many calls there were, and how many failed
+-- the calls that are to fail, the number of calls so far, and the number of failed ones
 pub record Counting : Type 0 where
   pub failing : List KeepFail
   pub calls : ℕ
   pub faults : ℕ
 
--- whether the call of this number fails, and then whether it leaves its text
+-- `None` if call number `call` succeeds; if it fails, whether it leaves its text
 abbrev pub named : List KeepFail → ℕ → Option Bool
 named failing call = option_map (λ fail. fail.leaves) (find (λ fail. fail.call == call) failing)
 
--- a number one higher, or at its end
+-- the number plus one, saturating at 2^64 - 1
 abbrev pub raised : ℕ → ℕ
 raised number = min (number + 1) (2 ^ 64 - 1)
 
--- a call was counted, and its fault
+-- the counts after one more call
 abbrev pub after_call : Counting → Counting
 after_call counting = record {
   failing = counting.failing;
@@ -27,26 +27,26 @@ after_call counting = record {
   faults = if is_some (named counting.failing counting.calls) then raised counting.faults else counting.faults;
 }
 
--- whether a keeper was opened, the rows that it keeps, what a failed put left past them, and its calls
+-- a keeper: whether it is open, its kept rows, the row that a failed put left after them, and its counts
 pub record Keeping : Type 0 where
   pub opened : Bool
   pub kept : List (List ℕ)
   pub past : Option (List ℕ)
   pub counting : Counting
 
--- a new keeper, at which these calls fail
+-- a new keeper whose calls listed in `failing` fail
 abbrev pub new_keeping : List KeepFail → Keeping
 new_keeping failing = record { opened = false; kept = []; past = None; counting = record { failing = failing; calls = 0; faults = 0 } }
 
--- all rows of a keeper
+-- all rows: the kept ones, then the one that a failed put left
 abbrev pub rows_of : Keeping → List (List ℕ)
 rows_of keeping = keeping.kept ++ option_to_list keeping.past
 
--- a keeper whose past row is kept too, which was opened by this call
+-- the keeper after a successful `open`: the row that a failed put left is kept too
 abbrev pub opened_keeping : Keeping → Keeping
 opened_keeping keeping = record { opened = true; kept = rows_of keeping; past = None; counting = after_call keeping.counting }
 
--- a keeper of one row more, past which nothing stands
+-- the keeper after a successful `put`: one more kept row, and no row after it
 abbrev pub put_keeping : List ℕ → Keeping → Keeping
 put_keeping text keeping = record {
   opened = keeping.opened;
@@ -55,11 +55,11 @@ put_keeping text keeping = record {
   counting = after_call keeping.counting;
 }
 
--- a keeper that counts one call more
+-- the keeper after a `read`, or a failed `open`: only the counts change
 abbrev pub read_keeping : Keeping → Keeping
 read_keeping keeping = record { opened = keeping.opened; kept = keeping.kept; past = keeping.past; counting = after_call keeping.counting }
 
--- a keeper at which a put failed: it left its text where the call is named so
+-- the keeper after a failed `put`: it leaves the text if the failing call says so
 abbrev pub left_keeping : List ℕ → Keeping → Keeping
 left_keeping text keeping = record {
   opened = keeping.opened;
@@ -68,13 +68,13 @@ left_keeping text keeping = record {
   counting = after_call keeping.counting;
 }
 
--- A call that goes well is not named, and one that fails is. After want of memory the keeper is as before.
+-- How a call ends: success if the call is not listed as failing, `Fault` if it is. After `Memory` nothing has changed.
 abbrev pub Does : {T : Type 0} → Keeping → Keeping → Keeping → Keeping → Result T KeepRefusal → Type 0
 Does well failed old new (Ok answer) = (named old.counting.failing old.counting.calls ≡ None) × (new ≡ well)
 Does well failed old new (Err Fault) = IsSome (named old.counting.failing old.counting.calls) × (new ≡ failed)
 Does well failed old new (Err Memory) = new ≡ old
 
--- what the keeper kept that came back last, and how often one that had failed came back
+-- a maker: the rows kept by the keeper that was returned last, and how many returned keepers had failed
 pub record Making : Type 0 where
   pub held : List (List ℕ)
   pub faults : ℕ

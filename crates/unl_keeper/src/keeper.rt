@@ -1,4 +1,4 @@
-//! What writes texts down, one in each place.
+//! The trait of an append-only store of texts, one text per row.
 ghost use Rattle.std.specs.Prelude.{◌≡◌, ◌<◌, ◌≤◌, ◌+◌, ◌-◌, ℕ, Bool, true, List, Option, None, Some, length, slice_get, IfOk, IfErr};
 ghost use Rattle.std.specs.Prelude.{IfSome, OnOk};
 ghost use Rattle.unl_keeper.specs.Faults.{HasCause};
@@ -8,26 +8,27 @@ use crate::refusal::KeepRefusal;
 use std::alloc::Global;
 use unl_documents::Text;
 
-/// Keeps texts, in places that are counted from 1.
+/// Stores texts in rows numbered from 1.
 pub trait Keeper {
-    /// Whether it was opened.
+    /// Whether the keeper is open.
     ghost opened: { Self → Bool };
 
-    /// How often it has failed.
+    /// The fault count: how often the keeper has failed.
     ghost faults: { Self → ℕ };
 
-    /// How many rows are kept.
+    /// The number of kept rows.
     ghost count: { Self → ℕ };
 
-    /// The rows, where they are told: those that are kept, and what a failed put left.
+    /// The rows, if the keeper makes them observable, else `None`: the kept rows, then what a failed put left.
     ghost rows: { Self → Option (List (List ℕ)) };
 
-    /// Opens it, and answers how many rows it keeps: all that are there.
+    /// Opens the keeper and returns the number of rows it keeps, which is every row there is.
     ///
     /// # Errors
     ///
-    /// `Fault`: the keeper failed and has counted it. The rows and their count are as before. `Memory`: all is as
-    /// before.
+    /// `Fault`: the keeper failed and incremented its fault count. The rows and the number of kept rows are unchanged.
+    ///
+    /// `Memory`: out of memory. Nothing changed.
     fn open(&mut self, alloc: Global) -> Result<u64, KeepRefusal>
         ensures opens { IfOk result
             (λ n. (opened self.new ≡ true) × (n ≡ count self.new) × IfSome (rows self.new) (λ list. n ≡ length list)) }
@@ -36,16 +37,18 @@ pub trait Keeper {
         ensures refused { IfErr result (λ e. (count self.new ≡ count self.old) × IsSameAtMemory (opened self.old) (opened self.new) e) }
         ensures cause { HasCause (faults self.old) (faults self.new) result };
 
-    /// How many rows are kept.
+    /// Returns the number of kept rows.
     fn count(&self) -> u64
         ensures { result ≡ count self.now };
 
-    /// Writes a text down in the next place.
+    /// Writes a text to the next row. The keeper must be open and keep fewer than 10,000,000 rows.
     ///
     /// # Errors
     ///
-    /// `Fault`: the keeper failed and has counted it. The kept rows are as before, and past them stands what stood there
-    /// or the text. `Memory`: all is as before.
+    /// `Fault`: the keeper failed and incremented its fault count. The kept rows are unchanged. What follows them is
+    /// unchanged too, or is the text.
+    ///
+    /// `Memory`: out of memory. Nothing changed.
     fn put(&mut self, alloc: Global, text: &Text) -> Result<(), KeepRefusal>
         requires opened { opened self.old ≡ true }
         requires room { count self.old < 10000000 }
@@ -56,11 +59,14 @@ pub trait Keeper {
             (λ e. (count self.new ≡ count self.old) × Leaves (count self.old) text.now (rows self.old) (rows self.new) e) }
         ensures cause { HasCause (faults self.old) (faults self.new) result };
 
-    /// The row in a place: none only where the rows are not told.
+    /// Returns the text of row `place`, which must be kept. It returns `None` only if the rows are not observable. The keeper
+    /// must be open.
     ///
     /// # Errors
     ///
-    /// `Fault`: the keeper failed and has counted it. `Memory`: want of memory.
+    /// `Fault`: the keeper failed and incremented its fault count.
+    ///
+    /// `Memory`: out of memory.
     fn read(&mut self, alloc: Global, place: u64) -> Result<Option<Text>, KeepRefusal>
         requires opened { opened self.old ≡ true }
         requires place { (1 ≤ place) × (place ≤ count self.old) }
@@ -70,9 +76,9 @@ pub trait Keeper {
         ensures there { IfOk result (λ found. found ≡ None → rows self.old ≡ None) }
         ensures cause { HasCause (faults self.old) (faults self.new) result };
 
-    /// As many rows are there as are kept.
+    /// There are at least as many rows as are kept.
     ghost at_least: { (keeper : Self) → IfSome (rows keeper) (λ list. count keeper ≤ length list) };
 
-    /// Once opened, at most one more is there.
+    /// Once the keeper is open, at most one row follows the kept ones.
     ghost at_most: { (keeper : Self) → opened keeper ≡ true → IfSome (rows keeper) (λ list. length list ≤ count keeper + 1) };
 }

@@ -1,4 +1,4 @@
-//! A keeper in memory, which fails at the calls that it is told to.
+//! A keeper in memory. Calls chosen when it is created fail.
 ghost use Rattle.std.specs.Prelude.{◌<◌, true, ◌+◌, ◌≡◌, [], ◌∷◌, ◌++◌, ◌-◌, ◌≤◌, None, Some, false, length, slice_get, IfOk, IfErr};
 ghost use Rattle.std.specs.Prelude.{OnOk, is_some, if◌then◌else◌};
 ghost use Rattle.unl_keeper.specs.Faults.{HasCause, HasRisen};
@@ -13,16 +13,16 @@ use std::alloc::Global;
 use std::marker::Model;
 use unl_documents::{List, Text};
 
-/// A call that fails, counted from 0 over open, put and read.
+/// Names a call that fails. Calls of `open`, `put` and `read` are numbered together, from 0.
 #[derive(Clone, Copy, Debug, PartialEq, Eq)]
 pub struct KeepFail {
-    /// Which call.
+    /// The number of the call.
     pub call: u64,
-    /// Whether it leaves its text, where it is a put.
+    /// If the call is a `put`: whether it leaves its text in the row after the kept ones.
     pub leaves: bool,
 }
 
-/// Counts calls, of which those that are listed fail.
+/// Counts the calls and the faults, and knows which calls fail.
 #[derive(Debug, Drop)]
 struct Calls {
     failing: List<KeepFail>,
@@ -38,7 +38,7 @@ impl Model for Calls {
     ghost view = { λ c. record { failing = c.failing; calls = c.calls; faults = c.faults } };
 }
 
-/// Whether the call of this number fails, and then whether it leaves its text.
+/// Returns `None` if call number `call` succeeds. If it fails, returns whether it leaves its text.
 fn named(failing: &[KeepFail], call: u64) -> Option<bool>
     ensures { result ≡ named failing.now call }
 {
@@ -49,14 +49,14 @@ fn named(failing: &[KeepFail], call: u64) -> Option<bool>
 }
 
 impl Calls {
-    /// Whether the next call fails, and then whether it leaves its text.
+    /// Returns `None` if the next call succeeds. If it fails, returns whether it leaves its text.
     fn fails(&self) -> Option<bool>
         ensures { result ≡ named self.now.failing self.now.calls }
     {
         named(self.failing.as_slice(), self.calls)
     }
 
-    /// Counts the next call, which fails or does not.
+    /// Counts one call, and one fault if the call `fails`.
     fn count(&mut self, fails: bool)
         requires { fails ≡ is_some (named self.old.failing self.old.calls) }
         ensures counted { self.new ≡ after_call self.old }
@@ -70,7 +70,7 @@ impl Calls {
     }
 }
 
-/// A keeper whose rows are kept in memory.
+/// A keeper whose rows are in memory.
 #[derive(Debug, Drop)]
 pub struct MemoryKeeper {
     opened: bool,
@@ -88,7 +88,7 @@ impl Model for MemoryKeeper {
 }
 
 impl MemoryKeeper {
-    /// An empty keeper, which isn't opened. The calls that are named fail.
+    /// Creates an empty keeper that is not open. The calls listed in `failing` fail. Allocates nothing.
     pub fn new(alloc: Global, failing: List<KeepFail>) -> MemoryKeeper
         ensures { result ≡ new_keeping failing }
     {
@@ -104,7 +104,7 @@ impl MemoryKeeper {
         }
     }
 
-    /// The rows that it keeps, and how often it has failed.
+    /// Returns the kept rows and the fault count.
     pub(crate) fn into_kept(self) -> (Vec<Text>, u64)
         ensures kept { result.0.items ≡ self.kept }
         ensures faults { result.1 ≡ self.counting.faults }
@@ -118,7 +118,7 @@ impl MemoryKeeper {
         (kept, calls.faults)
     }
 
-    /// Keeps what a failed put left.
+    /// Appends the row that a failed put left to the kept rows, if there is one.
     fn keep_past(&mut self) -> Result<(), KeepRefusal>
         ensures ok { OnOk result (self.new ≡ record self.old { kept = rows_of self.old; past = None }) }
         ensures err { IfErr result (λ e. (e ≡ KeepRefusal.Memory) × (self.new ≡ self.old)) }
@@ -135,7 +135,7 @@ impl MemoryKeeper {
         }
     }
 
-    /// Adds a row to those that it keeps, past which nothing stands then.
+    /// Appends a row to the kept rows, and drops the row that a failed put left.
     fn add(&mut self, row: Text) -> Result<(), KeepRefusal>
         ensures ok { OnOk result (self.new ≡ record self.old { kept = self.old.kept ++ row ∷ []; past = None }) }
         ensures err { IfErr result (λ e. (e ≡ KeepRefusal.Memory) × (self.new ≡ self.old)) }
@@ -147,7 +147,7 @@ impl MemoryKeeper {
         Ok(())
     }
 
-    /// Leaves a row past those that it keeps, where it is to be left.
+    /// Sets the row after the kept ones, if the call `leaves` its text.
     fn leave(&mut self, leaves: bool, row: Text)
         ensures { self.new ≡ record self.old { past = if leaves then Some row else self.old.past } }
     {
@@ -157,7 +157,7 @@ impl MemoryKeeper {
     }
 }
 
-/// The row in a place, from 1.
+/// Returns row `place`, numbered from 1.
 fn row_at(alloc: Global, rows: &[Text], place: u64) -> Result<Option<Text>, KeepRefusal>
     requires { 1 ≤ place }
     ensures row { IfOk result (λ found. found ≡ slice_get rows.now (place - 1)) }
@@ -178,7 +178,7 @@ impl Keeper for MemoryKeeper {
 
     ghost rows = { λ k. Some (rows_of k) };
 
-    /// A fault comes exactly where the call is named.
+    /// Fails with `Fault` exactly if this call is listed as failing.
     fn open(&mut self, _alloc: Global) -> Result<u64, KeepRefusal>
         ensures opens { IfOk result (λ n. (self.new.opened ≡ true) × (n ≡ length self.new.kept) × (n ≡ length (rows_of self.new))) }
         ensures stays { self.old.opened ≡ true → self.new.opened ≡ true }
@@ -202,7 +202,7 @@ impl Keeper for MemoryKeeper {
         self.kept.len() as u64
     }
 
-    /// A fault comes exactly where the call is named.
+    /// Fails with `Fault` exactly if this call is listed as failing.
     fn put(&mut self, alloc: Global, text: &Text) -> Result<(), KeepRefusal>
         requires opened { self.old.opened ≡ true }
         requires room { length self.old.kept < 10000000 }
@@ -229,7 +229,7 @@ impl Keeper for MemoryKeeper {
         }
     }
 
-    /// A fault comes exactly where the call is named.
+    /// Fails with `Fault` exactly if this call is listed as failing.
     fn read(&mut self, alloc: Global, place: u64) -> Result<Option<Text>, KeepRefusal>
         requires opened { self.old.opened ≡ true }
         requires place { (1 ≤ place) × (place ≤ length self.old.kept) }

@@ -1,4 +1,4 @@
-//! A keeper over a database.
+//! A keeper over a SQLite database.
 ghost use Rattle.std.specs.Prelude.{◌≡◌, ◌≤◌, ◌<◌, ◌↔◌, false, IfOk, OnOk};
 ghost use Rattle.unl_keeper.specs.Faults.{Blames};
 
@@ -9,10 +9,14 @@ use std::alloc::Global;
 use std::marker::Model;
 use unl_documents::Text;
 
-/// A keeper whose rows are those of the table `kept(place INTEGER PRIMARY KEY, text TEXT NOT NULL)` of a database, which `open`
-/// makes where it isn't there. It doesn't tell them. Each put is one upsert behind the greatest place, so that it replaces what a
-/// failed one left; hand in a connection that is in no transaction, or a put commits nothing. Each statement that is refused for
-/// another cause than memory is counted as a fault, and so are a greatest place below 1 and a row that holds no text.
+/// A keeper whose rows are those of the table `kept(place INTEGER PRIMARY KEY, text TEXT NOT NULL)`. `open` creates the table
+/// if it does not exist. The rows are not observable.
+///
+/// Each put is one upsert at the row after the greatest `place`, so it replaces what a failed put left. The connection must
+/// not be in a transaction, or a put commits nothing.
+///
+/// A statement that fails for any reason but memory counts as a fault. So do a greatest `place` below 1 and a row that does
+/// not hold text. A missing row does not.
 pub struct SqliteKeeper<D: Alter> {
     connection: Connection<D>,
     opened: bool,
@@ -39,7 +43,7 @@ impl<D: Alter> Model for SqliteKeeper<D> {
     ghost view = { λ k. record { opened = k.opened; count = k.count; faults = k.faults } };
 }
 
-/// Why a keeper refuses what the database refused.
+/// Maps a database error: out of memory is `Memory`, any other error is `Fault`.
 fn refusal(error: Error) -> KeepRefusal
     ensures { (result ≡ KeepRefusal.Memory) ↔ (error ≡ Error.SqliteFailure ErrorCode.OutOfMemory) }
 {
@@ -49,9 +53,9 @@ fn refusal(error: Error) -> KeepRefusal
     }
 }
 
-// The four below have no clause, so that no proof carries the state of the database.
+// The four functions below have no contract, so that no proof carries the state of the database.
 
-/// Makes the table where it isn't there.
+/// Creates the table if it does not exist.
 fn create<D: Alter>(connection: &mut Connection<D>) -> Result<usize, Error> {
     connection.execute(
         "CREATE TABLE IF NOT EXISTS kept (place INTEGER PRIMARY KEY, text TEXT NOT NULL)",
@@ -59,14 +63,14 @@ fn create<D: Alter>(connection: &mut Connection<D>) -> Result<usize, Error> {
     )
 }
 
-/// The greatest place of a row.
+/// Returns the greatest `place`, or `None` if the table is empty.
 fn greatest<D: Alter>(connection: &mut Connection<D>) -> Result<Option<i64>, Error> {
     connection
         .query_row("SELECT max(place) FROM kept", &[])?
         .get(0)
 }
 
-/// Writes a text in a place, over what stands there.
+/// Writes a text at `place`, replacing any row there.
 fn write<D: Alter>(connection: &mut Connection<D>, place: i64, text: &str) -> Result<usize, Error> {
     connection.execute(
         "INSERT INTO kept (place, text) VALUES (?1, ?2) ON CONFLICT (place) DO UPDATE SET text = excluded.text",
@@ -74,14 +78,14 @@ fn write<D: Alter>(connection: &mut Connection<D>, place: i64, text: &str) -> Re
     )
 }
 
-/// The text in a place.
+/// Returns the text at `place`.
 fn select<D: Alter>(connection: &mut Connection<D>, place: i64) -> Result<String, Error> {
     connection
         .query_row("SELECT text FROM kept WHERE place = ?1", params![place])?
         .get(0)
 }
 
-/// How many rows there are: the greatest place.
+/// Creates the table if needed and returns the number of kept rows, which is taken from the greatest `place`.
 fn rows_of<D: Alter>(connection: &mut Connection<D>) -> Result<u64, KeepRefusal> {
     if let Err(error) = create(connection) {
         return Err(refusal(error));
@@ -94,7 +98,7 @@ fn rows_of<D: Alter>(connection: &mut Connection<D>) -> Result<u64, KeepRefusal>
     }
 }
 
-/// Writes a text in a place.
+/// Writes a text at `place`.
 fn put_row<D: Alter>(
     connection: &mut Connection<D>,
     place: u64,
@@ -109,7 +113,7 @@ fn put_row<D: Alter>(
     }
 }
 
-/// The row in a place.
+/// Returns the text at `place`, or `None` if there is no such row.
 fn row_at<D: Alter>(
     connection: &mut Connection<D>,
     place: u64,
@@ -125,7 +129,7 @@ fn row_at<D: Alter>(
 }
 
 impl<D: Alter> SqliteKeeper<D> {
-    /// A keeper over a connection. It isn't opened, and takes no memory.
+    /// Creates a keeper over a connection. It is not open. Allocates nothing.
     pub fn new(connection: Connection<D>) -> SqliteKeeper<D>
         ensures { result ≡ record { opened = false; count = 0; faults = 0 } }
     {
@@ -137,7 +141,7 @@ impl<D: Alter> SqliteKeeper<D> {
         }
     }
 
-    /// The connection, which whoever handed it in may close, and how often a statement was refused.
+    /// Returns the connection, so that the caller can close it, and the fault count.
     pub fn into_connection(self) -> (Connection<D>, u64)
         ensures { result.1 ≡ self.faults }
     {
@@ -150,7 +154,7 @@ impl<D: Alter> SqliteKeeper<D> {
         (connection, faults)
     }
 
-    /// Counts a refusal, where it is a fault.
+    /// Increments the fault count if the refusal is a fault.
     fn refuse(&mut self, refusal: KeepRefusal)
         ensures same { self.new ≡ record self.old { faults = self.new.faults } }
         ensures cause { Blames self.old.faults self.new.faults refusal }

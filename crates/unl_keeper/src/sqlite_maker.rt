@@ -1,4 +1,4 @@
-//! Makes keepers over databases in memory.
+//! A factory of keepers over SQLite databases in memory.
 ghost use Rattle.std.specs.Prelude.{◌≡◌};
 
 use crate::maker::KeepMaker;
@@ -8,8 +8,8 @@ use sqlite::{Connection, MemStore};
 use std::alloc::Global;
 use std::marker::Model;
 
-/// Makes keepers, each over a database of its own in memory. It doesn't tell what they kept. Contracts see how many keepers came
-/// back that had failed.
+/// Creates keepers, each over its own database in memory. What a returned keeper kept is not observable. In contracts a maker
+/// is its fault count: how many returned keepers had failed.
 #[derive(Debug, Drop)]
 pub struct SqliteMaker {
     faults: u64,
@@ -24,7 +24,7 @@ impl Model for SqliteMaker {
 }
 
 impl SqliteMaker {
-    /// A maker that counts no fault.
+    /// Creates a maker with a fault count of 0.
     pub fn new() -> SqliteMaker
         ensures { result ≡ 0 }
     {

@@ -1,4 +1,4 @@
--- The upstream that words ask for, before it was given a command.
+-- The upstream that the arguments describe, before its first command.
 use Rattle.std.specs.Prelude.{◌≡◌, ℕ, Result, Ok, Err}
 use Rattle.unl_keeping.specs.declared.fault.KeepingFault.{KeepingFault}
 use Rattle.unl_keeping.specs.declared.fault.KeepingFault.TheVariants.{BadWords, Memory}
@@ -8,17 +8,17 @@ use Rattle.unl_words.specs.declared.words.UpstreamWords.{UpstreamWords}
 use Rattle.unl_words.specs.declared.words.Words.{Words}
 use Rattle.unl_words.specs.declared.words.Words.TheVariants.{Replay, Check, Edge, Upstream, Follow, Explain, Load}
 
--- that of these values, at a boot number
+-- the initial upstream with these options and this boot number
 abbrev pub upstream_of : ℕ → UpstreamWords → UpstreamState
 upstream_of boot words =
     opening boot words.secret words.environments (own_book words.client_tokens words.frontend_tokens) words.epoch
 
--- it is that of these values, or memory ran out
+-- creating an upstream returns that initial upstream, or fails for lack of memory
 abbrev pub BeginsBy : ℕ → UpstreamWords → Result UpstreamState KeepingFault → Type 0
 BeginsBy boot words (Ok up) = up ≡ upstream_of boot words
 BeginsBy boot words (Err fault) = fault ≡ Memory
 
--- what beginning comes to: the upstream of the words, and bad words exactly where they don't ask for one
+-- the result of creating an upstream from the arguments: bad words exactly if they are not those of an upstream
 abbrev pub Begins : ℕ → Words → Result UpstreamState KeepingFault → Type 0
 Begins boot Replay result = result ≡ Err BadWords
 Begins boot (Check now word) result = result ≡ Err BadWords

@@ -1,4 +1,4 @@
-//! Why the program ends before its door is closed.
+//! The errors that end the program, and their exit codes.
 ghost use Rattle.std.specs.Prelude.{◌≡◌};
 ghost use Rattle.unl_keeping.specs.Faults.{fault_of};
 ghost use Rattle.unl_keeping.specs.Serving.{code_of};
@@ -12,28 +12,28 @@ use unl_documents as documents;
 /// Why the program ended before its door was closed.
 #[derive(Debug, Drop, Error)]
 pub enum KeepingFault {
-    /// There is no path, or the words behind it are none that `upstream` takes.
+    /// There is no path, or the arguments after it are not valid options of `upstream`.
     #[error("unl_keeping: bad words")]
     BadWords,
-    /// The database refused to be opened or closed.
+    /// The database could not be opened or closed.
     #[error("unl_keeping: {0}")]
     File(sqlite::Error),
-    /// The row in this place, from 1, is no command that is accepted, or isn't there.
+    /// The row with this number, from 1, is missing, or holds no command that is accepted.
     #[error("refused: row {0}")]
     Row(u64),
-    /// The keeper failed as it was opened, which has counted it.
+    /// The keeper failed while the upstream was reopened, and incremented its fault count.
     #[error("unl_keeping: the keeper failed")]
     Keeper,
-    /// The door failed, which has counted it.
+    /// The door failed, and incremented its fault count.
     #[error("unl_keeping: the door failed")]
     Door,
-    /// Memory ran out.
+    /// Out of memory.
     #[error("unl_keeping: out of memory")]
     Memory,
 }
 
 impl KeepingFault {
-    /// The number that the program exits with.
+    /// Returns the exit code of the program.
     pub fn code(&self) -> u8
         ensures { result ≡ code_of self.now }
     {

@@ -1,4 +1,4 @@
-//! The words of the program: a path, and then the options of an upstream.
+//! The command line of the program: a path, then the options of an upstream.
 ghost use Rattle.std.specs.Prelude.{◌≡◌, ℕ, List, IfOk, map, string_bytes};
 ghost use Rattle.unl_keeping.specs.Given.{IsReading, bound_of, port_of};
 ghost use Rattle.unl_words.specs.Ranges.{IsInRange};
@@ -9,7 +9,7 @@ use std::mem;
 use unl_usage::{ArgumentsFault, read_arguments};
 use unl_words::{Words, WordsRefusal, read_words};
 
-/// Where the database stands, and what is asked of the upstream.
+/// The path of the database file, and the options of the upstream.
 #[derive(Drop)]
 pub struct Given {
     pub path: String,
@@ -17,7 +17,7 @@ pub struct Given {
 }
 
 impl Given {
-    /// The port to listen at.
+    /// Returns the port to listen on.
     pub fn port(&self) -> u16
         ensures { result ≡ port_of self.now.words }
     {
@@ -27,7 +27,7 @@ impl Given {
         }
     }
 
-    /// The epoch in which the upstream begins.
+    /// Returns the epoch of the upstream.
     pub fn epoch(&self) -> u64 {
         match &self.words {
             Words::Upstream(upstream) => upstream.epoch,
@@ -35,7 +35,7 @@ impl Given {
         }
     }
 
-    /// After how many links the door closes, where the words say so.
+    /// Returns the number of links after which the door closes, or `None` if the arguments set no limit.
     pub fn bound(&self) -> Option<u64>
         ensures { result ≡ bound_of self.now.words }
     {
@@ -46,11 +46,11 @@ impl Given {
     }
 }
 
-/// Reads the words of the command line: the path of the database file, and then the options of `upstream` as `read_words` takes
-/// them.
+/// Reads the arguments of the command line: the path of the database file, then the options of `upstream` as `read_words`
+/// takes them.
 ///
 /// # Errors
-/// `BadWords` where there is no path, `read_words` refuses the options, or a word is not UTF-8; or want of memory.
+/// `BadWords`: there is no path, `read_words` refuses the options, or an argument is not UTF-8. `Memory`: out of memory.
 pub fn read_given(rt: &HostRuntime) -> Result<Given, KeepingFault>
     ensures reads { (words : List (List ℕ)) × IsReading words result }
     ensures valid { IfOk result (λ given. IsInRange given.words) }
@@ -62,7 +62,7 @@ pub fn read_given(rt: &HostRuntime) -> Result<Given, KeepingFault>
     }
 }
 
-/// Takes the first word for the path, in whose place then stands the name of the command.
+/// Takes the first argument as the path, and puts the command name `upstream` in its place before the options are read.
 fn read_path_first(alloc: Global, mut words: Vec<String>) -> Result<Given, KeepingFault>
     ensures reads { IsReading (map string_bytes words.items) result }
     ensures valid { IfOk result (λ given. IsInRange given.words) }

@@ -1,4 +1,5 @@
-//! The program: an upstream whose commands stand in a database file, so that one that is killed and started again has them.
+//! The program: an upstream that stores its commands in a database file, so that it still has them after being killed and
+//! restarted.
 #![tactic(auto)]
 
 ghost use Rattle.std.specs.Prelude.{IfOk};
@@ -55,14 +56,14 @@ fn main(rt: HostRuntime) -> ExitCode {
     }
 }
 
-/// Reports the path of a file whose commands can't be read.
+/// Reports the path of a file whose commands cannot be read.
 fn report_keeper(rt: &HostRuntime, path: &str, ended: &Result<u64, KeepingFault>) {
     if let Err(KeepingFault::Keeper) = ended {
         report_unopened(rt, path, &"its table of commands can't be read");
     }
 }
 
-/// Reads the words, and opens the database that they name.
+/// Reads the arguments, and opens the database at their path.
 fn open(rt: &HostRuntime) -> Result<(Given, Connection<FileStore<File>>), KeepingFault>
     ensures { IfOk result (λ opened. IsInRange opened.0.words) }
 {
@@ -77,8 +78,8 @@ fn open(rt: &HostRuntime) -> Result<(Given, Connection<FileStore<File>>), Keepin
     }
 }
 
-/// Serves an upstream over a database, until its door is closed, which listened at the port of the words, and answers how many links
-/// that were. What stands in the log is then in the file.
+/// Listens on the port of the arguments, serves an upstream over a database until its door is closed, and returns how many
+/// links were served. On success the content of the database's log is in the file.
 fn serve_over<D: Door, R: Draws + Drop, W: Wait + Eprint>(
     rt: &W,
     alloc: Global,

@@ -1,4 +1,4 @@
-//! An upstream is opened from what its keeper has, and serves the links of its door.
+//! Reopens an upstream from its keeper, and serves the links of its door.
 ghost use Rattle.std.specs.Prelude.{◌≡◌, true, Err, IfOk, OnErr};
 ghost use Rattle.unl_base.specs.Faults.{Rose};
 ghost use Rattle.unl_keeping.specs.Beginning.{Begins, upstream_of};
@@ -18,10 +18,10 @@ use unl_upstream::{ReopenFault, Upstream, host_kept, reopen};
 use unl_usage::report_commands;
 use unl_words::{UpstreamWords, Words, own_book};
 
-/// An upstream of these words, which was given no command.
+/// Creates an upstream from the arguments. It has applied no command.
 ///
 /// # Errors
-/// `BadWords` exactly where the words don't ask for an upstream; or want of memory.
+/// `BadWords`: exactly if the arguments are not those of an upstream. `Memory`: out of memory.
 pub fn begin(alloc: Global, boot: u64, words: &Words) -> Result<Upstream, KeepingFault>
     requires { IsInRange words.now }
     ensures opens { IfOk result IsOpening }
@@ -33,7 +33,7 @@ pub fn begin(alloc: Global, boot: u64, words: &Words) -> Result<Upstream, Keepin
     }
 }
 
-/// An upstream that was given no command.
+/// Creates an upstream from its options. It has applied no command.
 fn new_upstream(alloc: Global, boot: u64, words: &UpstreamWords) -> Result<Upstream, Memory>
     requires { IsUpstream words.now }
     ensures opens { IfOk result IsOpening }
@@ -45,14 +45,14 @@ fn new_upstream(alloc: Global, boot: u64, words: &UpstreamWords) -> Result<Upstr
     Ok(up)
 }
 
-/// Opens an upstream from the rows of its keeper, reports how many these are and the epoch, listens at a port, and serves the links
-/// of the door, one after the other, until it is closed; each command is kept before it is acknowledged. It answers how many links
-/// were served.
+/// Reopens an upstream from the rows of its keeper, reports their number and the epoch, listens on a port, and serves the
+/// links of the door one after another until the door is closed. Each command is kept before it is acknowledged. Returns how
+/// many links were served.
 ///
 /// # Errors
-/// `Row` where a row of the keeper is no command that is accepted, or isn't there; `Keeper` where the keeper failed as it was
-/// opened; `Memory` where memory ran out as it was opened; `Door` where the port can't be listened at, or no link could be had. A
-/// keeper that fails while links are served ends nothing.
+/// `Row`: a row of the keeper is missing, or holds no command that is accepted. `Keeper`: the keeper failed while the
+/// upstream was reopened. `Memory`: out of memory while the upstream was reopened. `Door`: the door could not listen on the
+/// port, or could not hand out a link. A keeper that fails while links are served ends nothing.
 pub fn serve_reopened<K: Keeper, D: Door, R: Draws, W: Wait + Eprint>(
     rt: &W,
     alloc: Global,
@@ -85,10 +85,11 @@ pub fn serve_reopened<K: Keeper, D: Door, R: Draws, W: Wait + Eprint>(
     }
 }
 
-/// Listens at a port, and serves the links of the door, one after the other, until it is closed.
+/// Listens on a port, serves the links of the door one after another until the door is closed, and returns how many were
+/// served.
 ///
 /// # Errors
-/// `Failed` where the door failed, which has counted it.
+/// `Failed`: the door failed, and incremented its fault count.
 fn serve_links<K: Keeper, D: Door, R: Draws, W: Wait>(
     rt: &W,
     alloc: Global,

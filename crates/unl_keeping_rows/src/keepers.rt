@@ -1,4 +1,4 @@
-//! A keeper in memory that has rows: no program opens one again.
+//! Reopening a keeper in memory that has rows, which no program does.
 ghost use Rattle.std.specs.Prelude.{◌≡◌, ◌≤◌, true};
 
 use std::alloc::Global;
@@ -6,7 +6,7 @@ use std::test::Fail;
 use unl_documents::{List, Text};
 use unl_keeper::{KeepRefusal, Keeper, MemoryKeeper};
 
-/// Puts a text.
+/// Puts a text. Fails with `Fault` if the keeper is full.
 fn put(alloc: Global, keeper: &mut MemoryKeeper, text: &str) -> Result<(), KeepRefusal>
     requires { keeper.old.opened ≡ true }
     ensures { keeper.new.opened ≡ true }
@@ -17,7 +17,7 @@ fn put(alloc: Global, keeper: &mut MemoryKeeper, text: &str) -> Result<(), KeepR
     keeper.put(alloc, &Text::new(alloc, text)?)
 }
 
-/// Whether a row is this text.
+/// Returns whether row `place` holds this text.
 fn is_at(
     alloc: Global,
     keeper: &mut MemoryKeeper,
@@ -37,7 +37,7 @@ fn is_at(
     }
 }
 
-/// Whether two rows are there once the keeper is opened again.
+/// Returns whether two rows are still there after the keeper is opened again.
 fn keeps_two(alloc: Global) -> Result<bool, KeepRefusal> {
     let mut keeper = MemoryKeeper::new(alloc, List::new(alloc));
     keeper.open(alloc)?;

@@ -1,5 +1,5 @@
-//! Rows of keepers and of commands that are kept, for what no run of the program shows: rows that are read from memory, and what
-//! an upstream has that is opened again after its machine stopped at a disk call.
+//! Tests of keepers and of kept commands that no run of the program covers: rows read from memory, and what a reopened
+//! upstream has after its machine stopped at any disk call.
 #![tactic(auto)]
 
 #[cfg(test)]

@@ -1,4 +1,4 @@
-//! The machine stops at each of its disk calls in turn, while commands are kept.
+//! A test that stops the machine at each of its disk calls in turn, while commands are kept.
 ghost use Rattle.std.specs.Prelude.{◌≡◌, true};
 
 use crate::machine::Machine;
@@ -12,13 +12,13 @@ use std::test::Fail;
 use unl_keeper::{Keeper, SqliteKeeper};
 use unl_upstream::Upstream;
 
-/// The features that ten commands put, in this order.
+/// The names of the features that ten commands put, in this order.
 const NAMES: &str = "abcdefghij";
 
-/// More disk calls than a run makes.
+/// An upper bound on the disk calls of a run.
 const MOST: u64 = 2000;
 
-/// Puts a feature of this name, and answers its number, where it is acknowledged.
+/// Puts a feature of this name, and returns its version number if the command is acknowledged.
 fn put<K: Keeper>(alloc: Global, up: &mut Upstream, keeper: &mut K, name: char) -> Option<u64>
     requires { K.opened keeper.old ≡ true }
     ensures { K.opened keeper.new ≡ true }
@@ -32,7 +32,7 @@ fn put<K: Keeper>(alloc: Global, up: &mut Upstream, keeper: &mut K, name: char) 
     }
 }
 
-/// Puts the features up to the first that is refused, and answers how many were acknowledged, each by its number.
+/// Puts the features in order until one is not acknowledged with the next version number, and returns how many were.
 fn put_all<K: Keeper>(alloc: Global, up: &mut Upstream, keeper: &mut K) -> u64
     requires { K.opened keeper.old ≡ true }
     ensures { K.opened keeper.new ≡ true }
@@ -47,7 +47,7 @@ fn put_all<K: Keeper>(alloc: Global, up: &mut Upstream, keeper: &mut K) -> u64
     done
 }
 
-/// Opens a database, or gives its files back.
+/// Opens a database, or returns its files.
 fn open<D: Disk + Drop>(
     alloc: Global,
     files: Files<D>,
@@ -61,7 +61,8 @@ fn open<D: Disk + Drop>(
     }
 }
 
-/// A run over files: how many commands were acknowledged, and the files, which no disk call is made for any more.
+/// Opens an upstream over the files and puts the features. Returns how many commands were acknowledged, and the files. No
+/// disk call is made on them after that.
 fn run<D: Disk + Drop>(alloc: Global, files: Files<D>) -> (u64, Files<D>) {
     let mut keeper = match open(alloc, files) {
         Ok(connection) => SqliteKeeper::new(connection),
@@ -74,8 +75,8 @@ fn run<D: Disk + Drop>(alloc: Global, files: Files<D>) -> (u64, Files<D>) {
     (done, keeper.into_connection().0.into_store().close())
 }
 
-/// How many commands an upstream has that is opened from files, where these are the first, by its number and its features, and
-/// the next one gets the next number.
+/// Reopens an upstream from the files and returns how many commands it has. Returns `None` unless its features are exactly
+/// that many of the first names, its version number is that count, and one more put gets the next number.
 fn found(alloc: Global, files: Files<Memory>) -> Option<u64> {
     let mut keeper = SqliteKeeper::new(open(alloc, files).ok()?);
     match opened(alloc, &mut keeper) {
@@ -89,7 +90,7 @@ fn found(alloc: Global, files: Files<Memory>) -> Option<u64> {
     }
 }
 
-/// What a stop leaves of a file: what was written, or what was synced of it.
+/// Returns what a stop leaves of a file: all that was written, or if it `loses` the rest, what was synced.
 fn after(machine: Machine<Memory>, loses: bool) -> Memory {
     let mut disk = machine.into_inner();
     if loses {
@@ -98,8 +99,8 @@ fn after(machine: Machine<Memory>, loses: bool) -> Memory {
     disk
 }
 
-/// How many commands were acknowledged of a machine that stops after so many calls, how many of them are found again, and
-/// whether it stopped.
+/// Runs on a machine that stops after this number of disk calls. Returns how many commands were acknowledged, how many are
+/// found after reopening, and whether the machine used up its calls.
 fn stops_at(alloc: Global, calls: u64, loses: bool) -> Result<(u64, Option<u64>, bool), Fail> {
     let clock = Rc::new(alloc, Cell::new(calls))?;
     let log = Machine::new(Memory::new(alloc), clock.clone()?);
@@ -113,8 +114,9 @@ fn stops_at(alloc: Global, calls: u64, loses: bool) -> Result<(u64, Option<u64>,
     Ok((done, found(alloc, files), stopped))
 }
 
-/// The number of calls at which a run ends with no stop and all ten commands, if each other one keeps what it acknowledged, and
-/// at most the command that was under way.
+/// Runs with 0, 1, 2 and so on allowed disk calls, and returns the first number that a run does not use up. Returns `None` if
+/// some run, reopened, has neither what it acknowledged nor that and one more command, or if the last run lacks one of the
+/// ten.
 fn calls_of_a_run(alloc: Global, loses: bool) -> Result<Option<u64>, Fail> {
     for calls in 0..MOST {
         let (done, found, stopped) = stops_at(alloc, calls, loses)?;

@@ -1,4 +1,4 @@
-//! An upstream of one environment that is opened from a keeper, commands that it is given, and what it stands at.
+//! Helpers for the tests: an upstream of one environment opened from a keeper, commands for it, and its state.
 ghost use Rattle.std.specs.Prelude.{◌≡◌, true, IfOk};
 ghost use Rattle.unl_upstream.specs.Reopening.{IsOpening};
 
@@ -9,7 +9,7 @@ use unl_keeper::Keeper;
 use unl_tokens::Book;
 use unl_upstream::{KeepCommandRefusal, ReopenFault, Upstream, keep, read_command, reopen};
 
-/// An upstream of the environment `dev` that was given no command.
+/// Creates an upstream of the environment `dev` that has applied no command.
 fn fresh(alloc: Global) -> Result<Upstream, Memory>
     ensures { IfOk result IsOpening }
 {
@@ -18,7 +18,7 @@ fn fresh(alloc: Global) -> Result<Upstream, Memory>
     Upstream::new(alloc, 0, "s", &environments, Book::new(alloc), 0)
 }
 
-/// An upstream that is opened from a keeper.
+/// Creates an upstream and reopens it from a keeper.
 pub(crate) fn opened<K: Keeper>(alloc: Global, keeper: &mut K) -> Result<Upstream, ReopenFault>
     ensures { IfOk result (λ _. K.opened keeper.new ≡ true) }
 {
@@ -31,7 +31,7 @@ pub(crate) fn opened<K: Keeper>(alloc: Global, keeper: &mut K) -> Result<Upstrea
     }
 }
 
-/// What keeping a command comes to, where its text is one.
+/// Keeps the command spelled by `text`, and returns the result. Returns `None` if the text is no command.
 pub(crate) fn give<K: Keeper>(
     alloc: Global,
     up: &mut Upstream,
@@ -50,7 +50,8 @@ pub(crate) fn give<K: Keeper>(
     }
 }
 
-/// The number of the environment, and the names of its features one behind the other.
+/// Returns the version number of `dev`, and the names of its features, concatenated. Returns `None` if `dev` has no version,
+/// or out of memory.
 pub(crate) fn stands(alloc: Global, up: &Upstream) -> Option<(u64, String)> {
     let version = up.board().snapshot("dev")?.version();
     let mut names = String::new(alloc);

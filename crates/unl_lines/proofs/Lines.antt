@@ -1,4 +1,4 @@
--- Lines of bytes, and bytes that are taken one after another.
+-- The lines of a byte string, and bytes consumed one after another.
 use Rattle.std.proofs.Common.{◌≡◌, ◌≢◌, ℕ, ◌+◌, ◌<◌, ◌≤◌, List, [], ◌∷◌, ◌++◌, length, take, drop, get_or, min, not, suc, Bool, true, false, ◌||◌, cond, Option, Some, None, option_map, refl, sym, ap, ◌∙◌, arith, append_assoc, append-nil, length-append, subst}
 use Rattle.std.specs.List.{count_by, position_or_len}
 use Rattle.std.proofs.lemmas.List.{take-append-le, take_all, take-append-drop, length-take, length-take-le, get_or-take}
@@ -11,7 +11,7 @@ use Rattle.unl_base.specs.Streams.{Takes, Sends, SendsFront}
 use Rattle.unl_lines.specs.Lines.{is_end, has_end, lines, begun_with, ended_lines}
 use Rattle.unl_lines.specs.Reading.{Gets, IsAtEnd, IsLine, EndsLine, GrowsLine, BeginsLong, longest_line}
 
--- ---- bytes taken one after another
+-- ---- bytes consumed one after another
 
 then_none : (xs ys : List ℕ) (c : Option (List ℕ))
     → option_map (λ rest. xs ++ rest) (option_map (λ rest. ys ++ rest) c) ≡ option_map (λ rest. (xs ++ ys) ++ rest) c
@@ -34,7 +34,7 @@ gets_trans h i j l m n a b one two = record {
       ∙ append_assoc a i two.read ∙ ap (λ xs. a ++ xs) two.split ∙ sym (append_assoc a b j);
 }
 
--- where the bytes to come are told, they are those taken and those left
+-- if the bytes to come are observable, they are the consumed bytes and the rest
 unfoldable pub WholeSplit : List ℕ → List ℕ → List ℕ → Option (List ℕ) → Type 0
 WholeSplit x out i m = (rest : List ℕ) × (x ≡ out ++ rest) × (IsAtEnd i m → rest ≡ [])
 
@@ -65,7 +65,7 @@ sent_then xs ys (Some x) = ap Some (append_assoc x xs ys)
 pub sends_trans : (r s t : Option (List ℕ)) (xs ys : List ℕ) → Sends r xs s → Sends s ys t → Sends r (xs ++ ys) t
 sends_trans r s t xs ys one two = two ∙ ap (option_map (λ sent. sent ++ ys)) one ∙ sent_then xs ys r
 
--- a whole text, and then the front of one
+-- a whole text, and then a prefix of another
 pub sends_then_front : (r s t : Option (List ℕ)) (xs ys : List ℕ) → Sends r xs s → SendsFront s ys t → SendsFront r (xs ++ ys) t
 sends_then_front r s t xs ys one front = record {
   part = xs ++ front.part;
@@ -74,7 +74,7 @@ sends_then_front r s t xs ys one front = record {
   sends = sends_trans r s t xs front.part one front.sends;
 }
 
--- the front of a text is the front of a longer one
+-- a prefix of a text is a prefix of a longer text
 pub front_of_longer : (s t : Option (List ℕ)) (xs ys whole : List ℕ) → SendsFront s xs t → whole ≡ xs ++ ys → SendsFront s whole t
 front_of_longer s t xs ys whole front longer = record {
   part = front.part;
@@ -85,7 +85,7 @@ front_of_longer s t xs ys whole front longer = record {
 
 -- ---- lines
 
--- the lines with these bytes more at the front of the first
+-- the lines with these bytes added at the start of the first
 abbrev begun : List ℕ → List (List ℕ) → List (List ℕ)
 begun [] ls = ls
 begun (b ∷ bytes) ls = begun_with b (begun bytes ls)
@@ -106,7 +106,7 @@ right_false : (a b : Bool) → (a || b) ≡ false → b ≡ false
 right_false false b none = none
 right_false true b none = absurd (let other : ◌≡◌ {A = Bool} true false = none in cc)
 
--- bytes with no end of a line begin the first line
+-- bytes without a line feed begin the first line
 unbroken : (front rest : List ℕ) → has_end front ≡ false → lines (front ++ rest) ≡ begun front (lines rest)
 unbroken [] rest none = refl
 unbroken (b ∷ bs) rest none =
@@ -122,7 +122,7 @@ pub last_line : (line : List ℕ) → has_end line ≡ false → line ≢ [] →
 last_line [] none some = absurd (some refl)
 last_line (b ∷ bs) none some = ap lines (sym (append-nil (b ∷ bs))) ∙ unbroken (b ∷ bs) [] none ∙ begun-none b bs
 
--- what begins a line that is too long
+-- the first line of the bytes is too long
 abbrev pub LongFirst : List ℕ → Type 0
 LongFirst bytes = (line : List ℕ) × (more : List (List ℕ)) × (lines bytes ≡ line ∷ more) × (longest_line < length line)
 
@@ -137,7 +137,7 @@ long_first front rest none long =
     let first = long_begun front (lines rest) long in
     (first.0, first.1, unbroken front rest none ∙ first.2, first.3)
 
--- some line begins with a byte
+-- a byte begins some line
 pub some_first : (b : ℕ) (rest : List ℕ) → (line : List ℕ) × (more : List (List ℕ)) × (lines (b ∷ rest) ≡ line ∷ more)
 some_first b rest = begins b (lines rest) (is_end b)
   where
@@ -146,7 +146,7 @@ some_first b rest = begins b (lines rest) (is_end b)
     begins b [] false = (b ∷ [], [], refl)
     begins b (l ∷ ls) false = (b ∷ l, ls, refl)
 
--- ---- the first end among bytes
+-- ---- the first line feed in bytes
 
 one_more : (n : ℕ) → 1 + n ≡ suc n
 one_more n = omega arith
@@ -154,7 +154,7 @@ one_more n = omega arith
 more_one : (n : ℕ) → suc n ≡ n + 1
 more_one n = omega arith
 
--- no end of a line stands before the first one
+-- no line feed precedes the first one
 before_first_end : (xs : List ℕ) → has_end (take (position_or_len is_end xs) xs) ≡ false
 before_first_end [] = refl
 before_first_end (x ∷ xs) = by_first (is_end x) refl (before_first_end xs)
@@ -170,7 +170,7 @@ taken_twice : (xs : List ℕ) (most k : ℕ) → k ≤ length (take most xs) →
 taken_twice xs most k within =
     sym (take-append-le k (take most xs) (drop most xs) within) ∙ ap (take k) (take-append-drop most xs)
 
--- the held bytes were looked through as far as a line has room, and those before the first end went behind the line so far
+-- the held bytes were searched up to the limit of the line, and those before the first line feed were appended to the line
 abbrev pub Looks : List ℕ → List ℕ → ℕ → List ℕ → ℕ → List ℕ → Type 0
 Looks line held most front k after = (front ≡ take most held) × (k ≡ position_or_len is_end front) × (after ≡ line ++ take k front)
 
@@ -194,13 +194,13 @@ looks_len line held most front k after looks =
     ap length looks.2 ∙ length-append line (take k front)
     ∙ ap (λ n. length line + n) (length-take-le k front (looks_within line held most front k after looks))
 
--- the first end in a list
+-- the byte at the position of the first line feed is a line feed
 end_at : (xs : List ℕ) (k : ℕ) → k ≡ position_or_len is_end xs → k < length xs → get_or xs k 0 ≡ 10
 end_at xs k is within =
     ap (λ n. get_or xs n 0) is
     ∙ eqb-true (get_or xs (position_or_len is_end xs) 0) 10 (passes_at_first is_end xs 0 (subst (λ n. n < length xs) is within))
 
--- the end of the line was found
+-- the line feed was found
 pub piece_ends : (line held : List ℕ) (most : ℕ) (front : List ℕ) (k : ℕ) (after rest : List ℕ)
     → Looks line held most front k after → length line + most ≡ longest_line + 1 → k < length front
     → rest ≡ drop (k + 1) held → EndsLine line held after rest
@@ -222,7 +222,7 @@ piece_ends line held most front k after rest looks whole found is =
           ∙ ap (λ xs. take k front ++ xs) split;
     }
 
--- no end was found
+-- no line feed was found
 pub piece_grows : (line held : List ℕ) (most : ℕ) (front : List ℕ) (k : ℕ) (after rest : List ℕ)
     → Looks line held most front k after → 0 < most → 0 < length held → length front ≤ k
     → rest ≡ drop k held → GrowsLine line held after rest
@@ -238,9 +238,9 @@ piece_grows line held most front k after rest looks room some all is =
           ∙ ap (λ xs. take k front ++ xs) (sym is);
     }
 
--- ---- lines that ended
+-- ---- complete lines
 
--- The bytes are some whole lines: what follows them begins a line.
+-- The bytes are complete lines: what follows them begins a new line.
 pub record IsWhole (bytes : List ℕ) : Type 0 where
   pub first : (rest : List ℕ) → lines (bytes ++ rest) ≡ lines bytes ++ lines rest
   pub ends : count_by is_end bytes ≡ length (lines bytes)
@@ -248,7 +248,7 @@ pub record IsWhole (bytes : List ℕ) : Type 0 where
 count-append : (xs ys : List ℕ) → count_by is_end (xs ++ ys) ≡ count_by is_end xs + count_by is_end ys
 count-append xs ys = sum_by-append (λ b. cond (is_end b) 1 0) xs ys
 
--- the ends of lines, counted from the front
+-- the number of line feeds
 abbrev ends_in : List ℕ → ℕ
 ends_in [] = 0
 ends_in (b ∷ bs) = cond (is_end b) (1 + ends_in bs) (ends_in bs)
@@ -278,7 +278,7 @@ whole_more bytes line whole none =
           ∙ sym (ap length all ∙ length-append (lines bytes) (line ∷ []));
     }
 
--- behind whole lines the front of one more ends none
+-- part of a line after complete lines adds no complete line
 pub ended_whole : (bytes front : List ℕ) → IsWhole bytes → has_end front ≡ false → ended_lines (bytes ++ front) ≡ lines bytes
 ended_whole bytes front whole none =
     ap (λ n. take n (lines (bytes ++ front))) (count-append bytes front ∙ ap (λ n. count_by is_end bytes + n) (no_ends front none))
@@ -287,7 +287,7 @@ ended_whole bytes front whole none =
     ∙ take-append-le (length (lines bytes) + 0) (lines bytes) (lines front) (omega arith)
     ∙ take_all (length (lines bytes) + 0) (lines bytes) (omega arith)
 
--- ---- what a reader took
+-- ---- what a reader consumed
 
 unbroken_both : (xs ys : List ℕ) → has_end xs ≡ false → has_end ys ≡ false → has_end (xs ++ ys) ≡ false
 unbroken_both xs ys one two = list_any-append is_end xs ys ∙ ap (λ t. t || has_end ys) one ∙ two
@@ -296,7 +296,7 @@ unbroken_both xs ys one two = list_any-append is_end xs ys ∙ ap (λ t. t || ha
 gets_front : (h i : List ℕ) (l : Option (List ℕ)) (out : List ℕ) → h ≡ out ++ i → Gets h l out i l
 gets_front h i l out front = record { read = []; took = takes_nothing l; split = append-nil h ∙ front }
 
--- the end of a line came
+-- the line feed was found
 pub line_ends : (h i j k : List ℕ) (l m n : Option (List ℕ)) (line ended : List ℕ) → has_end line ≡ false
     → Gets h l line i m → Gets i m [] j n → EndsLine line j ended k → IsLine ended × Gets h l (ended ++ 10 ∷ []) k n
 line_ends h i j k l m n line ended none got filled ends =
@@ -308,7 +308,7 @@ line_ends h i j k l m n line ended none got filled ends =
           (gets_trans h i k l m n line rest got (gets_trans i j k m n n [] rest filled (gets_front j k n rest split))),
     )
 
--- bytes more came, which don't end the line
+-- more bytes were read, which don't end the line
 pub line_grows : (h i j k : List ℕ) (l m n : Option (List ℕ)) (line grown : List ℕ) → has_end line ≡ false
     → Gets h l line i m → Gets i m [] j n → GrowsLine line j grown k → Gets h l grown k n × (has_end grown ≡ false)
 line_grows h i j k l m n line grown none got filled grows = (
@@ -318,6 +318,6 @@ line_grows h i j k l m n line grown none got filled grows = (
   ap has_end grows.grown ∙ unbroken_both line grows.piece none grows.unbroken,
 )
 
--- more bytes came than a line may have
+-- more bytes were read than a line may have
 pub line_is_long : (h i : List ℕ) (l m : Option (List ℕ)) (line : List ℕ) → has_end line ≡ false → longest_line < length line → Gets h l line i m → BeginsLong h l i m
 line_is_long h i l m line none long got = record { begun = record { front = line; unbroken = none; got = got }; long = long }

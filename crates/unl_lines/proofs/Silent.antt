@@ -6,7 +6,7 @@ use Rattle.unl_lines.specs.Reading.{longest_line}
 use Rattle.unl_lines.specs.Taken.{LineResult, Outcome, Taken, Taking, followed, take_from, take_line, most_lines}
 use Rattle.unl_lines.specs.Laws.{IsSilent, PrintsCauseAlone}
 
--- within the limits too
+-- a line is silent with the limits checked, too
 silent_line : {D : Type 0} (taking : Taking D) (k : ℕ) (d : D) (line : List ℕ) (taken : Taken D) → IsSilent taking → take_line taking k d line ≡ Ok taken → taken.text ≡ []
 silent_line {D = D} taking k d line taken silent is = limited (ltb most_lines k) (ltb longest_line (length line)) is
   where

@@ -1,4 +1,4 @@
--- What stands next in the input, and what a turn makes of it.
+-- The next line of the input, and the effect of a turn.
 use Rattle.std.proofs.Common.{◌≡◌, ◌≢◌, ℕ, ◌+◌, ◌<◌, ◌≤◌, List, [], ◌∷◌, ◌++◌, length, false, arith, Ok, Err, Option, refl, sym, ap, subst, ◌∙◌, append-nil}
 use Rattle.std.specs.Prelude.{codes}
 use Rattle.unl_base.specs.Streams.{Sends}
@@ -12,7 +12,7 @@ use Rattle.unl_lines.specs.Turns.{Scene, Takes, Prints, Refuses, ComesToEnd, Sto
 use Rattle.unl_lines.proofs.Lines.{line_first, last_line, long_first, some_first, sends_nothing}
 use Rattle.unl_lines.proofs.Whole.{Heads, Sofar, ends_at, errs, within_limits, past_limit, past_last}
 
--- a cause that was printed is what comes of the line
+-- a cause that was printed is the result of the line
 pub prints_cause : {D : Type 0} (fault : LinesFault) (k : ℕ) (cause : List ℕ) (comes : LineResult D) (desk : D) (old new : Option (List ℕ))
     → comes ≡ Err cause → Refuses fault k cause old new → Prints (Err fault) k comes desk old new
 prints_cause {D = D} fault k cause comes desk old new is refuses =
@@ -24,7 +24,7 @@ prints_cause {D = D} fault k cause comes desk old new is refuses =
     of_cause WriteFault refuses = refuses
     of_cause Memory refuses = refuses
 
--- ---- a line with its end
+-- ---- a line with its line feed
 
 heads_line : {D : Type 0} (taking : Taking D) (k : ℕ) (d : D) (line : List ℕ) (after : Scene D) → k ≤ most_lines → IsLine line
     → Heads taking k d (line ++ 10 ∷ []) after (taking k d line)
@@ -37,7 +37,7 @@ pub line_errs : {D : Type 0} (taking : Taking D) (fault : LinesFault) (k : ℕ) 
 line_errs taking fault k before after line few next prints =
     errs taking fault k before after (line ++ 10 ∷ []) (taking k before.desk line) after.desk prints next.1 (heads_line taking k before.desk line after few next.0)
 
--- ---- the last line, without its end
+-- ---- the last line, without a line feed
 
 heads_last : {D : Type 0} (taking : Taking D) (k : ℕ) (d : D) (line : List ℕ) (after : Scene D) → k ≤ most_lines → IsLine line → line ≢ []
     → IsAtEnd after.held after.left → Heads taking k d line after (taking k d line)
@@ -45,7 +45,7 @@ unfolding Heads
 heads_last taking k d line after few is some end = λ rest may.
     (line, [], ap (λ r. lines (line ++ r)) (may end) ∙ ap lines (append-nil line) ∙ last_line line is.unbroken some, within_limits taking k d line few is.short)
 
--- what was read of it
+-- the last line was consumed
 abbrev pub TakesLast : {D : Type 0} → List ℕ → Scene D → Scene D → Type 0
 TakesLast line before after = IsLine line × (line ≢ []) × Takes before line after × IsAtEnd after.held after.left
 
@@ -83,7 +83,7 @@ none_left {D = D} taking k before after next kept same = record {
   sent = subst (λ s. Sends before.sent [] s) same (sends_nothing before.sent);
 }
 
--- ---- a line that is too long, and one too many
+-- ---- a line that is too long, and one past the limit
 
 heads_long : {D : Type 0} (taking : Taking D) (k : ℕ) (d : D) (front : List ℕ) (after : Scene D) → k ≤ most_lines → has_end front ≡ false
     → longest_line < length front → Heads taking k d front after (Err (codes "LineTooLong"))
@@ -114,7 +114,7 @@ past_errs taking fault k before after b past got refuses =
     (prints_cause fault k (codes "TooManyLines") (Err (codes "TooManyLines")) after.desk before.sent after.sent refl refuses) got
     (heads_past taking k before.desk b after past)
 
--- nothing was begun
+-- no line was begun
 pub stops : {D : Type 0} (before after : Scene D) → Takes before [] after × (after.held ≡ []) → after.sent ≡ before.sent → StopsReading before after
 stops before after broken same = record {
   begun = record { front = []; unbroken = refl; got = broken.0 };
@@ -122,7 +122,7 @@ stops before after broken same = record {
   sent = same;
 }
 
--- the line after the last that is taken was begun
+-- the first line past the limit was begun
 pub ends_past : {D : Type 0} (taking : Taking D) (first : D) (fault : LinesFault) (start sent : Option (List ℕ)) (k : ℕ) (before after : Scene D) (b : ℕ)
     → k ≡ 1000001 → Sofar taking first start sent k before → Takes before (b ∷ []) after
     → Refuses fault 1000001 (codes "TooManyLines") before.sent after.sent

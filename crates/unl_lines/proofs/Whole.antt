@@ -16,7 +16,7 @@ use Rattle.unl_lines.proofs.Lines.{gets_trans, sends_nothing, sends_trans, sends
 
 -- ---- one line
 
--- a line within the limits is taken
+-- a line within the limits is processed
 pub within_limits : {D : Type 0} (taking : Taking D) (k : ℕ) (d : D) (line : List ℕ) → k ≤ most_lines → length line ≤ longest_line
     → take_line taking k d line ≡ taking k d line
 within_limits taking k d line few short =
@@ -39,9 +39,9 @@ pub past_last : {D : Type 0} (taking : Taking D) (k : ℕ) (d : D) (line : List 
 past_last taking k d line past =
     ap (λ t. cond t (Err (codes "TooManyLines")) (cond (ltb longest_line (length line)) (Err (codes "LineTooLong")) (taking k d line))) (lt-ltb most_lines k past)
 
--- ---- what a turn took
+-- ---- the effect of a turn
 
--- a line begins what was taken, and this comes of it
+-- a line begins the consumed bytes, and this is its result
 unfoldable pub Heads : {D : Type 0} → Taking D → ℕ → D → List ℕ → Scene D → LineResult D → Type 0
 Heads taking k d out after comes = (rest : List ℕ) → MayFollow after rest
     → (line : List ℕ) × (more : List (List ℕ)) × (lines (out ++ rest) ≡ line ∷ more) × (take_line taking k d line ≡ comes)
@@ -54,12 +54,12 @@ headed taking k d out rest after comes heads may =
     let first = heads rest may in
     (first.1, ap (take_from taking k d) first.2 ∙ ap (λ r. followed k d r (λ next. take_from taking (k + 1) next first.1)) first.3)
 
--- what is printed begins with what the line prints
+-- all that is printed begins with what the line prints
 prints_first : {D : Type 0} (k : ℕ) (d : D) (comes : LineResult D) (next : D → Outcome D) → BeginsWith (printed k comes) (followed k d comes next)
 prints_first k d (Ok taken) next = (whole_text (next taken.desk), append_assoc taken.text (next taken.desk).text (ending_text (next taken.desk).ending))
 prints_first k d (Err cause) next = ([], sym (append-nil (refused_text k cause)))
 
--- a line that isn't taken whole
+-- a line that isn't processed in full
 pub errs : {D : Type 0} (taking : Taking D) (fault : LinesFault) (k : ℕ) (before after : Scene D) (out : List ℕ) (comes : LineResult D) (desk : D)
     → Prints (Err fault) k comes desk before.sent after.sent → Takes before out after → Heads taking k before.desk out after comes
     → Turns taking (Err fault) k before after
@@ -82,7 +82,7 @@ errs taking WriteFault k before after out comes desk prints got heads = record {
 }
 errs taking Memory k before after out comes desk prints got heads = prints
 
--- ---- how far the lines have come
+-- ---- the lines so far
 
 pub record Sofar {D : Type 0} (taking : Taking D) (first : D) (start sent : Option (List ℕ)) (k : ℕ) (scene : Scene D) : Type 0 where
   pub taken : List ℕ
@@ -96,7 +96,7 @@ begun_twice : {D : Type 0} (text more : List ℕ) (outcome : Outcome D) → begu
 begun_twice {D = D} text more outcome =
     ap (λ t. let x : Outcome D = record { text = t; ending = outcome.ending; desk = outcome.desk } in x) (sym (append_assoc text more outcome.text))
 
--- one line more was taken
+-- one more line was processed
 pub goes_on : {D : Type 0} (taking : Taking D) (first : D) (start sent : Option (List ℕ)) (k : ℕ) (before after : Scene D)
     → Sofar taking first start sent k before → GoesOn taking k before after → Sofar taking first start sent (k + 1) after
 goes_on taking first start sent k before after sofar now =
@@ -116,7 +116,7 @@ goes_on taking first start sent k before after sofar now =
 
 -- ---- how they end
 
--- all of it was taken, whether or not the input is told
+-- all of the input was processed, whether or not it is observable
 pub ends_all : {D : Type 0} (taking : Taking D) (first : D) (start sent : Option (List ℕ)) (k : ℕ) (before after : Scene D)
     → Sofar taking first start sent k before → ComesToEnd taking k before after
     → AnswersAll taking first after.desk start after.left sent after.sent
@@ -137,7 +137,7 @@ ends_all {D = D} taking first start sent k before after sofar now =
       leaves = ap (λ r. r.desk) is;
     }
 
--- what comes of the bytes that were read and of what may follow, from what comes of those taken last
+-- the outcome of the bytes read and any that follow, from the outcome of the bytes consumed last
 read_of : {D : Type 0} (taking : Taking D) (first : D) (start sent : Option (List ℕ)) (k : ℕ) (before after : Scene D) (out rest : List ℕ)
     → (sofar : Sofar taking first start sent k before) → (got : Takes before out after)
     → outcome_of taking first ((gets_trans [] before.held after.held start before.left after.left sofar.taken out sofar.got got).read ++ rest)
@@ -149,7 +149,7 @@ read_of taking first start sent k before after out rest sofar got =
     (append_assoc (sofar.taken ++ out) after.held rest ∙ append_assoc sofar.taken out (after.held ++ rest))
     ∙ sofar.leads (out ++ (after.held ++ rest))
 
--- what may follow what was read may, behind what is held, follow what was taken
+-- what can follow the bytes read can also follow the consumed bytes, after the held ones
 may_follow : {D : Type 0} (after : Scene D) (rest : List ℕ) → (HasEnded after.left → rest ≡ []) → MayFollow after (after.held ++ rest)
 may_follow after rest may = λ end. ap (λ xs. xs ++ rest) end.0 ∙ may end.1
 
@@ -196,7 +196,7 @@ ends_broken taking first start sent k before after sofar now =
           (whole_text (outcome_of taking first (all.read ++ rest))) front (text rest may);
     }
 
--- what stands of all that may follow stands of an input that is told
+-- what holds whatever follows holds for an observable input
 pub stands_told : (P : List ℕ → Type 0) (start left : Option (List ℕ)) → StandsOfRead start left P → IfSome start P
 stands_told P None left stands = tt
 stands_told P (Some x) None stands = absurd (let took = stands.took in cc)
@@ -223,17 +223,17 @@ ends_unread {D = D} taking first start sent k before after sofar now =
       };
     }
 
--- what the bytes that were read leave of those to come
+-- the bytes to come after those that were read
 rest_of : (x read : List ℕ) (left : Option (List ℕ)) → stream.Takes (Some x) read left → (rest : List ℕ) × (x ≡ read ++ rest)
 rest_of x read None took = absurd (cc took)
 rest_of x read (Some y) took = let parts : x ≡ read ++ y = let t = took in cc in (y, parts)
 
--- where nothing was sent, that is a front of any text
+-- if nothing was sent, that is a prefix of any text
 pub sent_none : (start sent : Option (List ℕ)) (text : List ℕ → List ℕ) → IfSome start (λ bytes. SendsFront sent (text bytes) sent)
 sent_none None sent text = tt
 sent_none (Some x) sent text = record { part = []; after = text x; split = refl; sends = sends_nothing sent }
 
--- what was sent before a turn is a front of the text
+-- what was sent before a turn is a prefix of the text
 pub sent_before : {D : Type 0} (taking : Taking D) (first : D) (start sent after : Option (List ℕ)) (k : ℕ) (before : Scene D)
     → Sofar taking first start sent k before → after ≡ before.sent
     → IfSome start (λ bytes. SendsFront sent (whole_text (outcome_of taking first bytes)) after)
@@ -250,7 +250,7 @@ sent_before {D = D} taking first (Some x) sent after k before sofar same =
       sends = subst (λ (s : Option (List ℕ)). Sends sent sofar.text s) (sym same) sofar.sends;
     }
 
--- so it is where a turn wants memory
+-- so is what was sent when memory runs out in a turn
 pub sent_at_want : {D : Type 0} (taking : Taking D) (first : D) (fault : LinesFault) (start sent : Option (List ℕ)) (k : ℕ) (before after : Scene D)
     → Sofar taking first start sent k before → Turns taking (Err fault) k before after
     → (let r : Result (Unit {0}) LinesFault = Err fault in IsErrOf r Memory)
@@ -259,7 +259,7 @@ sent_at_want taking first fault start sent k before after sofar now is =
     let wants : fault ≡ Memory = let h = is in cc in
     sent_before taking first start sent after.sent k before sofar (subst (λ (f : LinesFault). Turns taking (Err f) k before after) wants now)
 
--- how the lines end at a fault of a turn
+-- how the lines end if a turn fails
 pub ends_at : {D : Type 0} (taking : Taking D) (first : D) (fault : LinesFault) (start sent : Option (List ℕ)) (k : ℕ) (before after : Scene D)
     → Sofar taking first start sent k before → Turns taking (Err fault) k before after → TakesLines taking first (Err fault) start after.left sent after.sent
 ends_at taking first Bad start sent k before after sofar now = ends_refused taking first start sent k before after sofar now

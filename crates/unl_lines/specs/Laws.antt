@@ -1,4 +1,4 @@
--- What holds of all lines, where it holds of each.
+-- Properties of all outputs that follow from properties of each line.
 use Rattle.std.specs.Prelude.{◌≡◌, ℕ, List, [], Ok}
 use Rattle.unl_lines.specs.Taken.{Taken, Taking, outcome_of}
 
@@ -6,6 +6,6 @@ use Rattle.unl_lines.specs.Taken.{Taken, Taking, outcome_of}
 abbrev pub IsSilent : {D : Type 0} → Taking D → Type 0
 IsSilent {D = D} taking = (k : ℕ) (d : D) (line : List ℕ) (taken : Taken D) → taking k d line ≡ Ok taken → taken.text ≡ []
 
--- nothing is printed but why a line is refused
+-- nothing is printed except the cause of a refused line
 abbrev pub PrintsCauseAlone : {D : Type 0} → Taking D → Type 0
 PrintsCauseAlone {D = D} taking = (d : D) (bytes : List ℕ) → (outcome_of taking d bytes).text ≡ []

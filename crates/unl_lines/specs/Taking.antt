@@ -1,11 +1,11 @@
--- What taking one line does.
+-- The effect of processing one line.
 use Rattle.std.specs.Prelude.{◌≡◌, ⊤, ℕ, Result, Ok, Err, Vec}
 use Rattle.std.specs.declared.alloc.Global.{Global}
 use Rattle.unl_lines.specs.declared.line.LineRefusal.{LineRefusal}
 use Rattle.unl_lines.specs.declared.line.LineRefusal.TheVariants.{Cause, Memory}
 use Rattle.unl_lines.specs.Taken.{LineResult}
 
--- What a line printed, and what stands then, is what comes of it; so is the cause for which it is refused, unless
+-- What a line printed and the state after it are the result of the line. So is the cause for which it is refused, unless
 -- memory ran out.
 abbrev pub TakesLine : {D : Type 0} → Result (Vec ℕ Global) LineRefusal → D → LineResult D → Type 0
 TakesLine (Ok text) after comes = comes ≡ Ok (record { text = text.items; desk = after })

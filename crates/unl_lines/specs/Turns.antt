@@ -1,4 +1,4 @@
--- One turn: what was taken from the bytes to come, and what was sent.
+-- One turn: the bytes consumed, and the text sent.
 use Rattle.std.specs.Prelude.{◌≡◌, ⊤, ℕ, ◌+◌, ◌≤◌, List, [], ◌∷◌, ◌++◌, Option, Result, Ok, Err, false}
 use Rattle.unl_base.specs.Streams.{Sends, SendsFront}
 use Rattle.unl_lines.specs.declared.taking.LinesFault.{LinesFault}
@@ -9,14 +9,14 @@ use Rattle.unl_lines.specs.Lines.{lines, has_end}
 use Rattle.unl_lines.specs.Reading.{Gets, IsAtEnd, Begins}
 use Rattle.unl_lines.specs.Taken.{LineResult, Outcome, Taking, done, refused, take_from, take_line, whole_text, refused_text, printed}
 
--- why a line is refused was printed, as far as the fault says
+-- the report of a refused line was printed, as far as the fault implies
 abbrev pub Refuses : LinesFault → ℕ → List ℕ → Option (List ℕ) → Option (List ℕ) → Type 0
 Refuses Bad k cause old new = Sends old (refused_text k cause) new
 Refuses ReadFault k cause old new = ⊥
 Refuses WriteFault k cause old new = SendsFront old (refused_text k cause) new
 Refuses Memory k cause old new = new ≡ old
 
--- What comes of a line was printed: as far as the result says.
+-- The result of a line was printed, as far as the result of the call implies.
 abbrev pub Prints : {D : Type 0} → Result (Unit {0}) LinesFault → ℕ → LineResult D → D → Option (List ℕ) → Option (List ℕ) → Type 0
 Prints (Ok u) k comes desk old new = (text : List ℕ) × (comes ≡ Ok (record { text = text; desk = desk })) × Sends old text new
 Prints (Err Bad) k comes desk old new = (cause : List ℕ) × (comes ≡ Err cause) × Sends old (refused_text k cause) new
@@ -24,27 +24,27 @@ Prints (Err ReadFault) k comes desk old new = ⊥
 Prints (Err WriteFault) k comes desk old new = SendsFront old (printed k comes) new
 Prints (Err Memory) k comes desk old new = new ≡ old
 
--- There is room for the next line; where none may follow, for some line up to that one.
+-- The state has room for the next line or, at the end of the input, for some line up to that one.
 abbrev pub FitsAfter : {D : Type 0} → (ℕ → D → Type 0) → ℕ → Progress → D → Type 0
 FitsAfter fits k Line desk = fits (k + 1) desk
 FitsAfter fits k Over desk = (n : ℕ) × (n ≤ k + 1) × fits n desk
 
--- where the lines stand: what they change, the bytes read ahead, those to come, and those sent
+-- the state of the lines, the bytes read ahead, the bytes to come, and the bytes sent
 pub record Scene (D : Type 0) : Type 0 where
   pub desk : D
   pub held : List ℕ
   pub left : Option (List ℕ)
   pub sent : Option (List ℕ)
 
--- these bytes were taken
+-- these bytes were consumed
 abbrev pub Takes : {D : Type 0} → Scene D → List ℕ → Scene D → Type 0
 Takes before out after = Gets before.held before.left out after.held after.left
 
--- whatever may stand behind the bytes that were taken
+-- what can follow the consumed bytes: nothing at the end of the input, otherwise any bytes
 abbrev pub MayFollow : {D : Type 0} → Scene D → List ℕ → Type 0
 MayFollow after rest = IsAtEnd after.held after.left → rest ≡ []
 
--- the line k was taken whole
+-- line `k` was processed, and its line feed was consumed
 pub record GoesOn {D : Type 0} (taking : Taking D) (k : ℕ) (before after : Scene D) : Type 0 where
   pub line : List ℕ
   pub unbroken : has_end line ≡ false
@@ -53,7 +53,7 @@ pub record GoesOn {D : Type 0} (taking : Taking D) (k : ℕ) (before after : Sce
   pub is : take_line taking k before.desk line ≡ Ok (record { text = text; desk = after.desk })
   pub sent : Sends before.sent text after.sent
 
--- the input was read to its end, and all of it was taken
+-- the input was read to its end, and all of it was processed
 pub record ComesToEnd {D : Type 0} (taking : Taking D) (k : ℕ) (before after : Scene D) : Type 0 where
   pub out : List ℕ
   pub text : List ℕ
@@ -62,7 +62,7 @@ pub record ComesToEnd {D : Type 0} (taking : Taking D) (k : ℕ) (before after :
   pub is : take_from taking k before.desk (lines out) ≡ record { text = text; ending = done; desk = after.desk }
   pub sent : Sends before.sent text after.sent
 
--- the line k is refused, whatever follows
+-- line `k` is refused, whatever follows
 pub record IsRefusedAt {D : Type 0} (taking : Taking D) (k : ℕ) (before after : Scene D) : Type 0 where
   pub out : List ℕ
   pub cause : List ℕ
@@ -71,11 +71,11 @@ pub record IsRefusedAt {D : Type 0} (taking : Taking D) (k : ℕ) (before after 
       → take_from taking k before.desk (lines (out ++ rest)) ≡ record { text = []; ending = refused k cause; desk = before.desk }
   pub sent : Sends before.sent (refused_text k cause) after.sent
 
--- the whole text goes on behind these bytes
+-- the whole text begins with these bytes
 abbrev pub BeginsWith : {D : Type 0} → List ℕ → Outcome D → Type 0
 BeginsWith text outcome = (tail : List ℕ) × (whole_text outcome ≡ text ++ tail)
 
--- a front of what is printed for the line k was sent
+-- a prefix of what is printed for line `k` was sent
 pub record BreaksOff {D : Type 0} (taking : Taking D) (k : ℕ) (before after : Scene D) : Type 0 where
   pub out : List ℕ
   pub text : List ℕ
@@ -83,13 +83,13 @@ pub record BreaksOff {D : Type 0} (taking : Taking D) (k : ℕ) (before after : 
   pub is : (rest : List ℕ) → MayFollow after rest → BeginsWith text (take_from taking k before.desk (lines (out ++ rest)))
   pub sent : SendsFront before.sent text after.sent
 
--- nothing was printed, and no more than the front of a line was read
+-- nothing was printed, and at most part of a line was read
 pub record StopsReading {D : Type 0} (before after : Scene D) : Type 0 where
   pub begun : Begins before.held before.left after.held after.left
   pub none : after.held ≡ []
   pub sent : after.sent ≡ before.sent
 
--- what one turn does: a line is taken, the input has ended, or why neither is so
+-- the effect of one turn: a line is processed, the input has ended, or it failed
 abbrev pub Turns : {D : Type 0} → Taking D → Result Progress LinesFault → ℕ → Scene D → Scene D → Type 0
 Turns taking (Ok Line) k before after = GoesOn taking k before after
 Turns taking (Ok Over) k before after = ComesToEnd taking k before after

@@ -1,9 +1,9 @@
-//! Laws of the definitions.
+//! Laws about the lines of an input.
 ghost use Rattle.unl_lines.specs.Laws.{IsSilent, PrintsCauseAlone};
 
 use crate::line::LineTaking;
 
-/// Where no line prints anything, nothing is printed but why one is refused.
+/// If no line prints anything, only the cause of a refused line is printed.
 pub fn silent_lines<A: LineTaking>()
     ensures { IsSilent A.taken → PrintsCauseAlone A.taken }
 {}

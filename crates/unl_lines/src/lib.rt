@@ -1,5 +1,5 @@
-//! The lines of an input: each is taken in its turn, and changes what stands before the next. What it prints is written
-//! out, and so is why the first one that is refused is refused.
+//! Processes an input line by line. Each line changes the state for the next, and what it prints is written out. The first
+//! refused line ends the processing, and the cause is written out.
 #![tactic(auto)]
 
 pub mod laws;

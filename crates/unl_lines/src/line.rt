@@ -1,4 +1,4 @@
-//! What one line does.
+//! The processing of one line.
 ghost use Rattle.std.specs.Prelude.{◌≡◌, ◌+◌, ◌≤◌, ℕ, List, Result, OnOk};
 ghost use Rattle.unl_lines.specs.Taken.{Taken, most_lines};
 ghost use Rattle.unl_lines.specs.Taking.{TakesLine};
@@ -6,12 +6,12 @@ ghost use Rattle.unl_lines.specs.Taking.{TakesLine};
 use std::alloc::{AllocError, Global};
 use unl_documents::{Memory, Text};
 
-/// Why a line isn't taken.
+/// Why a line was not processed.
 #[derive(Debug, Drop)]
 pub enum LineRefusal {
-    /// It is refused, for the cause with this text.
+    /// The line is refused. This is the text of the cause.
     Cause(Text),
-    /// Memory is wanting.
+    /// Out of memory.
     Memory,
 }
 
@@ -37,22 +37,22 @@ impl From<AllocError> for LineRefusal {
     }
 }
 
-/// Takes the lines of an input, one after another.
+/// Processes the lines of an input, one after another.
 pub trait LineTaking {
-    /// What the lines change.
+    /// The state that the lines change.
     type Desk;
 
-    // What the line of this number prints on this desk, and what then stands; or the text of the cause for which it is
-    // refused.
+    // The result of a line, by its number and the state before it: what it prints and the state after it, or the text of
+    // the cause for which it is refused.
     ghost taken: { ℕ → Self.Desk → List ℕ → Result (Taken Self.Desk) (List ℕ) };
 
-    // The desk has room for the line of this number.
+    // The state has room for the line with this number.
     ghost fits: { ℕ → Self.Desk → Type 0 };
 
-    /// Takes the line of this number, which stands without its end, and answers what it prints.
+    /// Processes the line with this number, given without its line feed. Returns what it prints.
     ///
     /// # Errors
-    /// `Cause` where the line is refused, and `Memory` where memory is wanting.
+    /// `Cause` if the line is refused, and `Memory` if memory runs out.
     fn take(
         alloc: Global,
         desk: &mut Self::Desk,

@@ -1,4 +1,4 @@
-//! Lines, read from a source one after another.
+//! Reads the lines of a source.
 ghost use Rattle.std.specs.Prelude.{◌≡◌, ◌<◌, ◌≤◌, [], ◌∷◌, ℕ, length, take, drop, IfOk, IfErr, OnErr, IsErrOf, MatchOption};
 ghost use Rattle.std.specs.List.{position_or_len};
 ghost use Rattle.unl_base.specs.Faults.{HasCause, Rose};
@@ -10,31 +10,31 @@ use std::alloc::{AllocError, AllocFailed, Global};
 use std::marker::Model;
 use unl_base::{Failed, Source};
 
-/// How many bytes are read ahead at once.
+/// The size of the read buffer in bytes.
 const ROOM: usize = 65_536;
 
-/// The most bytes that a line may have, without its end.
+/// The most bytes that a line may have, without its line feed.
 const LONGEST_LINE: usize = 16_777_216;
 
-/// What stands next.
+/// The next item of the input.
 #[derive(Debug, Drop)]
 pub enum NextLine {
-    /// A line, without its end.
+    /// A line, without its line feed.
     Line(Vec<u8>),
-    /// The last line, which has bytes and no end.
+    /// The last line. It is not empty and has no line feed.
     Last(Vec<u8>),
-    /// No line: the source has ended.
+    /// The source has ended.
     End,
 }
 
-/// Why a line isn't there.
+/// Why no line could be read.
 #[derive(Clone, Copy, Debug, PartialEq, Eq)]
 pub enum ReadFault {
     /// The source failed.
     Failed,
-    /// More bytes came than a line may have.
+    /// The line is longer than allowed.
     TooLong,
-    /// Memory is wanting.
+    /// Out of memory.
     Memory,
 }
 
@@ -71,7 +71,7 @@ impl From<Failed> for ReadFault {
     }
 }
 
-/// How many bytes stand before the first end of a line: all where none is there.
+/// The number of bytes before the first line feed, or of all bytes if there is none.
 fn unbroken_len(bytes: &[u8]) -> usize
     ensures { result ≡ position_or_len is_end bytes.now }
 {
@@ -81,7 +81,7 @@ fn unbroken_len(bytes: &[u8]) -> usize
     }
 }
 
-/// Bytes that were read ahead, which contracts see as their list.
+/// A read buffer. Contracts see it as the list of bytes that it holds.
 #[derive(Drop)]
 pub struct LineReader {
     room: Vec<u8>,
@@ -100,7 +100,10 @@ impl Model for LineReader {
 }
 
 impl LineReader {
-    /// A reader that has read nothing.
+    /// Creates an empty reader.
+    ///
+    /// # Errors
+    /// Out of memory.
     pub fn new(alloc: Global) -> Result<LineReader, AllocError>
         ensures { IfOk result (λ r. r ≡ []) }
     {
@@ -111,7 +114,7 @@ impl LineReader {
         })
     }
 
-    /// The first of the held bytes.
+    /// Takes the first held byte.
     fn take_held(&mut self) -> u8
         requires { 0 < length self.old }
         ensures { self.old ≡ result ∷ self.new }
@@ -121,7 +124,7 @@ impl LineReader {
         byte
     }
 
-    /// Reads ahead where nothing is held, and answers how much.
+    /// Reads into the empty buffer, and returns how many bytes were read. 0 means that the source has ended.
     fn read_ahead<S: Source>(&mut self, source: &mut S) -> Result<usize, Failed>
         requires { self.old ≡ [] }
         ensures read { IfOk result (λ n. Takes (S.left source.old) self.new (S.left source.new)) }
@@ -137,7 +140,7 @@ impl LineReader {
         Ok(self.to)
     }
 
-    /// Reads ahead where nothing is held, and answers whether something is held then.
+    /// Reads into the buffer if it is empty, and returns whether it then holds bytes.
     fn fill<S: Source>(&mut self, source: &mut S) -> Result<bool, Failed>
         ensures fills { IfOk result (λ some. Fills some self.old (S.left source.old) self.new (S.left source.new)) }
         ensures broken { OnErr result (Gets self.old (S.left source.old) [] self.new (S.left source.new) × (self.new ≡ [])) }
@@ -152,7 +155,7 @@ impl LineReader {
         Ok(true)
     }
 
-    /// The first of the held bytes, at most so many.
+    /// The held bytes, at most the first `most`.
     fn front(&self, most: usize) -> &[u8]
         ensures { result.now ≡ take most self.now }
     {
@@ -160,7 +163,7 @@ impl LineReader {
         &held[..held.len().min(most)]
     }
 
-    /// Lets so many of the held bytes go.
+    /// Drops the first `count` held bytes.
     fn skip(&mut self, count: usize)
         requires { count ≤ length self.old }
         ensures { self.new ≡ drop count self.old }
@@ -168,8 +171,8 @@ impl LineReader {
         self.from += count;
     }
 
-    /// Takes the held bytes of a line at once, and answers whether its end came, which is taken too. It takes no more than
-    /// one byte past the most that a line may have, since so many show that the line is too long.
+    /// Moves held bytes of the line into `line` in one step. Returns whether the line feed was found, which is consumed
+    /// too. Takes at most one byte more than a line may have, which is enough to see that the line is too long.
     fn take_piece(&mut self, line: &mut Vec<u8>) -> Result<bool, AllocError>
         requires held { 0 < length self.old }
         requires short { length line.old.items ≤ longest_line }
@@ -186,7 +189,10 @@ impl LineReader {
         Ok(false)
     }
 
-    /// The next byte, or none exactly at the end of the source.
+    /// The next byte, or `None` exactly at the end of the source.
+    ///
+    /// # Errors
+    /// `Failed`: the source failed.
     pub fn next_byte<S: Source>(&mut self, source: &mut S) -> Result<Option<u8>, Failed>
         ensures byte { IfOk result (λ o. MatchOption o
             (Gets self.old (S.left source.old) [] self.new (S.left source.new) × IsAtEnd self.new (S.left source.new))
@@ -200,7 +206,12 @@ impl LineReader {
         Ok(None)
     }
 
-    /// What stands next: a line, the last line, or the end.
+    /// Reads the next line, the last line, or the end of the source.
+    ///
+    /// # Errors
+    /// - `Failed`: the source failed.
+    /// - `TooLong`: the line has more than 16,777,216 bytes before its line feed.
+    /// - `Memory`: out of memory.
     pub fn next_line<S: Source>(
         &mut self,
         alloc: Global,
@@ -212,7 +223,7 @@ impl LineReader {
         ensures later { S.faults source.old ≤ S.faults source.new }
     {
         let mut line = Vec::new(alloc);
-        // While it is no longer than a line may be, its end may still come.
+        // The line feed can still come while the line is not too long.
         'pieces: while line.len() <= LONGEST_LINE {
             if !self.fill(source)? {
                 if line.is_empty() {

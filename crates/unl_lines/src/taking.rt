@@ -1,4 +1,4 @@
-//! The lines of an input, one after another.
+//! Processes all lines of an input.
 ghost use Rattle.std.specs.Prelude.{◌≡◌, ◌≢◌, ◌+◌, ◌≤◌, ℕ, IfOk, IfSome, OnOk, IsErrOf, string_bytes};
 ghost use Rattle.unl_base.specs.Faults.{Rose};
 ghost use Rattle.unl_base.specs.Streams.{SendsFront};
@@ -12,29 +12,31 @@ use std::alloc::{AllocError, Global};
 use unl_base::{Sink, Source, write_all};
 use unl_documents::Memory;
 
+/// The most lines that an input may have.
 const MOST_LINES: u64 = 1_000_000;
 
+/// The number of the first line past the limit.
 const PAST_LINES: u64 = MOST_LINES + 1;
 
-/// Why not all lines were taken.
+/// Why not all lines were processed.
 #[derive(Clone, Copy, Debug, PartialEq, Eq)]
 pub enum LinesFault {
-    /// A line is refused, and the cause was printed.
+    /// A line was refused, and the cause was printed.
     Bad,
     /// The source failed.
     ReadFault,
     /// The sink failed.
     WriteFault,
-    /// Memory is wanting.
+    /// Out of memory.
     Memory,
 }
 
-/// What one turn did.
+/// The outcome of one turn.
 #[derive(Clone, Copy, Debug, PartialEq, Eq)]
 pub enum Progress {
-    /// A line was answered, and more may follow.
+    /// A line was processed, and more may follow.
     Answered,
-    /// The input is over, and all of it was answered.
+    /// The input has ended, and all of it was processed.
     Over,
 }
 
@@ -60,7 +62,7 @@ impl From<Memory> for LinesFault {
     }
 }
 
-/// The line that says why a line is refused.
+/// The line that reports why a line is refused.
 fn refused_line(alloc: Global, number: u64, cause: &str) -> Result<String, AllocError>
     ensures { IfOk result (λ s. string_bytes s ≡ refused_text number cause.now) }
 {
@@ -83,7 +85,7 @@ fn refuse<K: Sink>(alloc: Global, sink: &mut K, number: u64, cause: &str) -> Lin
     }
 }
 
-/// Takes a line, and prints the answer, or why the line is refused.
+/// Processes a line, and prints its output or why it is refused.
 fn print_answer<A: LineTaking, K: Sink>(
     alloc: Global,
     desk: &mut A::Desk,
@@ -108,7 +110,7 @@ fn print_answer<A: LineTaking, K: Sink>(
     }
 }
 
-/// Reads what stands next, and takes it.
+/// Reads and processes the next line.
 fn turn<A: LineTaking, S: Source, K: Sink>(
     alloc: Global,
     desk: &mut A::Desk,
@@ -144,13 +146,14 @@ fn turn<A: LineTaking, S: Source, K: Sink>(
     }
 }
 
-/// Takes the lines of an input, one after another, to its end.
+/// Processes the lines of an input, one after another, to its end.
 ///
-/// A line has at most 16,777,216 bytes before its end, and there are at most 1,000,000 lines; the next one is refused.
+/// A line has at most 16,777,216 bytes before its line feed, and there are at most 1,000,000 lines. The next line is
+/// refused.
 ///
 /// # Errors
-/// `Bad` where a line is refused, which prints why; `ReadFault` and `WriteFault` where the source or the sink failed, and
-/// `Memory` where memory is wanting.
+/// `Bad` if a line is refused, and then the cause is printed. `ReadFault` if the source failed, `WriteFault` if the sink
+/// failed, and `Memory` if memory runs out.
 pub fn take_lines<A: LineTaking, S: Source, K: Sink>(
     alloc: Global,
     desk: &mut A::Desk,
@@ -158,23 +161,23 @@ pub fn take_lines<A: LineTaking, S: Source, K: Sink>(
     sink: &mut K,
 ) -> Result<(), LinesFault>
     requires { A.fits 1 desk.old }
-    // What was sent, at each end: the whole text; the text up to the refused line and the cause; the answers to the
-    // lines that were read whole; a front of the text.
+    // What was sent. On success: the whole text. On `Bad`: the text up to the refused line, and the cause. On `ReadFault`:
+    // the output of the lines that were read in full. On `WriteFault`: a prefix of the text.
     ensures lines { TakesLines A.taken desk.old result (S.left source.old) (S.left source.new) (K.sent sink.old) (K.sent sink.new) }
 
-    // Where all were taken the input has ended, and what stands is what they leave.
+    // On success the input has ended, and the state is the one that its lines leave.
     ensures all { OnOk result (AnswersAll A.taken desk.old desk.new
         (S.left source.old) (S.left source.new) (K.sent sink.old) (K.sent sink.new)) }
     ensures leaves { OnOk result (IfSome (S.left source.old) (λ bytes. (outcome_of A.taken desk.old bytes).desk ≡ desk.new)) }
 
-    // At want of memory nothing was sent but a front of the text.
+    // If memory runs out, only a prefix of the text was sent.
     ensures memory { IsErrOf result LinesFault.Memory → IfSome (S.left source.old)
         (λ bytes. SendsFront (K.sent sink.old) (whole_text (outcome_of A.taken desk.old bytes)) (K.sent sink.new)) }
 
-    // There is room for a line more.
+    // The state has room for one more line.
     ensures room { OnOk result ((number : ℕ) × (number ≤ most_lines + 1) × A.fits number desk.new) }
 
-    // It doesn't give up by itself.
+    // `ReadFault` and `WriteFault` occur only if the source or the sink failed.
     ensures read { IsErrOf result LinesFault.ReadFault → Rose (S.faults source.old) (S.faults source.new) }
     ensures write { IsErrOf result LinesFault.WriteFault → Rose (K.faults sink.old) (K.faults sink.new) }
     ensures source_later { S.faults source.old ≤ S.faults source.new }

@@ -1,4 +1,4 @@
-//! Links that wait until a worker takes them: in a state by itself (`LinkState`), and in a queue that threads share
+//! A bounded queue of links that wait for a worker: the plain state (`LinkState`), and a queue that threads share
 //! (`LinkQueue`).
 #![tactic(auto)]
 

@@ -1,4 +1,4 @@
-//! Links that wait for a worker, under a lock.
+//! A queue of links that wait for a worker, protected by a lock.
 ghost use Rattle.std.specs.Prelude.{◌≡◌};
 ghost use Rattle.unl_links.specs.Links.{is_full};
 
@@ -6,7 +6,7 @@ use crate::state::{LinkState, LinksMemory, Popped};
 use std::alloc::Global;
 use std::sync::{Condvar, Mutex, Wait};
 
-/// Links that wait for a worker. Threads share it by reference.
+/// A queue of links that wait for a worker. Threads share it by reference.
 #[derive(Drop)]
 pub struct LinkQueue<L> {
     state: Mutex<LinkState<L>>,
@@ -15,10 +15,10 @@ pub struct LinkQueue<L> {
 }
 
 impl<L> LinkQueue<L> {
-    /// No links yet, and room for 64.
+    /// Creates an empty queue with room for 64 links.
     ///
     /// # Errors
-    /// `LinksMemory`: memory for the room ran out.
+    /// `LinksMemory`: out of memory.
     pub fn new(alloc: Global) -> Result<LinkQueue<L>, LinksMemory> {
         Ok(LinkQueue {
             state: Mutex::new(LinkState::new(alloc)?),
@@ -27,7 +27,7 @@ impl<L> LinkQueue<L> {
         })
     }
 
-    /// Puts a link behind the others. Waits while 64 stand.
+    /// Appends a link. Blocks while 64 links are queued.
     pub fn put<W: Wait>(&self, rt: &W, link: L) {
         let mut state = self.room.wait_while(
             rt,
@@ -42,7 +42,7 @@ impl<L> LinkQueue<L> {
         self.news.notify_one();
     }
 
-    /// Takes the oldest link. Waits while there is none and one may come, and answers none where none comes any more.
+    /// Takes the oldest link. Blocks while the queue is empty and not closed. Returns `None` once it is empty and closed.
     pub fn take<W: Wait>(&self, rt: &W) -> Option<L> {
         let mut state = self
             .news
@@ -58,13 +58,14 @@ impl<L> LinkQueue<L> {
         }
     }
 
-    /// No more links come from now on, which wakes all who wait for one. Those that wait are still taken.
+    /// Closes the queue: no more links come from now on. Wakes every thread that waits for a link. Queued links are still
+    /// taken.
     pub fn close<W: Wait>(&self, rt: &W) {
         self.state.lock(rt).close();
         self.news.notify_all();
     }
 
-    /// Whether no more links come.
+    /// Whether the queue is closed.
     pub fn closed<W: Wait>(&self, rt: &W) -> bool {
         self.state.lock(rt).closed()
     }

@@ -1,4 +1,4 @@
-//! Links that wait for a worker, without a lock.
+//! A queue of links that wait for a worker, without a lock.
 ghost use Rattle.std.specs.Prelude.{◌≡◌, ◌++◌, ◌∷◌, [], true, false, length, IfOk, not};
 ghost use Rattle.unl_links.specs.Links.{Links, Pops, Pushes, is_full, is_waiting};
 
@@ -6,7 +6,7 @@ use std::alloc::{AllocError, Global};
 use std::collections::VecDeque;
 use std::marker::Model;
 
-/// Want of memory for the room of 64 links.
+/// Out of memory for a queue of 64 links.
 #[derive(Clone, Copy, Debug, PartialEq, Eq)]
 pub struct LinksMemory;
 
@@ -16,21 +16,21 @@ impl From<AllocError> for LinksMemory {
     }
 }
 
-/// What comes of asking for the oldest link.
+/// The result of taking the oldest link.
 #[derive(Debug, Drop)]
 pub enum Popped<L> {
     /// The oldest link.
     Taken(L),
-    /// There is none, and none comes any more.
+    /// The queue is empty and closed.
     Closed,
-    /// There is none yet.
+    /// The queue is empty, and a link may still come.
     Empty,
 }
 
-/// How many links may wait.
+/// The most links that may be queued.
 pub const MOST_LINKS: usize = 64;
 
-/// Links that wait, the oldest first, and whether no more come.
+/// The queued links, oldest first, and whether the queue is closed.
 #[derive(Drop)]
 pub struct LinkState<L> {
     links: VecDeque<L>,
@@ -50,10 +50,10 @@ impl<L> Model for LinkState<L> {
 }
 
 impl<L> LinkState<L> {
-    /// No links yet, and room for 64.
+    /// Creates an empty queue with room for 64 links.
     ///
     /// # Errors
-    /// `LinksMemory`: memory for the room ran out.
+    /// `LinksMemory`: out of memory.
     pub fn new(alloc: Global) -> Result<LinkState<L>, LinksMemory>
         ensures { IfOk result (λ state. state ≡ record { links = []; closed = false }) }
     {
@@ -63,7 +63,7 @@ impl<L> LinkState<L> {
         })
     }
 
-    /// Appends a link, or hands it back exactly where 64 stand. Takes no memory.
+    /// Appends a link. Returns it exactly if 64 are queued. Allocates nothing.
     pub fn push(&mut self, link: L) -> Option<L>
         ensures { Pushes self.old link result self.new }
     {
@@ -74,7 +74,7 @@ impl<L> LinkState<L> {
         None
     }
 
-    /// Appends a link, for which there is room.
+    /// Appends a link to a queue that is not full.
     pub(crate) fn append(&mut self, link: L)
         requires { is_full self.old ≡ false }
         ensures { self.new ≡ record self.old { links = self.old.links ++ link ∷ [] } }
@@ -82,7 +82,7 @@ impl<L> LinkState<L> {
         self.links.push_back(link).unwrap();
     }
 
-    /// Takes the oldest link. Takes no memory.
+    /// Takes the oldest link. Allocates nothing.
     pub fn pop(&mut self) -> Popped<L>
         ensures { Pops self.old result self.new }
     {
@@ -93,28 +93,28 @@ impl<L> LinkState<L> {
         }
     }
 
-    /// No more links come from now on. Those that wait are still taken.
+    /// Closes the queue: no more links come from now on. Queued links are still taken.
     pub fn close(&mut self)
         ensures { self.new ≡ record self.old { closed = true } }
     {
         self.closed = true;
     }
 
-    /// Whether 64 links stand.
+    /// Whether 64 links are queued.
     pub fn is_full(&self) -> bool
         ensures { result ≡ is_full self.now }
     {
         self.links.len() == MOST_LINKS
     }
 
-    /// Whether there is no link yet.
+    /// Whether the queue is empty and not closed.
     pub fn is_waiting(&self) -> bool
         ensures { result ≡ is_waiting self.now }
     {
         self.links.is_empty() && !self.closed
     }
 
-    /// Whether no more links come.
+    /// Whether the queue is closed.
     pub fn closed(&self) -> bool
         ensures { result ≡ self.now.closed }
     {

@@ -1,4 +1,4 @@
--- Asks that are counted one after the other.
+-- Counting the asks one by one.
 use Rattle.std.proofs.Common.{◌≡◌, ◌∙◌, ◌<◌, ◌≤◌, ◌+◌, ◌-◌, ◌%◌, ℕ, suc, Bool, true, false, cond, [], ◌∷◌, refl, sym, ap, arith}
 use Rattle.std.proofs.lemmas.List.Sums.{sum_by-cons}
 use Rattle.std.specs.List.{count_by}
@@ -7,7 +7,7 @@ use Rattle.unl_documents.specs.declared.state.State.{State}
 use Rattle.unl_load.specs.Input.{ask_by, asks, is_on}
 use Rattle.unl_load.specs.Words.{first, next}
 
--- those so far, and those that are left, are all of them
+-- the count so far and that of the remaining asks make the total
 pub record Counts (state : State) (words : Lcg) (count asked on : ℕ) (left : Lcg) : Type 0 where
   pub all : on + count_by (is_on state) (asks (count - asked) left) ≡ count_by (is_on state) (asks count words)
   pub most : on ≤ asked
@@ -39,7 +39,7 @@ counts_more state words count asked on left inside counts =
       most = one_more is on asked counts.most;
     }
 
--- one more ask, which two words made
+-- one more ask, made from two words
 pub counts_next : (state : State) (words : Lcg) (count asked on on_after feature user : ℕ) (left between after : Lcg) (is : Bool)
     → asked < count → Counts state words count asked on left → feature ≡ first left → between ≡ next left → user ≡ first between
     → after ≡ next between → is ≡ is_on state (record { feature = feature % 1000; user = user })
@@ -51,7 +51,7 @@ none_left : (words : Lcg) → asks 0 words ≡ []
 unfolding asks
 none_left words = refl
 
--- all that were asked
+-- after all asks
 pub all_counted : (state : State) (words : Lcg) (count asked on : ℕ) (left : Lcg) → count ≤ asked → Counts state words count asked on left
     → on ≡ count_by (is_on state) (asks count words)
 all_counted state words count asked on left over counts =

@@ -1,4 +1,4 @@
--- The features that words make.
+-- The features generated from the words.
 use Rattle.std.proofs.Common.{◌≡◌, ◌∙◌, ◌<◌, ◌≤◌, ◌+◌, ◌-◌, ◌/◌, ◌%◌, ℕ, zero, suc, List, [], ◌∷◌, ◌++◌, length, map, decimal, codes, All, refl, sym, ap, arith, append-nil, append_assoc, mod-lt}
 use Rattle.std.specs.List.{AllByRecursion}
 use Rattle.std.specs.List.Sorted.{IsStrictlySortedBy}
@@ -19,7 +19,7 @@ use Rattle.unl_load.proofs.Names.{name_rises}
 
 -- ---- the names
 
--- a name in four digits, as they are printed
+-- a name in four digits, as it is printed
 pub digits : (place : ℕ)
     → codes "f" ++ (decimal (place / 1000 % 10) ++ (decimal (place / 100 % 10) ++ (decimal (place / 10 % 10) ++ decimal (place % 10)))) ≡ name_of place
 unfolding name_of
@@ -129,9 +129,9 @@ state_valid words = record {
   ids = none_rise;
 }
 
--- ---- one after the other
+-- ---- one by one
 
--- the features so far, and those that are left, are all of them; and the words are those that are left
+-- the features so far and the remaining ones are all of them, and the words that remain are those after the features so far
 pub record Makes (words : Lcg) (place : ℕ) (made : List Feature) (left : Lcg) : Type 0 where
   pub all : made ++ features_from place (1000 - place) left ≡ features_from 0 1000 words
   pub taken : behind (1000 - place) left ≡ behind 1000 words
@@ -156,7 +156,7 @@ makes_more words place made left inside makes = record {
   taken = sym (ap (λ n. behind n left) (left_is place inside) ∙ unfold_behind (1000 - (place + 1)) left) ∙ makes.taken;
 }
 
--- one more feature, which one word made
+-- one more feature, made from one word
 pub makes_next : (words : Lcg) (place : ℕ) (made made_after : List Feature) (left left_after : Lcg) (word : ℕ) (feature : Feature)
     → place < 1000 → Makes words place made left → word ≡ first left → left_after ≡ next left → feature ≡ feature_of place word
     → made_after ≡ made ++ feature ∷ [] → Makes words (place + 1) made_after left_after
@@ -171,7 +171,7 @@ behind_none : (words : Lcg) → behind 0 words ≡ words
 unfolding behind
 behind_none words = refl
 
--- all that were made
+-- after all features
 pub all_made : (words : Lcg) (place : ℕ) (made : List Feature) (left : Lcg) → place ≡ 1000 → Makes words place made left
     → (made ≡ features_from 0 1000 words) × (left ≡ behind 1000 words)
 all_made words place made left end makes =

@@ -1,4 +1,4 @@
--- The names of the features rise with their places.
+-- The names of the features rise with their index.
 use Rattle.std.proofs.Common.{◌≡◌, ◌<◌, ◌+◌, ◌-◌, ◌&&◌, ℕ, zero, suc, Bool, true, refl, sym, subst, arith, ⊎_elim, true≢false}
 use Rattle.std.proofs.lemmas.Bool.{cases_eq}
 use Rattle.std.proofs.lemmas.Cmp.{nat_list_cmp_total}
@@ -11,12 +11,12 @@ use Rattle.unl_load.specs.Input.{name_of}
 abbrev order : ℕ → ℕ → Ordering
 order place other = slice_cmp nat_cmp (name_of place) (name_of other)
 
--- each of so many names is below the next
+-- each of the first `n` names is less than the next
 rise_up_to : ℕ → Bool
 rise_up_to zero = true
 rise_up_to (suc n) = is_lt (order n (n + 1)) && rise_up_to n
 
--- a matter of computation
+-- decided by computation
 all_rise : rise_up_to 999 ≡ true
 unfolding name_of rise_up_to
 all_rise = refl
@@ -47,7 +47,7 @@ rises_by (suc more) place less =
     (rises_by more place (omega (arith, less)))
     (rises 999 (place + more + 1) all_rise (omega (arith, less))))
 
--- a name is below those of later places
+-- a name is less than those of greater indexes
 pub name_rises : (place other : ℕ) → place < other → other < 1000 → order place other ≡ Less
 name_rises place other less inside =
     let same : place + (other - (place + 1)) + 1 ≡ other = omega (arith, less) in

@@ -1,4 +1,4 @@
--- The context of a user of a number, and what is seen of a state.
+-- The context of a user, and the visible part of a state.
 use Rattle.std.proofs.Common.{◌≡◌, ◌∙◌, ◌<◌, ◌≤◌, ◌^◌, ℕ, Bool, true, false, List, [], ◌∷◌, length, codes, decimal, filter, nat_lt, Option, Ok, Some, refl, ap, arith}
 use Rattle.std.specs.Option.{option_map_or}
 use Rattle.std.proofs.lemmas.Bool.Decides.{nat_tests}
@@ -21,7 +21,7 @@ reads : (text : List ℕ) → nat_lt 4096 (length text) ≡ false
 unfolding json_context context_in known_text properties_at at text_in
 reads text short = rw short refl
 
--- a user's number is read as the context of that user
+-- a user's number in JSON is read as the context of that user
 pub user_read : (user : ℕ) → user < 2 ^ 32 → json_context (object (member (codes "userId") (string (decimal user)) no_members)) ≡ Ok (context_of user)
 unfolding context_of
 user_read user few =
@@ -32,7 +32,7 @@ user_read user few =
 one_reading : (reading : Reading Fields) (context other : Fields) → reading ≡ Ok context → reading ≡ Ok other → context ≡ other
 one_reading reading context other reads also = cc
 
--- what is read of a user's number is the context of that user
+-- the context that is read is that of the user
 pub same_context : (user : ℕ) (value : Data) (text number : List ℕ) (context : Fields) → user < 2 ^ 32
     → value ≡ object (member (codes "userId") (string text) no_members) → text ≡ number → number ≡ decimal user
     → json_context value ≡ Ok context → context ≡ context_of user
@@ -44,11 +44,11 @@ all_pass : {T : Type 0} (xs : List T) → filter (λ _. true) xs ≡ xs
 all_pass [] = refl
 all_pass (x ∷ xs) = ap (λ ys. x ∷ ys) (all_pass xs)
 
--- who sees all projects sees the whole state
+-- a reader of all projects sees the whole state
 pub all_seen : (state : State) → view_of (sees projects.All) state ≡ state
 all_seen state = ap (λ features. record { features = features; segments = state.segments }) (all_pass state.features)
 
--- what is found of an ask
+-- the result of an ask
 pub found_is : (state : State) (feature user : ℕ) (name text : List ℕ) (context : Fields) (found : Option Evaluation) (on : Bool)
     → name ≡ name_of feature → text ≡ name → context ≡ context_of user
     → found ≡ evaluation_of (view_of (sees projects.All) state) text context beginning

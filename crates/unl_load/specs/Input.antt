@@ -1,5 +1,5 @@
--- What a load asks (chosen by this project): 1,000 features, made of one word each, and then as many asks as are wanted, made of
--- two words each.
+-- The input of a load (chosen by this project): 1,000 features, made from one word each, and then `count` asks, made from two
+-- words each.
 use Rattle.std.specs.Prelude.{ℕ, zero, suc, ◌+◌, ◌/◌, ◌%◌, List, [], ◌∷◌, ◌++◌, codes, decimal, Bool, true, false, Some, None}
 use Rattle.std.specs.Option.{option_map_or}
 use Rattle.rand_pcg.specs.Lcg.{Lcg}
@@ -18,7 +18,7 @@ use Rattle.unl_load.specs.Words.{behind, first, generator, next}
 abbrev pub digit : ℕ → ℕ
 digit number = 48 + number % 10
 
--- the name of the feature at a place: `f` and the place in four digits
+-- the name of the feature with this index: `f` and the index in four digits
 unfoldable pub name_of : ℕ → List ℕ
 name_of place = codes "f" ++ digit (place / 1000) ∷ digit (place / 100) ∷ digit (place / 10) ∷ digit place ∷ []
 
@@ -26,7 +26,7 @@ name_of place = codes "f" ++ digit (place / 1000) ∷ digit (place / 100) ∷ di
 abbrev pub pair : List ℕ → List ℕ → Pair
 pair key value = record { key = key; value = value }
 
--- the strategy of the feature of a name: for so many of a hundred users
+-- the strategy of a feature, with this rollout percentage
 unfoldable pub strategy_of : List ℕ → ℕ → Strategy
 strategy_of name rollout = record {
   name = codes "flexibleRollout";
@@ -36,7 +36,7 @@ strategy_of name rollout = record {
   variants = [];
 }
 
--- the feature at a place, by its word
+-- the feature with this index, by its word
 unfoldable pub feature_of : ℕ → ℕ → Feature
 feature_of place word = record {
   name = name_of place;
@@ -51,7 +51,7 @@ feature_of place word = record {
   dependencies = [];
 }
 
--- so many features, the first of which is at this place, by the words that come
+-- `n` features, the first of which has this index, by the words to come
 unfoldable pub features_from : ℕ → ℕ → Lcg → List Feature
 features_from place zero words = []
 features_from place (suc n) words = feature_of place (first words) ∷ features_from (place + 1) n (next words)
@@ -62,38 +62,38 @@ state_by words = record { features = features_from 0 1000 words; segments = [] }
 
 -- ---- the asks
 
--- what is asked for: the place of a feature, and the number of a user
+-- what an ask evaluates: the index of a feature, and the number of a user
 pub record Ask : Type 0 where
   pub feature : ℕ
   pub user : ℕ
 
--- the ask that two words make
+-- the ask made from the next two words
 abbrev pub ask_by : Lcg → Ask
 ask_by words = record { feature = first words % 1000; user = first (next words) }
 
--- so many asks, by the words that come
+-- `n` asks, by the words to come
 unfoldable pub asks : ℕ → Lcg → List Ask
 asks zero words = []
 asks (suc n) words = ask_by words ∷ asks n (next (next words))
 
--- the context of a user of a number
+-- the context of the user with this number
 unfoldable pub context_of : ℕ → Fields
 context_of user = record nothing { user_id = Some (decimal user) }
 
--- the moment 0 with the random word 0, on a host without a name
+-- time 0 with random word 0, on a host without a name
 abbrev pub beginning : Moment
 beginning = record { now = 0; word = 0; host = [] }
 
--- the feature that is asked for is on
+-- the feature of the ask is on for its user
 unfoldable pub is_on : State → Ask → Bool
 is_on state ask = option_map_or (λ e. e.on) (evaluation_of state (name_of ask.feature) (context_of ask.user) beginning) false
 
--- ---- both, of a seed
+-- ---- both, from a seed
 
 -- the features of a seed
 abbrev pub state_of : ℕ → State
 state_of seed = state_by (generator seed)
 
--- so many asks of a seed, whose words come behind those of the features
+-- the asks of a seed; their words follow those of the features
 abbrev pub asks_of : ℕ → ℕ → List Ask
 asks_of seed count = asks count (behind 1000 (generator seed))

@@ -1,4 +1,4 @@
-//! The asks of a load.
+//! The asks of a load: each evaluates one feature for one user.
 ghost use Rattle.std.specs.Prelude.{◌≡◌, ◌≤◌, ◌<◌, ◌+◌, ◌^◌, false, codes, IfOk, if◌then◌else◌};
 ghost use Rattle.std.specs.List.{count_by};
 ghost use Rattle.std.specs.Option.{option_map_or};
@@ -18,7 +18,7 @@ use unl_documents::Memory;
 use unl_strategies::Moment;
 use unl_tokens::Projects;
 
-/// How many of so many asks, which the next words make, are on.
+/// Takes two words for each of `count` asks, and returns how many of the asks find their feature on.
 pub(crate) fn count_on(
     alloc: Global,
     snapshot: &Snapshot,
@@ -37,7 +37,7 @@ pub(crate) fn count_on(
     Ok(on)
 }
 
-/// One more, where it counts.
+/// Returns the count, incremented if `counts` is set.
 fn counted(count: u64, counts: bool) -> u64
     requires { count + 1 < 2 ^ 64 }
     ensures { result ≡ (if counts then 1 + count else count) }
@@ -45,7 +45,7 @@ fn counted(count: u64, counts: bool) -> u64
     if counts { count + 1 } else { count }
 }
 
-/// Whether the feature at a place is on for the user of a number.
+/// Returns whether the feature with this index is on for the user with this number.
 #[tactic(auto, unfolding(crate::specs::Input::is_on))]
 fn is_on(alloc: Global, snapshot: &Snapshot, feature: u32, user: u32) -> Result<bool, Memory>
     ensures { IfOk result (λ on. on ≡ is_on snapshot.now.state (record { feature = feature; user = user })) }
@@ -61,7 +61,7 @@ fn is_on(alloc: Global, snapshot: &Snapshot, feature: u32, user: u32) -> Result<
     Ok(found_on(&found))
 }
 
-/// Whether there is an evaluation, and it is on.
+/// Returns whether there is an evaluation that is on.
 fn found_on(found: &Option<Evaluation>) -> bool
     ensures { result ≡ option_map_or (λ e. e.on) found.now false }
 {
@@ -71,7 +71,7 @@ fn found_on(found: &Option<Evaluation>) -> bool
     }
 }
 
-/// The context of the user of a number.
+/// Returns the context of the user with this number.
 fn context(alloc: Global, user: u32) -> Result<Context, Memory>
     ensures { IfOk result (λ context. context ≡ context_of user) }
 {
@@ -83,7 +83,7 @@ fn context(alloc: Global, user: u32) -> Result<Context, Memory>
     }
 }
 
-/// The context of a user, in JSON.
+/// Returns the context of a user in JSON.
 fn user_value(alloc: Global, user: &str) -> Result<Value, AllocError>
     ensures { IfOk result (λ value. view value ≡ object (member (codes "userId") (string user.now) no_members)) }
 {

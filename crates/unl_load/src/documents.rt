@@ -12,10 +12,10 @@ use unl_compiled::Snapshot;
 use unl_delta::{Batch, Event, Place, apply};
 use unl_documents::{Feature, List, Memory, Pair, Series, Shared, State, Strategy, Text};
 
-/// How many features there are.
+/// The number of features.
 pub(crate) const FEATURES: u32 = 1000;
 
-/// The state of the features that the next words make.
+/// Generates the state, with one word for each feature.
 pub(crate) fn state(alloc: Global, words: &mut Lcg64Xsh32) -> Result<State, Memory>
     ensures made { IfOk result (λ state. state ≡ state_by words.old) }
     ensures valid { IfOk result IsValidState }
@@ -28,7 +28,7 @@ pub(crate) fn state(alloc: Global, words: &mut Lcg64Xsh32) -> Result<State, Memo
     })
 }
 
-/// The features that the next words make.
+/// Generates the features, with one word for each.
 fn features(alloc: Global, words: &mut Lcg64Xsh32) -> Result<List<Shared<Feature>>, Memory>
     ensures made { IfOk result (λ features. features ≡ features_from 0 1000 words.old) }
     ensures taken { OnOk result (words.new ≡ behind 1000 words.old) }
@@ -41,7 +41,7 @@ fn features(alloc: Global, words: &mut Lcg64Xsh32) -> Result<List<Shared<Feature
     Ok(features)
 }
 
-/// The feature at a place, by its word.
+/// Returns the feature with this index. Its rollout percentage is `word % 101`.
 #[tactic(auto, unfolding(crate::specs::Input::feature_of))]
 fn feature(alloc: Global, place: u32, word: u32) -> Result<Feature, Memory>
     ensures { IfOk result (λ feature. feature ≡ feature_of place word) }
@@ -63,7 +63,7 @@ fn feature(alloc: Global, place: u32, word: u32) -> Result<Feature, Memory>
     })
 }
 
-/// The strategy of the feature of a name.
+/// Returns the strategy of a feature, with this rollout percentage.
 #[tactic(auto, unfolding(crate::specs::Input::strategy_of))]
 fn strategy(alloc: Global, name: &str, rollout: u32) -> Result<Strategy, Memory>
     ensures { IfOk result (λ strategy. strategy ≡ strategy_of name.now rollout) }
@@ -82,7 +82,7 @@ fn strategy(alloc: Global, name: &str, rollout: u32) -> Result<Strategy, Memory>
     })
 }
 
-/// A parameter.
+/// Returns a parameter.
 fn pair(alloc: Global, key: &str, value: &str) -> Result<Pair, Memory>
     ensures { IfOk result (λ made. made ≡ pair key.now value.now) }
 {
@@ -92,14 +92,14 @@ fn pair(alloc: Global, key: &str, value: &str) -> Result<Pair, Memory>
     })
 }
 
-/// A number in decimal.
+/// Returns a number in decimal.
 pub(crate) fn decimal_text(alloc: Global, number: u32) -> Result<String, AllocError>
     ensures { IfOk result (λ text. string_bytes text ≡ decimal number) }
 {
     format!(in alloc; "{number}")
 }
 
-/// The name of the feature at a place.
+/// Returns the name of the feature with this index: `f` and the index in four digits.
 pub(crate) fn name(alloc: Global, place: u32) -> Result<Text, Memory>
     ensures { IfOk result (λ name. name ≡ name_of place) }
 {
@@ -117,7 +117,7 @@ fn name_of(alloc: Global, place: u32) -> Result<String, AllocError>
     format!(in alloc; "f{thousands}{hundreds}{tens}{ones}")
 }
 
-/// The snapshot of a state that is installed as one hydration, at the number 1.
+/// Returns the snapshot of a state that is installed as one hydration with number 1.
 pub(crate) fn installed(alloc: Global, state: State) -> Result<Snapshot, Memory>
     requires { IsValidState state }
     ensures { IfOk result (λ snapshot. snapshot.state ≡ state) }
@@ -131,7 +131,7 @@ pub(crate) fn installed(alloc: Global, state: State) -> Result<Snapshot, Memory>
     Snapshot::build(alloc, version)
 }
 
-/// One hydration with a state.
+/// Returns a batch of one hydration with this state.
 fn hydration(alloc: Global, state: State) -> Result<Batch, Memory>
     ensures { IfOk result (λ batch. batch ≡ record { epoch = 0; after = None; events = Hydration 1 state ∷ [] }) }
 {

@@ -1,4 +1,4 @@
-//! Why a load has no line.
+//! The errors of a load.
 ghost use Rattle.std.specs.Prelude.{◌≡◌};
 ghost use Rattle.unl_load.specs.declared.fault.LoadFault.TheVariants.{Memory as want, WriteFault as write_fault};
 
@@ -10,7 +10,7 @@ use unl_documents as documents;
 /// Why a load ended before its line was written.
 #[derive(Clone, Copy, Debug, PartialEq, Eq, Error)]
 pub enum LoadFault {
-    /// The sink failed, which has counted it.
+    /// The sink failed and incremented its fault count.
     #[error("the output failed")]
     WriteFault,
     /// Memory ran out.

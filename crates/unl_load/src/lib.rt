@@ -1,4 +1,4 @@
-//! The load: a large input that is made from a number and asked again and again, and the line that counts its answers.
+//! The load: generates a large input from a seed, evaluates it many times, and writes one line with the counts.
 #![tactic(auto)]
 
 mod asking;

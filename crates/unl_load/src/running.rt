@@ -12,15 +12,15 @@ use std::alloc::{AllocError, Global};
 use unl_base::{Sink, write_all};
 use unl_documents::Memory;
 
-/// Asks a large input that it makes from a seed, and writes one line: how many features there are, how often one was asked
-/// for, and of these asks how many found it on and how many off. The program asks 1 to 1,000,000 times.
+/// Generates a large input from a seed, evaluates it `count` times, and writes one line: the number of features, the number of
+/// asks, and how many of them found their feature on and how many off. The program allows a count of 1 to 1,000,000.
 ///
-/// The words of a generator of the seed make first 1,000 features, which are installed as one hydration, and then two words
-/// make each ask: for a feature and a user, at the moment 0 with the random word 0. One seed and one count always give the
-/// same line.
+/// The seed starts a generator of words. The first 1,000 words make one feature each; the features are installed as one
+/// hydration. Each ask then takes two words: for a feature and a user. It is evaluated at time 0 with random word 0. The same
+/// seed and count always give the same line.
 ///
 /// # Errors
-/// `WriteFault` where the sink failed: a front of the line was written. `Memory` where memory ran out: nothing was written.
+/// `WriteFault` if the sink fails: a prefix of the line was written. `Memory` if out of memory: nothing was written.
 pub fn load<K: Sink>(alloc: Global, seed: u64, count: u64, sink: &mut K) -> Result<(), LoadFault>
     ensures ok { OnOk result (Sends (K.sent sink.old) (load_line seed count) (K.sent sink.new)) }
     ensures broken { IsErrOf result LoadFault.WriteFault → SendsFront (K.sent sink.old) (load_line seed count) (K.sent sink.new) }
@@ -35,7 +35,7 @@ pub fn load<K: Sink>(alloc: Global, seed: u64, count: u64, sink: &mut K) -> Resu
     }
 }
 
-/// The line of so many asks of a seed.
+/// Returns the line of a load with this seed and count.
 fn load_line(alloc: Global, seed: u64, count: u64) -> Result<String, Memory>
     ensures { IfOk result (λ line. string_bytes line ≡ load_line seed count) }
 {
@@ -46,7 +46,7 @@ fn load_line(alloc: Global, seed: u64, count: u64) -> Result<String, Memory>
     Ok(line_of(alloc, count, on)?)
 }
 
-/// The line of so many asks, of which so many are on.
+/// Returns the line for `count` asks, `on` of which found their feature on.
 #[tactic(auto, unfolding(crate::specs::Line::line_of))]
 fn line_of(alloc: Global, count: u64, on: u64) -> Result<String, AllocError>
     requires { on ≤ count }

@@ -1,11 +1,11 @@
-//! The words that a load is made from.
+//! The random words that a load is generated from.
 ghost use Rattle.std.specs.Prelude.{◌≡◌};
 ghost use Rattle.unl_load.specs.Words.{first, generator, next};
 
 use rand_pcg::Lcg64Xsh32;
 use rand_pcg::rand_core::utils::NextWord;
 
-/// The generator of a seed.
+/// Returns the generator of a seed.
 #[tactic(auto, unfolding(crate::specs::Words::generator))]
 pub(crate) fn generator(seed: u64) -> Lcg64Xsh32
     ensures { result ≡ generator seed }
@@ -13,7 +13,7 @@ pub(crate) fn generator(seed: u64) -> Lcg64Xsh32
     Lcg64Xsh32::new(seed, 1)
 }
 
-/// The next word, which is taken.
+/// Takes the next word and returns it.
 #[tactic(auto, unfolding(crate::specs::Words::first, crate::specs::Words::next))]
 pub(crate) fn take(words: &mut Lcg64Xsh32) -> u32
     ensures word { result ≡ first words.old }

@@ -16,7 +16,7 @@ use Rattle.std.specs.declared.cmp.Ordering.TheVariants.{Less, Equal, Greater}
 use Rattle.unl_metrics.specs.Book.{Book, Key, Tally, key_cmp, is_of, acknowledge, has_few_variants, fits, IsCounted, IsBook}
 use Rattle.unl_metrics.proofs.Entries.{each_true, first_of, second_of, both_of, less}
 
--- ---- the first place
+-- ---- the first position
 
 by_some : (here : Bool) (n found : ℕ) → cond here (Some n) None ≡ Some found → found ≡ n
 by_some true n found e = ap (λ o. unwrap_or o found) (sym e)
@@ -45,9 +45,9 @@ run_some p xs found e = place_some (λ x. not (p x)) xs found e ∙ not_not p xs
 pub run_none : {X : Type 0} (p : X → Bool) (xs : List X) → position (λ x. not (p x)) xs ≡ None → length xs ≡ prefix_len p xs
 run_none p xs e = place_none (λ x. not (p x)) xs e ∙ not_not p xs
 
--- ---- an environment stands in one piece
+-- ---- the keys of an environment are contiguous
 
--- an order that is not Greater
+-- An order that is not `Greater`.
 abbrev pub is_le : Ordering → Bool
 is_le Less = true
 is_le Equal = true
@@ -58,7 +58,7 @@ le_first Less s e = refl
 le_first Equal s e = refl
 le_first Greater s e = absurd (subst (λ o. T (is_lt o)) (sym e) tt)
 
--- a key that comes before another has no later environment
+-- A key that comes before another has no later environment.
 environment_le : (j k : Key) → key_cmp j k ≡ Less → is_le (slice_cmp nat_cmp j.environment k.environment) ≡ true
 environment_le j k e = le_first (slice_cmp nat_cmp j.environment k.environment) _ e
 
@@ -67,7 +67,7 @@ both_le Less a b = absurd (subst T (sym b) tt)
 both_le Equal a b = refl
 both_le Greater a b = absurd (subst T (sym a) tt)
 
--- between two keys of an environment stand none of others
+-- Between two keys of an environment there are none of others.
 between_is_of : (environment : List ℕ) (i j k : Key) → is_of environment i ≡ true → is_of environment k ≡ true → key_cmp i j ≡ Less → key_cmp j k ≡ Less → is_of environment j ≡ true
 between_is_of environment i j k at_i at_k low high =
     let o = nat_list_cmp_total in
@@ -83,9 +83,9 @@ between_is_of environment i j k at_i at_k low high =
     equal Equal e = refl
     equal Greater e = absurd (subst T (sym e) tt)
 
--- ---- what goes
+-- ---- what is dropped
 
--- behind a key of the environment and one of another there are none of the environment
+-- After a key of the environment and then one of another, there are no more of the environment.
 kept : (environment : List ℕ) (e f : Key × Tally) (es : Book) (count : ℕ) → is_of environment e.0 ≡ true → is_of environment f.0 ≡ false → key_cmp e.0 f.0 ≡ Less → T (below_all key_cmp f.0 es) → acknowledge environment count es ≡ es
 unfolding acknowledge
 kept environment e f es zero here other low above = refl
@@ -98,7 +98,7 @@ kept environment e f (g ∷ es) (suc count) here other low above =
       | false ↦ λ at. ap (λ (b : Book). g ∷ b) rest
     ] refl
 
--- behind a key of the environment
+-- After a key of the environment.
 run_goes : (environment : List ℕ) (e : Key × Tally) (es : Book) (count : ℕ) → is_of environment e.0 ≡ true → T (below_all key_cmp e.0 es) → T (is_sorted key_cmp es) → drop (min (prefix_len (λ f. is_of environment f.0) es) count) es ≡ acknowledge environment count es
 unfolding acknowledge
 run_goes environment e es zero here above sorted = let none : min (prefix_len (λ f. is_of environment f.0) es) 0 ≡ 0 = grind arith in rw none refl
@@ -113,11 +113,11 @@ run_goes environment e (f ∷ es) (suc count) here above sorted =
       | false ↦ λ at. let none : min 0 (suc count) ≡ 0 = grind arith in rw none (ap (λ (b : Book). f ∷ b) (sym (kept environment e f es (suc count) here at low below)))
     ] refl
 
--- the place of the first key of the environment
+-- The position of the environment's first key.
 abbrev pub start_of : List ℕ → Book → ℕ
 start_of environment book = prefix_len (λ e. not (is_of environment e.0)) book
 
--- how many of its keys stand there
+-- How many keys of the environment follow from there.
 abbrev pub run_at : List ℕ → Book → ℕ
 run_at environment book = prefix_len (λ e. is_of environment e.0) (drop (start_of environment book) book)
 
@@ -142,7 +142,7 @@ first_goes environment (suc count) e es here sorted =
     let rest : T (is_sorted key_cmp es) = second_of (below_all key_cmp e.0 es) (is_sorted key_cmp es) sorted in
     rw more (run_goes environment e es count here below rest ∙ sym (acknowledge_one environment count e es here))
 
--- of a book in order a range goes
+-- Acknowledging a sorted book removes a range.
 pub range_goes : (environment : List ℕ) (count : ℕ) (book : Book) → T (is_sorted key_cmp book) → remove_range book (start_of environment book) (start_of environment book + min (run_at environment book) count) ≡ acknowledge environment count book
 range_goes environment zero [] sorted = sym (acknowledge_none environment [])
 range_goes environment (suc count) [] sorted = let none : min 0 (suc count) ≡ 0 = grind arith in rw none (unfold acknowledge in refl)
@@ -157,7 +157,7 @@ range_goes environment count (e ∷ es) sorted =
           rw (next, further, acknowledge_other environment count e es at) (ap (λ (b : Book). e ∷ b) (range_goes environment count es rest))
     ] refl
 
--- ---- what stays is a book
+-- ---- what is left is a book
 
 below_stays : (x : Key) (environment : List ℕ) (count : ℕ) (es : Book) → T (below_all key_cmp x es) → T (below_all key_cmp x (acknowledge environment count es))
 unfolding acknowledge
@@ -226,7 +226,7 @@ book_stays environment count book is = record {
   fit = fits_still (length (acknowledge environment count book)) (length book) (list_all has_few_variants book) (list_all has_few_variants (acknowledge environment count book)) (no_longer environment count book) (few_stay environment count book) is.fit;
 }
 
--- a range ends inside the list
+-- The end of the range is inside the list.
 pub range_ends : {X : Type 0} (xs : List X) (start run count : ℕ) → start ≤ length xs → run ≤ length (drop start xs) → start + min run count ≤ length xs
 range_ends xs start run count first more = omega (arith, length-drop start xs)
 

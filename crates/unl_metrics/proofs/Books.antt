@@ -17,13 +17,13 @@ use Rattle.unl_metrics.proofs.Entries.{both_of}
 use Rattle.unl_metrics.proofs.Order.{keys_total}
 use Rattle.unl_metrics.proofs.Variants.{stays_sorted}
 
--- the row of a key with the sum of two tallies
+-- A row with the key of one and the sum of both tallies.
 pub plus_is : (environment other_environment copied : List ℕ) (old other new : MetricEntry) (this that : Key × Tally) → copied ≡ environment → ((e : List ℕ) → key_of e new ≡ key_of e old) → tally_of new ≡ tally_sum (tally_of old) (tally_of other)
     → counted environment old ≡ this → counted other_environment other ≡ that → counted copied new ≡ (this.0, tally_sum this.1 that.1)
 plus_is environment other_environment copied old other new this that same key tally is was =
     rw (← is, ← was, same) (λ i. (key environment i, tally i))
 
--- the names of a tally rise
+-- The variant names of a tally ascend.
 abbrev pub HasNamesInOrder : Tally → Type 0
 HasNamesInOrder t = T (is_sorted (slice_cmp nat_cmp) t.variants)
 
@@ -57,7 +57,7 @@ stays_in_order book e order this = record {
   each = each_put e.0 (added tally_sum (find key_cmp e.0 book) e.1) book order.each (record { hour = this.hour; variants = added_in_order (find key_cmp e.0 book) e.1 (found_in_order e.0 book order.each) this.variants });
 }
 
--- a book of no keys
+-- The empty book.
 pub no_keys : IsBook []
 unfolding fits
 no_keys = record { order = record { rising = tt; each = All-nil IsCounted }; fit = refl }

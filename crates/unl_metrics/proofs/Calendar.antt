@@ -62,7 +62,7 @@ month_steps year (suc months) start days month rest one low high is within =
           rw stays (λ i. (same i, all i))
     ]
 
--- the text of a date's day
+-- The text of a date.
 pub date_is : (d : Date) (year days : ℕ) → d.year ≡ pos year → days < 2932897 → epoch_day d ≡ pos days → date_text days ≡ four_digits year ++ 45 ∷ two_digits d.month ++ 45 ∷ two_digits d.day
 unfolding date_text
 date_is d year days named most is =
@@ -94,7 +94,7 @@ years_from_1970 d days is = by d.year refl
         let later = day_count-later_year d.year (pos 1970) (omega (arith, signed_arith, d.year_in.0)) (rw e (omega (arith, signed_arith))) in
         absurd (omega (arith, count, later, day_count-day_of_year d.year d.month d.day d.day_in.0, day_of_year_bound d.year d.month d.day (civil d), day_count-epoch))
 
--- a date and a time as `jiff` writes them
+-- A date and a time as `jiff` prints them.
 date_part : (y : ℤ) (year m d : ℕ) (y_in : IsYear y) (m_in : IsInRange 1 12 m) (d_in : IsInRange 1 (days_in_month y m) d) → y ≡ pos year → jiff.date_text (record { year = y; month = m; day = d; year_in = y_in; month_in = m_in; day_in = d_in }) ≡ four_digits year ++ 45 ∷ two_digits m ++ 45 ∷ two_digits d
 date_part (pos n) year m d y_in m_in d_in e =
     let same : n ≡ year = omega (arith, signed_arith, e) in
@@ -107,7 +107,7 @@ time_part h (suc m) s n h_in m_in s_in n_in a b c = absurd (omega (arith, a))
 time_part h zero (suc s) n h_in m_in s_in n_in a b c = absurd (omega (arith, b))
 time_part h zero zero (suc n) h_in m_in s_in n_in a b c = absurd (omega (arith, c))
 
--- the text of an hour's first instant
+-- The text of an hour is that of its first instant.
 pub hour_is : (dt : DateTime) (hour : ℕ) → hour < 70389528 → epoch_day dt.date ≡ pos (hour / 24) → IsHms (pos (hour % 24)) (pos 0) (pos 0) (pos 0) dt.time → iso_datetime_text dt ++ codes "Z" ≡ hour_text hour
 unfolding hour_text date_text
 hour_is dt hour most day clock =

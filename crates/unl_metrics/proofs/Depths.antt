@@ -1,4 +1,4 @@
--- How deep a bulk report nests.
+-- The nesting depth of a bulk report.
 use Rattle.std.proofs.Common.{ℕ, ◌≤◌, List, [], ◌∷◌, map, arith}
 use Rattle.std.specs.Cmp.Lexicographic.{slice_cmp}
 use Rattle.std.specs.Ordering.{nat_cmp, match_ordering}

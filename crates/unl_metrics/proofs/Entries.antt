@@ -1,4 +1,4 @@
--- Entries in the order of their keys: what stands where, and what is put there.
+-- Entries in the order of their keys: lookups and insertions.
 use Rattle.std.proofs.Common.{◌≡◌, ℕ, zero, suc, ◌+◌, ◌<◌, ◌≤◌, Bool, true, false, cond, ◌&&◌, T, List, [], ◌∷◌, map, length, get_or, refl, sym, ap, subst, ◌∙◌, arith}
 use Rattle.std.specs.Prelude.{Option, Some, None, insert, slice_set, slice_get}
 use Rattle.std.specs.Option.{option_map_or}
@@ -43,7 +43,7 @@ is_less Greater e = absurd (subst T (sym e) tt)
 
 -- ---- the first key that doesn't come before
 
--- each key of entries that x is below comes after x
+-- If x is below all entries, each of their keys comes after x.
 below_at : {K X : Type 0} (R : K → K → Ordering) (x : K) (es : List (K × X)) → T (below_all R x es) → (j : ℕ) (d : K × X) → j < length es → R x (get_or es j d).0 ≡ Less
 below_at R x [] h j d lt = absurd (omega arith)
 below_at R x (e ∷ es) h zero d lt = less _ (first_of _ _ h)
@@ -63,9 +63,9 @@ prefix_is p (x ∷ xs) (suc i) le h =
     let rest : i ≡ prefix_len p xs = prefix_is p xs i (omega arith) (λ k d low high. h.0 (suc k) d (omega arith) (omega arith), λ k d low high. h.1 (suc k) d (omega arith) (omega arith)) in
     rw (h.0 0 x (omega arith) (omega arith)) (omega arith)
 
--- ---- what is put at a key
+-- ---- insertion at a key
 
--- whether the key stands at the place where it belongs
+-- Whether the key is at the position where it would be inserted.
 abbrev pub stands : {K X : Type 0} → (K → K → Ordering) → K → List (K × X) → Bool
 stands R k es = option_map_or (λ e. is_eq (R e.0 k)) (slice_get es (place R k es)) false
 
@@ -93,7 +93,7 @@ pub put_old : {K X : Type 0} (R : K → K → Ordering) → IsTotalOrder R → (
 put_old R o k x [] d h = absurd (subst T (sym h) tt)
 put_old R o k x (e ∷ es) d h = rw (o.antisymm k e.0) (step_old (R e.0 k) (k, x) e d (e.0, x) es (put R k x es) (place R k es) (λ f. is_eq (R f.0 k)) (λ f. (f.0, x)) refl refl (put_old R o k x es d) h)
 
--- ---- what is found at a key
+-- ---- lookup of a key
 
 none_found : {K X : Type 0} (R : K → K → Ordering) → IsTotalOrder R → (k x : K) → R k x ≡ Less → (es : List (K × X)) → T (below_all R x es) → find R k es ≡ None
 none_found R o k x p [] h = refl
@@ -132,13 +132,13 @@ entry_new R o plus e es s h = rw (find_new R o e.0 es s h) (put_new R o e.0 e.1 
 pub entry_old : {K X : Type 0} (R : K → K → Ordering) → IsTotalOrder R → (plus : X → X → X) (e : K × X) (es : List (K × X)) (d : K × X) → stands R e.0 es ≡ true → with_entry R plus es e ≡ slice_set es (place R e.0 es) ((get_or es (place R e.0 es) d).0, plus (get_or es (place R e.0 es) d).1 e.1)
 entry_old R o plus e es d h = rw (find_old R o e.0 es d h) (put_old R o e.0 (plus (get_or es (place R e.0 es) d).1 e.1) es d h)
 
--- an item stands there only where there is one
+-- An item found at a position is within the list.
 pub stands_within : {Y : Type 0} (test : Y → Bool) (ys : List Y) (n : ℕ) → option_map_or test (slice_get ys n) false ≡ true → n < length ys
 stands_within test [] n h = absurd (subst T (sym h) tt)
 stands_within test (y ∷ ys) zero h = omega arith
 stands_within test (y ∷ ys) (suc n) h = omega (arith, stands_within test ys n h)
 
--- ---- the same of items that stand for entries
+-- ---- the same for items that are viewed as entries
 
 pub partitioned_by : {Y Z : Type 0} (f : Y → Z) (p : Z → Bool) (ys : List Y) → IsPartitionedBy p (map f ys) → IsPartitionedBy (λ y. p (f y)) ys
 partitioned_by f p ys h i j d le lt passes =

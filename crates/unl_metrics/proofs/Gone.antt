@@ -1,4 +1,4 @@
--- What is left of a book whose keys were acknowledged.
+-- What an acknowledgement leaves of a book.
 use Rattle.std.proofs.Common.{◌≡◌, ℕ, zero, suc, Bool, true, false, cond, List, [], ◌∷◌, drop, refl, sym, ap, ◌∙◌}
 use Rattle.std.specs.Cmp.Lexicographic.{bytes_decides}
 use Rattle.std.specs.Prelude.{◌≢◌}

@@ -1,4 +1,4 @@
--- How long the text of a bulk report is.
+-- The length of a bulk report's text.
 use Rattle.std.proofs.Common.{◌≡◌, ℕ, zero, suc, ◌+◌, ◌<◌, ◌≤◌, inl, inr, Bool, true, false, cond, ◌||◌, nat_eq, List, [], ◌∷◌, ◌++◌, map, length, get_or, take, refl, sym, ap, ◌∙◌, arith}
 use Rattle.std.proofs.lemmas.Bool.{cases_lt}
 use Rattle.std.proofs.lemmas.Bool.Decides.{nat_tests}
@@ -11,9 +11,9 @@ use Rattle.serde_json.specs.Written.{compact_text, items_text, comma_if}
 use Rattle.unl_metrics.specs.Book.{Book, Key, Tally}
 use Rattle.unl_metrics.specs.Bulk.{counted_data, bulk_of_items, bulk_length, greatest, room_for}
 
--- ---- what an item more adds
+-- ---- what one more item adds
 
--- how many bytes stand before an item
+-- How many separator bytes come before an item.
 abbrev pub comma_len : Bool → ℕ
 comma_len later = cond later 1 0
 
@@ -69,7 +69,7 @@ unfolding bulk_length
 grows book more =
     rw (map-append counted_data book more) (omega (arith, frame (items_of (map counted_data book ++ map counted_data more)), frame (items_of (map counted_data book)), items_grow false (map counted_data book) (map counted_data more)))
 
--- ---- the greatest front
+-- ---- the longest prefix that passes
 
 greatest_is : (passes : ℕ → Bool) (n i : ℕ) → i ≤ n → passes i ≡ true → ((m : ℕ) → i < m → m ≤ n → passes m ≡ false) → greatest passes n ≡ i
 unfolding greatest
@@ -100,13 +100,13 @@ longer_is rows i n before comma values e lt is so_far text all mark =
     let comma_is_same : comma ≡ cond (nat_eq (length (take i rows)) 0) 0 1 = rw (len, ← all) mark in
     rw front (rw (so_far, text, comma_is_same) (sym (one_more (take i rows) e)))
 
--- of the lists one is as long as the other
+-- Two lists with the same images have the same length.
 pub within : {A B C : Type 0} (f : A → C) (g : B → C) (xs : List A) (ys : List B) (i n : ℕ) → map f xs ≡ map g (take i ys) → length xs ≡ n → n ≤ length ys
 within f g xs ys i n same all =
     let len : length xs ≡ length (take i ys) = sym (length-map xs f) ∙ ap length same ∙ length-map (take i ys) g in
     omega (arith, len, length-take i ys)
 
--- ---- what the room is
+-- ---- what `room_for` is
 
 greatest_passes : (passes : ℕ → Bool) (n : ℕ) → passes 0 ≡ true → passes (greatest passes n) ≡ true
 unfolding greatest

@@ -1,4 +1,4 @@
--- What stands at a key of a sum.
+-- The value at a key of a sum.
 use Rattle.std.proofs.Common.{◌≡◌, ℕ, true, false, cond, T, List, [], ◌∷◌, map, fold, refl, sym, subst, ap, ◌∙◌, nat_cmp}
 use Rattle.std.proofs.lemmas.Cmp.{nat_list_cmp_total}
 use Rattle.std.specs.Cmp.{IsTotalOrder}
@@ -30,7 +30,7 @@ entry_at_key R o plus es e q =
       | false ↦ λ tied. refl
     ] refl
 
--- ---- many
+-- ---- many entries
 
 values_at : {K X : Type 0} → (K → K → Ordering) → K → List (K × X) → List X
 values_at R q others = map (λ e. e.1) (where_key R (eq_by_cmp R q) others)
@@ -46,7 +46,7 @@ all_at_key R o plus es (e ∷ others) q =
       | false ↦ refl
     ]
 
--- ---- of a finite map one at most
+-- ---- a finite map has each key at most once
 
 none_tied : {K X : Type 0} (R : K → K → Ordering) → IsTotalOrder R → (q x : K) → R q x ≡ Equal → (es : List (K × X)) → T (below_all R x es) → where_key R (eq_by_cmp R q) es ≡ []
 none_tied R o q x tied [] h = refl
@@ -92,7 +92,7 @@ unfolding sum_of
 sum_in_order book [] order each = order
 sum_in_order book (e ∷ others) order each = sum_in_order (with_tally book e) others (stays_in_order book e order (All-head IsCounted e others each)) (All-tail IsCounted e others each)
 
--- ---- a book is its tallies
+-- ---- a book is determined by its tallies
 
 same_key : (j k : Key) → parts j ≡ parts k → j ≡ k
 same_key j k e = λ i. record {

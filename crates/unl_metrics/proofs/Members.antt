@@ -1,4 +1,4 @@
--- Going over the members of a JSON object.
+-- Iterating over the members of a JSON object.
 use Rattle.std.proofs.Common.{◌≡◌, ℕ, List, [], ◌∷◌, ◌++◌, map, Ok, Err, String, Global, string_bytes, refl, sym, ap, subst, ◌∙◌, append_assoc, nat_cmp, Less, arith}
 use Rattle.std.proofs.lemmas.List.{append-nil, map_push}
 use Rattle.std.proofs.lemmas.List.Elements.{All-nil}
@@ -20,7 +20,7 @@ use Rattle.unl_metrics.specs.declared.report.Report.{Report}
 use Rattle.unl_metrics.specs.Readable.{IsNamed, AreVariants, AreReadable}
 use Rattle.unl_metrics.specs.Reports.{each_member, IsReport}
 
--- what was read before, and what is still read
+-- The items already read, and the reading of the rest.
 abbrev pub with_front : {T : Type 0} → List T → Reading (List T) → Reading (List T)
 with_front front reading = reading >>= λ others. Ok (front ++ others)
 
@@ -51,7 +51,7 @@ pub is_done : {T : Type 0} (kind : List ℕ → Data → Reading T) (front : Lis
 unfolding each_member
 is_done kind front total so_far = sym so_far ∙ ap Ok (append-nil front)
 
--- ---- the names of the members rise
+-- ---- the names of the members ascend
 
 abbrev pub names_of : List Entry → List (List ℕ)
 names_of entries = map (λ e. string_bytes e.0) entries

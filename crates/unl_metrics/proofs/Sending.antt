@@ -1,4 +1,4 @@
--- What is sent of a book.
+-- What is sent from a book.
 use Rattle.std.proofs.Common.{◌≡◌, ◌↔◌, ℕ, ◌<◌, true, false, cond, T, List, [], ◌∷◌, map, take, length, refl, sym, subst, ap, ◌∙◌, arith}
 use Rattle.std.specs.Cmp.Lexicographic.{bytes_decides}
 use Rattle.std.proofs.lemmas.List.Elements.{All-cons, All-head, All-tail, All-nil}
@@ -25,7 +25,7 @@ unfolding bulk
 something_sent environment book [] sent count is some written all = absurd (omega arith)
 something_sent environment book (e ∷ found) sent count is some written all = (λ i. Some (written i, all i)) ∙ ap bulk_report is
 
--- ---- none is sent exactly where there is no key
+-- ---- nothing is sent exactly if there is no key
 
 none_of : (found : Book) → bulk_report found ≡ None → found ≡ []
 none_of [] e = refl
@@ -35,7 +35,7 @@ pub none_sent : (environment : List ℕ) (book : Book) → (bulk environment boo
 unfolding bulk
 none_sent environment book = (none_of (counted_in environment book), ap bulk_report)
 
--- ---- what is sent as the entries of a report
+-- ---- what is sent, as the entries of a report
 
 variants_again : (variants : Variants) → map pair (map (λ v. record { name = v.0; count = v.1 }) variants) ≡ variants
 variants_again [] = refl

@@ -1,4 +1,4 @@
--- The counts of variants, as entries of a finite map.
+-- Variant counts as entries of a finite map.
 use Rattle.std.proofs.Common.{◌≡◌, ℕ, ◌<◌, true, false, T, List, ◌∷◌, ◌++◌, map, length, get_or, take, drop, refl, sym, ap, ◌∙◌, nat_cmp}
 use Rattle.std.proofs.Math.ListN.{get_or-map}
 use Rattle.std.proofs.lemmas.Cmp.{nat_list_cmp_total}

@@ -1,4 +1,4 @@
--- The bulk report that a book is sent as.
+-- The bulk report in which a book's counts are sent.
 use Rattle.std.specs.Prelude.{ℕ, zero, suc, List, [], ◌∷◌, length, map, take, Bool, nat_le, Option, Some, None, if◌then◌else◌}
 use Rattle.serde_json.specs.Data.{Data, string, array, object, Items, Members, no_members, put}
 use Rattle.serde_json.specs.View.{items_of}
@@ -10,16 +10,16 @@ use Rattle.unl_metrics.specs.Hours.{hour_text}
 
 -- ---- as JSON
 
--- the counts of variants, put in one after the other
+-- The object's members after the variant counts are put in, one after the other.
 abbrev pub with_counts : Variants → Members → Members
 with_counts [] members = members
 with_counts (v ∷ variants) members = with_counts variants (put v.0 (count v.1) members)
 
--- the counts of variants as they are written: an object of numbers
+-- The variant counts as JSON: an object of numbers.
 unfoldable pub variants_data : Variants → Data
 variants_data variants = object (with_counts variants no_members)
 
--- a key and its tally as they are written
+-- A key and its tally as JSON.
 unfoldable pub counted_data : Key × Tally → Data
 counted_data (key, tally) = object (
     with field.AppName (string key.app) (
@@ -31,41 +31,41 @@ counted_data (key, tally) = object (
     with field.Yes (count tally.yes)
     no_members)))))))
 
--- a bulk report of these items
+-- A bulk report of these items.
 unfoldable pub bulk_of_items : Items → Data
 bulk_of_items items = object (
     with field.Applications (list string []) (
     with field.Metrics (array items)
     no_members))
 
--- the bulk report of these keys
+-- The bulk report of these keys.
 abbrev pub bulk_data : Book → Data
 bulk_data book = bulk_of_items (items_of (map counted_data book))
 
--- ---- as much as there is room for
+-- ---- the limit of its length
 
--- the longest bulk report, in bytes
+-- The longest bulk report, in bytes.
 abbrev pub longest_bulk : ℕ
 longest_bulk = 1048576
 
--- how many bytes the text of a bulk report has
+-- The length of a bulk report's text, in bytes.
 unfoldable pub bulk_length : Book → ℕ
 bulk_length book = length (compact_text (bulk_data book))
 
--- the greatest number of at most so much that passes, or 0
+-- The greatest number up to the given one that passes, or 0.
 unfoldable pub greatest : (ℕ → Bool) → ℕ → ℕ
 greatest passes zero = 0
 greatest passes (suc n) = if passes (suc n) then suc n else greatest passes n
 
--- how many keys, from the first on, a bulk report has room for
+-- How many keys, from the first, fit into one bulk report.
 unfoldable pub room_for : Book → ℕ
 room_for book = greatest (λ n. nat_le (bulk_length (take n book)) longest_bulk) (length book)
 
--- the bulk report of the keys that there is room for, and how many these are; none where there is no key
+-- The bulk report of the keys that fit, and how many these are. `None` if there is no key.
 abbrev pub bulk_report : Book → Option (Data × ℕ)
 bulk_report [] = None
 bulk_report (e ∷ book) = Some (bulk_data (take (room_for (e ∷ book)) (e ∷ book)), room_for (e ∷ book))
 
--- what is sent of a book for an environment
+-- What is sent of a book for an environment.
 unfoldable pub bulk : List ℕ → Book → Option (Data × ℕ)
 bulk environment book = bulk_report (counted_in environment book)

@@ -1,4 +1,4 @@
--- Which reports, sent as a bulk report, are read as they were.
+-- Which reports are read back as they were, when they are sent as a bulk report.
 use Rattle.std.specs.Prelude.{◌≡◌, ℕ, ◌≤◌, List, map, All, Some, Ok}
 use Rattle.serde_json.specs.Data.{Data}
 use Rattle.unl_documents.specs.Limits.{IsName, IsListOf}
@@ -9,50 +9,50 @@ use Rattle.unl_metrics.specs.declared.report.VariantCount.{VariantCount}
 use Rattle.unl_metrics.specs.Book.{Book, Key, Tally}
 use Rattle.unl_metrics.specs.Reports.{bulk_report_of}
 
--- the last hour that has an instant
+-- The latest hour that can be read from a text.
 abbrev pub last_hour : ℕ
 last_hour = 70389502
 
--- the variant has a name within its limits
+-- The variant's name is within the limits of names.
 abbrev pub IsNamed : VariantCount → Type 0
 IsNamed v = IsName v.name
 
--- at most 100 variants with such names, in byte order
+-- At most 100 variants, whose names are within their limits and in byte order.
 pub record AreVariants (variants : List VariantCount) : Type 0 where
   pub rising : AreRising (map (λ v. v.name) variants)
   pub names : IsListOf 100 IsNamed variants
 
--- an entry of a report as it is read: names within their limits, and an hour that has an instant
+-- An entry as it is read: names within their limits, and an hour that can be read.
 pub record IsReadable (e : MetricEntry) : Type 0 where
   pub app : IsName e.app
   pub feature : IsName e.feature
   pub hour : e.hour ≤ last_hour
   pub variants : AreVariants e.variants
 
--- at most 10,000 such entries
+-- At most 10,000 such entries.
 abbrev pub AreReadable : List MetricEntry → Type 0
 AreReadable entries = IsListOf 10000 IsReadable entries
 
--- a variant and how often it was given, as a report has it
+-- A variant's name and count as a report has them.
 abbrev pub named : List ℕ × ℕ → VariantCount
 named v = record { name = v.0; count = v.1 }
 
--- the entry that stands for a key and its tally
+-- The report entry of a key and its tally.
 abbrev pub entry_at : Key × Tally → MetricEntry
 entry_at (key, tally) =
     record { app = key.app; feature = key.feature; hour = key.hour; yes = tally.yes; no = tally.no; variants = map named tally.variants }
 
--- the entries that stand for the keys and their tallies
+-- The report entries of keys and their tallies.
 abbrev pub entries_at : Book → List MetricEntry
 entries_at book = map entry_at book
 
--- a key and its tally with names within their limits, in an hour that has an instant
+-- A key and its tally that can be sent: names within their limits, and an hour that can be read.
 pub record IsSendable (e : Key × Tally) : Type 0 where
   pub app : IsName e.0.app
   pub feature : IsName e.0.feature
   pub hour : e.0.hour ≤ last_hour
   pub variants : All (λ v. IsName v.0) e.1.variants
 
--- bytes that spell the value in JSON are read as the bulk report of these entries
+-- Bytes that are the JSON of the value are read as the bulk report of these entries.
 abbrev pub IsReadAs : Data → List MetricEntry → Type 0
 IsReadAs value entries = (bytes : List ℕ) → json_of bytes ≡ Some value → bulk_report_of bytes ≡ Ok (record { entries = entries })

@@ -1,4 +1,4 @@
--- What reports are read as: their keys in order, each with its kind.
+-- How reports are read: their keys in order, each with its kind.
 use Rattle.std.specs.Prelude.{ℕ, ◌<◌, List, [], ◌∷◌, map, All, option_and_then, Result, Ok, Err, ok_or, nat_lt, if◌then◌else◌}
 use Rattle.serde_json.specs.Data.{Data, Members, no_members, member}
 use Rattle.serde_json.specs.Find.{as_object}
@@ -19,26 +19,26 @@ use Rattle.unl_metrics.specs.declared.report.Report.{Report}
 use Rattle.unl_metrics.specs.declared.report.VariantCount.{VariantCount}
 use Rattle.unl_metrics.specs.Hours.{hour_of, hours_of_years}
 
--- ---- the condition on reports
+-- ---- valid reports
 
--- an hour of the years 1970 to 9999, and each variant name once, in byte order
+-- An hour in the years 1970 to 9999, and variants in byte order, each name once.
 pub record IsEntry (e : MetricEntry) : Type 0 where
   pub hour : e.hour < hours_of_years
   pub variants : AreRising (map (λ v. v.name) e.variants)
 
--- each entry is as it must be
+-- Each entry is valid.
 abbrev pub IsReport : Report → Type 0
 IsReport report = All IsEntry report.entries
 
 -- ---- kinds
 
--- the hour of an instant of the years 1970 to 9999, given as a text
+-- The hour of an instant in the years 1970 to 9999, given as a text.
 unfoldable pub hour : Field → Data → Reading ℕ
 hour key value = do
   text ← any_text key value
   ok_or (option_and_then hour_of (instant_of text)) (document_fault.WrongKind key)
 
--- what each member of an object is read as, in byte order of the keys, up to the first fault
+-- Each member of an object, in byte order of the keys, up to the first fault.
 unfoldable pub each_member : {T : Type 0} → (List ℕ → Data → Reading T) → Members → Reading (List T)
 each_member kind no_members = Ok []
 each_member kind (member key value inside) = do
@@ -46,13 +46,13 @@ each_member kind (member key value inside) = do
   others ← each_member kind inside
   Ok (first ∷ others)
 
--- an object of at most so many members
+-- An object of at most `most` members.
 unfoldable pub members : {T : Type 0} → ℕ → (Field → List ℕ → Data → Reading T) → Field → Data → Reading (List T)
 members most kind key value = do
   inside ← ok_or (as_object value) (document_fault.WrongKind key)
   if nat_lt most (members_len inside) then Err (document_fault.TooLarge key (members_len inside)) else each_member (kind key) inside
 
--- how often a variant was given: its name, and then a whole number, which may not be null
+-- A variant's count: first its name, then a whole number, which can't be null.
 unfoldable pub variant_count : Field → List ℕ → Data → Reading VariantCount
 variant_count key name value = do
   named ← name_of key name
@@ -61,7 +61,7 @@ variant_count key name value = do
 
 -- ---- reports
 
--- what an object counts of a feature of an app in an hour
+-- The counts of a feature in an app and an hour, from an object.
 unfoldable pub entry_of : List ℕ → List ℕ → ℕ → Data → Reading MetricEntry
 entry_of app feature at value = do
   ons ← defaulted 0 any_whole field.Yes value
@@ -69,26 +69,26 @@ entry_of app feature at value = do
   variants ← defaulted [] (members 100 variant_count) field.Variants value
   Ok (record { app = app; feature = feature; hour = at; yes = ons; no = offs; variants = variants })
 
--- what a toggle counts: first the feature's name, which is the toggle's key
+-- The counts of a toggle: first the feature's name, which is the toggle's key, then an object.
 unfoldable pub toggle_of : List ℕ → ℕ → Field → List ℕ → Data → Reading MetricEntry
 toggle_of app at key feature value = do
   named ← name_of key feature
   object_of (entry_of app named at) key value
 
--- the toggles of an app's bucket
+-- The toggles of an app's bucket.
 unfoldable pub bucket_of : List ℕ → Data → Reading (List MetricEntry)
 bucket_of app value = do
   at ← required hour field.Start value
   defaulted [] (members 10000 (toggle_of app at)) field.Toggles value
 
--- the report that one app sends
+-- The report that one app sends.
 unfoldable pub single_of : Data → Reading Report
 single_of value = do
   app ← required name field.AppName value
   entries ← required (object_of (bucket_of app)) field.Bucket value
   Ok (record { entries = entries })
 
--- an entry of a bulk report
+-- An entry of a bulk report.
 unfoldable pub bulk_entry_of : Data → Reading MetricEntry
 bulk_entry_of value = do
   feature ← required name field.FeatureName value
@@ -96,19 +96,19 @@ bulk_entry_of value = do
   at ← required hour field.Timestamp value
   entry_of app feature at value
 
--- the report that a replica sends for its apps
+-- The report that a replica sends for its apps.
 unfoldable pub bulk_of : Data → Reading Report
 bulk_of value = do
   entries ← required (objects 10000 bulk_entry_of) field.Metrics value
   Ok (record { entries = entries })
 
--- ---- their faults
+-- ---- faults
 
--- A report, or why there is none.
+-- A report, or why it can't be read.
 abbrev pub ReportReading : Type 0
 ReportReading = Result Report BadReport
 
--- a count that is no whole number is of the wrong kind
+-- A document's fault as a report's. A duplicate name and a count that is no whole number are `WrongKind`.
 abbrev pub report_fault : BadDocument → BadReport
 report_fault document_fault.NotJson = NotJson
 report_fault (document_fault.Missing key) = Missing key
@@ -118,19 +118,19 @@ report_fault (document_fault.DuplicateName key name) = WrongKind key
 report_fault (document_fault.NotWhole key) = WrongKind key
 report_fault document_fault.Memory = Memory
 
--- the reading, with its fault as one of a report
+-- The reading, with its fault as a report's.
 abbrev pub as_report : Reading Report → ReportReading
 as_report (Ok report) = Ok report
 as_report (Err e) = Err (report_fault e)
 
--- what bytes are read as that spell an object in JSON
+-- The report read from bytes that are a JSON object.
 abbrev pub report_in : (Data → Reading Report) → List ℕ → ReportReading
 report_in reads bytes = as_report (ok_or (object_in bytes) document_fault.NotJson >>= reads)
 
--- the report that one app sends, as bytes spell it
+-- The report that one app sends, from its bytes.
 unfoldable pub single_report_of : List ℕ → ReportReading
 single_report_of bytes = report_in single_of bytes
 
--- the report that a replica sends, as bytes spell it
+-- The report that a replica sends, from its bytes.
 unfoldable pub bulk_report_of : List ℕ → ReportReading
 bulk_report_of bytes = report_in bulk_of bytes

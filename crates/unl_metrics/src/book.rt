@@ -1,4 +1,4 @@
-//! The book of metrics.
+//! The book of metrics, a sorted list of keys with their counts.
 ghost use Rattle.std.specs.Prelude.{◌≡◌, ◌≢◌, ◌≤◌, ◌==◌, [], length, take, drop, not, All, position, Ok, Err, false, IfOk, IfErr, IfSome};
 ghost use Rattle.std.specs.Prelude.{OnOk, OnErr, option_map};
 ghost use Rattle.std.specs.List.{prefix_len, remove_range};
@@ -20,8 +20,8 @@ use std::alloc::Global;
 use std::marker::Model;
 use unl_documents::{Memory, Shared};
 
-/// What was counted, by environment, app, feature and hour: at most 10,000 such keys, with at most 100 variants at each.
-/// Contracts see it as the list of its keys in their order, each with its tally.
+/// Counts by environment, app, feature and hour. It holds at most 10,000 such keys, with at most 100 variants each. In
+/// contracts it is the list of its keys in ascending order, each with its tally.
 #[derive(Drop)]
 pub struct MetricsBook {
     rows: Vec<Shared<Row>>,
@@ -38,7 +38,7 @@ impl Model for MetricsBook {
 }
 
 impl MetricsBook {
-    /// A book of no keys. Takes no memory.
+    /// Creates an empty book. Doesn't allocate.
     pub fn new(alloc: Global) -> MetricsBook
         ensures { result ≡ [] }
     {
@@ -47,25 +47,25 @@ impl MetricsBook {
         }
     }
 
-    /// How many keys there are. Takes no memory.
+    /// The number of keys. Doesn't allocate.
     pub fn len(&self) -> usize
         ensures { result ≡ length self.now }
     {
         self.rows.len()
     }
 
-    /// Whether there are none. Takes no memory.
+    /// Whether there are no keys. Doesn't allocate.
     pub fn is_empty(&self) -> bool
         ensures { result ≡ (length self.now == 0) }
     {
         self.rows.is_empty()
     }
 
-    /// Adds what a report counts for an environment, entry by entry: all of it, or nothing. A sum ends at 2^64 - 1.
+    /// Adds all counts of a report, for an environment, or none of them. Sums saturate at 2^64 - 1.
     ///
     /// # Errors
-    /// `Full` exactly where the sum would have more than 10,000 keys, or more than 100 variant names at one key; or want of
-    /// memory. The book is then as before.
+    /// `Full` exactly if the sum would have more than 10,000 keys, or more than 100 variant names at one key. `Memory` if it
+    /// runs out of memory. On an error the book is unchanged.
     pub fn add(
         &mut self,
         alloc: Global,
@@ -86,10 +86,11 @@ impl MetricsBook {
         Ok(())
     }
 
-    /// Adds all that another book has, which is then empty: all of it, or nothing. A sum ends at 2^64 - 1.
+    /// Moves all counts of another book into this one, or none of them. On success the other book is empty. Sums saturate at
+    /// 2^64 - 1.
     ///
     /// # Errors
-    /// As [`MetricsBook::add`]. Both books are then as before.
+    /// As for [`MetricsBook::add`]. On an error both books are unchanged.
     pub fn merge(&mut self, alloc: Global, other: &mut MetricsBook) -> Result<(), AddRefusal>
         ensures merged { OnOk result (if_fits (sum_of self.old other.old) ≡ Ok self.new) }
         ensures emptied { OnOk result (other.new ≡ []) }
@@ -106,9 +107,10 @@ impl MetricsBook {
         Ok(())
     }
 
-    /// The bulk report of the environment's keys, in their order: as many of them, from the first on, as its text of at most
-    /// 1,048,576 bytes has room for, and their count. None exactly where the environment has no key. The text is read by
-    /// [`Report::read_bulk`] as what was counted at these keys.
+    /// The bulk report of an environment, and how many keys it has. It takes as many of the environment's keys, in order from
+    /// the first, as fit into a text of at most 1,048,576 bytes. Returns `None` exactly if the environment has no key.
+    /// [`Report::read_bulk`] reads the text back as the counts of these keys, if all names and hours in the book are within
+    /// the limits of reports that were read.
     pub fn bulk(&self, alloc: Global, environment: &str) -> Result<Option<(Value, usize)>, Memory>
         ensures report { IfOk result (λ found. option_map (λ sent. (view sent.0, sent.1)) found ≡ bulk_of environment.now self.now) }
         ensures reads_back { All IsSendable self.now → IfOk result (λ found. IfSome found (λ sent.
@@ -118,7 +120,8 @@ impl MetricsBook {
         bulk(alloc, self.rows.as_slice(), environment)
     }
 
-    /// Drops the first so many keys of an environment, which has got them. Takes no memory.
+    /// Drops the first `count` keys of an environment, or all of them if there are fewer. For keys whose report was received.
+    /// Doesn't allocate.
     pub fn acknowledged(&mut self, environment: &str, count: usize)
         ensures { self.new ≡ acknowledge environment.now count self.old }
     {
@@ -129,7 +132,7 @@ impl MetricsBook {
     }
 }
 
-/// The place of the first row of an environment, or how many rows there are.
+/// The position of the first row of an environment, or the number of rows if it has none.
 fn first_of(rows: &[Shared<Row>], environment: &str) -> usize
     ensures place { result ≡ prefix_len (λ row. not (is_of environment.now row.0)) rows.now }
     ensures inside { result ≤ length rows.now }
@@ -140,14 +143,14 @@ fn first_of(rows: &[Shared<Row>], environment: &str) -> usize
     }
 }
 
-/// The place of the first row of an environment.
+/// The position of the first row of an environment.
 fn place_in(rows: &[Shared<Row>], environment: &str) -> Option<usize>
     ensures { result ≡ position (λ row. is_of environment.now row.0) rows.now }
 {
     rows.iter().position(|row| row.get().is_of(environment))
 }
 
-/// How many rows, from the first on, are of an environment.
+/// How many rows at the start of the slice are of an environment.
 fn run_of(rows: &[Shared<Row>], environment: &str) -> usize
     ensures run { result ≡ prefix_len (λ row. is_of environment.now row.0) rows.now }
     ensures inside { result ≤ length rows.now }
@@ -158,7 +161,7 @@ fn run_of(rows: &[Shared<Row>], environment: &str) -> usize
     }
 }
 
-/// The place of the first row that isn't of an environment.
+/// The position of the first row that isn't of an environment.
 fn place_outside(rows: &[Shared<Row>], environment: &str) -> Option<usize>
     ensures { result ≡ position (λ row. not (is_of environment.now row.0)) rows.now }
 {

@@ -1,4 +1,4 @@
-//! The bulk report that a book is sent as.
+//! The bulk report in which a book's counts are sent.
 ghost use Rattle.std.specs.Prelude.{◌≡◌, ◌<◌, ◌==◌, ◌^◌, false, if◌then◌else◌, IfOk, All, length, map, option_map, take};
 ghost use Rattle.serde_json.specs.View.{view, items_of};
 ghost use Rattle.serde_json.specs.Written.{has_float, compact_text};
@@ -14,7 +14,7 @@ use unl_documents::{Field, List, Memory, Shared, Text};
 /// The longest bulk report, in bytes.
 const LONGEST: usize = 1_048_576;
 
-/// How many bytes a bulk report of no rows has.
+/// The length of a bulk report without rows, in bytes.
 const EMPTY: usize = 32;
 
 /// The rows of an environment.
@@ -34,7 +34,7 @@ fn rows_of(
     Ok(found)
 }
 
-/// The rows as they are written, from the first on, as many as a bulk report has room for.
+/// The JSON of the rows, from the first, as many as fit into one bulk report.
 fn front_of(alloc: Global, rows: &[Shared<Row>]) -> Result<Vec<Value>, Memory>
     requires { All IsCounted rows.now }
     ensures values { IfOk result (λ values. map view values.items ≡ map counted_data (take (room_for rows.now) rows.now)) }
@@ -54,7 +54,7 @@ fn front_of(alloc: Global, rows: &[Shared<Row>]) -> Result<Vec<Value>, Memory>
     Ok(values)
 }
 
-/// How many bytes the text of a value has.
+/// The length of a value's text, in bytes.
 fn length_of(alloc: Global, value: &Value) -> Result<usize, Memory>
     requires { has_float (view value.now) ≡ false }
     ensures length { IfOk result (λ n. n ≡ length (compact_text (view value.now))) }
@@ -63,14 +63,14 @@ fn length_of(alloc: Global, value: &Value) -> Result<usize, Memory>
     Ok(value.to_string(alloc)?.len())
 }
 
-/// How many bytes stand between an item and those before it.
+/// The number of separator bytes before an item, given how many items come before it.
 fn comma(before: usize) -> usize
     ensures { result ≡ (if before == 0 then 0 else 1) }
 {
     if before == 0 { 0 } else { 1 }
 }
 
-/// The bulk report of rows as they are written.
+/// The bulk report of rows that are already JSON.
 #[tactic(auto, unfolding(crate::specs::Bulk::bulk_of_items))]
 fn bulk_value(alloc: Global, values: Vec<Value>) -> Result<Value, Memory>
     ensures { IfOk result (λ v. view v ≡ bulk_of_items (items_of (map view values.items))) }
@@ -82,7 +82,7 @@ fn bulk_value(alloc: Global, values: Vec<Value>) -> Result<Value, Memory>
     Ok(Value::Object(members))
 }
 
-/// The bulk report of an environment, and how many keys it has; none where the environment has no key.
+/// The bulk report of an environment and how many keys it has, or `None` if the environment has no key.
 pub(crate) fn bulk(
     alloc: Global,
     rows: &[Shared<Row>],

@@ -1,23 +1,23 @@
-//! Why a report could not be read.
+//! Why a report can't be read.
 ghost use Rattle.std.specs.Prelude.{◌≡◌};
 ghost use Rattle.unl_metrics.specs.Reports.{report_fault};
 ghost use Rattle.unl_metrics.specs.declared.fault.BadReport.TheVariants.{Memory as memory};
 
 use unl_documents::{BadDocument, Field, Memory};
 
-/// Why bytes are no report: the first fault, or want of memory.
+/// Why bytes are not a report: the first fault, or out of memory.
 #[derive(Clone, Copy, Debug, PartialEq, Eq)]
 pub enum BadReport {
-    /// No JSON, or no object.
+    /// Not JSON, or not an object.
     NotJson,
-    /// The key is required and absent, or a name at it has no bytes.
+    /// The key is required and absent, or a name at it is empty.
     Missing(Field),
-    /// The value at the key is of another kind than the key takes: also a count that is no whole number from 0 on, and a
-    /// text that is no instant of the years 1970 to 9999.
+    /// The value at the key is of the wrong kind. Includes a count that is no whole number from 0 on, and a text that is no
+    /// instant in the years 1970 to 9999.
     WrongKind(Field),
-    /// With the length or the count that is past its limit.
+    /// The length or count at the key is above its limit. Carries that length or count.
     TooLarge(Field, u64),
-    /// Memory ran out.
+    /// It ran out of memory.
     Memory,
 }
 

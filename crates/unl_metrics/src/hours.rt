@@ -1,4 +1,4 @@
-//! Hours since 1970.
+//! Whole hours since 1970, and their text.
 ghost use Rattle.std.specs.Prelude.{◌≡◌, ◌<◌, ◌≤◌, pos, IfOk, IfSome, option_and_then};
 ghost use Rattle.unl_constraints.specs.Instant.{instant_of};
 ghost use Rattle.jiff.specs.Words.{epoch_day};
@@ -13,7 +13,7 @@ use unl_constraints::read_instant;
 use unl_documents::kind::Kind;
 use unl_documents::{BadDocument, Field, Memory, Text};
 
-/// The hour of an instant of the years 1970 to 9999, which is given as a text.
+/// A document value that is the text of an instant in the years 1970 to 9999. It is read as its hour.
 pub(crate) struct Hour;
 
 impl Kind for Hour {
@@ -37,7 +37,7 @@ impl Kind for Hour {
     }
 }
 
-/// The hour of the instant that a text names, if it is of the years 1970 to 9999.
+/// The hour of the instant that a text names, if that is in the years 1970 to 9999.
 fn hour_in(alloc: Global, text: &str) -> Result<Option<u32>, Memory>
     ensures hour { IfOk result (λ hour. hour ≡ option_and_then hour_of (instant_of text.now)) }
     ensures below { IfOk result (λ hour. IfSome hour (λ h. h ≤ last_hour)) }
@@ -54,7 +54,7 @@ fn hour_of_text(alloc: Global, text: &str) -> Result<Option<u32>, Memory>
     }
 }
 
-/// The whole hours from 1970 to an instant in nanoseconds, if it is of the years 1970 to 9999.
+/// The whole hours from 1970 to an instant, if that is in the years 1970 to 9999. The instant is in nanoseconds.
 #[tactic(auto, unfolding(crate::specs::Hours::hour_of))]
 fn hour_of(instant: i128) -> Option<u32>
     ensures { result ≡ hour_of instant }
@@ -70,7 +70,7 @@ fn hour_of(instant: i128) -> Option<u32>
     }
 }
 
-/// The day so many days after 1970-01-01.
+/// The date `days` days after 1970-01-01.
 fn day_after(days: u32) -> Date
     requires { days < 2932897 }
     ensures { epoch_day result ≡ pos days }
@@ -79,7 +79,7 @@ fn day_after(days: u32) -> Date
     epoch.checked_add((days as i64).days()).unwrap()
 }
 
-/// An hour as a text, `YYYY-MM-DDTHH:00:00Z`.
+/// The text of an hour, `YYYY-MM-DDTHH:00:00Z`.
 pub(crate) fn hour_text(alloc: Global, hour: u32) -> Result<Text, Memory>
     requires { hour < hours_of_years }
     ensures { IfOk result (λ t. t ≡ hour_text hour) }

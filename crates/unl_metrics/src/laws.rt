@@ -1,4 +1,4 @@
-//! What holds of books of metrics, and of what is sent of them.
+//! Laws of metrics books, and of the bulk reports sent from them.
 ghost use Rattle.std.specs.Prelude.{◌≡◌, ◌≢◌, ◌↔◌, ◌<◌, ◌≤◌, ℕ, List, [], None, T, All, length, map, take, drop, fold};
 ghost use Rattle.std.specs.Cmp.Lexicographic.{slice_cmp};
 ghost use Rattle.std.specs.FinMap.Entries.{is_sorted};
@@ -10,12 +10,13 @@ ghost use Rattle.unl_metrics.specs.Book.{counted, counted_in, acknowledge, IsCou
 ghost use Rattle.unl_metrics.specs.Bulk.{bulk, bulk_data, bulk_length, longest_bulk, room_for};
 ghost use Rattle.unl_metrics.specs.Readable.{AreReadable, IsReadAs, IsSendable, entries_at};
 
-/// A book is a finite map: books with the same tally at each key are the same.
+/// A book is a finite map: two books with the same tally at each key are equal.
 pub fn books_are_maps()
     ensures { (a b : Book) → IsInOrder a → IsInOrder b → ((key : Key) → tally_at key a ≡ tally_at key b) → a ≡ b }
 {}
 
-/// At each key the sum has the sum of what both have there; and so has a sum of tallies at each variant.
+/// The sum of two books has at each key the sum of both tallies, and the sum of two tallies has at each variant the sum
+/// of both counts.
 pub fn sums_are_sums_at_each_key()
     ensures entries { (book others : Book) (key : Key) → tally_at key (sum_of book others)
         ≡ fold (and_more tally_sum) (tally_at key book) (tallies_at key others) }
@@ -26,7 +27,7 @@ pub fn sums_are_sums_at_each_key()
     ensures order { (book others : Book) → IsInOrder book → All IsCounted others → IsInOrder (sum_of book others) }
 {}
 
-/// Of the environment the first keys go, and of others none.
+/// Acknowledging drops the first keys of the environment, and no keys of others.
 pub fn acknowledged_keys_go()
     ensures these { (environment : List ℕ) (count : ℕ) (book : Book) → counted_in environment (acknowledge environment count book)
         ≡ drop count (counted_in environment book) }
@@ -34,14 +35,15 @@ pub fn acknowledged_keys_go()
         → counted_in other (acknowledge environment count book) ≡ counted_in other book }
 {}
 
-/// None is sent exactly where there is no key; else as many keys as the text has room for, and no longer front of them has room.
+/// Nothing is sent exactly if there is no key. Otherwise the longest prefix of the keys is sent whose text fits.
 pub fn the_longest_front_is_sent()
     ensures none { (environment : List ℕ) (book : Book) → (bulk environment book ≡ None) ↔ (counted_in environment book ≡ []) }
     ensures fits { (book : Book) → bulk_length (take (room_for book) book) ≤ longest_bulk }
     ensures longest { (book : Book) (n : ℕ) → room_for book < n → n ≤ length book → longest_bulk < bulk_length (take n book) }
 {}
 
-/// What a book counts in an environment is the entries of a report, and the bulk report that is sent of these is read as that report.
+/// A book's counts in an environment can be turned into the entries of a report, and the bulk report sent for them is
+/// read as that report.
 pub fn what_is_sent_is_read()
     ensures entries { (environment : List ℕ) (book : Book) → map (counted environment) (entries_at (counted_in environment book))
         ≡ counted_in environment book }
@@ -52,7 +54,7 @@ pub fn what_is_sent_is_read()
     ensures depth { (book : Book) → depth (bulk_data book) ≤ 4 }
 {}
 
-/// What is read may be sent, and so may sums of it and what is left of it.
+/// What was read can be sent, and so can sums of it and what an acknowledgement leaves.
 pub fn what_is_read_may_be_sent()
     ensures entries { (environment : List ℕ) (entries : List MetricEntry) → AreReadable entries
         → All IsSendable (map (counted environment) entries) }

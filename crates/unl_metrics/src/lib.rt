@@ -1,4 +1,5 @@
-//! Metrics of features: reports of how often each was on and off, and the book that sums them until they are sent on.
+//! Feature metrics: reports of how many times each feature was on and off, and the book that sums them until they are
+//! sent upstream.
 #![tactic(auto)]
 
 mod book;

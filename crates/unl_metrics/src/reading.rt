@@ -1,4 +1,4 @@
-//! Reading the values of reports.
+//! Reads reports from JSON values.
 ghost use Rattle.std.specs.Prelude.{◌≡◌, ◌≤◌, IfOk, All, map, length};
 ghost use Rattle.serde_json.specs.Events.{members_len};
 ghost use Rattle.serde_json.specs.View.{view, members_view};
@@ -20,7 +20,7 @@ use unl_documents::keys::{defaulted, required, value_at};
 use unl_documents::kind::{AnyWhole, Kind, Name, name_of};
 use unl_documents::{BadDocument, Copied, Field, List, Text};
 
-/// How often each variant was given: an object of whole numbers.
+/// A document value with the count of each variant: an object of whole numbers.
 struct Variants;
 
 impl Kind for Variants {
@@ -83,7 +83,7 @@ fn variant_of(
     Ok(VariantCount { name, count })
 }
 
-/// What an object counts of a feature of an app in an hour.
+/// Reads the counts of a feature in an app and an hour from an object.
 #[tactic(auto, unfolding(crate::specs::Reports::entry_of))]
 fn entry_of(
     alloc: Global,
@@ -153,7 +153,7 @@ fn each_toggle(
     Ok(entries)
 }
 
-/// The toggles of an app in an hour: an object of objects.
+/// Reads the toggles of an app and an hour: an object of objects.
 #[tactic(auto, unfolding(crate::specs::Reports::members))]
 fn toggles_of(
     alloc: Global,
@@ -190,10 +190,10 @@ fn bucket_of(alloc: Global, app: &Text, value: &Value) -> Result<List<MetricEntr
     }
 }
 
-/// The report that one app sends.
+/// Reads the report that one app sends.
 ///
 /// # Errors
-/// The first fault of its keys.
+/// The first fault, in the order of the keys.
 #[tactic(auto, unfolding(crate::specs::Reports::single_of))]
 pub(crate) fn read_single(alloc: Global, value: &Value) -> Result<Report, BadDocument>
     ensures gives { Gives result (single_of (view value.now)) }
@@ -238,10 +238,10 @@ impl Document for MetricEntry {
     }
 }
 
-/// The report that a replica sends for its apps.
+/// Reads the report that a replica sends for its apps.
 ///
 /// # Errors
-/// The first fault of its keys.
+/// The first fault, in the order of the keys.
 #[tactic(auto, unfolding(crate::specs::Reports::bulk_of))]
 pub(crate) fn read_bulk(alloc: Global, value: &Value) -> Result<Report, BadDocument>
     ensures gives { Gives result (bulk_of (view value.now)) }

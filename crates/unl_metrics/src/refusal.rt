@@ -1,4 +1,4 @@
-//! Why a book did not grow.
+//! Why a book refuses counts.
 ghost use Rattle.std.specs.Prelude.{◌≡◌};
 ghost use Rattle.unl_metrics.specs.declared.refusal.AddRefusal.TheVariants.{Memory as memory};
 
@@ -8,9 +8,9 @@ use unl_documents::Memory;
 /// Why nothing was added to a book.
 #[derive(Clone, Copy, Debug, PartialEq, Eq)]
 pub enum AddRefusal {
-    /// The sum would hold more than 10,000 keys, or more than 100 variant names at one key.
+    /// The sum would have more than 10,000 keys, or more than 100 variant names at one key.
     Full,
-    /// Memory ran out.
+    /// It ran out of memory.
     Memory,
 }
 

@@ -1,4 +1,4 @@
-//! Reports of how often features were on and off.
+//! Reports of how many times features were on and off.
 ghost use Rattle.std.specs.Prelude.{IfOk};
 ghost use Rattle.unl_documents.specs.Results.{Gives};
 ghost use Rattle.unl_metrics.specs.Readable.{AreReadable};
@@ -11,50 +11,50 @@ use std::alloc::Global;
 use unl_documents::parsing::read_object;
 use unl_documents::{Copied, List, Memory, Text};
 
-/// How often a variant was given.
+/// How many times a variant was given.
 #[derive(Debug, Drop, PartialEq)]
 pub struct VariantCount {
     /// The variant's name.
     pub name: Text,
-    /// How often it was given.
+    /// How many times it was given.
     pub count: u64,
 }
 
-/// What was counted of a feature of an app in an hour.
+/// The counts of one feature in one app during one hour.
 #[derive(Debug, Drop, PartialEq)]
 pub struct MetricEntry {
     /// The app's name.
     pub app: Text,
     /// The feature's name.
     pub feature: Text,
-    /// The hour, in whole hours since 1970: below 70,389,528, as every hour of the years 1970 to 9999 is.
+    /// The hour, in whole hours since 1970. It is less than 70,389,528, which covers the years 1970 to 9999.
     pub hour: u32,
-    /// How often the feature was on.
+    /// How many times the feature was on.
     pub yes: u64,
-    /// How often it was off.
+    /// How many times it was off.
     pub no: u64,
-    /// How often each variant was given, the names rising in byte order.
+    /// How many times each variant was given, in byte order of names, which are different.
     pub variants: List<VariantCount>,
 }
 
-/// What was counted, entry by entry.
+/// The counts of a report.
 #[derive(Debug, Drop, PartialEq)]
 pub struct Report {
-    /// The entries, of which several may have one app, feature and hour.
+    /// The entries. Several may have the same app, feature and hour.
     pub entries: List<MetricEntry>,
 }
 
 impl Report {
-    /// The report that one app sends, as bytes spell it in JSON:
+    /// Reads the report that one app sends, from JSON:
     /// `{"appName":"..","bucket":{"start":"..","toggles":{"NAME":{"yes":0,"no":0,"variants":{"NAME":0}}}}}`.
     ///
-    /// `appName`, `bucket` and `start` are required; the others are empty or 0 where they are absent. `start` is an instant
-    /// of the years 1970 to 9999, and its hour is that of all entries, one for each toggle.
+    /// `appName`, `bucket` and `start` are required. The others default to empty or 0. `start` is an instant in the years
+    /// 1970 to 9999, and its hour is that of all entries. Each toggle gives one entry.
     ///
     /// # Errors
-    /// The first fault, the keys in the order `appName`, `bucket` with `start` and `toggles`, and in a toggle `yes`, `no`
-    /// and `variants`. At `toggles` and `variants` more than 10,000 and more than 100 members are `TooLarge`; then the
-    /// members follow in byte order, each with its key, a name, before its value. Or want of memory.
+    /// The first fault, with the keys in the order `appName`, then `bucket` with `start` and `toggles`, and in a toggle
+    /// `yes`, `no` and `variants`. More than 10,000 members of `toggles`, or 100 of `variants`, are `TooLarge`. The members
+    /// follow in byte order, each with its key, which is a name, before its value. `Memory` if it runs out of memory.
     pub fn read_single(alloc: Global, bytes: &[u8]) -> Result<Report, BadReport>
         ensures gives { Gives memory result (single_report_of bytes.now) }
         ensures valid { IfOk result IsReport }
@@ -63,14 +63,14 @@ impl Report {
         single_report(alloc, bytes)
     }
 
-    /// The report that a replica sends for its apps, as bytes spell it in JSON:
+    /// Reads the report that a replica sends for its apps, from JSON:
     /// `{"metrics":[{"featureName":"..","appName":"..","timestamp":"..","yes":0,"no":0,"variants":{"NAME":0}}]}`.
     ///
-    /// `metrics`, and `featureName`, `appName` and `timestamp` of each of its entries, are required.
+    /// `metrics` is required, and in each of its entries `featureName`, `appName` and `timestamp`.
     ///
     /// # Errors
-    /// The first fault: at `metrics` that an item is no object, then more than 10,000 of them, then entry by entry the keys
-    /// in the order shown, as [`Report::read_single`] reads them. Or want of memory.
+    /// The first fault: an item of `metrics` that is no object, then more than 10,000 items, then entry by entry the keys in
+    /// the order shown, as [`Report::read_single`] reads them. `Memory` if it runs out of memory.
     pub fn read_bulk(alloc: Global, bytes: &[u8]) -> Result<Report, BadReport>
         ensures gives { Gives memory result (bulk_report_of bytes.now) }
         ensures valid { IfOk result IsReport }

@@ -1,4 +1,4 @@
-//! A key of a book, and what was counted at it.
+//! A key of the book with its counts.
 ghost use Rattle.std.specs.Prelude.{◌≡◌, ◌≤◌, ℕ, List, false, T, fold, IfOk, OnOk, length, map, slice_get};
 ghost use Rattle.std.specs.Cmp.Lexicographic.{slice_cmp};
 ghost use Rattle.std.specs.FinMap.Entries.{is_sorted};
@@ -19,7 +19,7 @@ use std::marker::Model;
 use unl_documents::written::{Written, put, put_value};
 use unl_documents::{Copied, Field, List, Memory, Text};
 
-/// A key of a book and its tally, as the entry of a report and the environment that this is for.
+/// A key of the book and its tally, stored as a report entry and the environment it is for.
 #[derive(Drop)]
 pub(crate) struct Row {
     environment: Text,
@@ -35,7 +35,7 @@ impl Model for Row {
 }
 
 impl Row {
-    /// The row of an entry for an environment.
+    /// The row of an entry in an environment.
     pub(crate) fn new(alloc: Global, environment: &str, entry: &MetricEntry) -> Result<Row, Memory>
         ensures { IfOk result (λ row. row ≡ counted environment.now entry.now) }
     {
@@ -45,7 +45,7 @@ impl Row {
         })
     }
 
-    /// The order of the keys: by environment, app, feature and hour.
+    /// Compares the keys: by environment, app, feature and hour.
     pub(crate) fn compare(&self, other: &Row) -> Ordering
         ensures { result ≡ key_cmp self.now.0 other.now.0 }
     {
@@ -55,21 +55,21 @@ impl Row {
             .then(self.entry.hour.cmp(&other.entry.hour))
     }
 
-    /// Whether the key is of the environment.
+    /// Whether the key is in the environment.
     pub(crate) fn is_of(&self, environment: &str) -> bool
         ensures { result ≡ is_of environment.now self.now.0 }
     {
         self.environment.as_str() == environment
     }
 
-    /// Whether there are at most 100 variants.
+    /// Whether the tally has at most 100 variants.
     pub(crate) fn has_few_variants(&self) -> bool
         ensures { result ≡ has_few_variants self.now }
     {
         self.entry.variants.len() <= 100
     }
 
-    /// This key with the sum of both tallies.
+    /// This row's key with the sum of both tallies.
     pub(crate) fn plus(&self, alloc: Global, other: &Row) -> Result<Row, Memory>
         requires { IsCounted self.now }
         ensures { IfOk result (λ row. row ≡ (self.now.0, tally_sum self.now.1 other.now.1)) }
@@ -87,14 +87,14 @@ fn compare(this: &str, that: &str) -> Ordering
     this.cmp(that)
 }
 
-/// The sum, which ends at 2^64 - 1.
+/// The sum, saturating at 2^64 - 1.
 fn sum(a: u64, b: u64) -> u64
     ensures { result ≡ sum a b }
 {
     a.saturating_add(b)
 }
 
-/// The first entry with the sums of both.
+/// The first entry, with the counts of both added.
 #[tactic(auto, unfolding(crate::specs::Book::tally_sum))]
 fn entry_sum(alloc: Global, this: &MetricEntry, that: &MetricEntry) -> Result<MetricEntry, Memory>
     requires { T (is_sorted (slice_cmp nat_cmp) (map pair this.now.variants)) }
@@ -143,7 +143,7 @@ fn add_variant(
     Ok(())
 }
 
-/// Where the name stands, or else belongs, among counts whose names rise.
+/// The position of a name, or where it would be inserted, by binary search. The names ascend.
 fn place_of(counts: &[VariantCount], name: &str) -> usize
     requires { T (is_sorted (slice_cmp nat_cmp) (map pair counts.now)) }
     ensures place { result ≡ place (slice_cmp nat_cmp) name.now (map pair counts.now) }
@@ -152,7 +152,7 @@ fn place_of(counts: &[VariantCount], name: &str) -> usize
     counts.partition_point(|count| compare(count.name.as_str(), name).is_lt())
 }
 
-/// Whether the name stands at the place.
+/// Whether the count at the position has the name.
 fn is_at(counts: &[VariantCount], place: usize, name: &str) -> bool
     ensures { result ≡ option_map_or (λ v. is_eq (slice_cmp nat_cmp v.name name.now)) (slice_get counts.now place) false }
 {
@@ -163,7 +163,7 @@ fn is_at(counts: &[VariantCount], place: usize, name: &str) -> bool
 }
 
 impl Row {
-    /// The key and its tally as they are written.
+    /// The key and its tally as JSON.
     #[tactic(auto, unfolding(crate::specs::Bulk::counted_data))]
     pub(crate) fn write(&self, alloc: Global) -> Result<Value, Memory>
         requires { IsCounted self.now }
@@ -183,7 +183,7 @@ impl Row {
     }
 }
 
-/// The counts of variants as an object.
+/// The variant counts as a JSON object.
 #[tactic(auto, unfolding(crate::specs::Bulk::variants_data))]
 fn variants_value(alloc: Global, counts: &[VariantCount]) -> Result<Value, Memory>
     ensures { IfOk result (λ v. view v ≡ variants_data (map pair counts.now)) }

@@ -12,7 +12,7 @@ use crate::row::Row;
 use std::alloc::Global;
 use unl_documents::{Memory, Shared};
 
-/// The rows, shared.
+/// Another list of the same rows, which it shares.
 pub(crate) fn copies(alloc: Global, rows: &[Shared<Row>]) -> Result<Vec<Shared<Row>>, Memory>
     ensures { IfOk result (λ copies. copies.items ≡ rows.now) }
 {
@@ -23,7 +23,7 @@ pub(crate) fn copies(alloc: Global, rows: &[Shared<Row>]) -> Result<Vec<Shared<R
     Ok(copies)
 }
 
-/// Where a row's key stands, or else belongs, among rows in order.
+/// The position of a row's key, or where it would be inserted, by binary search. The rows are in ascending order of keys.
 fn place_of(rows: &[Shared<Row>], row: &Row) -> usize
     requires { T (is_sorted key_cmp rows.now) }
     ensures place { result ≡ place key_cmp row.now.0 rows.now }
@@ -32,7 +32,7 @@ fn place_of(rows: &[Shared<Row>], row: &Row) -> usize
     rows.partition_point(|other| other.get().compare(row).is_lt())
 }
 
-/// Whether a row of this key stands at the place.
+/// Whether the row at the position has the same key.
 fn is_at(rows: &[Shared<Row>], place: usize, row: &Row) -> bool
     ensures { result ≡ option_map_or (λ other. is_eq (key_cmp other.0 row.now.0)) (slice_get rows.now place) false }
 {
@@ -42,7 +42,7 @@ fn is_at(rows: &[Shared<Row>], place: usize, row: &Row) -> bool
     }
 }
 
-/// Adds a row's tally at its key.
+/// Adds a row's tally to that of its key, or inserts the row.
 fn add_row(rows: &mut Vec<Shared<Row>>, alloc: Global, row: Shared<Row>) -> Result<(), Memory>
     requires { IsInOrder rows.old.items }
     ensures { OnOk result (rows.new.items ≡ with_tally rows.old.items row) }
@@ -57,7 +57,7 @@ fn add_row(rows: &mut Vec<Shared<Row>>, alloc: Global, row: Shared<Row>) -> Resu
     Ok(())
 }
 
-/// The rows and what else was counted, in one.
+/// The rows with the others added.
 pub(crate) fn sum_of(
     alloc: Global,
     rows: &[Shared<Row>],
@@ -75,7 +75,7 @@ pub(crate) fn sum_of(
     Ok(all)
 }
 
-/// The rows and the entries of a report for an environment, in one.
+/// The rows with a report's entries added, for an environment.
 pub(crate) fn report_sum(
     alloc: Global,
     rows: &[Shared<Row>],

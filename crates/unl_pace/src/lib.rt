@@ -1,4 +1,4 @@
-//! A pace that begins quickly, for a job whose first turn may come too early.
+//! A pace with exponential backoff up to an interval, for a job whose first turn may come too early.
 #![tactic(auto)]
 
 ghost use Rattle.std.specs.Prelude.{◌≡◌};
@@ -8,8 +8,8 @@ use std::thread;
 use std::time::{Clock, Duration};
 use unl_base::Pace;
 
-/// A pace that sleeps before each turn and has no last one, or that has no turn. It sleeps for a first time, then each time twice as
-/// long as before, but never longer than an interval.
+/// A pace that sleeps before each turn. The first sleep has a given length, and each further one is twice as long as the
+/// one before, but never longer than the interval. The pace has no last turn. Without an interval it has no turn at all.
 #[derive(Drop)]
 pub struct StartPace<C: Clock + Drop> {
     clock: C,
@@ -18,7 +18,8 @@ pub struct StartPace<C: Clock + Drop> {
 }
 
 impl<C: Clock + Drop> StartPace<C> {
-    /// A pace whose first wait is `first`, and that waits no longer than the interval. It has no turn where there is no interval.
+    /// Creates a pace that first sleeps for `first`, or for the interval if that is shorter. Without an interval it has no
+    /// turn.
     pub fn new(clock: C, first: Duration, interval: Option<Duration>) -> Self
         ensures { ⟦<StartPace<C> as Pace>⟧.turns result ≡ turns_of interval }
     {

@@ -1,4 +1,4 @@
--- Each kind of step keeps the rule.
+-- Each kind of step keeps the invariant.
 use Rattle.std.proofs.Common.{◌≡◌, ℕ, zero, suc, ◌+◌, ◌≤◌, ◌≢◌, List, [], ◌∷◌, ◌++◌, length, fold, set, Option, Some, refl, sym, ap, ◌∙◌, subst, ⊎_elim, le_refl, le_trans, add-zero, zero-le, append_assoc, append-nil, length-append, arith}
 use Rattle.std.proofs.lemmas.List.Sums.{fold-append}
 use mathlib.Core.Option.{some, some-injective, some-ne-none}
@@ -17,7 +17,7 @@ pub Rise-push : (first : ℕ) (ns : List ℕ) (last n : ℕ) → Rise first ns l
 Rise-push first [] last n h up = (le_trans h up, le_refl n)
 Rise-push first (m ∷ ns) last n h up = (h.0, Rise-push m ns last n h.1 up)
 
--- ---- beginnings of a list
+-- ---- prefixes of a list
 
 module _ {I : Type 0} where
   pub StartsWith-itself : (xs : List I) → StartsWith xs xs
@@ -37,7 +37,7 @@ module _ {I : Type 0} where
   StartsWith-whole xs front h e = h.1 ∙ nothing_left front h.0 (e ∙ ap (λ (l : List I). length l) h.1)
 
 module _ {S I : Type 0} where
-  -- ---- what one knows, beside the list
+  -- ---- the knowledge of one writer or reader
 
   Fits-longer : (opening : S) (list more : List I) (v : Knowledge S I) → Fits opening list v → Fits opening (list ++ more) v
   Fits-longer opening list more v h = record {
@@ -56,7 +56,7 @@ module _ {S I : Type 0} where
   Fits-note : (opening : S) (list : List I) (v : Knowledge S I) → Fits opening list v → Fits opening list (told_by v)
   Fits-note opening list v h = record { opened = h.opened; seen = h.seen; fronts = zero-le }
 
-  -- ---- all of them
+  -- ---- the knowledge of all
 
   AllFit-set : (opening : S) (list : List I) (views : List (Knowledge S I)) (seat : ℕ) (w : Knowledge S I)
       → ((j : ℕ) (v : Knowledge S I) → get_elem? views j ≡ some v → Fits opening list v) → Fits opening list w
@@ -125,7 +125,7 @@ module _ {S I : Type 0} where
           },
         )
 
-    -- who knows as many installs as the front counts knows the whole list, as the writer does
+    -- A reader that knows as many installs as the front counts knows the whole list, as the writer does.
     pub knows_all : (value : S) (views : List (Knowledge S I)) (k : IsKept installed front_of value views) (seat : ℕ) (v : Knowledge S I) → get_elem? views seat ≡ some v
         → front_of value ≡ length v.installs → v.installs ≡ k.list
     knows_all value views k seat v at whole = sym (StartsWith-whole k.list v.installs (k.fits seat v at).seen (sym whole ∙ k.front_is))

@@ -1,4 +1,4 @@
--- What a look changes of what a reader's knowledge means.
+-- How a look changes what a reader's knowledge means.
 use Rattle.std.proofs.Common.{◌≡◌, ℕ, zero, suc, ◌<◌, ◌≤◌, leb, List, [], ◌∷◌, length, take, fold, Bool, true, false, Option, Some, None, refl, sym, ap, ◌∙◌, subst, arith, take_all, is_some, inr}
 use Rattle.std.specs.Option.{option_map}
 use Rattle.std.proofs.lemmas.List.{take-append-le}
@@ -38,7 +38,7 @@ module _ {S I : Type 0} (installed : S → I → S) where
   abbrev after_list : List I → Option S → ℕ → Option S
   after_list list opening k = option_map (λ o. fold installed o (take k list)) opening
 
-  -- what was known still is, and is the same
+  -- What was known is still known, and is the same.
   keeps : (past : Option (Knowledge S I)) (v w : Knowledge S I) → IsAhead past v → Takes installed past v w → (k : ℕ) (b : S)
       → value_at installed (known past v) k ≡ Some b → value_at installed w k ≡ Some b
   keeps None v w ahead t k b e =
@@ -74,7 +74,7 @@ module _ {S I : Type 0} (installed : S → I → S) where
   pub Follows-itself : (v : Knowledge S I) → Follows installed v v
   Follows-itself v = record { rises = omega arith; keeps = λ k b e. e }
 
-  -- what is shown is known
+  -- The value shown is known.
   pub value_at-here : (w : Knowledge S I) (opening : S) → length w.before ≤ length w.installs → w.opening ≡ Some opening → value_at installed w (front_seen w) ≡ Some (fold installed opening w.installs)
   value_at-here w opening short is =
       let n : ℕ = length w.installs in
@@ -87,7 +87,7 @@ module _ {S I : Type 0} (installed : S → I → S) where
   shown_here w value (Some opening) is there short means = value_at-here w opening short is ∙ sym (ap (λ (s : S). Some s) (means opening is))
   shown_here w value None is there short means = absurd cc
 
-  -- a look that came to too few
+  -- A look that saw fewer installs than it had to.
   pub refuses : (least : ℕ) (past late : Option (Knowledge S I)) (v w now : Knowledge S I) → IsAhead past v → Takes installed past v w → length w.installs < least → late ≡ None → now ≡ w
       → Follows installed (known past v) (known late now) × LooksBelow least (known past v) (known late now)
   refuses least past late v w now ahead t few none is =

@@ -1,4 +1,4 @@
--- What the writer and a reader are sure of, in a ghost field and out of it.
+-- The invariants of the writer and the readers, inside and outside of ghost fields.
 use Rattle.std.proofs.Common.{◌≡◌, ℕ, suc, ◌+◌, ◌<◌, ◌≤◌, zero-le, List, [], ◌∷◌, length, fold, Some, false, is_err, Result, Ok, Err, MatchResult, IfSome, sym, ap, ◌∙◌, subst, add-zero, length-append, arith}
 use mathlib.Core.Logic.{∥∥₁_elim, ∥∥₁_map}
 use base.Stored.{Coded, Coded-set}
@@ -35,22 +35,22 @@ module _ {S I : Type 0} where
   pub IsLooking-from : (v : Knowledge S I) → ∥ IsLooking v ∥₁ → IsLooking v
   IsLooking-from v h = record { fronts = AreFronts-from v (∥∥₁_map h (λ x. x.fronts)); before = ∥∥₁_elim h le_prop (λ x. x.before) }
 
-  -- the fronts of all looks are below what the reader goes on from
+  -- The fronts of all looks are at most the length of the list that the reader continues from.
   pub IsBetweenLooks-rises : (past : Option (Knowledge S I)) (now : Knowledge S I) → IsBetweenLooks past now → Rise 0 (known past now).fronts (length now.installs)
   IsBetweenLooks-rises past now h = Rise-higher 0 (known past now).fronts (length (known past now).installs) (length now.installs) h.fronts (known_ahead past now h.ahead)
 
-  -- going on from what was told
+  -- The reader continues from a learned list.
   pub IsBetweenLooks-told : (past : Option (Knowledge S I)) (now told kept : Knowledge S I) → IsBetweenLooks past now → kept ≡ known past now → length now.installs < length told.installs → IsBetweenLooks (Some kept) told
   IsBetweenLooks-told past now told kept h is more = record {
     fronts = subst AreFronts (sym is) h.fronts;
     ahead = omega (arith, known_ahead past now h.ahead, more, ap (λ (k : Knowledge S I). length k.installs) is);
   }
 
-  -- one who goes on from knows_nothing
+  -- The reader continues from its own list.
   pub IsBetweenLooks-alone : (now : Knowledge S I) → IsLooking now → IsBetweenLooks None now
   IsBetweenLooks-alone now h = record { fronts = h.fronts; ahead = h.before }
 
-  -- one who knows an opening value and a list
+  -- A reader that knows an opening value and a list, and hasn't looked.
   pub IsBetweenLooks-fresh : (now : Knowledge S I) → now.fronts ≡ [] → now.before ≡ [] → IsBetweenLooks None now
   IsBetweenLooks-fresh now none nothing = record {
     fronts = subst (λ (ns : List ℕ). Rise 0 ns (length now.installs)) (sym none) zero-le;
@@ -65,7 +65,7 @@ module _ {S I : Type 0} where
     before_fits (Some past) now h = omega (arith, h, length-first_of (value_at installed past) (suc (length past.installs)))
     before_fits None now h = h
 
-    -- looking puts one more behind the fronts
+    -- A look appends one front.
     pub IsLooking-taken : (past : Option (Knowledge S I)) (v w : Knowledge S I) → Takes installed past v w → IsBetweenLooks past v → IsLooking w
     IsLooking-taken past v w t h = let up : length v.installs ≤ length w.installs = StartsWith-length w.installs v.installs t.seen in record {
       fronts = subst AreFronts (sym t.same) (Rise-push 0 (known past v).fronts (length v.installs) (length w.installs) (IsBetweenLooks-rises past v h) up);
@@ -78,7 +78,7 @@ module _ {S I : Type 0} where
       front_is = ∥∥₁_elim h (Coded-set coded_ℕ _ _) (λ x. x.front_is);
     }
 
-    -- what is shown after looking
+    -- The value shown by a look.
     pub Shows-entered : (before : List (Option S)) (fronts : List ℕ) (value : S) (v w : Knowledge S I) → Enters installed front_of before fronts value v w → Shows installed front_of value w
     Shows-entered before fronts value v w e = record { value_is = λ o is. e.value_is o (sym (ap (λ (k : Knowledge S I). k.opening) e.same) ∙ is); front_is = e.front_is }
 
@@ -86,7 +86,7 @@ module _ {S I : Type 0} where
     counted counts s [] = sym (add-zero (front_of s))
     counted counts s (what ∷ given) = omega (arith, counted counts (installed s what) given, counts s what)
 
-    -- what is shown after publishing
+    -- The value shown after a publication.
     pub Shows-published : ((s : S) (what : I) → front_of (installed s what) ≡ front_of s + 1) → (value next : S) (given : List I) (v : Knowledge S I)
         → Shows installed front_of value v → next ≡ fold installed value given → Shows installed front_of next (with_installs given v)
     Shows-published counts value next given v h is = record {
@@ -94,7 +94,7 @@ module _ {S I : Type 0} where
       front_is = ap front_of is ∙ counted counts value given ∙ ap (λ (n : ℕ). n + length given) h.front_is ∙ sym (length-append v.installs given);
     }
 
--- of a result, one case
+-- The `Ok` case of a result.
 pub when_ok : {A B : Type 0} (r : Result A B) (P : Type 0) (Q : B → Type 0) → is_err r ≡ false → MatchResult r (λ _. P) Q → P
 when_ok (Ok a) P Q fine h = h
 when_ok (Err b) P Q fine h = absurd cc

@@ -1,29 +1,29 @@
--- The rule of the published value, and what each step tells the one who makes it.
+-- The invariant of the published value, and what each step makes known.
 use Rattle.std.specs.Prelude.{◌≡◌, ℕ, ◌≤◌, List, [], ◌∷◌, ◌++◌, length, fold, Option, Some, None}
 use mathlib.Core.Option.{some}
 use lib.ListN.{get_elem?}
 use Rattle.unl_published.specs.declared.knowledge.Knowledge.{Knowledge}
 
--- the numbers never fall, from the first one to the last one
+-- The numbers never fall, from `first` through the list to `last`.
 abbrev pub Rise : ℕ → List ℕ → ℕ → Type 0
 Rise first [] last = first ≤ last
 Rise first (n ∷ ns) last = (first ≤ n) × Rise n ns last
 
 module _ {I : Type 0} where
-  -- the list begins with that one
+  -- The first list starts with the second.
   abbrev pub StartsWith : List I → List I → Type 0
   StartsWith whole front = (rest : List I) × (whole ≡ front ++ rest)
 
 module _ {S I : Type 0} where
-  -- one who was told nothing
+  -- Nothing is known.
   abbrev pub knows_nothing : Knowledge S I
   knows_nothing = record { table = None; opening = None; installs = []; before = []; fronts = [] }
 
-  -- one who was told whose it is, and the opening value
+  -- The table and the opening value are known.
   abbrev pub knows_opening : ℕ → S → Knowledge S I
   knows_opening table opening = record { table = Some table; opening = Some opening; installs = []; before = []; fronts = [] }
 
-  -- so many installs more behind the list
+  -- The list with installs appended.
   abbrev pub with_installs : List I → Knowledge S I → Knowledge S I
   with_installs given v = record {
     table = v.table;
@@ -33,18 +33,18 @@ module _ {S I : Type 0} where
     fronts = v.fronts;
   }
 
-  -- what goes out of what one knows: the opening value and the list
+  -- What is passed on from one's knowledge: the table, the opening value and the list.
   abbrev pub told_by : Knowledge S I → Knowledge S I
   told_by v = record { table = v.table; opening = v.opening; installs = v.installs; before = []; fronts = [] }
 
-  -- what one knows fits the opening value and the list of installs
+  -- The knowledge agrees with the opening value and the list of installs.
   pub record Fits (opening : S) (list : List I) (v : Knowledge S I) : Type 0 where
     pub opened : (o : S) → v.opening ≡ Some o → o ≡ opening
     pub seen : StartsWith list v.installs
     pub fronts : Rise 0 v.fronts (length v.installs)
 
-  -- There is one opening value, of front 0, and one list of installs. The value that is published is the opening value after
-  -- the list, so that its front is the list's length, and what each one knows fits the two.
+  -- There is one opening value, with front 0, and one list of installs. The published value is the opening value after the
+  -- list, its front is the list's length, and everyone's knowledge agrees with both.
   pub record IsKept (installed : S → I → S) (front_of : S → ℕ) (value : S) (views : List (Knowledge S I)) : Type 0 where
     pub opening : S
     pub list : List I
@@ -53,9 +53,9 @@ module _ {S I : Type 0} where
     pub front_is : front_of value ≡ length list
     pub fits : (seat : ℕ) (v : Knowledge S I) → get_elem? views seat ≡ some v → Fits opening list v
 
-  -- ---- what the steps tell
+  -- ---- what the steps make known
 
-  -- the writer is told whose it is, and the opening value
+  -- The writer learns its table and the opening value.
   abbrev pub Opens : ℕ → S → Knowledge S I → Knowledge S I → Type 0
   Opens table value v w = w ≡ record {
     table = Some table;
@@ -65,12 +65,12 @@ module _ {S I : Type 0} where
     fronts = v.fronts;
   }
 
-  -- so many installs were put behind the list
+  -- Installs were appended to the list.
   abbrev pub Publishes : List I → Knowledge S I → Knowledge S I → Type 0
   Publishes given v w = w ≡ with_installs given v
 
-  -- A list was taken, which begins with the one before. What is shown is the opening value after it, and its length is the
-  -- front, which goes behind the fronts before.
+  -- A list was taken that starts with the one before. The value shown is the opening value after it, and its length is the
+  -- front, which is appended to the earlier fronts.
   pub record Enters (installed : S → I → S) (front_of : S → ℕ) (before : List (Option S)) (fronts : List ℕ) (value : S)
       (v w : Knowledge S I) : Type 0 where
     pub same : w ≡ record {

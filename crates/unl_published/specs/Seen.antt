@@ -1,4 +1,4 @@
--- What a writer and its readers know, and what they were told.
+-- What a writer and its readers know, and what the readers have learned.
 use Rattle.std.specs.Prelude.{◌≡◌, ℕ, Bool, true, Option, None, option_map, unwrap_or}
 use Rattle.left_right.specs.Sides.{view}
 use Rattle.left_right.specs.declared.Absorb as absorb
@@ -13,57 +13,57 @@ use Rattle.unl_published.specs.Meaning.{known}
 use Rattle.unl_published.specs.Rule.{knows_nothing}
 
 module _ {T I P S : Type 0} {c : counted.Ghosts T I S} {a : absorb.Ghosts T I S} where
-  -- what a writer published: the opening value and the whole list
+  -- What a writer has published: the opening value and the whole list.
   abbrev pub written : Writer T I P S c a → Knowledge S I
   written writer = view writer.sides.desk.place
 
-  -- a step of the writer was refused, and so is each later one
+  -- A publication of the writer failed after its install was logged, so every later one fails.
   abbrev pub is_closed : Writer T I P S c a → Bool
   is_closed writer = writer.refused
 
-  -- what a reader knew when it last looked
+  -- What a reader knew when it last looked.
   abbrev pub seen : Reader T I P S c a → Knowledge S I
   seen reader = known (option_map (λ s. view s.value.place) reader.past) (view reader.seat.place)
 
-  -- what a reader goes on from: the list that it takes next begins with this one's
+  -- What a reader continues from: the list that it takes next starts with this one's.
   abbrev pub next : Reader T I P S c a → Knowledge S I
   next reader = view reader.seat.place
 
-  -- what a reader knew at its last look where it goes on from something else since
+  -- What a reader knew at its last look, if it has continued from a learned list since.
   abbrev pub past : Reader T I P S c a → Option (Knowledge S I)
   past reader = option_map (λ s. view s.value.place) reader.past
 
-  -- a reader was told of so many installs
+  -- The largest number of installs that a reader has learned of.
   abbrev pub told_of : Reader T I P S c a → ℕ
   told_of reader = reader.least
 
-  -- a reader knows this much, was told nothing else, and goes on from no other one
+  -- A reader that knows exactly this, and has learned nothing else.
   pub record IsFresh (knowledge : Knowledge S I) (reader : Reader T I P S c a) : Type 0 where
     pub knows : next reader ≡ knowledge
     pub alone : past reader ≡ None
     pub untold : told_of reader ≡ 0
 
-  -- what a reader knows that is looking
+  -- What a reader that is looking knows.
   abbrev pub taken : Guard T I P S c a → Knowledge S I
   taken guard = view guard.reading.place
 
-  -- a reader that is looking was told of so many installs
+  -- The largest number of installs that a reader had learned of when it looked.
   abbrev pub was_told_of : Guard T I P S c a → ℕ
   was_told_of guard = guard.least
 
-  -- so many installs were told
+  -- The number of installs in what the writer reports.
   abbrev pub told_front : Told T I P S c a → ℕ
   told_front told = told.front
 
-  -- what was told beside the number of installs
+  -- The list in what the writer reports, if it has one.
   abbrev pub told_list : Told T I P S c a → Option (Knowledge S I)
   told_list told = option_map (λ seat. view seat.place) told.seat
 
 module _ {W T I P S : Type 0} {c : counted.Ghosts T I S} {a : absorb.Ghosts T I S} where
-  -- what a publisher published: the opening value and the whole list
+  -- What a publisher has published: the opening value and the whole list.
   abbrev pub published : Publisher W T I P S c a → Knowledge S I
   published publisher = unwrap_or (option_map written publisher.writer) knows_nothing
 
-  -- a step of the publisher was refused, and so is each later one
+  -- A publication failed after its install was logged, so every later one fails.
   abbrev pub stays_closed : Publisher W T I P S c a → Bool
   stays_closed publisher = unwrap_or (option_map is_closed publisher.writer) true

@@ -1,4 +1,4 @@
-//! How a writer and its readers begin.
+//! Creates a writer and its readers.
 ghost use Rattle.std.specs.Prelude.{◌≡◌, ℕ, ◌^◌, ◌<◌, ◌≤◌, false, All, IfOk, None, length};
 ghost use Rattle.unl_published.specs.Rule.{knows_opening, told_by};
 ghost use Rattle.unl_published.specs.Seen.{IsFresh, is_closed, written};
@@ -10,12 +10,12 @@ use crate::writer::{Writer, fresh_seat};
 use std::alloc::{AllocError, Global};
 use std::sync::Wait;
 
-/// A writer of two copies that mean the same, and so many readers, which know the opening value alone. There is room for `tells`
-/// readers more: so many that were told and not learned can be had at a time.
+/// Creates a writer over two copies with equal meaning, and `readers` readers that know only the opening value. There is
+/// room for `tells` more readers, so that many lists returned by `tell` can wait to be learned at a time.
 ///
 /// # Errors
 ///
-/// Want of memory, or a reader that could not be made.
+/// Fails if it runs out of memory or a reader can't be made.
 pub fn begin<T: Counted<I> + Drop, I: Drop, P: Rules<T, I>, W: Wait>(
     rt: &W,
     alloc: Global,
@@ -58,11 +58,11 @@ fn new_readers<T: Counted<I> + Drop, I: Drop, P: Rules<T, I>>(
     Ok(all)
 }
 
-/// One more reader, which knows what the writer knows.
+/// Adds a reader that knows what the writer knows.
 ///
 /// # Errors
 ///
-/// There is no room for one more, or memory is wanting.
+/// Fails if there is no room for another reader, or if it runs out of memory.
 pub fn new_reader<T: Counted<I> + Drop, I: Drop, P: Rules<T, I>>(
     writer: &mut Writer<T, I, P>,
 ) -> Result<Reader<T, I, P>, AllocError>

@@ -1,16 +1,16 @@
-//! What the writer and each reader know.
+//! What the writer and each reader know about the publications.
 use std::collections::LinkedList;
 
-/// What one of them knows of the published value. No value of it is made.
+/// What a writer or a reader knows of the published value. It exists only in contracts: no value of it is ever made.
 pub struct Knowledge<S, I> {
-    /// The name of the table that the writer began with, where it was told.
+    /// The name of the table that the writer began with, if known.
     pub table: Option<u64>,
-    /// The value that was published first, where it was told.
+    /// The value that was published first, if known.
     pub opening: Option<S>,
-    /// The installs of the list that was seen or told last.
+    /// The installs of the list that was last seen or learned.
     pub installs: LinkedList<I>,
-    /// The values after 0, 1 and so many installs more, as they were known before a reader went on from what it was told.
+    /// The value after each number of installs, from 0, as the reader knew it before it continued from a learned list.
     pub before: LinkedList<Option<S>>,
-    /// The front of each look of a reader.
+    /// The number of installs at each look of a reader.
     pub fronts: LinkedList<u64>,
 }

@@ -1,5 +1,5 @@
-//! A value that one writer publishes to some readers, by one list of installs. A reader never waits: it looks at the copy that
-//! is shown, while the writer changes the other one (`left_right`).
+//! A value that one writer publishes to several readers, as one list of installs. A reader never waits: it looks at one
+//! copy of the value while the writer changes the other (`left_right`).
 #![tactic(auto)]
 
 mod beginning;

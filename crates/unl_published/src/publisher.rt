@@ -1,4 +1,4 @@
-//! The writer as one value that changes in place.
+//! A writer that is changed in place.
 ghost use Rattle.std.specs.Prelude.{◌≡◌, true, false, [], ◌∷◌, length, fold, Some, is_some, unwrap_or, option_map};
 ghost use Rattle.std.specs.Prelude.{IfSome, IsErr, MatchResult, OnOk};
 ghost use Rattle.unl_published.specs.Meaning.{front_seen};
@@ -11,7 +11,7 @@ use std::alloc::AllocError;
 use std::mem::replace;
 use std::sync::Wait;
 
-/// The writer, with what it waits by. It is not `Drop`: end it by `end`.
+/// A writer that is used through `&mut self`, with the `Wait` that it waits by. It isn't `Drop`: close it with `end`.
 pub struct Publisher<'a, W: Wait, T: Counted<I> + Drop, I: Drop, P: Rules<T, I>> {
     rt: &'a W,
     pub(crate) writer: Option<Writer<T, I, P>>,
@@ -21,7 +21,7 @@ pub struct Publisher<'a, W: Wait, T: Counted<I> + Drop, I: Drop, P: Rules<T, I>>
 impl<'a, W: Wait, T: Counted<I> + Drop, I: Drop, P: Rules<T, I>> Publisher<'a, W, T, I, P> {
     ghost use Rattle.unl_published.specs.Seen.{is_closed, stays_closed, published, told_front, told_list, written};
 
-    /// A writer that changes in place. It waits by `rt`.
+    /// A publisher over a writer. It waits by `rt`.
     pub fn new(rt: &'a W, writer: Writer<T, I, P>) -> Publisher<'a, W, T, I, P>
         ensures published { published result ≡ written writer }
         ensures closed { stays_closed result ≡ is_closed writer }
@@ -32,12 +32,12 @@ impl<'a, W: Wait, T: Counted<I> + Drop, I: Drop, P: Rules<T, I>> Publisher<'a, W
         }
     }
 
-    /// Publishes an install, and answers how many were published. Waits for readers that still look at an older copy.
+    /// Publishes an install and returns how many were published. Waits for readers that still look at an older copy.
     ///
     /// # Errors
     ///
-    /// Nothing is published: memory was wanting for the install or its copy. Where that was found once the install was noted, this
-    /// step is refused, and so is each later one.
+    /// Fails if it runs out of memory, or if the install or its copy can't be absorbed. Nothing is published then. If this
+    /// happens after the install was logged, every later call fails too.
     pub fn publish(&mut self, what: I) -> Result<u64, AllocError>
         ensures published { MatchResult result
             (λ front. (published self.new ≡ with_installs (what ∷ []) (published self.old)) × (front ≡ front_seen (published self.new)))
@@ -55,7 +55,7 @@ impl<'a, W: Wait, T: Counted<I> + Drop, I: Drop, P: Rules<T, I>> Publisher<'a, W
         published
     }
 
-    /// The value that readers take now: the opening value after all installs.
+    /// The published value: the opening value after all installs.
     pub fn value(&self) -> &T
         ensures list { (opening : T.State) → (published self.now).opening ≡ Some opening
             → T.state result.now ≡ fold T.applied opening (published self.now).installs }
@@ -67,7 +67,8 @@ impl<'a, W: Wait, T: Counted<I> + Drop, I: Drop, P: Rules<T, I>> Publisher<'a, W
         writer.value()
     }
 
-    /// What the writer knows now, for one reader: its list where there is room for one more reader, and else its length alone.
+    /// What the writer knows now, for one reader to learn: its list if there is room for one more reader, otherwise only the
+    /// list's length.
     pub fn tell(&mut self) -> Told<T, I, P>
         ensures same { published self.new ≡ published self.old }
         ensures closed { stays_closed self.new ≡ stays_closed self.old }
@@ -84,7 +85,7 @@ impl<'a, W: Wait, T: Counted<I> + Drop, I: Drop, P: Rules<T, I>> Publisher<'a, W
         told
     }
 
-    /// Waits for the readers that still read, and ends the publications.
+    /// Waits for the readers that are still looking, and ends publication.
     pub fn end(self) {
         let Publisher { rt, writer } = self;
         if let Some(writer) = writer {

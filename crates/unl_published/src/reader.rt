@@ -1,4 +1,4 @@
-//! One who looks at the value.
+//! Readers of the published value.
 ghost use Rattle.std.specs.Prelude.{max, ◌≡◌, ◌≤◌, ◌<◌, true, IfOk, IfErr, IfSome, MatchResult, Some, None, is_some, option_map, fold};
 ghost use Rattle.std.specs.Prelude.{length};
 ghost use Rattle.left_right.specs.Sides.{view};
@@ -14,21 +14,21 @@ use left_right::reader::{Reader as Seat, Reading};
 use std::marker::Brand;
 use std::snapshot::Snapshot;
 
-/// A reader that is not looking.
+/// A reader that is not looking at the value.
 #[derive(Drop)]
 pub struct Reader<T: Counted<I> + Drop, I: Drop, P: Rules<T, I>> {
     pub(crate) seat: Seat<T, Knowledge<T::State, I>, P>,
-    /// The reader that this one goes on from, as it was, where it has not looked since.
+    /// The reader as it was at its last look, if it has learned a longer list since.
     pub(crate) past: Option<Snapshot<Seat<T, Knowledge<T::State, I>, P>>>,
     /// The number of installs that it knows.
     pub(crate) front: u64,
-    /// It was told of so many installs, so it looks at no value of fewer.
+    /// The largest number of installs that it has learned of. It returns no value with fewer.
     pub(crate) least: u64,
     ghost counted: { front ≡ length (view seat.place).installs },
     ghost stands: { ∥ IsBetweenLooks (option_map (λ s. view s.value.place) past) (view seat.place) ∥₁ },
 }
 
-/// A reader that looks at the value. It is not `Drop`: end it by `leave`.
+/// A reader that is looking at the value. It isn't `Drop`: end the look with `leave`.
 pub struct Guard<T: Counted<I> + Drop, I: Drop, P: Rules<T, I>> {
     pub(crate) reading: Reading<T, Knowledge<T::State, I>, P>,
     pub(crate) front: u64,
@@ -41,8 +41,9 @@ pub struct Guard<T: Counted<I> + Drop, I: Drop, P: Rules<T, I>> {
 impl<T: Counted<I> + Drop, I: Drop, P: Rules<T, I>> Reader<T, I, P> {
     ghost use Rattle.unl_published.specs.Seen.{next, past, seen, taken, told_front, told_list, told_of, was_told_of};
 
-    /// Learns what the writer told: from now on it looks at no value of fewer installs. What it knew stays known. Where it was
-    /// told of more than it knew, the list that it takes next begins with the list that was told.
+    /// Learns what the writer knew when it made `told`. From then on the reader returns no value with fewer installs, and
+    /// what it knew stays known. If `told` has more installs than the reader knows, and has their list, the list that the
+    /// reader takes next starts with that one.
     pub fn learn(&mut self, told: Told<T, I, P>)
         requires origin { IfSome (told_list told) (λ list. SameOrigin list (next self.old)) }
         ensures origin { SameOrigin (next self.new) (next self.old) }
@@ -63,11 +64,12 @@ impl<T: Counted<I> + Drop, I: Drop, P: Rules<T, I>> Reader<T, I, P> {
         }
     }
 
-    /// Takes the list of installs that is published now, and looks at the value after it. It waits for nobody.
+    /// Takes the list of installs that is published now, and looks at the value after it. Never waits.
     ///
     /// # Errors
     ///
-    /// The reader as it is then: it did not look, for which `left_right` names no cause, or the list was shorter than it was told.
+    /// Returns the reader if it did not look, for which `left_right` gives no cause, or if the list was shorter than the
+    /// reader had learned.
     pub fn enter(self) -> Result<Guard<T, I, P>, Reader<T, I, P>>
         ensures least { MatchResult result
             (λ guard. (told_of self ≤ front_seen (taken guard)) × (was_told_of guard ≡ told_of self))
@@ -110,7 +112,7 @@ impl<T: Counted<I> + Drop, I: Drop, P: Rules<T, I>> Reader<T, I, P> {
     }
 }
 
-// What a reader knew when it last looked.
+// The reader as it was when it last looked.
 fn go_on<T: Counted<I> + Drop, I: Drop, P: Rules<T, I>>(
     past: Option<Snapshot<Seat<T, Knowledge<T::State, I>, P>>>,
     seat: &Seat<T, Knowledge<T::State, I>, P>,
@@ -143,7 +145,7 @@ fn enter_past<T: Counted<I> + Drop, I: Drop, P: Rules<T, I>, K: Past<T::State>>(
 impl<T: Counted<I> + Drop, I: Drop, P: Rules<T, I>> Guard<T, I, P> {
     ghost use Rattle.unl_published.specs.Seen.{next, past, taken, told_of, was_told_of};
 
-    /// The number of installs that the value has taken in.
+    /// The number of installs that the value has absorbed.
     pub fn front(&self) -> u64
         ensures { result ≡ front_seen (taken self.now) }
     {

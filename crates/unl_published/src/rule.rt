@@ -1,28 +1,28 @@
-//! The rule that each step keeps, and what each step tells.
+//! The invariant that each step keeps, and what each step makes known.
 use crate::knowledge::Knowledge;
 use crate::value::Counted;
 use atomic_table::{Join, Split};
 use crossbeam_utils::rule::{Outcome, Protocol};
 use std::marker::{Brand, PhantomData};
 
-/// What keeps the rule: `Ruled`, or another type of this crate's user that has the same members. The rule is `IsKept`: one opening
-/// value and one list of installs, of which each one knows a beginning.
+/// The invariant of the publications: `Ruled`, or a caller's own type with the same members. The invariant is `IsKept`:
+/// there is one opening value and one list of installs, and the writer and each reader know a prefix of that list.
 pub trait Rules<T: Counted<I>, I: Drop>: Protocol<T, Knowledge<T::State, I>> {
     ghost use Rattle.std.specs.Prelude.{◌≡◌, List};
     ghost use Rattle.unl_published.specs.declared.knowledge.Knowledge.{Knowledge};
     ghost use Rattle.unl_published.specs.Rule.{IsKept, knows_nothing};
 
-    /// What holds of the value and of all that is known is the rule.
+    /// What the protocol holds of the value and of everyone's knowledge implies `IsKept`.
     ghost kept: { (x : T) (views : List (Knowledge T.State I)) → Self.holds x views → IsKept T.applied T.front_of (T.state x) views };
 
-    /// The rule is enough.
+    /// `IsKept` implies what the protocol holds.
     ghost keeps: { (x : T) (views : List (Knowledge T.State I)) → IsKept T.applied T.front_of (T.state x) views → Self.holds x views };
 
     /// At first nothing is known.
     ghost begins: { Self.first ≡ knows_nothing };
 }
 
-/// The rule, of installs of this type.
+/// The invariant for installs of this type.
 pub struct Ruled<I> {
     of: PhantomData<I>,
 }
@@ -45,7 +45,7 @@ impl<T: Counted<I>, I: Drop> Rules<T, I> for Ruled<I> {
     ghost begins = { refl };
 }
 
-/// The installs of a publication. Each call picks them.
+/// The installs of one publication. Each call chooses them.
 pub trait Given<I> {
     ghost use Rattle.std.specs.Prelude.{List};
 
@@ -89,7 +89,7 @@ impl<T: Counted<I>, I: Drop, K: Given<I>> Outcome<T, Knowledge<T::State, I>> for
     ghost then = { λ v _ _ w. Publishes K.given v w };
 }
 
-/// What a reader knew before. Each look picks it.
+/// What a reader knew before a look. Each look chooses it.
 pub trait Past<S> {
     ghost use Rattle.std.specs.Prelude.{List, ℕ};
     ghost use Rattle.std.specs.declared.option.Option.{Option};

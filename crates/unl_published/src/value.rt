@@ -1,17 +1,17 @@
-//! The value that is published, and how an install changes it.
+//! The published value, which installs change.
 ghost use Rattle.std.specs.Prelude.{◌≡◌, ℕ, ◌+◌};
 
 use left_right::Absorb;
 
-/// A value that counts the installs that it took in: its front. At 2^64 - 1 its `absorb_first` has to refuse.
+/// A value that counts the installs it has absorbed: its front. At 2^64 - 1 its `absorb_first` has to fail.
 pub trait Counted<I: Drop>: Absorb<I> {
-    /// The front of what a copy means.
+    /// The front of a copy's state.
     ghost front_of: { Self.State → ℕ };
 
-    /// The front of this copy.
+    /// The number of installs that this copy has absorbed.
     fn front(&self) -> u64
         ensures { result ≡ front_of (Self.state self.now) };
 
-    /// Each install is counted once.
+    /// Each install increments the front.
     ghost counts: { (s : Self.State) (what : I) → front_of (Self.applied s what) ≡ front_of s + 1 };
 }

@@ -1,4 +1,4 @@
-//! The one who publishes.
+//! The writer of the published value.
 ghost use Rattle.std.specs.Prelude.{◌≡◌, ◌^◌, ◌<◌, ◌≤◌, false, [], ◌∷◌, ◌++◌, ℕ, length, drop, fold};
 ghost use Rattle.std.specs.Prelude.{IfOk, IfSome, IsErr, MatchResult, OnOk};
 ghost use Rattle.std.specs.Prelude.{true, Some};
@@ -16,19 +16,19 @@ use std::alloc::{AllocError, Global};
 use std::marker::Brand;
 use std::sync::Wait;
 
-/// The writer, between two calls. It is not `Drop`: end it by `end`.
+/// The writer, between two calls. It isn't `Drop`: close it with `end`.
 pub struct Writer<T: Counted<I> + Drop, I: Drop, P: Rules<T, I>> {
     pub(crate) sides: Sides<T, I, Knowledge<T::State, I>, P>,
-    /// A publication was refused after its install was logged, so no other one is made.
+    /// A publication failed after its install was logged, so no more are made.
     pub(crate) refused: bool,
     ghost shows: { ∥ Shows T.applied T.front_of (T.state sides.desk.shown.value) (view sides.desk.place) ∥₁ },
     ghost clear: { refused ≡ false → drop sides.behind sides.log.items ≡ [] },
 }
 
-/// What a writer told, for one reader to learn.
+/// What a writer knew at one moment, for one reader to learn.
 #[derive(Drop)]
 pub struct Told<T: Counted<I> + Drop, I: Drop, P: Rules<T, I>> {
-    /// A reader that knows what the writer knew, where there was room for one more.
+    /// A reader that knows what the writer knew, if there was room for one more.
     pub(crate) seat: Option<Seat<T, Knowledge<T::State, I>, P>>,
     /// The number of installs that the writer knew.
     pub(crate) front: u64,
@@ -38,11 +38,11 @@ pub struct Told<T: Counted<I> + Drop, I: Drop, P: Rules<T, I>> {
 impl<T: Counted<I> + Drop, I: Drop, P: Rules<T, I>> Writer<T, I, P> {
     ghost use Rattle.unl_published.specs.Seen.{is_closed, told_front, told_list, written};
 
-    /// A writer that knows the opening value, of two copies that mean the same, with room for so many readers.
+    /// Creates a writer that knows the opening value, over two copies with equal meaning, with room for `readers` readers.
     ///
     /// # Errors
     ///
-    /// Want of memory.
+    /// Fails if it runs out of memory.
     pub fn new<W: Wait>(
         rt: &W,
         alloc: Global,
@@ -70,7 +70,7 @@ impl<T: Counted<I> + Drop, I: Drop, P: Rules<T, I>> Writer<T, I, P> {
         }
     }
 
-    /// The value that readers take now: the opening value after all installs.
+    /// The published value: the opening value after all installs.
     pub fn value(&self) -> &T
         ensures list { (opening : T.State) → (written self.now).opening ≡ Some opening
             → T.state result.now ≡ fold T.applied opening (written self.now).installs }
@@ -79,7 +79,8 @@ impl<T: Counted<I> + Drop, I: Drop, P: Rules<T, I>> Writer<T, I, P> {
         self.sides.published()
     }
 
-    /// What the writer knows now, for one reader: its list where there is room for one more reader, and else its length alone.
+    /// What the writer knows now, for one reader to learn: its list if there is room for one more reader, otherwise only the
+    /// list's length.
     pub fn tell(&mut self) -> Told<T, I, P>
         ensures same { written self.new ≡ written self.old }
         ensures closed { is_closed self.new ≡ is_closed self.old }
@@ -96,12 +97,13 @@ impl<T: Counted<I> + Drop, I: Drop, P: Rules<T, I>> Writer<T, I, P> {
         }
     }
 
-    /// Publishes an install, and answers how many were published. Waits for readers that still look at an older copy.
+    /// Publishes an install and returns the writer, and how many installs were published. Waits for readers that still look
+    /// at an older copy.
     ///
     /// # Errors
     ///
-    /// Nothing is published: memory was wanting for the install or its copy. Where that was found once the install was noted, this
-    /// step is refused, and so is each later one.
+    /// Fails if it runs out of memory, or if the install or its copy can't be absorbed. Nothing is published then. If this
+    /// happens after the install was logged, every later call fails too.
     pub fn publish<W: Wait>(self, rt: &W, what: I) -> (Writer<T, I, P>, Result<u64, AllocError>)
         ensures published { MatchResult result.1
             (λ front. (written result.0 ≡ with_installs (what ∷ []) (written self)) × (front ≡ front_seen (written result.0)))
@@ -138,14 +140,14 @@ impl<T: Counted<I> + Drop, I: Drop, P: Rules<T, I>> Writer<T, I, P> {
         }
     }
 
-    /// Waits for the readers that still read, and ends the publications.
+    /// Waits for the readers that are still looking, and ends publication.
     pub fn end<W: Wait>(self, rt: &W) {
         let Writer { sides, refused: _ } = self;
         let _last = sides.take(rt);
     }
 }
 
-/// One more reader, which knows what the writer knows.
+/// Adds a reader that knows what the writer knows.
 pub(crate) fn fresh_seat<T: Counted<I> + Drop, I: Drop, P: Rules<T, I>>(
     sides: &mut Sides<T, I, Knowledge<T::State, I>, P>,
 ) -> Result<Seat<T, Knowledge<T::State, I>, P>, AllocError>

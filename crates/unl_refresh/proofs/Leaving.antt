@@ -1,4 +1,4 @@
--- What a refresh leaves.
+-- Properties of what is installed that a refresh preserves.
 use Rattle.std.proofs.Common.{◌≡◌, ◌<◌, ◌==◌, ℕ, Bool, true, false, cond, length, not, List, Option, Some, None, Result, Ok, Err, IfOk, OnErr, arith, refl, subst, sym}
 use Rattle.std.proofs.lemmas.Bool.Decides.{nat_tests}
 use Rattle.unl_delta.specs.declared.batch.Batch.{Batch}
@@ -20,7 +20,7 @@ use Rattle.unl_refresh.specs.declared.outcome.RefreshFault.{RefreshFault}
 use Rattle.unl_refresh.specs.Exchange.{IsRead}
 use Rattle.unl_refresh.specs.Refresh.{Brings, Refreshed, Refreshes, after_batch, after_reading, after_verdict, batch_in, number_held}
 
--- what holds of what stood before holds after, by the outcomes that take nothing and by what a batch does
+-- `P` holds before, and after each batch that the bytes to come may bring.
 pub record Leaves (P : Installed → Type 0) (slot : ℕ) (before : Installed) (delta : Bool) (coming : Option (List ℕ)) : Type 0 where
   pub stays : P before
   pub takes : (got : Got) (batch : Batch) → IsRead coming (Ok got) → got.status ≡ 200
@@ -51,7 +51,7 @@ reading_leaves P slot before delta tag coming (Ok got) leaves is = by_status (go
     by_status false true is_found = batch_leaves P slot before delta coming got _ leaves is (same_number got.status 200 is_found) refl
     by_status false false is_found = leaves.stays
 
--- what a refresh leaves
+-- Then `P` holds after a refresh.
 pub refreshed_leaves : (P : Installed → Type 0) (result : Result Outcome RefreshFault) (slot : ℕ) (ask : Ask) (before after : Installed)
     (tag coming : Option (List ℕ))
     → IfOk result (λ outcome. Refreshes slot ask before coming (record { outcome = outcome; installed = after; tag = tag }))
@@ -61,11 +61,11 @@ refreshed_leaves P (Ok outcome) slot ask before after tag coming takes fault lea
     (reading_leaves P slot before ask.delta ask.tag coming takes.reading leaves takes.is_read)
 refreshed_leaves P (Err e) slot ask before after tag coming takes fault leaves = subst P (sym fault) leaves.stays
 
--- what stands for the line, and no older revision than before
+-- The place represents the line, and its revision is not older than before.
 abbrev Stands : List Era → Sees → Place → Place → Type 0
 Stands line sees before after = PlaceStandsFor line sees after × IsNotBelow before.version after.version
 
--- behind a server that sends of a line, the slot stands for it
+-- If the server sends batches from a line, the slot represents that line after a refresh, with no older revision.
 pub delivered : (result : Result Outcome RefreshFault) (slot : ℕ) (ask : Ask) (before after : Installed) (tag coming : Option (List ℕ))
     (line : List Era) (sees : Sees) → slot < length before.places
     → IfOk result (λ outcome. Refreshes slot ask before coming (record { outcome = outcome; installed = after; tag = tag }))

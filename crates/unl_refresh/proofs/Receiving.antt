@@ -1,4 +1,4 @@
--- What was received piece by piece decides how the whole is read.
+-- The bytes held decide how the whole stream is parsed.
 use Rattle.std.proofs.Common.{◌≡◌, ◌≤◌, ◌⊎◌, inl, inr, ℕ, List, [], ◌++◌, length, sym, ap, ◌∙◌, subst, append-nil, Option, Some, None, Result}
 use Rattle.std.proofs.lemmas.Option.{none-some, same_Some}
 use Rattle.std.specs.Option.{option_map}
@@ -10,11 +10,11 @@ use Rattle.unl_http_api.specs.Received.{IsReply}
 use Rattle.unl_http_api.proofs.ReceivedLemmas.{IsReply-append, IsReply_unique}
 use Rattle.unl_refresh.specs.Exchange.{HoldsEnough, IsRead}
 
--- what is held was taken of what was to come
+-- The bytes held were taken from the bytes to come.
 pub record Taking (start : Option (List ℕ)) (held : List ℕ) (left : Option (List ℕ)) : Type 0 where
   pub took : Takes start held left
 
--- bytes are read as the ones that are held are, where these decide it
+-- The whole is parsed as the bytes held, if these decide it.
 reads_enough : (bytes held more : List ℕ) (reading : Result Got BadReply) → bytes ≡ held ++ more
     → (more ≡ []) ⊎ (16785409 ≤ length held) → IsReply held reading → IsReply bytes reading
 reads_enough bytes held more reading split (inl none) is =
@@ -29,7 +29,7 @@ IsRead-from_enough None held reading enough is = (held, is)
 IsRead-from_enough (Some bytes) held reading enough is =
     reads_enough bytes held enough.more reading enough.split enough.decides is
 
--- what was read of the next reply is what it is read as in any way
+-- The next reply has only one reading.
 pub same_reading : (replies : Option (List (List ℕ))) (list : List (List ℕ)) (read reading : Result Got BadReply)
     → IsRead (option_map next_of replies) read → replies ≡ Some list → IsReply (next_of list) reading → read ≡ reading
 same_reading None list read reading is told one = absurd (none-some list told)

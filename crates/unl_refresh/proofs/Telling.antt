@@ -1,4 +1,4 @@
--- Where a peer tells its replies, what comes of a call is what comes of the next one.
+-- If a peer's replies are observable, the effect of a call is that of the next reply.
 use Rattle.std.proofs.Common.{◌≡◌, ◌≢◌, ◌+◌, ◌==◌, not, ℕ, Bool, List, Option, Some, None, Result, Ok, Err, IfOk, OnOk, drop, ap, ◌∙◌, refl, subst, if◌then◌else◌}
 use Rattle.std.specs.Option.{option_map}
 use Rattle.serde_json.specs.Data.{Data}
@@ -24,7 +24,7 @@ use Rattle.unl_refresh.proofs.Receiving.{same_reading}
 
 -- ---- one reply
 
--- where no call of the peer failed and memory was found, one reply was taken
+-- Unless the peer failed or memory ran out, exactly one reply is used up.
 pub takes_one : {T : Type 0} (result : Result T RefreshFault) (request : List ℕ) (replies after : Option (List (List ℕ)))
     (sent sent_after : Option (List ℕ)) (Rises : Type 0)
     → OnOk result (Asks request replies sent after sent_after) → (result ≡ Err PeerFault → Rises) → ¬ Rises
@@ -47,7 +47,7 @@ refreshed_told (Ok outcome) slot ask before after tag replies list reading takes
     ∙ ap (after_reading slot ask.delta ask.tag before) (same_reading replies list takes.reading reading takes.is_read told is)
 refreshed_told (Err fault) slot ask before after tag replies list reading takes told is = _
 
--- a batch that applies is published
+-- A batch that applies is published.
 pub applies : (slot : ℕ) (delta : Bool) (tag : Option (List ℕ)) (before : Installed) (got : Got) (batch : Batch)
     → got.status ≡ 200 → batch_in delta (number_held (place_of before slot)) got.body ≡ Ok batch
     → verdict_of (place_of before slot) batch ≡ Apply

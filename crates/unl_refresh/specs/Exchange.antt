@@ -8,21 +8,21 @@ use Rattle.unl_http_api.specs.Received.{IsReply}
 
 -- ---- what is sent
 
--- one connect was made, which took one reply, and on it this request was sent
+-- One connection is made, it uses up one reply, and the whole request is sent on it.
 pub record Asks
     (request : List ℕ) (replies : Option (List (List ℕ))) (sent : Option (List ℕ))
     (replies_after : Option (List (List ℕ))) (sent_after : Option (List ℕ)) : Type 0 where
   pub one_reply : replies_after ≡ option_map (λ list. drop 1 list) replies
   pub sends : sent_after ≡ option_map (λ _. request) sent
 
--- one connect was made, which took one reply, and on it the front of this request was sent
+-- One connection is made, it uses up one reply, and a prefix of the request is sent on it.
 pub record AsksPart
     (request : List ℕ) (replies : Option (List (List ℕ))) (sent : Option (List ℕ))
     (replies_after : Option (List (List ℕ))) (sent_after : Option (List ℕ)) : Type 0 where
   pub one_reply : replies_after ≡ option_map (λ list. drop 1 list) replies
   pub sends : SendsFront (option_map (λ _. []) sent) request sent_after
 
--- no reply was taken and nothing was sent; or one connect was made, and on it the request was sent, or its front
+-- Nothing is used up and nothing sent; or one connection is made, and the request or a prefix of it is sent on it.
 abbrev pub AsksAtMostOnce :
     List ℕ → Option (List (List ℕ)) → Option (List ℕ) → Option (List (List ℕ)) → Option (List ℕ) → Type 0
 AsksAtMostOnce request replies sent replies_after sent_after =
@@ -30,7 +30,7 @@ AsksAtMostOnce request replies sent replies_after sent_after =
 
 -- ---- what is read
 
--- a piece was taken and added to what is held
+-- A nonempty piece is read and appended to the bytes held.
 pub record AddsPiece
     (held : List ℕ) (left : Option (List ℕ)) (held_after : List ℕ) (left_after : Option (List ℕ)) : Type 0 where
   pub piece : List ℕ
@@ -38,23 +38,23 @@ pub record AddsPiece
   pub took : Takes left piece left_after
   pub added : held_after ≡ held ++ piece
 
--- a piece was taken and added to what is held, or the end had come
+-- `true`: a piece is read and appended to the bytes held. `false`: nothing is, at the end of the stream.
 abbrev pub TakesPiece : Bool → List ℕ → Option (List ℕ) → List ℕ → Option (List ℕ) → Type 0
 TakesPiece true held left held_after left_after = AddsPiece held left held_after left_after
 TakesPiece false held left held_after left_after = (held_after ≡ held) × HasEnded left
 
--- what is held is all of the bytes, or a front of them that decides how they are read
+-- The bytes held are all of the bytes, or a prefix long enough to decide how they are parsed.
 pub record IsEnough (bytes held : List ℕ) : Type 0 where
   pub more : List ℕ
   pub split : bytes ≡ held ++ more
   pub decides : (more ≡ []) ⊎ (16785409 ≤ length held)
 
--- the same of what was to come, as far as that is told
+-- The same for the bytes to come; nothing if they are not observable.
 abbrev pub HoldsEnough : Option (List ℕ) → List ℕ → Type 0
 HoldsEnough None held = ⊤
 HoldsEnough (Some bytes) held = IsEnough bytes held
 
--- the reply was read of the bytes that were to come; where these are not told, of some bytes
+-- The reply is parsed from the bytes to come; if these are not observable, from some bytes.
 abbrev pub IsRead : Option (List ℕ) → Result Got BadReply → Type 0
 IsRead None reading = (bytes : List ℕ) × IsReply bytes reading
 IsRead (Some bytes) reading = IsReply bytes reading

@@ -1,4 +1,4 @@
--- Faults that are no want of memory.
+-- Outcomes and causes other than an allocation failure.
 use Rattle.std.specs.Prelude.{◌≢◌, ⊤}
 use Rattle.unl_delta.specs.declared.fault.BadBatch.TheVariants.{Memory as no_memory_for_batch}
 use Rattle.unl_documents.specs.declared.fault.BadDocument.TheVariants.{Memory as no_memory_for_document}
@@ -9,7 +9,7 @@ use Rattle.unl_refresh.specs.declared.outcome.Bad.TheVariants.{Reply, Feed, NoNu
 use Rattle.unl_refresh.specs.declared.outcome.Outcome.{Outcome}
 use Rattle.unl_refresh.specs.declared.outcome.Outcome.TheVariants.{Published, Unchanged, Repeat, Old, Gap, Held, Refused, BadAnswer}
 
--- no want of memory stands in the cause
+-- The cause is no allocation failure.
 abbrev pub IsNamed : Bad → Type 0
 IsNamed (Reply fault) = fault ≢ no_memory_for_reply
 IsNamed (Feed fault) = fault ≢ no_memory_for_document
@@ -17,7 +17,7 @@ IsNamed NoNumber = ⊤
 IsNamed (Batch fault) = fault ≢ no_memory_for_batch
 IsNamed (Book fault) = fault ≢ no_memory_for_book
 
--- nor in the outcome
+-- The outcome reports no allocation failure.
 abbrev pub IsNamedOutcome : Outcome → Type 0
 IsNamedOutcome (Published front) = ⊤
 IsNamedOutcome Unchanged = ⊤

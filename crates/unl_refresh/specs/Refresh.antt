@@ -1,4 +1,4 @@
--- What comes of what a server replied.
+-- The effect of a server's reply on a slot.
 use Rattle.std.specs.Prelude.{◌≡◌, ℕ, ◌==◌, Bool, not, List, [], Option, Some, None, option_map, Result, Ok, Err, ok_or, codes}
 use Rattle.std.specs.Prelude.{if◌then◌else◌}
 use Rattle.unl_delta.specs.declared.batch.Batch.{Batch as TheBatch}
@@ -24,53 +24,53 @@ use Rattle.unl_refresh.specs.declared.outcome.Outcome.{Outcome}
 use Rattle.unl_refresh.specs.declared.outcome.Outcome.TheVariants.{Published, Unchanged, Repeat, Old, Gap, Held, Refused, BadAnswer}
 use Rattle.unl_refresh.specs.Exchange.{IsRead}
 
--- ---- what is asked
+-- ---- the request
 
--- where it is asked: for events, or for a whole feed
+-- the path: of events, or of a whole feed
 abbrev pub target_of : Bool → List ℕ
 target_of delta = if delta then codes "/api/client/delta" else codes "/api/client/features"
 
--- the request for events or a feed, of a host and with a token and perhaps a tag
+-- the request for events or a feed, for a host, with a token and perhaps a tag
 unfoldable pub refresh_request : Bool → List ℕ → List ℕ → Option (List ℕ) → List ℕ
 refresh_request delta host token tag = request_text Get (target_of delta) host (Some token) tag []
 
--- an ask with another tag
+-- the ask with another tag
 abbrev pub with_tag : Option (List ℕ) → Ask → Ask
 with_tag tag ask = record { host = ask.host; token = ask.token; delta = ask.delta; tag = tag }
 
--- ---- what is read
+-- ---- the body
 
--- events that were asked for are read as they stand
+-- the batch of a body of events
 abbrev pub delta_in : BatchReading → Result TheBatch Bad
 delta_in (Ok batch) = Ok batch
 delta_in (Err fault) = Err (Batch fault)
 
--- a feed is read as one hydration, and so must have a number
+-- the batch of a feed: one hydration; an error if the feed has no number
 abbrev pub feed_read : Reading TheFeed → Result TheBatch Bad
 feed_read (Ok feed) = ok_or (batch_of_feed feed) NoNumber
 feed_read (Err fault) = Err (Feed fault)
 
--- the batch that a body is, for one who has what is numbered up to `held`
+-- the batch of a body, for a client that has the events up to number `held`
 abbrev pub batch_in : Bool → Option ℕ → List ℕ → Result TheBatch Bad
 batch_in delta held body = if delta then delta_in (batch_of_bytes held body) else feed_read (feed_in body)
 
--- the number of the version of a place, where there is one
+-- the number of the version of a place, if it has one
 abbrev pub number_held : Place → Option ℕ
 number_held place = option_map (λ version. version.number) place.version
 
--- ---- what comes of it
+-- ---- the effect
 
--- the outcome, what is installed after it, and the tag of the next ask
+-- the outcome, what is installed afterwards, and the tag of the next request
 pub record Refreshed : Type 0 where
   pub outcome : Outcome
   pub installed : Installed
   pub tag : Option (List ℕ)
 
--- nothing is taken, and the next ask has no tag
+-- a reply that can't be parsed: nothing is applied, and the next request has no tag
 abbrev pub unread : Bad → Installed → Refreshed
 unread bad before = record { outcome = BadAnswer bad; installed = before; tag = None }
 
--- the outcome of a verdict, at the front that stands after it
+-- the outcome of a verdict, with the front after it
 abbrev pub outcome_of : Verdict → ℕ → Outcome
 outcome_of verdict.Apply front = Published front
 outcome_of verdict.Repeat front = Repeat
@@ -78,7 +78,7 @@ outcome_of verdict.Old front = Old
 outcome_of verdict.Gap front = Gap
 outcome_of verdict.Held front = Held
 
--- the tag of the next ask: none where the server must answer all that stands
+-- the tag of the next request: none if the server must send everything
 abbrev pub tag_after : Verdict → Option (List ℕ) → Option (List ℕ)
 tag_after verdict.Apply tag = tag
 tag_after verdict.Repeat tag = tag
@@ -86,7 +86,7 @@ tag_after verdict.Old tag = None
 tag_after verdict.Gap tag = None
 tag_after verdict.Held tag = None
 
--- by what the place does with the batch, which came with a tag
+-- the effect of a batch that came with a tag, by its verdict
 abbrev pub after_verdict : ℕ → TheBatch → Option (List ℕ) → Installed → Verdict → Refreshed
 after_verdict slot batch tag before v = record {
   outcome = outcome_of v (taken_by v slot batch before).front;
@@ -94,33 +94,33 @@ after_verdict slot batch tag before v = record {
   tag = tag_after v tag;
 }
 
--- by the batch that the body is
+-- the effect of the batch in a body, or of a body that can't be parsed
 abbrev pub after_batch : ℕ → Option (List ℕ) → Installed → Result TheBatch Bad → Refreshed
 after_batch slot tag before (Ok batch) =
     after_verdict slot batch tag before (verdict_of (place_of before slot) batch)
 after_batch slot tag before (Err bad) = unread bad before
 
--- by the status and the body of a reply, where the ask had this tag
+-- the effect of a reply, by its status and body; `tag` is the tag of the request
 abbrev pub after_reply : ℕ → Bool → Option (List ℕ) → Installed → Got → Refreshed
 after_reply slot delta tag before got =
     if got.status == 304 then record { outcome = Unchanged; installed = before; tag = tag }
     else if not (got.status == 200) then record { outcome = Refused got.status; installed = before; tag = tag }
     else after_batch slot got.tag before (batch_in delta (number_held (place_of before slot)) got.body)
 
--- by what the bytes of a server are read as
+-- the effect of a parsed reply, or of bytes that can't be parsed
 abbrev pub after_reading : ℕ → Bool → Option (List ℕ) → Installed → Result Got BadReply → Refreshed
 after_reading slot delta tag before (Ok got) = after_reply slot delta tag before got
 after_reading slot delta tag before (Err bad) = unread (Reply bad) before
 
--- the bytes to come, or some bytes where these are not told, were read, and this came of it
+-- A reply is read from the bytes to come (from some bytes, if they are not observable), and `after` is its effect.
 pub record Refreshes (slot : ℕ) (ask : Ask) (before : Installed) (coming : Option (List ℕ)) (after : Refreshed) : Type 0 where
   pub reading : Result Got BadReply
   pub is_read : IsRead coming reading
   pub gives : after ≡ after_reading slot ask.delta ask.tag before reading
 
--- ---- where it comes from
+-- ---- where the batches come from
 
--- each batch that the bytes to come, or any bytes where these are not told, bring to the place is sent of the line
+-- Each batch that the bytes to come (any bytes, if they are not observable) bring to the place is sent from the line.
 abbrev pub Brings : List Era → Sees → Bool → Place → Option (List ℕ) → Type 0
 Brings line sees delta place coming =
     (got : Got) (batch : TheBatch) → IsRead coming (Ok got) → got.status ≡ 200

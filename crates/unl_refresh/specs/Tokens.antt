@@ -1,4 +1,4 @@
--- What comes of a book that a server replied.
+-- The effect of a server's reply on the book of tokens.
 use Rattle.std.specs.Prelude.{◌≡◌, ◌==◌, ℕ, not, List, Option, Some, None, Result, Ok, Err, codes, if◌then◌else◌}
 use Rattle.serde_json.specs.Written.{compact_text}
 use Rattle.unl_delta.specs.Installing.{Installed, IsBookInstalled}
@@ -14,26 +14,26 @@ use Rattle.unl_refresh.specs.declared.outcome.Outcome.{Outcome}
 use Rattle.unl_refresh.specs.declared.outcome.Outcome.TheVariants.{Published, Unchanged, Repeat, Old, Gap, Held, Refused, BadAnswer}
 use Rattle.unl_refresh.specs.Exchange.{IsRead}
 
--- the request for a book of these texts, of a host
+-- the request for a book of these texts, for a host
 unfoldable pub tokens_request : List (List ℕ) → List ℕ → List ℕ
 tokens_request texts host =
     request_text Post (codes "/edge/validate") host None None (compact_text (request_data texts))
 
--- the book that was read, cut to these texts; else the outcome
+-- the book that was read, limited to these texts; else the outcome
 abbrev pub kept_in : List (List ℕ) → BookReading → Result (List Token) Outcome
 kept_in texts (Ok book) = Ok (kept texts book)
 kept_in texts (Err fault) = Err (BadAnswer (Book fault))
 
--- the book in a body
+-- the book in a body, limited to these texts; else the outcome
 abbrev pub book_read : List (List ℕ) → List ℕ → Result (List Token) Outcome
 book_read texts body = kept_in texts (book_in body)
 
--- the book in what was read of a server
+-- the book in a parsed reply, limited to these texts; else the outcome
 abbrev pub book_in_reply : List (List ℕ) → Result Got BadReply → Result (List Token) Outcome
 book_in_reply texts (Ok got) = if not (got.status == 200) then Err (Refused got.status) else book_read texts got.body
 book_in_reply texts (Err bad) = Err (BadAnswer (Reply bad))
 
--- a book is published where it isn't the one that stands; where there is none, nothing is
+-- A book is published unless it is the current one (`Repeat`). Without a book, the outcome is its cause and nothing changes.
 abbrev pub Installs : Result (List Token) Outcome → Installed → Outcome → Installed → Type 0
 Installs (Err other) before outcome after = (outcome ≡ other) × (after ≡ before)
 Installs (Ok book) before (Published front) after = IsBookInstalled book before (Some front) after
@@ -45,7 +45,7 @@ Installs (Ok book) before Held after = ⊥
 Installs (Ok book) before (Refused status) after = ⊥
 Installs (Ok book) before (BadAnswer bad) after = ⊥
 
--- the bytes to come, or some bytes where these are not told, were read, and this came of it
+-- A reply is read from the bytes to come (from some bytes, if they are not observable), and it has this effect.
 pub record RefreshesTokens
     (texts : List (List ℕ)) (before : Installed) (coming : Option (List ℕ)) (outcome : Outcome) (after : Installed) : Type 0 where
   pub reading : Result Got BadReply

@@ -1,4 +1,4 @@
-//! Who is asked, and how.
+//! The request for what is new: its parameters and its text.
 ghost use Rattle.std.specs.Prelude.{◌≡◌, IfOk, IsTrue, option_copied};
 ghost use Rattle.unl_http_api.specs.RequestText.{fits_if_any, fits_line};
 ghost use Rattle.unl_refresh.specs.Refresh.{refresh_request, target_of};
@@ -7,20 +7,20 @@ use std::alloc::Global;
 use unl_documents::{Memory, Text};
 use unl_http_api::{Bytes, Method, write_request};
 
-/// Who is asked for what is new, with which token, and what of it stands already.
+/// What to request from a server: its host, the token, events or a feed, and the tag of what is already known.
 #[derive(Debug, Drop)]
 pub struct Ask {
-    /// The server, as the field `Host` names it.
+    /// The server, as written in the header field `Host`.
     pub host: Text,
-    /// The token that the server is shown.
+    /// The token that authorizes the request.
     pub token: Text,
-    /// Whether events are asked for, and not a whole feed.
+    /// Whether to request events; if false, a whole feed.
     pub delta: bool,
-    /// The tag of the last reply that was taken whole, so that the server need not answer the same again.
+    /// The tag of the last reply that was applied in full. With it the server can answer 304 instead of sending the same again.
     pub tag: Option<Bytes>,
 }
 
-/// The request of an ask that has this tag.
+/// Returns the text of the request, with this tag in place of the ask's own.
 #[tactic(auto, unfolding(crate::specs::Refresh::refresh_request))]
 pub(crate) fn request_of(alloc: Global, ask: &Ask, tag: &Option<Bytes>) -> Result<Bytes, Memory>
     requires host { IsTrue (fits_line ask.now.host) }
@@ -39,7 +39,7 @@ pub(crate) fn request_of(alloc: Global, ask: &Ask, tag: &Option<Bytes>) -> Resul
     )
 }
 
-/// Where it is asked.
+/// Returns the path of the request.
 fn target_of(delta: bool) -> &'static str
     ensures target { result.now ≡ target_of delta }
     ensures fits { IsTrue (fits_line result.now) }
@@ -51,7 +51,7 @@ fn target_of(delta: bool) -> &'static str
     }
 }
 
-/// The bytes of a tag, where there is one.
+/// Returns the bytes of the tag, if there is one.
 fn slice_of(tag: &Option<Bytes>) -> Option<&[u8]>
     ensures { option_copied result ≡ tag.now }
 {

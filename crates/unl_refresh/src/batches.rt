@@ -1,4 +1,4 @@
-//! The batch that a server's answer is read as.
+//! Reading the body of a server's reply as a batch.
 ghost use Rattle.std.specs.Prelude.{◌≡◌, IfOk, IfErr};
 ghost use Rattle.unl_delta.specs.Reading.{batch_of_bytes};
 ghost use Rattle.unl_delta.specs.Valid.{IsValidBatch};
@@ -11,7 +11,7 @@ use std::alloc::Global;
 use unl_delta::{BadBatch, Batch, of_feed, read_batch_bytes};
 use unl_documents::{BadDocument, Memory, read_feed};
 
-/// The batch that a body is: as it stands where events were asked for, else a feed as one hydration.
+/// Reads a body as a batch: a batch of events if events were requested, else a feed as one hydration.
 pub(crate) fn read_batch(
     alloc: Global,
     delta: bool,
@@ -29,7 +29,7 @@ pub(crate) fn read_batch(
     }
 }
 
-/// The batch that a body spells.
+/// Reads a body as a batch of events.
 fn read_delta(alloc: Global, held: Option<u64>, body: &[u8]) -> Result<Result<Batch, Bad>, Memory>
     ensures read { IfOk result (λ read. read ≡ delta_in (batch_of_bytes held body.now)) }
     ensures valid { IfOk result (λ read. IfOk read IsValidBatch) }
@@ -42,7 +42,7 @@ fn read_delta(alloc: Global, held: Option<u64>, body: &[u8]) -> Result<Result<Ba
     }
 }
 
-/// The feed that a body spells, as one hydration.
+/// Reads a body as a feed and returns it as one hydration.
 fn read_hydration(alloc: Global, body: &[u8]) -> Result<Result<Batch, Bad>, Memory>
     ensures read { IfOk result (λ read. read ≡ feed_read (feed_in body.now)) }
     ensures valid { IfOk result (λ read. IfOk read IsValidBatch) }

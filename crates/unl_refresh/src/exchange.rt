@@ -13,14 +13,14 @@ use unl_base::{Failed, Peer, write_all};
 use unl_documents::Memory;
 use unl_http_api::{BadReply, Got, ReplyReader};
 
-/// So many bytes are read at a time.
+/// The size of one read, in bytes.
 const PIECE: usize = 16_384;
 
-/// So many bytes decide how a reply is read, whatever follows.
+/// With this many bytes received, the reading of the reply is decided, whatever follows.
 const ENOUGH: usize = 16_785_409;
 
-/// Connects to a peer, sends a request and reads the reply to it, to its end or until the bytes that came decide how
-/// it is read.
+/// Connects to a peer, sends a request and reads the reply. Reading stops at the end of the stream, or once the bytes
+/// received decide the result.
 pub(crate) fn exchange<P: Peer>(
     alloc: Global,
     peer: &mut P,
@@ -43,7 +43,7 @@ pub(crate) fn exchange<P: Peer>(
     read_reply(alloc, peer)
 }
 
-/// Reads a reply, to its end or until the bytes that came decide how it is read.
+/// Reads a reply, to the end of the stream or until the bytes received decide the result.
 fn read_reply<P: Peer>(alloc: Global, peer: &mut P) -> Result<Result<Got, BadReply>, RefreshFault>
     ensures read { IfOk result (IsRead (P.Source.left peer.old)) }
     ensures tag { IfOk result (λ reading. IfOk reading (λ got. IsTrue (fits_if_any got.tag))) }
@@ -62,7 +62,7 @@ fn read_reply<P: Peer>(alloc: Global, peer: &mut P) -> Result<Result<Got, BadRep
     }
 }
 
-/// What the bytes that came are read as.
+/// Parses the bytes received.
 fn finished(alloc: Global, reader: ReplyReader) -> Result<Result<Got, BadReply>, Memory>
     ensures read { IfOk result (IsReply reader) }
     ensures tag { IfOk result (λ reading. IfOk reading (λ got. IsTrue (fits_if_any got.tag))) }
@@ -77,7 +77,7 @@ fn finished(alloc: Global, reader: ReplyReader) -> Result<Result<Got, BadReply>,
     }
 }
 
-/// Reads pieces, to the end or until what is held decides how it is read.
+/// Reads in pieces, to the end of the stream or until the bytes received decide the result.
 fn receive<P: Peer>(peer: &mut P, reader: &mut ReplyReader) -> Result<(), RefreshFault>
     requires { reader.old ≡ [] }
     ensures held { OnOk result (HoldsEnough (P.Source.left peer.old) reader.new) }
@@ -98,7 +98,7 @@ fn receive<P: Peer>(peer: &mut P, reader: &mut ReplyReader) -> Result<(), Refres
     Ok(())
 }
 
-/// Reads a piece, and tells whether there was one.
+/// Reads one piece. Returns false at the end of the stream.
 fn read_piece<P: Peer>(
     peer: &mut P,
     reader: &mut ReplyReader,

@@ -1,5 +1,5 @@
-//! Asking a server for what is new, and telling it what was counted. Each call makes one exchange with a peer: a batch
-//! or a feed is taken for a slot, a book of tokens is taken for all slots, or a bulk report of metrics is sent.
+//! The client calls to an upstream server. Each call makes one exchange with a peer: [`refresh_once`] applies a batch or a
+//! feed to a slot, [`refresh_tokens`] installs a book of tokens for all slots, and [`send_metrics`] sends a bulk report.
 #![tactic(auto)]
 
 mod ask;

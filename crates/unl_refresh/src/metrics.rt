@@ -1,4 +1,4 @@
-//! Sending what was counted.
+//! Sending metrics to a server.
 ghost use Rattle.std.specs.Prelude.{◌≡◌, ◌≢◌, ◌≤◌, List, ℕ, Some, None, Err, Result, Option, IfOk, IfErr, IfSome, OnErr, IsTrue};
 ghost use Rattle.std.specs.Prelude.{option_map, false};
 ghost use Rattle.serde_json.specs.View.{view};
@@ -23,11 +23,12 @@ use unl_documents::Memory;
 use unl_http_api::{BadReply, Bytes, Got, Method, write_request};
 use unl_metrics::MetricsBook;
 
-/// Sends a server once what was counted in an environment: as many keys as one report has room for. Those that the server
-/// took are dropped; in all other cases the book stays as it was. Where the environment has no key, no peer is asked.
+/// Sends one report of the metrics of an environment, with as many keys as one report has room for. If the server accepts
+/// the report, these keys are dropped from the book; otherwise the book is unchanged. If the environment has no keys, the
+/// peer isn't contacted.
 ///
 /// # Errors
-/// `PeerFault` where the peer can't be connected to, written to or read, or want of memory.
+/// `PeerFault` if the peer can't be connected to, written to or read; `Memory` if out of memory.
 pub fn send_metrics<P: Peer>(
     alloc: Global,
     book: &mut MetricsBook,
@@ -39,29 +40,29 @@ pub fn send_metrics<P: Peer>(
     requires host { IsTrue (fits_line host.now) }
     requires token { IsTrue (fits_line token.now) }
 
-    // Where there is something to send, a reply was read, and the outcome is what comes of it.
+    // If there is something to send, a reply is read, and it determines the outcome.
     ensures sends { IfOk result (SendsBulk (bulk_of environment.now book.old) (option_map next_of (P.state peer.old).replies)) }
 
-    // Where the peer tells its replies, this is so of the next one and in no other way.
+    // If the peer's replies are observable, the reply is the next one of them.
     ensures told { (list : List (List ℕ)) (reading : Result Got BadReply) → (P.state peer.old).replies ≡ Some list
         → IsReply (next_of list) reading
         → IfOk result (IsToldOf (bulk_of environment.now book.old) reading) }
 
-    // Want of memory stands in no outcome.
+    // No outcome reports an allocation failure.
     ensures named { IfOk result IsNamedMetrics }
 
-    // The keys that were taken are dropped, and nothing else is.
+    // The keys that the server accepted are dropped, and nothing else.
     ensures book { IfOk result (λ outcome. book.new ≡ book_after environment.now outcome book.old) }
     ensures fault { OnErr result (book.new ≡ book.old) }
 
-    // Where there is something to send, one connect was made, and one request was sent on it.
+    // If there is something to send, one connection is made, and one request is sent on it.
     ensures asks { IfOk result (λ _. AsksBulk (bulk_of environment.now book.old) host.now token.now
         (P.state peer.old).replies (P.Sink.sent peer.old) (P.state peer.new).replies (P.Sink.sent peer.new)) }
     ensures once { AsksBulkAtMostOnce (bulk_of environment.now book.old) host.now token.now
         (P.state peer.old).replies (P.Sink.sent peer.old) (P.state peer.new).replies (P.Sink.sent peer.new) }
     ensures silent { bulk_of environment.now book.old ≡ None → peer.new ≡ peer.old }
 
-    // A fault is told only where the peer counted one, and want of memory only where it counted none.
+    // `PeerFault` is returned only if the peer's fault count rose, and `Memory` only if it didn't change.
     ensures later { P.Source.faults peer.old ≤ P.Source.faults peer.new }
     ensures cause { result ≡ Err RefreshFault.PeerFault → Rose (P.Source.faults peer.old) (P.Source.faults peer.new) }
     ensures untouched { result ≡ Err RefreshFault.Memory → P.Source.faults peer.new ≡ P.Source.faults peer.old }
@@ -69,7 +70,7 @@ pub fn send_metrics<P: Peer>(
     send(alloc, book, environment, token, host, peer)
 }
 
-/// Sends once, and drops what was taken.
+/// Sends one report and drops the keys that were accepted.
 fn send<P: Peer>(
     alloc: Global,
     book: &mut MetricsBook,
@@ -99,7 +100,7 @@ fn send<P: Peer>(
     Ok(outcome)
 }
 
-/// Sends a report of so many keys, where there is one.
+/// Sends a report, if there is one, with the count of its keys.
 fn send_found<P: Peer>(
     alloc: Global,
     found: Option<(Value, usize)>,
@@ -130,7 +131,7 @@ fn send_found<P: Peer>(
     Ok(outcome_of(count, reading))
 }
 
-/// The request that tells a report.
+/// Returns the text of the request that carries a report.
 #[tactic(auto, unfolding(crate::specs::Metrics::metrics_request))]
 fn request_of(alloc: Global, report: &Value, token: &str, host: &str) -> Result<Bytes, Memory>
     requires host { IsTrue (fits_line host.now) }
@@ -150,7 +151,7 @@ fn request_of(alloc: Global, report: &Value, token: &str, host: &str) -> Result<
     )
 }
 
-/// What comes of what was read of a server that was sent so many keys.
+/// Returns the outcome of a report of `count` keys, from the reply that was read.
 fn outcome_of(count: usize, reading: Result<Got, BadReply>) -> MetricsOutcome
     requires { IfErr reading (λ e. e ≢ BadReply.Memory) }
     ensures outcome { result ≡ sent_by count reading }
@@ -163,7 +164,7 @@ fn outcome_of(count: usize, reading: Result<Got, BadReply>) -> MetricsOutcome
     }
 }
 
-/// Drops the keys that were taken.
+/// Drops the keys that were accepted.
 fn drop_sent(book: &mut MetricsBook, environment: &str, outcome: MetricsOutcome)
     ensures { book.new ≡ book_after environment.now outcome book.old }
 {

@@ -1,4 +1,4 @@
-//! What refreshing and sending come to.
+//! The outcomes of refreshing and of sending metrics.
 ghost use Rattle.std.specs.Prelude.{◌≡◌};
 ghost use Rattle.unl_refresh.specs.declared.outcome.RefreshFault.TheVariants.{PeerFault as peer_fault, Memory as want};
 
@@ -9,59 +9,59 @@ use unl_documents::{BadDocument, Memory as NoMemory};
 use unl_http_api::BadReply;
 use unl_tokens::BadBook;
 
-/// What came of a refresh.
+/// The outcome of a refresh.
 #[derive(Debug, Drop, PartialEq)]
 pub enum Outcome {
-    /// What was read is published, and this is the front now.
+    /// The reply was published. This is the new front.
     Published(u64),
     /// The server has nothing new: status 304.
     Unchanged,
-    /// All of it stands already.
+    /// The slot or the board already has all of it.
     Repeat,
-    /// It is older than what stands.
+    /// It is older than what the slot has.
     Old,
-    /// Something between it and what stands is missing, and the place is held.
+    /// Events between the slot's version and the batch are missing. The slot is now held.
     Gap,
-    /// The place waits for a hydration.
+    /// The slot is held until a hydration comes.
     Held,
-    /// The server answered another status than 200 and, of a batch or feed, than 304.
+    /// The server answered with a status other than 200 (and, for a batch or feed, other than 304).
     Refused(u16),
-    /// What the server sent can't be read.
+    /// The reply can't be parsed.
     BadAnswer(Bad),
 }
 
-/// Why what a server sent can't be read. None of these is ever want of memory, which is a fault of the call.
+/// Why a reply can't be parsed. None of these is ever out of memory, which is an error of the call.
 #[derive(Debug, Drop, PartialEq)]
 pub enum Bad {
-    /// The bytes are no reply.
+    /// The bytes are not a valid HTTP reply.
     Reply(BadReply),
-    /// The body is no feed.
+    /// The body is not a feed.
     Feed(BadDocument),
-    /// The body is a feed that has no number.
+    /// The body is a feed without a number.
     NoNumber,
-    /// The body is no batch.
+    /// The body is not a batch.
     Batch(BadBatch),
-    /// The body is no book of tokens.
+    /// The body is not a book of tokens.
     Book(BadBook),
 }
 
-/// What came of sending metrics.
+/// The outcome of sending metrics.
 #[derive(Clone, Copy, Debug, PartialEq, Eq)]
 pub enum MetricsOutcome {
-    /// There was nothing to send, and no peer was asked.
+    /// There was nothing to send, and the peer wasn't contacted.
     Nothing,
-    /// The server took so many keys, which are dropped.
+    /// The server accepted this many keys, which are now dropped.
     Sent(usize),
-    /// The server answered another status than 200 and 202.
+    /// The server answered with a status other than 200 and 202.
     Refused(u16),
-    /// The bytes are no reply. This is never want of memory.
+    /// The bytes are not a valid HTTP reply. This is never out of memory.
     BadAnswer(BadReply),
 }
 
-/// Why a call came to nothing.
+/// Why a call failed.
 #[derive(Clone, Copy, Debug, PartialEq, Eq, Error)]
 pub enum RefreshFault {
-    /// A call of the peer failed, which has counted it.
+    /// A call of the peer failed and incremented its fault count.
     #[error("the peer failed")]
     PeerFault,
     /// Memory ran out.

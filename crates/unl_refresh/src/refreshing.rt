@@ -1,4 +1,4 @@
-//! Taking what is new for a slot.
+//! Refreshing a slot.
 ghost use Rattle.std.specs.Prelude.{◌≡◌, ◌≢◌, ◌<◌, ◌≤◌, ◌+◌, ◌-◌, ◌^◌, List, ℕ, Some, None, Ok, Err, Result, IfOk, OnOk, OnErr, IsTrue};
 ghost use Rattle.std.specs.Prelude.{drop, length, option_map};
 ghost use Rattle.unl_base.specs.Doors.{next_of};
@@ -25,15 +25,14 @@ use std::alloc::Global;
 use unl_base::Peer;
 use unl_delta::Installer;
 
-/// Asks a server once for what is new, and takes what it answers for a slot: a batch of events, or a feed as one
-/// hydration. What applies there is published by one install. After a gap the slot is held, and in all other outcomes
-/// the place stays as it was.
+/// Makes one request for what is new, and applies the reply to a slot: a batch of events, or a feed as one hydration. A
+/// batch that applies is published by one install. After a gap the slot is held; in all other outcomes it is unchanged.
 ///
-/// The ask has the reply's tag afterwards where the reply was published or stands already, and keeps its own where the
-/// server had nothing new or refused. In all other cases it has none, so that the server answers all that stands.
+/// The ask's tag becomes the reply's tag if the reply was published or the slot already had all of it. It is kept if the
+/// server had nothing new or refused. In all other cases it is removed, so that the server sends everything next time.
 ///
 /// # Errors
-/// `PeerFault` where the peer can't be connected to, written to or read, or want of memory. Nothing is taken then.
+/// `PeerFault` if the peer can't be connected to, written to or read; `Memory` if out of memory. Nothing is applied then.
 pub fn refresh_once<I: Installer, P: Peer>(
     alloc: Global,
     to: &mut I,
@@ -47,17 +46,17 @@ pub fn refresh_once<I: Installer, P: Peer>(
     requires token { IsTrue (fits_line ask.old.token) }
     requires tag { IsTrue (fits_if_any ask.old.tag) }
 
-    // A reply was read, and the outcome, what is installed and the tag are what comes of it.
+    // A reply is read, and it determines the outcome, what is installed, and the tag.
     ensures takes { IfOk result (λ outcome. Refreshes slot ask.old (I.installed to.old) (option_map next_of (P.state peer.old).replies)
         (record { outcome = outcome; installed = I.installed to.new; tag = ask.new.tag })) }
 
-    // Where the peer tells its replies, this is so of the next one and in no other way.
+    // If the peer's replies are observable, the reply is the next one of them.
     ensures told { (list : List (List ℕ)) (reading : Result Got BadReply) → (P.state peer.old).replies ≡ Some list
         → IsReply (next_of list) reading
         → IfOk result (λ outcome. record { outcome = outcome; installed = I.installed to.new; tag = ask.new.tag }
         ≡ after_reading slot ask.old.delta ask.old.tag (I.installed to.old) reading) }
 
-    // So a batch that applies there is published, where no call of the peer failed and memory was found.
+    // So a batch that applies is published, unless the peer failed or memory ran out.
     ensures complete { (list : List (List ℕ)) (got : Got) (batch : Batch) → (P.state peer.old).replies ≡ Some list
         → IsReply (next_of list) (Ok got)
         → got.status ≡ 200 → batch_in ask.old.delta (number_held (place_of (I.installed to.old) slot)) got.body ≡ Ok batch
@@ -66,35 +65,35 @@ pub fn refresh_once<I: Installer, P: Peer>(
         → (result ≡ Ok (Outcome.Published ((I.installed to.old).front + 1)))
         × (I.installed to.new ≡ after_install slot batch (I.installed to.old)) }
 
-    // Whatever is lost, doubled or out of order: behind a server that sends of a line of histories, the slot has one
-    // revision of it, as it is seen, and its epoch and number don't fall.
+    // Batches may be lost, duplicated or out of order: if the server sends batches from a line of histories, the slot has one
+    // revision of that line, as seen through the projects, and its epoch and number don't fall.
     ensures delivery { (line : List Era) (sees : Sees) → IsLine line → PlaceStandsFor line sees (place_of (I.installed to.old) slot)
         → Brings line sees ask.old.delta (place_of (I.installed to.old) slot) (option_map next_of (P.state peer.old).replies)
         → PlaceStandsFor line sees (place_of (I.installed to.new) slot)
         × IsNotBelow (place_of (I.installed to.old) slot).version (place_of (I.installed to.new) slot).version }
 
-    // Want of memory stands in no outcome.
+    // No outcome reports an allocation failure.
     ensures named { IfOk result IsNamedOutcome }
 
-    // A fault takes nothing, and leaves the ask without its tag.
+    // On an error nothing is applied, and the ask has no tag.
     ensures fault { OnErr result (I.installed to.new ≡ I.installed to.old) }
     ensures no_tag { OnErr result (ask.new.tag ≡ None) }
 
-    // The ask changes in its tag alone, which may be sent in the next request.
+    // Only the ask's tag changes, and the new tag is fit to be sent in the next request.
     ensures same_ask { ask.new ≡ with_tag ask.new.tag ask.old }
     ensures next_tag { IsTrue (fits_if_any ask.new.tag) }
 
-    // One connect was made, and one request was sent on it.
+    // One connection is made, and one request is sent on it.
     ensures asks { OnOk result (Asks (refresh_request ask.old.delta ask.old.host ask.old.token ask.old.tag)
         (P.state peer.old).replies (P.Sink.sent peer.old) (P.state peer.new).replies (P.Sink.sent peer.new)) }
     ensures once { AsksAtMostOnce (refresh_request ask.old.delta ask.old.host ask.old.token ask.old.tag)
         (P.state peer.old).replies (P.Sink.sent peer.old) (P.state peer.new).replies (P.Sink.sent peer.new) }
 
-    // Where no call of the peer failed and memory was found, one reply was taken.
+    // Unless the peer failed or memory ran out, exactly one reply is used up.
     ensures one_reply { ¬ (Rose (P.Source.faults peer.old) (P.Source.faults peer.new)) → result ≢ Err RefreshFault.Memory
         → (P.state peer.new).replies ≡ option_map (λ list. drop 1 list) (P.state peer.old).replies }
 
-    // A fault is told only where the peer counted one, and want of memory only where it counted none.
+    // `PeerFault` is returned only if the peer's fault count rose, and `Memory` only if it didn't change.
     ensures later { P.Source.faults peer.old ≤ P.Source.faults peer.new }
     ensures cause { result ≡ Err RefreshFault.PeerFault → Rose (P.Source.faults peer.old) (P.Source.faults peer.new) }
     ensures untouched { result ≡ Err RefreshFault.Memory → P.Source.faults peer.new ≡ P.Source.faults peer.old }
@@ -102,7 +101,7 @@ pub fn refresh_once<I: Installer, P: Peer>(
     refresh(alloc, to, slot, ask, peer)
 }
 
-/// Asks once, and follows what is read.
+/// Makes one request and applies the reply.
 fn refresh<I: Installer, P: Peer>(
     alloc: Global,
     to: &mut I,

@@ -1,4 +1,4 @@
-//! What a place does with what a server replied.
+//! Applying a server's reply to a slot.
 ghost use Rattle.std.specs.Prelude.{◌≡◌, ◌≢◌, ◌<◌, ◌-◌, ◌^◌, Some, None, IfOk, IfErr, OnErr, IsTrue, length, option_map};
 ghost use Rattle.unl_delta.specs.Batch.{verdict_of};
 ghost use Rattle.unl_delta.specs.Installing.{place_of};
@@ -14,14 +14,14 @@ use unl_delta::{Batch, Installer, Verdict, take_batch};
 use unl_documents::Memory;
 use unl_http_api::{BadReply, Bytes, Got};
 
-/// What came of a reply, and the tag for the next ask.
+/// The outcome of a reply, and the tag for the next request.
 #[derive(Drop)]
 pub(crate) struct Taken {
     pub(crate) outcome: Outcome,
     pub(crate) tag: Option<Bytes>,
 }
 
-/// Follows what was read of a server, of which the ask had a tag.
+/// Applies a parsed reply. `tag` is the tag that the request had.
 pub(crate) fn take_reading<I: Installer>(
     alloc: Global,
     to: &mut I,
@@ -47,7 +47,7 @@ pub(crate) fn take_reading<I: Installer>(
     }
 }
 
-/// Nothing is taken, and the next ask has no tag.
+/// Returns the result of a reply that can't be parsed: nothing is applied, and the next request has no tag.
 fn unread(bad: Bad) -> Taken
     ensures { result ≡ record { outcome = Outcome.BadAnswer bad; tag = None } }
 {
@@ -57,7 +57,7 @@ fn unread(bad: Bad) -> Taken
     }
 }
 
-/// Follows a reply.
+/// Applies a reply.
 fn take_reply<I: Installer>(
     alloc: Global,
     to: &mut I,
@@ -96,7 +96,7 @@ fn take_reply<I: Installer>(
     }
 }
 
-/// The number of the version of a slot, where there is one.
+/// Returns the number of the version of a slot, if it has one.
 fn number_held<I: Installer>(to: &I, slot: usize) -> Option<u64>
     requires { slot < length (I.installed to.now).places }
     ensures { result ≡ number_held (place_of (I.installed to.now) slot) }
@@ -107,7 +107,7 @@ fn number_held<I: Installer>(to: &I, slot: usize) -> Option<u64>
     }
 }
 
-/// Follows a batch, which came with a tag.
+/// Applies a batch that came with a tag.
 fn follow_batch<I: Installer>(
     alloc: Global,
     to: &mut I,
@@ -132,7 +132,7 @@ fn follow_batch<I: Installer>(
     })
 }
 
-/// The outcome of a verdict, at the front that stands after it.
+/// Returns the outcome of a verdict. `front` is the front after it.
 fn outcome_of(verdict: Verdict, front: u64) -> Outcome
     ensures outcome { result ≡ outcome_of verdict front }
     ensures named { IsNamedOutcome result }
@@ -146,7 +146,7 @@ fn outcome_of(verdict: Verdict, front: u64) -> Outcome
     }
 }
 
-/// The tag of the next ask: none where the server must answer all that stands.
+/// Returns the tag for the next request: none if the server must send everything.
 fn tag_after(verdict: Verdict, tag: Option<Bytes>) -> Option<Bytes>
     requires { IsTrue (fits_if_any tag) }
     ensures after { result ≡ tag_after verdict tag }

@@ -1,4 +1,4 @@
-//! Taking the book of tokens that a server knows.
+//! Refreshing the book of tokens.
 ghost use Rattle.std.specs.Prelude.{◌≡◌, ◌≢◌, ◌<◌, ◌≤◌, ◌-◌, ◌^◌, List, ℕ, Some, Err, Result, IfOk, IfErr, OnOk, OnErr, IsTrue, drop};
 ghost use Rattle.std.specs.Prelude.{option_map, string_bytes, false};
 ghost use Rattle.serde_json.specs.View.{view};
@@ -23,12 +23,13 @@ use unl_documents::{List, Memory, Text};
 use unl_http_api::{BadReply, Bytes, Got, Method, write_request};
 use unl_tokens::{BadBook, Book, write_request as write_texts};
 
-/// Asks a server once which of these tokens it knows, and publishes the book that it answers, cut to these texts, where
-/// it isn't the one that stands. The answer is `Published` with the front then, or `Repeat` where that book stands; or
-/// `Refused` at another status than 200; or `BadAnswer`. Nothing changes in all cases but the first.
+/// Asks a server once which of these tokens it knows, and keeps of its book only the tokens with these texts. If the
+/// result differs from the current book, it is published, and the outcome is `Published` with the new front. Otherwise
+/// nothing changes, and the outcome is `Repeat` for the same book, `Refused` for a status other than 200, or `BadAnswer`
+/// for a reply that can't be parsed.
 ///
 /// # Errors
-/// `PeerFault` where the peer can't be connected to, written to or read, or want of memory. Nothing is taken then.
+/// `PeerFault` if the peer can't be connected to, written to or read; `Memory` if out of memory. Nothing is applied then.
 pub fn refresh_tokens<I: Installer, P: Peer>(
     alloc: Global,
     to: &mut I,
@@ -39,32 +40,32 @@ pub fn refresh_tokens<I: Installer, P: Peer>(
     requires front { (I.installed to.old).front < 2 ^ 64 - 1 }
     requires host { IsTrue (fits_line host.now) }
 
-    // A reply was read, and the outcome and what is installed are what comes of it.
+    // A reply is read, and it determines the outcome and what is installed.
     ensures takes { IfOk result (λ outcome. RefreshesTokens texts.now (I.installed to.old) (option_map next_of (P.state peer.old).replies)
         outcome (I.installed to.new)) }
 
-    // Where the peer tells its replies, this is so of the next one and in no other way.
+    // If the peer's replies are observable, the reply is the next one of them.
     ensures told { (list : List (List ℕ)) (reading : Result Got BadReply) → (P.state peer.old).replies ≡ Some list
         → IsReply (next_of list) reading
         → IfOk result (λ outcome. Installs (book_in_reply texts.now reading) (I.installed to.old) outcome (I.installed to.new)) }
 
-    // Want of memory stands in no outcome.
+    // No outcome reports an allocation failure.
     ensures named { IfOk result IsNamedOutcome }
 
-    // A fault takes nothing.
+    // On an error nothing is applied.
     ensures fault { OnErr result (I.installed to.new ≡ I.installed to.old) }
 
-    // One connect was made, and one request was sent on it.
+    // One connection is made, and one request is sent on it.
     ensures asks { OnOk result (Asks (tokens_request texts.now host.now)
         (P.state peer.old).replies (P.Sink.sent peer.old) (P.state peer.new).replies (P.Sink.sent peer.new)) }
     ensures once { AsksAtMostOnce (tokens_request texts.now host.now)
         (P.state peer.old).replies (P.Sink.sent peer.old) (P.state peer.new).replies (P.Sink.sent peer.new) }
 
-    // Where no call of the peer failed and memory was found, one reply was taken.
+    // Unless the peer failed or memory ran out, exactly one reply is used up.
     ensures one_reply { ¬ (Rose (P.Source.faults peer.old) (P.Source.faults peer.new)) → result ≢ Err RefreshFault.Memory
         → (P.state peer.new).replies ≡ option_map (λ list. drop 1 list) (P.state peer.old).replies }
 
-    // A fault is told only where the peer counted one, and want of memory only where it counted none.
+    // `PeerFault` is returned only if the peer's fault count rose, and `Memory` only if it didn't change.
     ensures later { P.Source.faults peer.old ≤ P.Source.faults peer.new }
     ensures cause { result ≡ Err RefreshFault.PeerFault → Rose (P.Source.faults peer.old) (P.Source.faults peer.new) }
     ensures untouched { result ≡ Err RefreshFault.Memory → P.Source.faults peer.new ≡ P.Source.faults peer.old }
@@ -72,7 +73,7 @@ pub fn refresh_tokens<I: Installer, P: Peer>(
     refresh(alloc, to, texts, host, peer)
 }
 
-/// Asks once, and takes what is read.
+/// Makes one request and applies the reply.
 fn refresh<I: Installer, P: Peer>(
     alloc: Global,
     to: &mut I,
@@ -100,7 +101,7 @@ fn refresh<I: Installer, P: Peer>(
     Ok(outcome)
 }
 
-/// The request for a book of these texts.
+/// Returns the text of the request for a book of these texts.
 #[tactic(auto, unfolding(crate::specs::Tokens::tokens_request))]
 fn request_of(alloc: Global, texts: &List<Text>, host: &str) -> Result<Bytes, Memory>
     requires { IsTrue (fits_line host.now) }
@@ -119,7 +120,7 @@ fn request_of(alloc: Global, texts: &List<Text>, host: &str) -> Result<Bytes, Me
     )
 }
 
-/// Takes the book that was read of a server.
+/// Installs the book in a parsed reply.
 fn take_book<I: Installer>(
     alloc: Global,
     to: &mut I,
@@ -140,7 +141,7 @@ fn take_book<I: Installer>(
     }
 }
 
-/// Publishes a book where it isn't the one that stands.
+/// Publishes a book, unless it is the current one.
 fn install<I: Installer>(alloc: Global, to: &mut I, book: Book) -> Result<Outcome, Memory>
     requires { (I.installed to.old).front < 2 ^ 64 - 1 }
     ensures installs { IfOk result (λ outcome. Installs (Ok book) (I.installed to.old) outcome (I.installed to.new)) }
@@ -154,7 +155,7 @@ fn install<I: Installer>(alloc: Global, to: &mut I, book: Book) -> Result<Outcom
     }
 }
 
-/// The book that was read, cut to the texts; else what comes of what was read.
+/// Returns the book in a parsed reply, limited to these texts; else the outcome.
 fn book_in_reply(
     alloc: Global,
     texts: &List<Text>,
@@ -171,7 +172,7 @@ fn book_in_reply(
     }
 }
 
-/// The book in a body, cut to the texts.
+/// Returns the book in a body, limited to these texts; else the outcome.
 fn book_in_body(
     alloc: Global,
     texts: &List<Text>,

@@ -1,4 +1,4 @@
--- Along the lines of a replay each slot stands for the line of histories of its environment.
+-- Along the lines of a replay, each slot represents the line of histories of its environment.
 use Rattle.std.proofs.Common.{◌≡◌, ℕ, ◌+◌, Bool, true, false, cond, List, [], ◌∷◌, length, ltb, Option, Some, None, Result, Ok, Err, IfOk, refl, ap}
 use Rattle.std.specs.Prelude.{IfSome, codes, ok_or}
 use Rattle.std.specs.Str.{bytes_eq}
@@ -32,18 +32,18 @@ use Rattle.unl_replay.specs.Refusals.{LineReading, and_then, documented, refusin
 use Rattle.unl_replay.specs.Replay.{Answered, Turned, answer_object, answer_op, answer_read, arrive, ask_of_line, at_desk, batch_of_line, beside, environment_in, feed_of_line, judged, line_answer, metrics_of_line, number_in, opening, put_ask, put_batch, put_metrics, put_tokens, same_line, tokens_line, tokens_of_line}
 use Rattle.unl_replay.proofs.Slots.{IsTold, all_stand, name_told, verdict_told}
 
--- two readings that go on from one: what holds of the second holds of the first
+-- two continuations of one reading: what holds of the second holds of the first
 and_both : {A B C : Type 0} (r : LineReading A) (f : A → LineReading B) (g : A → LineReading C) (P : B → Type 0) (Q : C → Type 0)
     → ((x : A) → IfOk (g x) Q → IfOk (f x) P) → IfOk (and_then r g) Q → IfOk (and_then r f) P
 and_both (Ok x) f g P Q step premise = step x premise
 and_both (Err e) f g P Q step premise = tt
 
--- a reading that goes on from one
+-- the continuation of a reading
 and_more : {A B : Type 0} (r : LineReading A) (f : A → LineReading B) (P : B → Type 0) → ((x : A) → IfOk (f x) P) → IfOk (and_then r f) P
 and_more (Ok x) f P step = step x
 and_more (Err e) f P step = tt
 
--- a desk, as a line leaves it
+-- after a line, each slot of the desk represents its line of histories
 abbrev Leaves : Histories → LineReading Answered → Type 0
 Leaves told r = IfOk r (λ answered. IsTold told answered.desk)
 
@@ -184,7 +184,7 @@ read_answered : (k : ℕ) (b : Bench) (r : LineReading Data) → IfOk (and_then 
 read_answered k b (Ok line) = object_answered k b line (documented (required any_text field.Op line))
 read_answered k b (Err e) = tt
 
--- an ask is answered by its own answer
+-- the answer to an ask is that of its own request
 answered : (k : ℕ) (b : Bench) (line : List ℕ) → IfOk (asked line) (λ ask. answer_read k b line ≡ Ok (put_ask k b ask))
 unfolding asked answer_read
 answered k b line = read_answered k b (ok_or (object_in line) (Document NotJson))
@@ -220,7 +220,7 @@ asks_from told k b (line ∷ more) are all sent = (
 pub delivered : (bytes : List ℕ) → DeliversRevisions bytes
 delivered bytes told are sent = asks_from told 1 opening (lines bytes) are tt sent
 
--- so it is of bytes that are told
+-- the same for bytes that are observable
 pub delivered_where : (told : Option (List ℕ)) → IfSome told DeliversRevisions
 delivered_where None = tt
 delivered_where (Some bytes) = delivered bytes

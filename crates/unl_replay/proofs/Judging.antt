@@ -1,4 +1,4 @@
--- What a verdict does, where it is known.
+-- The effect of a known verdict.
 use Rattle.std.proofs.Common.{◌≡◌, ℕ, Result, Ok, ap, sym, subst, ◌∙◌}
 use Rattle.std.specs.Prelude.{Vec}
 use Rattle.std.specs.declared.alloc.Global.{Global}
@@ -20,7 +20,7 @@ stands_after Repeat slot batch d after is = is
 stands_after Old slot batch d after is = is
 stands_after Held slot batch d after is = is
 
--- the line of a verdict is printed over the desk that its batch leaves
+-- the line of a verdict is printed over the desk after the batch
 pub judged_so : (said : Result (Vec ℕ Global) Refusal) (k slot : ℕ) (batch : Batch) (d after : Standing) (v : Verdict)
     → v ≡ verdict_of (place_of (installed_by d) slot) batch
     → ByVerdict v (after ≡ with_batch slot batch d) (after ≡ with_hold slot d) (after ≡ d)

@@ -1,4 +1,4 @@
--- The slots of a board beside the places that a desk keeps for them, where all of them stand for lines of histories.
+-- The slots of a board, and the places that a desk keeps for them, all of which represent lines of histories.
 use Rattle.std.proofs.Common.{◌≡◌, ℕ, zero, suc, ◌+◌, Bool, true, false, cond, List, [], ◌∷◌, ◌++◌, Option, Some, None, refl, sym, ◌∙◌, subst, arith, unwrap_or}
 use Rattle.std.specs.Prelude.{IfSome, slice_get, slice_set}
 use Rattle.std.specs.List.{position_from}
@@ -18,7 +18,7 @@ use Rattle.unl_delta.specs.Installing.{place_of}
 use Rattle.unl_delta.proofs.Delivery.{next_follows}
 use Rattle.unl_replay.specs.Replay.{after_verdict}
 
--- each place has what its slot has, and that stands for the line of the slot's environment
+-- each place has the version of its slot, and that represents the line of the slot's environment
 abbrev pub AllTold : Histories → List Slot → List Place → Type 0
 AllTold told [] [] = Unit {0}
 AllTold told [] (place ∷ places) = ⊥
@@ -31,7 +31,7 @@ all_stand told [] (place ∷ places) all = absurd all
 all_stand told (slot ∷ slots) [] all = absurd all
 all_stand told (slot ∷ slots) (place ∷ places) all = (all.1, all_stand told slots places all.2)
 
--- one slot more, which is empty
+-- one more slot, which is empty
 pub told_more : (told : Histories) (environment : List ℕ) (slots : List Slot) (places : List Place) → AllTold told slots places
     → AllTold told (slots ++ empty_slot environment ∷ []) (places ++ empty_place ∷ [])
 told_more told environment [] [] all = (refl, tt, tt)
@@ -39,11 +39,11 @@ told_more told environment [] (place ∷ places) all = absurd all
 told_more told environment (slot ∷ slots) [] all = absurd all
 told_more told environment (slot ∷ slots) (place ∷ places) all = (all.0, all.1, told_more told environment slots places all.2)
 
--- a slot is of that environment
+-- slot `i` is that of the environment
 abbrev IsOf : List ℕ → List Slot → ℕ → Type 0
 IsOf environment slots i = IfSome (slice_get slots i) (λ slot. slot.environment ≡ environment)
 
--- a version stands at a slot and at its place
+-- a slot and its place take a new version, which represents the line
 told_put : (told : Histories) (environment : List ℕ) (slots : List Slot) (places : List Place) (i : ℕ) (v : EnvVersion) (place : Place) → AllTold told slots places
     → IsOf environment slots i → place.version ≡ Some v → StandsAt told environment (Some v) → AllTold told (taking i v slots) (slice_set places i place)
 told_put told environment [] [] i v place all named is stands = tt
@@ -54,7 +54,7 @@ told_put told environment (slot ∷ slots) (p ∷ places) zero v place all named
 told_put told environment (slot ∷ slots) (p ∷ places) (suc i) v place all named is stands =
     (all.0, all.1, told_put told environment slots places i v place all.2 named is stands)
 
--- a place is another one with the same version
+-- a place is replaced by one with the same version
 told_held : (told : Histories) (slots : List Slot) (places : List Place) (i : ℕ) (place : Place) → AllTold told slots places
     → place.version ≡ (unwrap_or (slice_get places i) empty_place).version → AllTold told slots (slice_set places i place)
 told_held told [] [] i place all same = tt
@@ -63,7 +63,7 @@ told_held told (slot ∷ slots) [] i place all same = absurd all
 told_held told (slot ∷ slots) (p ∷ places) zero place all same = (same ∙ all.0, all.1, all.2)
 told_held told (slot ∷ slots) (p ∷ places) (suc i) place all same = (all.0, all.1, told_held told slots places i place all.2 same)
 
--- the place of a slot of an environment stands for its line
+-- the place of an environment's slot represents its line
 told_at : (told : Histories) (environment : List ℕ) (slots : List Slot) (places : List Place) (i : ℕ) → AllTold told slots places → IsOf environment slots i
     → StandsAt told environment (unwrap_or (slice_get places i) empty_place).version
 told_at told environment [] [] i all named = tt
@@ -76,7 +76,7 @@ told_at told environment (slot ∷ slots) (p ∷ places) (suc i) all named = tol
 same_number : (n r : ℕ) → Some n ≡ Some r → n ≡ r
 same_number n r same = cc
 
--- the slot that is found is of the environment
+-- the slot that is found is that of the environment
 found_from : (environment : List ℕ) (n : ℕ) (slots : List Slot) (r : ℕ) → position_from (is_named environment) n slots ≡ Some r
     → (j : ℕ) × (r ≡ j + n) × IsOf environment slots j
 found_from environment n [] r is = absurd cc
@@ -97,11 +97,11 @@ found environment slots slot is =
 
 -- ---- a desk
 
--- each slot of a desk stands so
+-- each slot of the desk represents its line of histories
 abbrev pub IsTold : Histories → Standing → Type 0
 IsTold told d = AllTold told d.board.slots d.places
 
--- an environment has its slot
+-- after an environment gets its slot
 pub name_told : (told : Histories) (environment : List ℕ) (d : Standing) → IsTold told d → IsTold told (with_name environment d)
 name_told told environment d all = decided (is_added environment d.board.slots)
   where
@@ -109,7 +109,7 @@ name_told told environment d all = decided (is_added environment d.board.slots)
     decided true = told_more told environment d.board.slots d.places all
     decided false = all
 
--- it takes a batch that is sent of its line
+-- after an environment takes a batch that was sent from its line
 pub verdict_told : (told : Histories) (environment : List ℕ) (slot : ℕ) (batch : Batch) (d : Standing) (verdict : Verdict) → AreLines told → IsTold told d
     → place_in environment d.board.slots ≡ Some slot → IsSent (told.line environment) (told.sees environment) batch
     → verdict_of (place_of (installed_by d) slot) batch ≡ verdict → IsTold told (after_verdict verdict slot batch d)

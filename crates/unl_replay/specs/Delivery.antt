@@ -1,4 +1,4 @@
--- What the lines of a replay deliver to environments, and what then stands at each line.
+-- What the lines of a replay deliver to environments, and the state at each line.
 use Rattle.std.specs.Prelude.{◌≡◌, ⊤, ℕ, ◌+◌, List, [], ◌∷◌, codes, Option, Some, None, IfOk, IfSome, Ok, Err, ok_or, if◌then◌else◌}
 use Rattle.std.specs.Str.{bytes_eq}
 use Rattle.serde_json.specs.Data.{Data}
@@ -26,27 +26,27 @@ pub record Delivery : Type 0 where
   pub environment : List ℕ
   pub batch : Batch
 
--- a batch that is read for an environment
+-- the batch that is read, for this environment
 abbrev pub for_environment : List ℕ → LineReading Batch → LineReading Delivery
 for_environment environment reading = and_then reading (λ batch. Ok (record { environment = environment; batch = batch }))
 
--- what a line with a batch brings; without `after` it counts as coming after the number that its environment has
+-- what a line with a batch brings; a batch without `after` follows the number that its environment has
 abbrev pub batch_brought : Standing → Data → LineReading Delivery
 batch_brought d line = and_then (environment_in d line) (λ environment.
     for_environment environment (batch_in (number_in environment d.board) line))
 
--- what a line with a feed brings: its hydration
+-- what a line with a feed brings: a hydration
 abbrev pub feed_brought : Standing → Data → LineReading Delivery
 feed_brought d line = and_then (environment_in d line) (λ environment. for_environment environment (feed_in line))
 
--- what a line of that op brings
+-- what a line with this op brings
 abbrev pub brought_by : Standing → Data → List ℕ → LineReading Delivery
 brought_by d line op =
     if bytes_eq op (codes "tokens") then Err (Document (WrongKind field.Op))
     else (if bytes_eq op (codes "batch") then batch_brought d line
     else (if bytes_eq op (codes "feed") then feed_brought d line else Err (Document (WrongKind field.Op))))
 
--- what a line of that op asks
+-- the ask of a line with this op
 abbrev pub asked_by : Data → List ℕ → LineReading Ask
 asked_by line op =
     if bytes_eq op (codes "tokens") then Err (Document (WrongKind field.Op))
@@ -54,11 +54,11 @@ asked_by line op =
     else (if bytes_eq op (codes "feed") then Err (Document (WrongKind field.Op))
     else (if bytes_eq op (codes "ask") then documented (ask_of line) else Err (Document (WrongKind field.Op)))))
 
--- what an object is read as, by its op
+-- the reading of an object, by its op
 abbrev pub by_op : {T : Type 0} → (Data → List ℕ → LineReading T) → Data → LineReading T
 by_op read line = and_then (documented (required any_text field.Op line)) (read line)
 
--- what a line is read as, by its object
+-- the reading of a line that holds an object
 abbrev pub by_object : {T : Type 0} → (Data → List ℕ → LineReading T) → List ℕ → LineReading T
 by_object read bytes = and_then (ok_or (object_in bytes) (Document NotJson)) (by_op read)
 
@@ -66,38 +66,38 @@ by_object read bytes = and_then (ok_or (object_in bytes) (Document NotJson)) (by
 unfoldable pub brought : Bench → List ℕ → LineReading Delivery
 brought b bytes = by_object (brought_by b.desk) bytes
 
--- what a line asks
+-- the ask of a line
 unfoldable pub asked : List ℕ → LineReading Ask
 asked bytes = by_object asked_by bytes
 
--- ---- along all lines
+-- ---- all lines
 
--- what is brought is sent of the line of histories of its environment
+-- The batch was sent from the line of histories of its environment.
 abbrev pub IsToldOf : Histories → Delivery → Type 0
 IsToldOf told delivery = IsSent (told.line delivery.environment) (told.sees delivery.environment) delivery.batch
 
--- so is all that the lines bring, from the line k on, up to one that is refused
+-- The same for everything that the lines bring, from line `k` on, up to one that is refused.
 abbrev pub AllSent : Histories → ℕ → Bench → List (List ℕ) → Type 0
 AllSent told k b [] = ⊤
 AllSent told k b (line ∷ more) =
     IfOk (brought b line) (IsToldOf told) × IfOk (take_line line_answer k b line) (λ taken. AllSent told (k + 1) taken.desk more)
 
--- An ask is answered over a board of which each slot stands for the line of histories of its environment, and what a token is
+-- The ask is answered over a board whose slots each represent the line of histories of their environment, and what a token is
 -- shown of it is one revision.
 pub record AnswersFromHistories (told : Histories) (k : ℕ) (b : Bench) (line : List ℕ) (ask : Ask) : Type 0 where
   pub answers : answer_read k b line ≡ Ok (put_ask k b ask)
   pub stand : AllStand told b.desk.board.slots
   pub shows : ShowsRevisions told b.desk.board
 
--- so is each ask of the lines, from the line k on, up to one that is refused
+-- The same for each ask of the lines, from line `k` on, up to one that is refused.
 abbrev pub AsksFromHistories : Histories → ℕ → Bench → List (List ℕ) → Type 0
 AsksFromHistories told k b [] = ⊤
 AsksFromHistories told k b (line ∷ more) =
     IfOk (asked line) (AnswersFromHistories told k b line)
     × IfOk (take_line line_answer k b line) (λ taken. AsksFromHistories told (k + 1) taken.desk more)
 
--- Whatever is lost, doubled or out of order: where all that the lines of these bytes bring was sent of one line of histories for
--- each environment, each ask among them is answered from these.
+-- Batches may be lost, duplicated or out of order: if everything that these lines bring was sent from one line of histories for
+-- each environment, each ask among them is answered from these histories.
 abbrev pub DeliversRevisions : List ℕ → Type 0
 DeliversRevisions bytes =
     (told : Histories) → AreLines told → AllSent told 1 opening (lines bytes) → AsksFromHistories told 1 opening (lines bytes)

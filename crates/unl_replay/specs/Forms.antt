@@ -1,4 +1,4 @@
--- What the objects of lines are read as.
+-- How the objects of lines are read.
 use Rattle.std.specs.Prelude.{ℕ, List, [], codes, Option, unwrap_or, ok_or, if◌then◌else◌, false, Ok, Err}
 use Rattle.std.specs.Str.{bytes_eq}
 use Rattle.serde_json.specs.Data.{Data}
@@ -24,11 +24,11 @@ use Rattle.unl_replay.specs.Refusals.{LineReading, and_then, documented, refusin
 abbrev pub any_value : Field → Data → Reading Data
 any_value field value = Ok value
 
--- the batch of a line; without `after` it comes after the number that the environment has
+-- the batch of a line; a batch without `after` follows the number that the environment has
 abbrev pub batch_in : Option ℕ → Data → LineReading Batch
 batch_in held line = and_then (documented (required any_value field.Batch line)) (λ value. refusing refusal_for_batch (batch_of held value))
 
--- a feed with a number is a hydration
+-- a feed with a number, as a hydration
 abbrev pub as_batch : Feed → LineReading Batch
 as_batch feed = ok_or (batch_of_feed feed) NoNumber
 
@@ -38,7 +38,7 @@ feed_in line = and_then (documented (required (object_of feed_of) field.Feed lin
 
 -- ---- asks
 
--- the method of that name
+-- the method of this name: `GET` or `POST`
 abbrev pub method_by : Field → List ℕ → Reading Method
 method_by field word =
     if bytes_eq word (codes "GET") then Ok Get else (if bytes_eq word (codes "POST") then Ok Post else Err (WrongKind field))
@@ -49,15 +49,15 @@ method field value = do
   word ← ok_or (as_str value) (WrongKind field)
   method_by field word
 
--- the last moment that a draw may have, in milliseconds since 1970
+-- the greatest time of a draw, in milliseconds since 1970
 abbrev pub last_moment : ℕ
 last_moment = 100000000000000
 
--- bytes, or none where they are absent
+-- the bytes, or no bytes if absent
 abbrev pub bytes_or_none : Option (List ℕ) → List ℕ
 bytes_or_none o = unwrap_or o []
 
--- a request with its parts as they stand, and a draw
+-- a request with the parts given in the line, and a draw
 unfoldable pub ask_of : Data → Reading Ask
 ask_of d = do
   target ← required any_text field.Target d

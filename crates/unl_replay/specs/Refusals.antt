@@ -1,4 +1,4 @@
--- What reading a line gives: something, or why the line is refused.
+-- The result of reading a line, and the text of refusals.
 use Rattle.std.specs.Prelude.{◌≡◌, ◌≢◌, ⊤, ℕ, List, [], ◌++◌, codes, decimal, Result, Ok, Err}
 use Rattle.unl_delta.specs.declared.fault.BadBatch.{BadBatch}
 use Rattle.unl_delta.specs.declared.fault.BadBatch.TheVariants as batch
@@ -13,16 +13,16 @@ use Rattle.unl_tokens.specs.declared.fault.BadBook.TheVariants as book
 use Rattle.unl_replay.specs.declared.refusal.Refusal.{Refusal}
 use Rattle.unl_replay.specs.declared.refusal.Refusal.TheVariants.{Document, Book, Batch, NoNumber, TooManyEnvironments, Memory}
 
--- what a line is read as, or why it is refused
+-- the value read from a line, or why the line is refused
 abbrev pub LineReading : Type 0 → Type 0
 LineReading T = Result T Refusal
 
--- what comes after a reading, unless it is a refusal
+-- continues a reading, unless it is a refusal
 abbrev pub and_then : {A B : Type 0} → LineReading A → (A → LineReading B) → LineReading B
 and_then (Ok x) f = f x
 and_then (Err e) f = Err e
 
--- a fault of a document is why the line is refused
+-- the refusal for a fault of a document
 abbrev pub refusal_for : BadDocument → Refusal
 refusal_for document.NotJson = Document document.NotJson
 refusal_for (document.Missing field) = Document (document.Missing field)
@@ -32,14 +32,14 @@ refusal_for (document.DuplicateName field name) = Document (document.DuplicateNa
 refusal_for (document.NotWhole field) = Document (document.NotWhole field)
 refusal_for document.Memory = Memory
 
--- so is a fault of a book
+-- the refusal for a fault of a book
 abbrev pub refusal_for_book : BadBook → Refusal
 refusal_for_book book.NotJson = Book book.NotJson
 refusal_for_book (book.BadEntry place) = Book (book.BadEntry place)
 refusal_for_book (book.TooMany count) = Book (book.TooMany count)
 refusal_for_book book.Memory = Memory
 
--- and a fault of a batch
+-- the refusal for a fault of a batch
 abbrev pub refusal_for_batch : BadBatch → Refusal
 refusal_for_batch batch.NotJson = Batch batch.NotJson
 refusal_for_batch (batch.BadEvent place) = Batch (batch.BadEvent place)
@@ -47,7 +47,7 @@ refusal_for_batch (batch.HydrationNotFirst place) = Batch (batch.HydrationNotFir
 refusal_for_batch (batch.NotRising place) = Batch (batch.NotRising place)
 refusal_for_batch batch.Memory = Memory
 
--- a reading whose faults are why something else is refused
+-- maps the error of a reading
 abbrev pub refusing : {A E F : Type 0} → (E → F) → Result A E → Result A F
 refusing fault (Ok x) = Ok x
 refusing fault (Err e) = Err (fault e)
@@ -56,25 +56,25 @@ refusing fault (Err e) = Err (fault e)
 abbrev pub documented : {A : Type 0} → Reading A → LineReading A
 documented = refusing refusal_for
 
--- What a function answered is the reading, unless memory ran out.
+-- The function's result is the reading, unless it is out of memory.
 abbrev pub Gives : {T : Type 0} → LineReading T → LineReading T → Type 0
 Gives (Ok x) reading = reading ≡ Ok x
 Gives (Err e) reading = e ≢ Memory → reading ≡ Err e
 
--- ---- how a refusal is printed
+-- ---- the text of a refusal
 
 -- a word and a number
 abbrev pub numbered : List ℕ → ℕ → List ℕ
 numbered word n = word ++ (codes " " ++ decimal n)
 
--- the cause that names what is wrong with a book
+-- the text for a fault of a book
 abbrev pub book_text : BadBook → List ℕ
 book_text book.NotJson = codes "BadBook 1"
 book_text (book.BadEntry place) = numbered (codes "BadBook 2") place
 book_text (book.TooMany count) = numbered (codes "BadBook 3") count
 book_text book.Memory = []
 
--- the cause that names what is wrong with a batch
+-- the text for a fault of a batch
 abbrev pub batch_text : BadBatch → List ℕ
 batch_text batch.NotJson = codes "BadBatch 1"
 batch_text (batch.BadEvent place) = numbered (codes "BadBatch 2") place
@@ -82,7 +82,7 @@ batch_text (batch.HydrationNotFirst place) = numbered (codes "BadBatch 3") place
 batch_text (batch.NotRising place) = numbered (codes "BadBatch 4") place
 batch_text batch.Memory = []
 
--- want of memory is none, and has no text
+-- the text for a refusal; `Memory` is no refusal and has no text
 abbrev pub refusal_text : Refusal → List ℕ
 refusal_text (Document fault) = fault_text fault
 refusal_text (Book fault) = book_text fault
@@ -91,7 +91,7 @@ refusal_text NoNumber = codes "NoNumber"
 refusal_text TooManyEnvironments = codes "TooManyEnvironments"
 refusal_text Memory = []
 
--- the cause of a refused line is that text; where memory ran out there is none
+-- The cause of a refused line is this text. Out of memory, nothing is claimed.
 abbrev pub Causes : LineRefusal → Refusal → Type 0
 Causes (line.Cause text) refusal = (refusal ≢ Memory) × (text ≡ refusal_text refusal)
 Causes line.Memory refusal = ⊤

@@ -35,7 +35,7 @@ use Rattle.unl_replay.specs.Refusals.{LineReading, and_then, documented, refusin
 
 -- ---- the printed lines
 
--- the line for a book that stands already
+-- the line for a book that is the current one
 abbrev pub same_line : ℕ → List ℕ
 same_line k = decimal k ++ codes ": same\n"
 
@@ -44,17 +44,17 @@ abbrev pub tokens_line : ℕ → ℕ → ℕ → List ℕ
 tokens_line k generation front =
     decimal k ++ (codes ": tokens generation " ++ (decimal generation ++ (codes " front " ++ (decimal front ++ codes "\n"))))
 
--- the number of a revision, after its epoch and a point where the epoch isn't 0
+-- the number of a revision, preceded by its epoch and a dot unless the epoch is 0; a dash if there is none
 abbrev pub revision_text : Option Revision → List ℕ
 revision_text None = codes "-"
 revision_text (Some now) = with_epoch now.epoch (decimal now.number)
 
--- the word of a verdict, and where the environment stands then
+-- the line for a verdict, with the environment's revision and the front after it
 abbrev pub verdict_line : ℕ → List ℕ → List ℕ → ℕ → List ℕ
 verdict_line k word revision front =
     decimal k ++ (codes ": " ++ (word ++ (codes " number " ++ (revision ++ (codes " front " ++ (decimal front ++ codes "\n"))))))
 
--- a tag, where there is one
+-- a tag, or a dash if there is none
 abbrev pub tag_or_dash : Option (List ℕ) → List ℕ
 tag_or_dash None = codes "-"
 tag_or_dash (Some tag) = tag
@@ -71,29 +71,29 @@ ask_line k front reply = ask_start k front reply.status (tag_or_dash reply.tag) 
 
 -- ---- one line
 
--- what a line prints, and the desk after it
+-- the text that a line prints, and the desk after it
 abbrev pub Answered : Type 0
 Answered = Taken Standing
 
--- the book that stands is published no second time
+-- publishes a book, unless it is the current one
 abbrev pub put_tokens : ℕ → List Token → Standing → Answered
 put_tokens k tokens d =
     if same_book tokens d.board.book then record { text = same_line k; desk = d }
     else record { text = tokens_line k (with_book tokens d).board.generation (with_book tokens d).front; desk = with_book tokens d }
 
--- the number at which an environment stands, where it has a state
+-- the number of an environment's version, if it has one
 abbrev pub number_in : List ℕ → Board → Option ℕ
 number_in environment board = option_map (λ version. version.number) (snapshot_in environment board.slots)
 
--- the revision at which a slot stands, where it has a state
+-- the revision of a slot, if it has a version
 abbrev pub revision_at : ℕ → Standing → Option Revision
 revision_at slot d = option_map revision_of (place_of (installed_by d) slot).version
 
--- what is printed of a verdict, with the desk after it
+-- the line for a verdict, with the desk after it
 abbrev pub judged_as : ℕ → List ℕ → ℕ → Standing → Answered
 judged_as k word slot after = record { text = verdict_line k word (revision_text (revision_at slot after)) after.front; desk = after }
 
--- the word of a verdict
+-- the word for a verdict
 abbrev pub word_of : Verdict → List ℕ
 word_of Apply = codes "apply"
 word_of Repeat = codes "repeat"
@@ -101,7 +101,7 @@ word_of Old = codes "old"
 word_of Gap = codes "gap"
 word_of Held = codes "held"
 
--- what a batch does to the desk by its verdict
+-- the desk after a batch, by its verdict
 abbrev pub after_verdict : Verdict → ℕ → Batch → Standing → Standing
 after_verdict Apply slot batch d = with_batch slot batch d
 after_verdict Gap slot batch d = with_hold slot d
@@ -109,62 +109,62 @@ after_verdict Repeat slot batch d = d
 after_verdict Old slot batch d = d
 after_verdict Held slot batch d = d
 
--- what a batch does by its verdict, and its line
+-- the line and the desk for a batch, by its verdict
 abbrev pub judged : ℕ → ℕ → Batch → Standing → Verdict → Answered
 judged k slot batch d v = judged_as k (word_of v) slot (after_verdict v slot batch d)
 
--- a batch arrives at a slot, if there is one
+-- applies a batch to a slot; an error if there is no slot
 abbrev pub arrive : ℕ → Batch → Standing → Option ℕ → LineReading Answered
 arrive k batch d None = Err TooManyEnvironments
 arrive k batch d (Some slot) = Ok (judged k slot batch d (verdict_of (place_of (installed_by d) slot) batch))
 
--- an environment takes a batch; one that is new gets its slot, whatever the verdict
+-- applies a batch to an environment; a new one gets its slot, whatever the verdict
 abbrev pub put_batch : ℕ → List ℕ → Standing → Batch → LineReading Answered
 put_batch k environment d batch = arrive k batch (with_name environment d) (place_in environment (with_name environment d).board.slots)
 
--- the answer to a line of tokens
+-- the effect of a line of tokens
 abbrev pub tokens_of_line : ℕ → Standing → Data → LineReading Answered
 tokens_of_line k d line = and_then (refusing refusal_for_book (book_of line)) (λ tokens. Ok (put_tokens k tokens d))
 
--- the environment of a line, which has its slot or finds room for one
+-- the environment of a line; it has a slot already, or there is room for one
 abbrev pub environment_in : Standing → Data → LineReading (List ℕ)
 environment_in d line = and_then (documented (required name field.Environment line)) (λ environment.
     if has_room environment d.board.slots then Ok environment else Err TooManyEnvironments)
 
--- the answer to a line with a batch
+-- the effect of a line with a batch
 abbrev pub batch_of_line : ℕ → Standing → Data → LineReading Answered
 batch_of_line k d line = and_then (environment_in d line) (λ environment.
     and_then (batch_in (number_in environment d.board) line) (put_batch k environment d))
 
--- the answer to a line with a feed
+-- the effect of a line with a feed
 abbrev pub feed_of_line : ℕ → Standing → Data → LineReading Answered
 feed_of_line k d line = and_then (environment_in d line) (λ environment.
     and_then (feed_in line) (put_batch k environment d))
 
--- ---- one line, beside the book of metrics
+-- ---- one line, with the metrics book
 
--- what a line prints, and desk and book after it
+-- the text that a line prints, and the desk and metrics book after it
 abbrev pub Turned : Type 0
 Turned = Taken Bench
 
--- the book of metrics stays as it is
+-- an effect on the desk that leaves the metrics book unchanged
 abbrev pub beside : Book → LineReading Answered → LineReading Turned
 beside book (Ok answered) = Ok (record { text = answered.text; desk = record { desk = answered.desk; book = book } })
 beside book (Err cause) = Err cause
 
--- the desk stays as it is
+-- an effect on the metrics book that leaves the desk unchanged
 abbrev pub at_desk : Standing → Taken Book → Turned
 at_desk d taken = record { text = taken.text; desk = record { desk = d; book = taken.desk } }
 
--- an answer is printed, and what it reports is summed
+-- prints an answer and records its report
 abbrev pub settled : ℕ → ℕ → Book → Answer → Taken Book
 settled k front book answer = record { text = ask_line k front (final_reply book answer); desk = final_book book answer }
 
--- a request is answered
+-- answers a request
 abbrev pub put_ask : ℕ → Bench → Ask → Turned
 put_ask k b ask = at_desk b.desk (settled k b.desk.front b.book (answer_of b.desk.board ask.request ask.draw))
 
--- the answer to an ask
+-- the effect of a line with an ask
 abbrev pub ask_of_line : ℕ → Bench → Data → LineReading Turned
 ask_of_line k b line = and_then (documented (ask_of line)) (λ ask. Ok (put_ask k b ask))
 
@@ -172,22 +172,22 @@ ask_of_line k b line = and_then (documented (ask_of line)) (λ ask. Ok (put_ask 
 abbrev pub metrics_line : ℕ → List ℕ → List ℕ
 metrics_line k body = decimal k ++ (codes ": metrics " ++ (body ++ codes "\n"))
 
--- a bulk report is printed, and then acknowledged
+-- prints a bulk report and acknowledges it; prints a dash if there is none
 abbrev pub sent_bulk : ℕ → List ℕ → Book → Option (Data × ℕ) → Taken Book
 sent_bulk k environment book None = record { text = metrics_line k (codes "-"); desk = book }
 sent_bulk k environment book (Some (report, count)) =
     record { text = metrics_line k (compact_text report); desk = acknowledge environment count book }
 
--- what is summed up for an environment is sent
+-- prints the metrics of an environment
 abbrev pub put_metrics : ℕ → List ℕ → Book → Taken Book
 put_metrics k environment book = sent_bulk k environment book (bulk environment book)
 
--- the answer to a line that asks for metrics
+-- the effect of a line that asks for metrics
 abbrev pub metrics_of_line : ℕ → Bench → Data → LineReading Turned
 metrics_of_line k b line =
     and_then (documented (required name field.Environment line)) (λ environment. Ok (at_desk b.desk (put_metrics k environment b.book)))
 
--- an object is answered by its op
+-- the effect of an object, by its op
 abbrev pub answer_op : ℕ → Bench → Data → List ℕ → LineReading Turned
 answer_op k b line op =
     if bytes_eq op (codes "tokens") then beside b.book (tokens_of_line k b.desk line)
@@ -196,27 +196,27 @@ answer_op k b line op =
     else (if bytes_eq op (codes "ask") then ask_of_line k b line
     else (if bytes_eq op (codes "metrics") then metrics_of_line k b line else Err (Document (WrongKind field.Op))))))
 
--- the answer to a line by its op
+-- the effect of an object, which must name its op
 abbrev pub answer_object : ℕ → Bench → Data → LineReading Turned
 answer_object k b line = and_then (documented (required any_text field.Op line)) (answer_op k b line)
 
--- the answer to the bytes of a line
+-- the effect of the bytes of a line
 unfoldable pub answer_read : ℕ → Bench → List ℕ → LineReading Turned
 answer_read k b bytes = and_then (ok_or (object_in bytes) (Document NotJson)) (answer_object k b)
 
--- what comes of a line, with the text of the cause where it is refused
+-- the effect of a line, with the text of the cause if it is refused
 abbrev pub line_answer : ℕ → Bench → List ℕ → LineResult Bench
 line_answer k b bytes = refusing refusal_text (answer_read k b bytes)
 
 -- ---- all lines
 
--- no environment, no tokens, nothing published, and nothing summed up
+-- no environments, no tokens, no publications, and no metrics
 abbrev pub opening : Bench
 opening = record {
   desk = record { board = record { boot = 0; host = []; generation = 0; book = []; slots = [] }; places = []; front = 0 };
   book = [];
 }
 
--- the replay of a whole input: the text, and the end
+-- the replay of a whole input: the text, and how it ends
 abbrev pub replay_of : List ℕ → Outcome Bench
 replay_of bytes = outcome_of line_answer opening bytes

@@ -1,4 +1,4 @@
--- What answering one line does.
+-- What processing one line does.
 use Rattle.std.specs.Prelude.{◌≡◌, ◌≢◌, ℕ, Result, Ok, Err, Vec}
 use Rattle.std.specs.declared.alloc.Global.{Global}
 use Rattle.unl_lines.specs.Taken.{Taken}
@@ -6,7 +6,7 @@ use Rattle.unl_replay.specs.declared.refusal.Refusal.{Refusal}
 use Rattle.unl_replay.specs.declared.refusal.Refusal.TheVariants.{Memory}
 use Rattle.unl_replay.specs.Refusals.{LineReading}
 
--- What a line printed, and what stands then, is what is stated; so is a refusal, unless memory ran out.
+-- The printed line and the state after it are as stated; so is a refusal, unless it is out of memory.
 abbrev pub Steps : {D : Type 0} → Result (Vec ℕ Global) Refusal → D → LineReading (Taken D) → Type 0
 Steps (Ok line) after stated = stated ≡ Ok (record { text = line.items; desk = after })
 Steps (Err refusal) after stated = refusal ≢ Memory → stated ≡ Err refusal

@@ -1,4 +1,4 @@
-//! An ask: a request, and the draw that it is answered with.
+//! Reading an ask: a request, and the draw to answer it with.
 ghost use Rattle.std.specs.Prelude.{◌≡◌, [], unwrap_or};
 ghost use Rattle.serde_json.specs.View.{view};
 ghost use Rattle.unl_documents.specs.Reading.{Gives};
@@ -12,17 +12,17 @@ use unl_documents::kind::{AnyText, AnyWhole, Kind, Whole};
 use unl_documents::{BadDocument, Field, List, Text};
 use unl_http_api::{Bytes, Method, Request};
 
-/// The last moment that a draw may have, in milliseconds since 1970.
+/// The greatest time of a draw, in milliseconds since 1970.
 const LAST_MOMENT: u64 = 100_000_000_000_000;
 
-/// A request with its parts as they stand, and the draw that it is answered with.
+/// A request with the parts given in the line, and the draw to answer it with.
 #[derive(Drop)]
 pub struct Ask {
     pub request: Request,
     pub draw: Draw,
 }
 
-/// A word for a method: `GET` or `POST`.
+/// Reads a method: `GET` or `POST`.
 struct MethodWord;
 
 impl Kind for MethodWord {
@@ -54,14 +54,14 @@ fn method_by(field: Field, word: &str) -> Result<Method, BadDocument>
     }
 }
 
-/// The bytes of a text.
+/// Returns the bytes of a text.
 fn bytes_of(text: Text) -> Bytes
     ensures { result ≡ text }
 {
     List::from_vec(text.into_bytes())
 }
 
-/// The bytes of a text, where there is one.
+/// Returns the bytes of a text, if there is one.
 fn some_bytes(text: Option<Text>) -> Option<Bytes>
     ensures { result ≡ text }
 {
@@ -71,7 +71,7 @@ fn some_bytes(text: Option<Text>) -> Option<Bytes>
     }
 }
 
-/// The bytes of a text, or none where there is no text.
+/// Returns the bytes of a text, or no bytes if there is none.
 fn bytes_or_none(alloc: Global, text: Option<Text>) -> Bytes
     ensures { result ≡ bytes_or_none text }
 {

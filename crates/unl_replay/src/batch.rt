@@ -1,4 +1,4 @@
-//! The batch of a line, as it stands or as a feed.
+//! Reading the batch of a line, or its feed as a batch.
 ghost use Rattle.std.specs.Prelude.{◌≡◌, IfOk, IfSome};
 ghost use Rattle.serde_json.specs.View.{view};
 ghost use Rattle.unl_delta.specs.Valid.{IsValidBatch};
@@ -14,7 +14,7 @@ use unl_documents::document::Object;
 use unl_documents::keys::{required, value_at};
 use unl_documents::{BadDocument, Feed, Field};
 
-/// The batch of a line. Without `after` it comes after the number that its environment has.
+/// Reads the batch of a line. A batch without `after` follows the number that its environment has.
 #[tactic(auto, using(crate::proofs::RefusalLemmas::refused_batch), unfolding(unl_documents::specs::Kinds::required))]
 pub fn batch_in(alloc: Global, held: Option<u64>, line: &Value) -> Result<Batch, Refusal>
     ensures gives { Gives result (batch_in held (view line.now)) }
@@ -26,7 +26,7 @@ pub fn batch_in(alloc: Global, held: Option<u64>, line: &Value) -> Result<Batch,
     Ok(read_batch(alloc, value, held)?)
 }
 
-/// The feed of a line, as a batch.
+/// Reads the feed of a line and returns it as a batch.
 #[tactic(auto, using(crate::proofs::RefusalLemmas::refused))]
 pub fn feed_in(alloc: Global, line: &Value) -> Result<Batch, Refusal>
     ensures gives { Gives result (feed_in (view line.now)) }
@@ -36,7 +36,7 @@ pub fn feed_in(alloc: Global, line: &Value) -> Result<Batch, Refusal>
     as_batch(alloc, feed)
 }
 
-/// A feed with a number is a hydration.
+/// Returns a feed as a hydration. `NoNumber` if the feed has no number.
 fn as_batch(alloc: Global, feed: Feed) -> Result<Batch, Refusal>
     requires { IsValidState feed.state }
     ensures gives { Gives result (as_batch feed) }

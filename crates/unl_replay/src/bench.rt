@@ -1,4 +1,4 @@
-//! One line of the replay, over the desk and the book of metrics.
+//! Processing one line of the replay, over the desk and the metrics book.
 ghost use Rattle.std.specs.Prelude.{◌≡◌, ◌+◌, ◌-◌, ◌^◌, ◌<◌, ◌≤◌, Ok, IfOk, IfSome, string_bytes};
 ghost use Rattle.serde_json.specs.View.{view};
 ghost use Rattle.unl_metrics.specs.Reports.{IsReport};
@@ -19,11 +19,11 @@ use unl_documents::{BadDocument, Field, Text};
 use unl_http_api::Reply;
 use unl_metrics::MetricsBook;
 
-/// What the lines change.
+/// The state that the lines change.
 #[derive(Drop)]
 pub struct Bench {
     pub desk: OneDesk,
-    /// What the asks report.
+    /// The metrics that the asks report.
     pub book: MetricsBook,
 }
 
@@ -48,7 +48,7 @@ fn tag_or_dash(tag: &Option<Text>) -> &str
     }
 }
 
-/// The line of an ask, with the body as it stands.
+/// Returns the line of an ask. The body is printed unchanged.
 fn ask_line(alloc: Global, number: u64, front: u64, reply: &Reply) -> Result<Vec<u8>, AllocError>
     ensures { IfOk result (λ v. v.items ≡ ask_line number front reply.now) }
 {
@@ -81,7 +81,7 @@ fn put_ask(alloc: Global, bench: &mut Bench, number: u64, ask: &Ask) -> Result<V
     settled(alloc, &mut bench.book, number, front, answer)
 }
 
-/// Prints an answer, and sums up what it reports.
+/// Prints an answer and records its report in the metrics book.
 fn settled(
     alloc: Global,
     book: &mut MetricsBook,
@@ -110,7 +110,7 @@ fn metrics_of_line(
     put_metrics(alloc, &mut bench.book, number, environment.as_str())
 }
 
-/// Prints the bulk report of an environment, and acknowledges it.
+/// Prints the bulk report of an environment and acknowledges it.
 fn put_metrics(
     alloc: Global,
     book: &mut MetricsBook,
@@ -136,7 +136,7 @@ fn metrics_line(alloc: Global, number: u64, body: &str) -> Result<String, AllocE
     format!(in alloc; "{number}: metrics {body}\n")
 }
 
-/// Answers a line by its op.
+/// Processes a line by its op.
 fn answer_op(
     alloc: Global,
     bench: &mut Bench,
@@ -173,7 +173,7 @@ fn answer_object(
     answer_op(alloc, bench, number, line, op.as_str())
 }
 
-/// Answers a line, and says what it prints.
+/// Processes a line and returns the text that it prints.
 #[tactic(auto, unfolding(crate::specs::Replay::answer_read))]
 pub fn answer_line(
     alloc: Global,

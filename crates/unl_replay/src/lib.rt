@@ -1,5 +1,4 @@
-//! The replay: lines of tokens, batches, feeds, asks and metrics are read from a source, and each is answered by one printed
-//! line.
+//! The replay: reads lines of tokens, batches, feeds, asks and metrics from a source, and prints one line for each.
 #![tactic(auto)]
 
 mod ask;
@@ -11,5 +10,5 @@ mod replaying;
 mod step;
 
 pub use replaying::replay;
-/// Why a replay ended before its input did.
+/// Why a replay ended before the end of its input.
 pub use unl_lines::LinesFault as ReplayFault;

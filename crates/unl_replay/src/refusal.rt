@@ -1,4 +1,4 @@
-//! Why a line is refused.
+//! The errors of a line, and their text.
 ghost use Rattle.std.specs.Prelude.{◌≡◌, IfOk, string_bytes};
 ghost use Rattle.unl_replay.specs.Refusals.{batch_text, book_text, numbered, refusal_text};
 
@@ -7,7 +7,7 @@ use unl_delta::BadBatch;
 use unl_documents::{BadDocument, Memory, fault_text};
 use unl_tokens::BadBook;
 
-/// Why a line is refused; or that memory is wanting, for which none is.
+/// Why a line is refused; or `Memory`, which refuses no line.
 #[derive(Debug, Drop)]
 pub enum Refusal {
     /// The first fault of a document in the line, or of the line itself.
@@ -18,7 +18,7 @@ pub enum Refusal {
     Batch(BadBatch),
     /// The feed has no number.
     NoNumber,
-    /// The environment is new, and eight stand.
+    /// The environment is new, and there are eight already.
     TooManyEnvironments,
     Memory,
 }
@@ -88,7 +88,7 @@ impl From<BadBatch> for Refusal {
 }
 
 impl Refusal {
-    /// The text that is printed for it.
+    /// Returns the text printed for the refusal. It is empty for `Memory`.
     pub fn text(&self, alloc: Global) -> Result<String, Memory>
         ensures { IfOk result (λ s. string_bytes s ≡ refusal_text self.now) }
     {
@@ -103,7 +103,7 @@ impl Refusal {
     }
 }
 
-/// The word for a fault of a book, with the number of its kind and the place or the count.
+/// Returns the text of a fault of a book: the number of its kind, and the entry's place or the count.
 fn book_text(alloc: Global, fault: &BadBook) -> Result<String, Memory>
     ensures { IfOk result (λ s. string_bytes s ≡ book_text fault.now) }
 {
@@ -115,7 +115,7 @@ fn book_text(alloc: Global, fault: &BadBook) -> Result<String, Memory>
     }
 }
 
-/// The word for a fault of a batch, with the number of its kind and the place.
+/// Returns the text of a fault of a batch: the number of its kind, and the event's place.
 fn batch_text(alloc: Global, fault: &BadBatch) -> Result<String, Memory>
     ensures { IfOk result (λ s. string_bytes s ≡ batch_text fault.now) }
 {

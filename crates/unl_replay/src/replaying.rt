@@ -17,7 +17,7 @@ use unl_documents::{List, Text};
 use unl_lines::{LineRefusal, LineTaking, LinesFault, take_lines};
 use unl_metrics::MetricsBook;
 
-/// Answers each line from the desk and the book that the lines before leave.
+/// Processes each line over the desk and the book that the lines before it leave.
 struct Answers;
 
 impl LineTaking for Answers {
@@ -25,7 +25,7 @@ impl LineTaking for Answers {
 
     ghost taken = { line_answer };
 
-    // Each line before was at most one publication.
+    // Each earlier line made at most one publication.
     ghost fits = { λ k bench. bench.desk.front < k };
 
     #[tactic(auto, using(crate::proofs::RefusalLemmas::refused_line))]
@@ -42,7 +42,7 @@ impl LineTaking for Answers {
     }
 }
 
-/// The cause that is printed for a refusal; or that memory is wanting.
+/// Returns the cause printed for a refusal, or `Memory` if out of memory.
 fn cause_of(alloc: Global, refusal: &Refusal) -> LineRefusal
     ensures { Causes result refusal.now }
 {
@@ -55,26 +55,27 @@ fn cause_of(alloc: Global, refusal: &Refusal) -> LineRefusal
     }
 }
 
-/// Answers the lines of an input, one after another, to its end.
+/// Processes the lines of an input, one after another, to its end, and prints one line for each.
 ///
 /// # Errors
-/// `Bad` where a line is refused, which prints why; `ReadFault` and `WriteFault` where the source or the sink failed, and
-/// `Memory` where memory is wanting.
+/// `Bad` if a line is refused (the cause is printed), `ReadFault` if the source fails, `WriteFault` if the sink fails, `Memory`
+/// if out of memory.
 pub fn replay<S: Source, K: Sink>(
     alloc: Global,
     source: &mut S,
     sink: &mut K,
 ) -> Result<(), LinesFault>
-    // What was sent, at each end: the whole text; the text up to the refused line and the cause; the answers to the
-    // lines that were read whole; a front of the text.
+    // What is sent, by the end: the whole text; the text up to the refused line, and the cause; the text of the lines that were
+    // read in full; a prefix of the text.
     ensures replays { TakesLines line_answer opening result (S.left source.old) (S.left source.new) (K.sent sink.old) (K.sent sink.new) }
     ensures ended { OnOk result (HasEnded (S.left source.new)) }
 
-    // Whatever is lost, doubled or out of order: where all batches and feeds of some input were sent of a line of histories for
-    // each environment, each of its asks is answered over one revision of these, as who is sent them and the token both see it.
+    // Batches may be lost, duplicated or out of order. If all batches and feeds of an input were sent from one line of
+    // histories for each environment, each ask of it is answered over one revision of these, as both the recipient and the
+    // token see it.
     ensures delivery { (bytes : List ℕ) → DeliversRevisions bytes }
 
-    // It doesn't give up by itself.
+    // `ReadFault` and `WriteFault` are returned only if the source or the sink failed.
     ensures read { IsErrOf result LinesFault.ReadFault → Rose (S.faults source.old) (S.faults source.new) }
     ensures write { IsErrOf result LinesFault.WriteFault → Rose (K.faults sink.old) (K.faults sink.new) }
     ensures source_later { S.faults source.old ≤ S.faults source.new }

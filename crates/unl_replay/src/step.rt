@@ -1,4 +1,4 @@
-//! Lines of tokens, batches and feeds, over the desk.
+//! Processing lines of tokens, batches and feeds, over the desk.
 ghost use Rattle.std.specs.Prelude.{◌≡◌, ◌+◌, ◌-◌, ◌^◌, ◌<◌, ◌≤◌, Ok, IfOk, string_bytes, length, decimal};
 ghost use Rattle.serde_json.specs.View.{view};
 ghost use Rattle.unl_core.specs.Standing.{installed_by};
@@ -23,7 +23,7 @@ use unl_documents::kind::Name;
 use unl_documents::{Field, Text};
 use unl_tokens::Book;
 
-/// The number at which an environment stands, where it has a state.
+/// Returns the number of an environment's version, if it has one.
 fn number_in(desk: &OneDesk, environment: &str) -> Option<u64>
     ensures { result ≡ number_in environment.now desk.now.board }
 {
@@ -33,7 +33,7 @@ fn number_in(desk: &OneDesk, environment: &str) -> Option<u64>
     }
 }
 
-/// The revision at which a slot stands, as it is printed.
+/// Returns the printed revision of a slot, or a dash if it has none.
 fn revision_text(alloc: Global, desk: &OneDesk, slot: usize) -> Result<String, AllocError>
     requires { slot < length desk.now.places }
     ensures { IfOk result (λ s. string_bytes s ≡ revision_text (revision_at slot desk.now)) }
@@ -101,7 +101,7 @@ fn put_tokens(
     }
 }
 
-/// What is printed of a verdict.
+/// Returns the line for a verdict.
 fn judged_as(
     alloc: Global,
     desk: &OneDesk,
@@ -116,7 +116,7 @@ fn judged_as(
     Ok(verdict_line(alloc, number, word, version.as_str(), desk.front())?.into_bytes())
 }
 
-/// A batch is judged at a slot, and taken where it applies.
+/// Judges a batch at a slot, and applies it if the verdict says so.
 #[tactic(auto, using(crate::proofs::Judging::judged_so))]
 fn judge(
     alloc: Global,
@@ -148,7 +148,7 @@ fn word_of(verdict: Verdict) -> &'static str
     }
 }
 
-/// An environment takes a batch. One that is new gets its slot, whatever the verdict.
+/// Applies a batch to an environment. A new environment gets its slot, whatever the verdict.
 fn put_batch(
     alloc: Global,
     desk: &mut OneDesk,
@@ -182,7 +182,7 @@ pub(crate) fn tokens_of_line(
     put_tokens(alloc, desk, number, tokens)
 }
 
-/// The environment of a line, which has its slot or finds room for one.
+/// Reads the environment of a line. It has a slot already, or there is room for one.
 #[tactic(auto, using(crate::proofs::RefusalLemmas::refused))]
 fn environment_in(alloc: Global, desk: &OneDesk, line: &Value) -> Result<Text, Refusal>
     ensures { Gives result (environment_in desk.now (view line.now)) }
@@ -195,7 +195,7 @@ fn environment_in(alloc: Global, desk: &OneDesk, line: &Value) -> Result<Text, R
     }
 }
 
-/// A line with a batch. The tree of the line is let go before anything is made of the batch.
+/// Processes a line with a batch. The parsed line is dropped before the batch is applied.
 pub(crate) fn batch_of_line(
     alloc: Global,
     desk: &mut OneDesk,
@@ -213,7 +213,7 @@ pub(crate) fn batch_of_line(
     put_batch(alloc, desk, number, environment.as_str(), &batch)
 }
 
-/// A line with a feed. The tree of the line is let go before anything is made of the feed.
+/// Processes a line with a feed. The parsed line is dropped before the feed is applied.
 pub(crate) fn feed_of_line(
     alloc: Global,
     desk: &mut OneDesk,

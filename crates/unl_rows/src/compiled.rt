@@ -1,4 +1,4 @@
-//! Toggles as a value, where commands print them as they are written.
+//! Tests of toggles as a value; the commands print them directly as text.
 ghost use Rattle.std.specs.Prelude.{IfSome};
 ghost use Rattle.unl_delta.specs.Valid.{IsValidBatch};
 
@@ -32,7 +32,7 @@ fn snapshot(alloc: Global) -> Option<Snapshot> {
     }
 }
 
-/// Whether the toggles as they are written are the text of those as they are a value.
+/// Returns whether the toggles as text equal the printed value.
 fn is_text_of_value(alloc: Global) -> Option<bool> {
     let snapshot = snapshot(alloc)?;
     let context = Context::read_query(alloc, b"").ok()?;

@@ -1,6 +1,7 @@
+//! Tests of the faults in the contexts of bodies.
 use unl_context::{BadContext, Context, Part};
 
-/// Bodies, and what is wrong with their contexts: which part, the program tells nowhere.
+/// Bodies and their first fault. The program itself never prints which part is faulty.
 const BODIES: [(&str, Option<BadContext>); 14] = [
     ("{", Some(BadContext::NotObject)),
     ("[]", Some(BadContext::NotObject)),

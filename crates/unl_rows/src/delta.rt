@@ -1,4 +1,4 @@
-//! Batches as a value, where commands print them as they are written.
+//! Tests of batches as a value; the commands print them directly as text.
 use std::alloc::Global;
 use unl_delta::{read_batch_bytes, write_batch};
 
@@ -8,7 +8,7 @@ const BATCH: &str = concat!(
     r#""type":"segment-removed"}]}"#,
 );
 
-/// Whether a batch is written as it is read.
+/// Returns whether the batch is written exactly as it was read.
 fn is_written_so(alloc: Global) -> Option<bool> {
     let batch = read_batch_bytes(alloc, BATCH.as_bytes(), None).ok()?;
     let value = write_batch(alloc, &batch).ok()?;

@@ -1,4 +1,4 @@
-//! Feeds as a value, where commands print them as they are written, and documents by themselves.
+//! Tests of feeds as a value (the commands print them directly as text), and of single documents.
 ghost use Rattle.unl_documents.specs.States.{IsValidState};
 
 use serde_json::Value;
@@ -9,7 +9,7 @@ use unl_documents::{
     write_feed,
 };
 
-/// What a feed of the state is written as, with a head of one project.
+/// Returns the text of a feed with this state, and a head with one project.
 fn feed_text(alloc: Global, state: &State, epoch: u64) -> Result<String, BadDocument>
     requires { IsValidState state.now }
 {
@@ -27,7 +27,7 @@ fn feed_text(alloc: Global, state: &State, epoch: u64) -> Result<String, BadDocu
     Ok(written.to_string(alloc)?)
 }
 
-/// What a feed is written as again, and its number.
+/// Reads a feed and writes it again. Returns the text and the feed's number.
 fn written_feed(alloc: Global, text: &str) -> Result<(String, Option<u64>), BadDocument> {
     let feed = read_feed(alloc, text.as_bytes())?;
     let copy = feed.copy(alloc)?;
@@ -42,7 +42,7 @@ const FEED: &str = concat!(
     r#""version":2}"#,
 );
 
-/// Whether a feed is written as it is read.
+/// Returns whether the feed is written exactly as it was read.
 fn is_written_so(alloc: Global) -> Result<bool, BadDocument> {
     let (written, number) = written_feed(alloc, FEED)?;
     Ok(written.as_str() == FEED && number == Some(9))
@@ -54,13 +54,13 @@ fn a_feed_is_written_as_it_is_read(rt: HostRuntime) {
     assert!(rt; is_written_so(rt.alloc()) == Ok(true));
 }
 
-/// Whether a feature is on, where a document is one.
+/// Returns whether the feature in a document is on, or `None` if the document is not a feature.
 fn is_on(alloc: Global, text: &str) -> Option<bool> {
     let value = Value::from_str(alloc, text).ok()?;
     Some(read_feature(alloc, &value).ok()?.enabled)
 }
 
-/// How many segments a state has, where a document is one.
+/// Returns the number of segments of the state in a document, or `None` if the document is not a state.
 fn segments_of(alloc: Global, text: &str) -> Option<usize> {
     let value = Value::from_str(alloc, text).ok()?;
     let state = read_state(alloc, &value).ok()?;

@@ -1,4 +1,4 @@
-//! Rows of the ends, of documents and of their evaluation: what the calls answer that no command prints.
+//! Tests of the ends, of documents and of their evaluation, for results of calls that no command prints.
 #![tactic(auto)]
 
 #[cfg(test)]

@@ -1,7 +1,8 @@
+//! Tests of the faults in metrics reports.
 use unl_documents::Field;
 use unl_metrics::{BadReport, Report};
 
-/// Reports of one app and their faults, which the program does not tell apart.
+/// Reports of one app and their faults, which the program does not distinguish.
 const OF_APPS: [(&str, BadReport); 23] = [
     ("{", BadReport::NotJson),
     ("[]", BadReport::NotJson),

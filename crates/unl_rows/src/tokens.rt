@@ -1,8 +1,9 @@
+//! Tests of the faults of tokens, of copying books, and of writing requests for tokens.
 use std::alloc::Global;
 use unl_documents::Copied;
 use unl_tokens::{BadToken, Book, Scope, read_request, write_request};
 
-/// Texts that are no tokens, each with its fault, which a book does not tell apart.
+/// Texts that are not tokens, each with its fault. A book does not distinguish these.
 const NO_TOKENS: [(&str, BadToken); 8] = [
     ("ab", BadToken::NoColon),
     ("", BadToken::NoColon),
@@ -27,13 +28,13 @@ const BOOK: &str =
 
 const ASKED: &str = r#"{"tokens":["*:dev.f"]}"#;
 
-/// Whether the copy of a book has the same tokens.
+/// Returns whether a copy of a book has the same tokens.
 fn copy_is_same(alloc: Global) -> Option<bool> {
     let book = Book::read(alloc, BOOK.as_bytes()).ok()?;
     Some(book.copy(alloc).ok()?.is_same(&book))
 }
 
-/// Whether a request for tokens is written as it is read.
+/// Returns whether a request for tokens is written exactly as it was read.
 fn is_written_so(alloc: Global) -> Option<bool> {
     let asked = read_request(alloc, ASKED.as_bytes()).ok()?;
     let request = write_request(alloc, &asked).ok()?;

@@ -1,8 +1,8 @@
-//! What words ask for, by the values of all options.
+//! Tests of reading arguments, with the values of all options.
 use std::alloc::Global;
 use unl_words::read_words;
 
-/// What the words of a line ask for, in which they stand with single spaces between them.
+/// Returns the debug text of the arguments in a line, which are separated by single spaces.
 fn shown(alloc: Global, line: &str) -> Option<String> {
     let mut words = Vec::new(alloc);
     for word in line.split(' ') {
@@ -11,7 +11,7 @@ fn shown(alloc: Global, line: &str) -> Option<String> {
     format!(in alloc; "{:?}", read_words(alloc, &words)).ok()
 }
 
-/// Lines that say only what they must, and lines that say all; and what they ask for.
+/// Lines with only the required options, lines with all options, and the debug text of each.
 const LINES: [(&str, &str); 6] = [
     (
         "edge --upstream up:4242 --upstream-tokens *:dev.s --tokens []:dev.t",

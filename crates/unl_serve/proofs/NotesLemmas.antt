@@ -1,4 +1,4 @@
--- What a conversation says of the desk, of the notes and of the draws.
+-- What a conversation says about the desk, the notes and the draws.
 use Rattle.std.proofs.Common.{◌≡◌, ℕ, ◌+◌, ◌≤◌, List, [], ◌∷◌, ◌++◌, length, refl, sym, ap, ◌∙◌, subst, arith, append_assoc, append-nil, Option, ◌⊎◌, inl, inr}
 use Rattle.unl_base.specs.declared.draws.Draw.{Draw}
 use Rattle.unl_base.specs.Draws.{TakesDraw}
@@ -19,21 +19,21 @@ use Rattle.unl_serve.specs.declared.served.ServedOne.{ServedOne}
 use Rattle.unl_metrics.specs.Book.{Book}
 use Rattle.unl_serve.specs.Notes.{AnswersNothing, AnswersOver, Draws, DrawsAtLeast, Known, LooksFor, Noted, Notes, NotesNothing, Rise, Seen, fronts_of, noted}
 
--- what one answer of a desk does
+-- the effect of one answer of a desk
 abbrev pub Over : {S : Type 0} → (S → Seen) → Answerer S → Request → Reply → Answerer S → Type 0
 Over seen = Answers (λ state request draw reply after. AnswersOver (seen state) request draw reply (seen after))
 
--- what want of memory at its answer does
+-- the effect of running out of memory at an answer
 abbrev pub Lacking : {S : Type 0} → (S → Seen) → Answerer S → Request → Answerer S → Type 0
 Lacking seen = LacksMemory (λ state request draw after. AnswersNothing (seen state) (seen after))
 
--- what is noted and summed
+-- the notes, and the book
 abbrev pub noted_of : {S : Type 0} → (S → Seen) → Answerer S → Noted
 noted_of seen s = (seen s.state).noted
 
--- ---- the desk, the notes and the draws behind a chain of answers
+-- ---- the desk, the notes and the draws after a chain of answers
 
--- what so many notes say
+-- the effect of the answers with these notes
 pub record Sums
     (before after : Known) (coming coming_after : Option (List Draw × Draw)) (ones : List ServedOne) : Type 0 where
   pub rise : Rise before.front ones after.front
@@ -41,12 +41,12 @@ pub record Sums
   pub drawn : Draws coming ones coming_after
   pub keeps : Keeps before.board_at after.board_at
 
--- the fronts rise from an earlier one too
+-- fronts that rise from one front rise from any earlier one
 Rise_from : (first one last : ℕ) (ones : List ServedOne) → first ≤ one → Rise one ones last → Rise first ones last
 Rise_from first one last [] up rise = omega (arith, up, rise)
 Rise_from first one last (other ∷ ones) up rise = (omega (arith, up, rise.0), rise.1)
 
--- and to a later one
+-- fronts that rise to one front rise to any later one
 Rise_to : (first last more : ℕ) (ones : List ServedOne) → Rise first ones last → last ≤ more → Rise first ones more
 Rise_to first last more [] rise up = omega (arith, rise, up)
 Rise_to first last more (one ∷ ones) rise up = (rise.0, Rise_to one.front last more ones rise.1 up)
@@ -95,7 +95,7 @@ summed seen count before after (q ∷ qs) text (reply, middle, more, step, split
 
 -- ---- the notes as a conversation of their own
 
--- a desk that knows more still knows the board of the reply
+-- a desk that knows more boards still knows the board of the reply
 noted_over : {S : Type 0} (seen : S → Seen) (board_at : ℕ → Option Board) (before after : Answerer S)
     (q : Request) (reply : Reply) → Keeps (seen after.state).desk.board_at board_at → Over seen before q reply after
     → Notes board_at (noted_of seen before) q reply (noted_of seen after)
@@ -126,7 +126,7 @@ answered_over seen board_at count before after (q ∷ qs) text keeps (reply, mid
       answered_over seen board_at (count + 1) middle after qs more keeps rest,
     )
 
--- the boards of the last state but one are known at the last
+-- the boards known in the last state but one are known in the last
 near_keeps : {S : Type 0} (seen : S → Seen) (state after : Answerer S)
     → IsNear (Over seen) (Lacking seen) state after → Keeps (seen state.state).desk.board_at (seen after.state).desk.board_at
 near_keeps {S} seen state after (inl same) =
@@ -146,7 +146,7 @@ last_noted seen state after q (inl lacks) = inl (lacking_noted seen state after 
 last_noted seen state after q (inr (reply, step)) =
     inr (reply, noted_over seen (seen after.state).desk.board_at state after q reply (λ k board there. there) step)
 
--- the notes show the conversation
+-- the notes reflect the conversation
 pub shows : {S : Type 0} (seen : S → Seen) (before after : Answerer S)
     → Shows (Over seen) (Lacking seen) (Notes (seen after.state).desk.board_at) NotesNothing (noted_of seen) before after
 shows seen before after = record {
@@ -156,9 +156,9 @@ shows seen before after = record {
   lack = λ state q lacks. lacking_noted seen state after q lacks;
 }
 
--- ---- what stands in every case
+-- ---- what holds in every case
 
--- what the notes say, whether or not the bytes are told
+-- what the notes say, whether or not the bytes are observable
 pub record Tells
     (before : Known) (coming : Option (List Draw × Draw)) (end : End) (after : Known)
     (coming_after : Option (List Draw × Draw)) (ones : List ServedOne) : Type 0 where
@@ -167,7 +167,7 @@ pub record Tells
   pub drawn : DrawsAtLeast coming ones coming_after
   pub keeps : Keeps before.board_at after.board_at
 
--- no more was drawn
+-- no further draw was taken
 tells_same : (before after : Known) (coming coming_after : Option (List Draw × Draw)) (end : End) (ones : List ServedOne)
     → Sums before after coming coming_after ones → Tells before coming end after coming_after ones
 tells_same before after coming coming_after end ones sums = record {
@@ -184,7 +184,7 @@ looked_more fronts middle after ones end is looks (inl same) = inl (same ∙ loo
 looked_more fronts middle after ones end is looks (inr (front, once)) =
     inr (is, front, Sends_more fronts middle after (fronts_of ones) (front ∷ []) looks once)
 
--- one more was drawn
+-- one further draw was taken
 tells_more : (before : Known) (middle after : Seen) (coming next coming_after : Option (List Draw × Draw)) (end : End)
     (ones : List ServedOne) (draw : Draw) → end ≡ Memory → Sums before middle.desk coming next ones
     → TakesDraw next draw coming_after → AnswersNothing middle after → Tells before coming end after.desk coming_after ones
@@ -211,7 +211,7 @@ tells_next seen before middle after end ones are sums (inr (is, request, lacks))
     (tells_more (seen before.state).desk (seen middle.state) (seen after.state) before.coming middle.coming after.coming end ones
     lacks.draw is sums lacks.taken lacks.given_up)
 
--- what is reached from no notes
+-- what holds for a conversation that begins without notes
 pub tells : {S : Type 0} (seen : S → Seen) (before after : Answerer S) (end : End) (count : ℕ)
     → (noted_of seen before).ones ≡ [] → Reaches (Over seen) (Lacking seen) before end after count
     → Tells (seen before.state).desk before.coming end (seen after.state).desk after.coming (noted_of seen after).ones

@@ -1,4 +1,4 @@
-//! Answering by a desk.
+//! The request handler that asks a desk.
 
 use crate::served::{Served, ServedOne};
 use std::alloc::Global;
@@ -10,7 +10,7 @@ use unl_exchange::Answering;
 use unl_http_api::{Reply, Request};
 use unl_metrics::MetricsBook;
 
-/// A desk that answers, the book that sums up what is reported, and the notes of the answers.
+/// The state of the handler: the desk that answers requests, the metrics book, and the notes of the answers.
 #[derive(Drop)]
 pub(crate) struct Attended<'a, D> {
     pub desk: &'a mut D,
@@ -18,7 +18,7 @@ pub(crate) struct Attended<'a, D> {
     pub served: &'a mut Served,
 }
 
-/// Answers each request by a desk, sums up what it reports, and notes the desk's front and the draw.
+/// Answers each request from a desk, adds what it reports to the book, and notes the desk's front and the draw.
 pub(crate) struct ByDesk<'a, D>(PhantomData<&'a D>);
 
 impl<'a, D: Desk> Answering for ByDesk<'a, D> {

@@ -1,4 +1,5 @@
-//! Serving one connection: its requests are read from a link, answered by a desk, noted and replied to in their order.
+//! Serves one connection: reads its requests from a link, answers them from a desk, notes them, and sends the replies in
+//! order.
 #![tactic(auto)]
 
 mod by_desk;

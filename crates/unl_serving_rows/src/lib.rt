@@ -1,4 +1,4 @@
-//! Tests of what serves links: single connections, queues of links, workers that serve them side by side, and the network.
+//! Tests of serving links: single connections, queues of links, concurrent workers, and the network.
 #![tactic(auto)]
 
 #[cfg(test)]

@@ -1,9 +1,10 @@
+//! Tests of the queue of links between two threads.
 use std::sync::Wait;
 use std::test::Fail;
 use unl_base::{Job, RealSpawner, Spawner};
 use unl_links::LinkQueue;
 
-/// Puts so many links, and then closes the queue.
+/// Puts `count` links into the queue, and then closes it.
 #[derive(Drop)]
 struct Putter<'a, W: Wait> {
     queue: &'a LinkQueue<u64>,
@@ -30,7 +31,7 @@ impl<W: Wait> Job for Putter<'_, W> {
     }
 }
 
-/// Takes links until none comes any more, and counts those that come in order.
+/// Takes links until the queue is closed, and counts those that come in order.
 #[derive(Drop)]
 struct Taker<'a, W: Wait> {
     queue: &'a LinkQueue<u64>,
@@ -58,7 +59,7 @@ impl<W: Wait> Job for Taker<'_, W> {
     fn cancel(&mut self) {}
 }
 
-// Both threads wait for each other: the queue has room for 64 links.
+// The two threads wait for each other, since the queue has room for only 64 links.
 #[test]
 fn a_queue_hands_links_on(rt: HostRuntime) -> Result<(), Fail> {
     let alloc = rt.alloc();

@@ -1,4 +1,4 @@
-//! A door over the sockets of this machine, and a peer over a network that gives what a script says: what is logged of it.
+//! Tests of a door over the sockets of this machine, and of what a peer over a scripted network logs.
 ghost use Rattle.unl_base.specs.Doors.{IsListening};
 
 use std::cell::Cell;
@@ -11,7 +11,7 @@ use std::time::{Clock, Duration};
 use unl_base::{Door, Draws, Failed, Link, Peer, Sink, Source};
 use unl_net::{NetDoor, NetDraws, NetPeer};
 
-/// What a read of a stream results in.
+/// The result of one read of a stream.
 #[derive(Clone, Copy)]
 enum Step {
     /// These bytes.
@@ -20,11 +20,11 @@ enum Step {
     Wait,
     /// A signal came.
     Signal,
-    /// The other side cut the stream off.
+    /// The other side reset the connection.
     Broken,
 }
 
-/// A stream whose reads result in these, and then in its end.
+/// A stream whose reads give these results in order, and then the end of the stream.
 #[derive(Drop)]
 struct Voice {
     steps: &'static [Step],
@@ -71,7 +71,7 @@ impl OpenStream for Voice {
     }
 }
 
-/// A listener to which nothing comes.
+/// A listener to which no connection comes.
 #[derive(Drop)]
 struct Gate;
 
@@ -89,8 +89,8 @@ impl OpenListener for Gate {
     }
 }
 
-/// A network at which nothing can be bound. Its streams give these texts, one after another, and then connects are refused. While
-/// it hangs a connect takes all the time that it may.
+/// A network on which binding fails. Its connections give these replies in order; after them, connecting is refused. While
+/// `hangs` is set, a connect fails after the whole time allowed to it.
 #[derive(Drop)]
 struct Town {
     seconds: Cell<u64>,
@@ -100,7 +100,7 @@ struct Town {
     replies: &'static [&'static [Step]],
 }
 
-/// A network whose peers reply so.
+/// Returns a network whose peers give these replies.
 fn town_of(replies: &'static [&'static [Step]]) -> Town {
     Town {
         seconds: Cell::new(0),
@@ -163,7 +163,7 @@ impl Eprint for Town {
 
 const ASKS: &[u8] = b"GET / HTTP/1.1\r\nHost: h\r\n\r\n";
 
-/// What stands between a client and a door that listens.
+/// The results of the reads and the write while one request is served.
 #[derive(Debug, Drop, PartialEq, Eq)]
 struct Turn {
     read: [Result<usize, Failed>; 2],
@@ -188,7 +188,7 @@ fn serve_one<D: Door>(door: &mut D) -> Result<Option<Turn>, Failed>
     }))
 }
 
-/// Asks over a connection, serves what is asked, and reads the answer.
+/// Sends a request over a connection, serves it, and reads the answer. Returns both results.
 fn exchange<D: Door>(
     door: &mut D,
     client: &mut TcpStream,
@@ -202,7 +202,7 @@ fn exchange<D: Door>(
     Ok((turn, client.read(&mut room)?))
 }
 
-/// What an exchange comes to.
+/// The result of a successful exchange.
 const WHOLE: (Result<Option<Turn>, Failed>, usize) = (
     Ok(Some(Turn {
         read: [Ok(27), Ok(0)],
@@ -220,7 +220,7 @@ fn one_connection_is_many_links(rt: HostRuntime) -> Result<(), Fail> {
     let mut client = TcpStream::connect(&rt, (Ipv4Addr::LOCALHOST, 21_077))?;
     let first = exchange(&mut door, &mut client)?;
     let second = exchange(&mut door, &mut client)?;
-    // A slow one holds no other up.
+    // A slow connection doesn't delay another one.
     client.write_all(b"GET / HT")?;
     let mut other = TcpStream::connect(&rt, (Ipv4Addr::LOCALHOST, 21_077))?;
     let third = exchange(&mut door, &mut other)?;
@@ -230,13 +230,13 @@ fn one_connection_is_many_links(rt: HostRuntime) -> Result<(), Fail> {
     Ok(())
 }
 
-/// What comes of reading a link once.
+/// Reads once from a link.
 fn read_of<L: Link>(link: &mut L) -> Result<usize, Failed> {
     let mut room = [0u8; 64];
     link.read(&mut room)
 }
 
-/// What comes of writing to a link once.
+/// Writes once to a link.
 fn write_to<L: Link>(link: &mut L, piece: &[u8]) -> Result<usize, Failed> {
     if piece.is_empty() {
         return Ok(0);
@@ -261,12 +261,12 @@ const DONE: &[Step] = &[Step::Signal, Step::Gives("HTTP/1.1 200 OK\r\n")];
 
 const SAME: &[Step] = &[Step::Gives("HTTP/1.1 304 Not Modified\r\n")];
 
-/// What is asked on the next connections.
+/// The requests on the next connections.
 const ASKED: [&[u8]; 10] = [
     BOOK, DELTA, OTHER, DELTA, OTHER, DELTA, DELTA, DELTA, BOOK, DELTA,
 ];
 
-/// How that is answered. Behind these no connect is.
+/// The replies to them. After these, connecting is refused.
 const REPLIES: [&[Step]; 10] = [
     DONE,
     REFUSED,
@@ -324,14 +324,14 @@ fn a_server_that_hangs_is_waited_for_once(rt: HostRuntime) {
     assert_eq!(rt; town.connects.get(), 1);
     town.seconds.set(35);
     assert_eq!(rt; peer.connect(), Ok(()));
-    // An exchange ends thirty seconds behind its connect, and the server then rests too.
+    // An exchange times out thirty seconds after its connect. The peer then pauses too.
     town.seconds.set(65);
     assert_eq!(rt; write_to(&mut peer, BOOK), Err(Failed));
     assert_eq!(rt; read_of(&mut peer), Err(Failed));
     assert_eq!(rt; peer.connect(), Err(Failed));
 }
 
-/// What those who serve links in threads of their own ask of a door and of a peer.
+/// The bounds on a door and a peer that serving with threads requires.
 fn may_cross<D: Door + Drop, P: Peer + Drop + Send>(_door: D, _peer: P)
 where
     D::L: Drop + Send,

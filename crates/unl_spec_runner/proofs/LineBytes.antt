@@ -1,4 +1,4 @@
--- Each line of a report has bytes.
+-- No line of a report is empty.
 use Rattle.std.proofs.Common.{◌<◌, ℕ, List, ◌++◌, length, Bool, true, false, cond, arith, length-append}
 use Rattle.std.specs.Prelude.{codes, decimal}
 use Rattle.unl_spec_runner.specs.declared.document.Test.{Test}
@@ -6,7 +6,7 @@ use Rattle.unl_spec_runner.specs.declared.expected.Expected.{Expected}
 use Rattle.unl_spec_runner.specs.Expected.{agrees, expected_text}
 use Rattle.unl_spec_runner.specs.Report.{line_of, pass_line, fail_line, quoted}
 
--- a text that starts with some bytes has bytes
+-- A text with a nonempty prefix is not empty.
 starts : (front bytes : List ℕ) → 0 < length front → 0 < length (front ++ bytes)
 starts front bytes has = rw (length-append front bytes) (omega (arith, has))
 

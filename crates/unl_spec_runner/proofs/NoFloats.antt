@@ -1,4 +1,4 @@
--- Nothing that is expected or given is written with a number that has a point.
+-- The JSON form of a result contains no floating-point number.
 use Rattle.std.proofs.Common.{◌≡◌, ℕ, List, Bool, false, Option, Some, None, refl}
 use Rattle.serde_json.specs.Written.{has_float}
 use Rattle.unl_documents.specs.declared.variant.Payload.{Payload}

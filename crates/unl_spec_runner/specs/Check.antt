@@ -1,4 +1,4 @@
--- The check of an input of test files: the report, or why the input is refused; and what is sent of it.
+-- The check of an input of test files: its report, or why the input is refused, and what is sent.
 use Rattle.std.specs.Prelude.{◌≡◌, ℕ, List, Option, Result, Ok, Err}
 use Rattle.unl_base.specs.declared.draws.Draw.{Draw}
 use Rattle.unl_documents.specs.Reading.{Reading, ◌>>=◌}
@@ -11,34 +11,34 @@ use Rattle.unl_spec_runner.specs.declared.fault.Summary.{Summary}
 use Rattle.unl_spec_runner.specs.Report.{Report, report_of_files}
 use Rattle.unl_spec_runner.specs.TestFile.{files_in}
 
--- the report of the files that an input spells, or its first fault
+-- The report of the files that an input spells, or its first fault.
 unfoldable pub accepted : Draw → List ℕ → Reading Report
 accepted draw bytes = do
   files ← files_in bytes
   Ok (report_of_files draw files)
 
--- the report of an input, or its refusal; its length comes first
+-- The report of an input, or its refusal. The size of the input is checked first.
 abbrev pub report_of : Draw → List ℕ → Outcome Report
 report_of draw bytes = outcome_of (accepted draw) bytes
 
--- the text of a report
+-- The text of a report.
 abbrev pub text_of : Report → List ℕ
 text_of report = report.text
 
--- the fault for a refusal
+-- The check's fault for a refusal.
 abbrev pub fault_of : InputRefusal → CheckFault
 fault_of (refusal.BadInput fault) = BadFile fault
 fault_of refusal.TooLarge = TooLarge
 
--- The whole input was read, which has a report; all of it was sent, and these are its counts.
+-- The whole input was read, its whole report was sent, and the summary has the report's counts.
 pub record ReportsAll (draw : Draw) (summary : Summary) (left left_after old new : Option (List ℕ)) : Type 0 where
   pub report : Report
   pub says : Says (accepted draw) text_of (Ok report) left left_after old new
   pub passed : summary.passed ≡ report.passed
   pub failed : summary.failed ≡ report.failed
 
--- How a check ends, over the bytes to come and those sent, before and after. An input that tells its bytes or none is alike.
--- Where it is refused, nothing was sent.
+-- How a check ends, in terms of the source's remaining bytes and the sink's sent bytes, before and after. Applies whether or
+-- not the source's bytes are observable. If the input is refused, nothing was sent.
 abbrev pub Checks : Result Summary CheckFault → Draw → Option (List ℕ) → Option (List ℕ) → Option (List ℕ) → Option (List ℕ) → Type 0
 Checks (Ok summary) draw left left_after old new = ReportsAll draw summary left left_after old new
 Checks (Err (BadFile fault)) draw left left_after old new = IsRefused (accepted draw) (refusal.BadInput fault) left left_after old new

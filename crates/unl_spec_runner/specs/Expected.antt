@@ -1,4 +1,4 @@
--- What a test expects, what it is given, and how both are printed.
+-- Expected and actual results of tests, and their JSON form.
 use Rattle.std.specs.Prelude.{ℕ, List, Bool, true, false, ◌&&◌, Option, Some, None, option_map}
 use Rattle.std.specs.Bool.{beq}
 use Rattle.std.specs.Str.{bytes_eq}
@@ -12,7 +12,7 @@ use Rattle.unl_spec_runner.specs.declared.expected.Expected.{Expected}
 use Rattle.unl_spec_runner.specs.declared.expected.Expected.TheVariants.{Result, Variant}
 use Rattle.unl_spec_runner.specs.declared.expected.ExpectedVariant.{ExpectedVariant}
 
--- the variant of an evaluation; whether the feature is on stands in it only where that is compared
+-- The actual variant of an evaluation. It includes whether the feature is on only if that is compared.
 unfoldable pub variant_given : ExpectedVariant → Evaluation → ExpectedVariant
 variant_given v e = record {
   name = e.variant.name;
@@ -21,36 +21,36 @@ variant_given v e = record {
   feature_enabled = option_map (λ _. e.on) v.feature_enabled;
 }
 
--- an evaluation in the form of what is expected of it
+-- The actual result of an evaluation, in the form of the expected one.
 unfoldable pub given_as : Expected → Evaluation → Expected
 given_as (Result on) e = Result e.on
 given_as (Variant v) e = Variant (variant_given v e)
 
--- both are absent, or both are there and agree
+-- Both are absent, or both are present and agree.
 abbrev pub options_agree : {T : Type 0} → (T → T → Bool) → Option T → Option T → Bool
 options_agree agree None None = true
 options_agree agree None (Some y) = false
 options_agree agree (Some x) None = false
 options_agree agree (Some x) (Some y) = agree x y
 
--- two payloads of one type and one value
+-- The payloads have the same type and the same value.
 abbrev pub payloads_agree : Payload → Payload → Bool
 payloads_agree p q = bytes_eq p.kind q.kind && bytes_eq p.value q.value
 
--- two variants that agree in each part
+-- The variants agree in each part.
 unfoldable pub variants_agree : ExpectedVariant → ExpectedVariant → Bool
 variants_agree v w =
     bytes_eq v.name w.name && (beq v.enabled w.enabled
     && (options_agree payloads_agree v.payload w.payload && options_agree beq v.feature_enabled w.feature_enabled))
 
--- what is given is what is expected
+-- The actual result is the expected one.
 unfoldable pub agrees : Expected → Expected → Bool
 agrees (Result on) (Result given) = beq on given
 agrees (Result on) (Variant w) = false
 agrees (Variant v) (Result given) = false
 agrees (Variant v) (Variant w) = variants_agree v w
 
--- a variant as it is printed
+-- The JSON form of a variant.
 unfoldable pub variant_data : ExpectedVariant → Data
 variant_data v = object (
     with_some field.Payload (option_map payload_data v.payload) (
@@ -59,11 +59,11 @@ variant_data v = object (
     with field.Name (string v.name)
     no_members))))
 
--- what is expected or given, as it is printed
+-- The JSON form of an expected or actual result.
 unfoldable pub expected_data : Expected → Data
 expected_data (Result on) = boolean on
 expected_data (Variant v) = variant_data v
 
--- its text in JSON
+-- The JSON text of a result.
 abbrev pub expected_text : Expected → List ℕ
 expected_text e = compact_text (expected_data e)

@@ -1,4 +1,4 @@
--- The report of test files: a line for each test, numbered over the whole input, and both counts at the end.
+-- The report of test files: a line for each test, numbered across the whole input, and both counts at the end.
 use Rattle.std.specs.Prelude.{ℕ, ◌+◌, List, [], ◌∷◌, ◌++◌, codes, decimal, map, Bool, not, unwrap_or, if◌then◌else◌}
 use Rattle.std.specs.List.{flat_map, count_by}
 use Rattle.serde_json.specs.Data.{string}
@@ -13,75 +13,75 @@ use Rattle.unl_spec_runner.specs.declared.document.Test.{Test}
 use Rattle.unl_spec_runner.specs.declared.document.TestFile.{TestFile}
 use Rattle.unl_spec_runner.specs.Expected.{given_as, agrees, expected_text}
 
--- what is printed, and how many tests passed and failed
+-- The text, and the number of tests that passed and of those that failed.
 pub record Report : Type 0 where
   pub text : List ℕ
   pub passed : ℕ
   pub failed : ℕ
 
--- a test, with the state that it is of
+-- A test, with its state.
 pub record Case : Type 0 where
   pub state : State
   pub test : Test
 
--- the moment of a draw, on a host without a name
+-- The moment of a draw, without a host name.
 abbrev pub moment_of : Draw → Moment
 moment_of draw = record { now = draw.now; word = draw.word; host = [] }
 
--- the evaluation of the feature that a test names, over its whole state; a feature that the state lacks is off
+-- The evaluation of the feature that a test names, in the test's state. A feature that the state lacks is off.
 unfoldable pub evaluated : Draw → Case → Evaluation
 evaluated draw c = unwrap_or (evaluation_of c.state c.test.toggle c.test.context (moment_of draw)) off
 
--- what the evaluation gives, in the form of what the test expects
+-- The actual result of a test, in the form of the expected one.
 unfoldable pub given : Draw → Case → Expected
 given draw c = given_as c.test.expected (evaluated draw c)
 
--- a test passes where it is given what it expects
+-- The test passes: its actual result is the expected one.
 unfoldable pub passes : Draw → Case → Bool
 passes draw c = agrees c.test.expected (given draw c)
 
--- a test that doesn't pass fails
+-- The test fails: it doesn't pass.
 abbrev pub fails : Draw → Case → Bool
 fails draw c = not (passes draw c)
 
--- a text as a JSON string
+-- A text as a JSON string.
 abbrev pub quoted : List ℕ → List ℕ
 quoted text = compact_text (string text)
 
--- the line of a test that passed
+-- The line of a test that passed.
 unfoldable pub pass_line : ℕ → List ℕ → List ℕ
 pass_line number description = codes "pass " ++ (decimal number ++ (codes " " ++ (description ++ codes "\n")))
 
--- the line of a test that failed
+-- The line of a test that failed.
 unfoldable pub fail_line : ℕ → List ℕ → List ℕ → List ℕ → List ℕ
 fail_line number description expected given =
     codes "fail " ++ (decimal number
     ++ (codes " " ++ (description ++ (codes " expected " ++ (expected ++ (codes " given " ++ (given ++ codes "\n")))))))
 
--- the line of a test that was given this
+-- The line of a test with this actual result.
 unfoldable pub line_of : ℕ → Test → Expected → List ℕ
 line_of number test given =
     if agrees test.expected given then pass_line number (quoted test.description)
     else fail_line number (quoted test.description) (expected_text test.expected) (expected_text given)
 
--- the lines of tests, the first of which has this number
+-- The lines of tests, the first of which has this number.
 abbrev pub lines_from : ℕ → Draw → List Case → List ℕ
 lines_from number draw [] = []
 lines_from number draw (c ∷ cs) = line_of number c.test (given draw c) ++ lines_from (number + 1) draw cs
 
--- the line of the counts
+-- The line with the counts.
 unfoldable pub counts_line : ℕ → ℕ → List ℕ
 counts_line passed failed = codes "passed " ++ (decimal passed ++ (codes " failed " ++ (decimal failed ++ codes "\n")))
 
--- a test as a case of its file
+-- A test as a case, with the state of its file.
 abbrev pub case_of : TestFile → Test → Case
 case_of file test = record { state = file.state; test = test }
 
--- the tests of a file, and then its variant tests
+-- The tests of a file, then its variant tests.
 abbrev pub cases_of : TestFile → List Case
 cases_of file = map (case_of file) (file.tests ++ file.variant_tests)
 
--- the report of some tests
+-- The report of the given tests.
 unfoldable pub report_of_cases : Draw → List Case → Report
 report_of_cases draw cases = record {
   text = lines_from 1 draw cases ++ counts_line (count_by (passes draw) cases) (count_by (fails draw) cases);
@@ -89,6 +89,6 @@ report_of_cases draw cases = record {
   failed = count_by (fails draw) cases;
 }
 
--- the report of files, one after the other
+-- The report of files, in their order.
 unfoldable pub report_of_files : Draw → List TestFile → Report
 report_of_files draw files = report_of_cases draw (flat_map cases_of files)

@@ -1,4 +1,4 @@
--- A report that grows by one test after the other.
+-- A report that is built test by test.
 use Rattle.std.specs.Prelude.{ℕ, ◌+◌, List, [], ◌∷◌, ◌++◌, Bool, true, false}
 use Rattle.unl_base.specs.declared.draws.Draw.{Draw}
 use Rattle.unl_documents.specs.declared.state.State.{State}
@@ -6,33 +6,33 @@ use Rattle.unl_spec_runner.specs.declared.document.Test.{Test}
 use Rattle.unl_spec_runner.specs.declared.document.TestFile.{TestFile}
 use Rattle.unl_spec_runner.specs.Report.{Report, Case, line_of, given, passes, counts_line}
 
--- the report of no tests, without their counts
+-- An empty report, without the line of counts.
 abbrev pub none_yet : Report
 none_yet = record { text = []; passed = 0; failed = 0 }
 
--- the report with the line of a test that passed or failed
+-- The report after the line of one more test, which passed or failed.
 abbrev pub with_line : List ℕ → Bool → Report → Report
 with_line line true r = record { text = r.text ++ line; passed = r.passed + 1; failed = r.failed }
 with_line line false r = record { text = r.text ++ line; passed = r.passed; failed = r.failed + 1 }
 
--- the report with a test more
+-- The report after one more test.
 unfoldable pub with_case : Draw → Case → Report → Report
 with_case draw c r = with_line (line_of (r.passed + r.failed + 1) c.test (given draw c)) (passes draw c) r
 
--- the report with tests of a state more
+-- The report after the given tests of a state.
 unfoldable pub with_tests : Draw → State → List Test → Report → Report
 with_tests draw state [] r = r
 with_tests draw state (t ∷ ts) r = with_tests draw state ts (with_case draw (record { state = state; test = t }) r)
 
--- the report with the tests of a file more
+-- The report after the tests of a file.
 unfoldable pub with_file : Draw → TestFile → Report → Report
 with_file draw file r = with_tests draw file.state file.variant_tests (with_tests draw file.state file.tests r)
 
--- the report with the tests of files more
+-- The report after the tests of files.
 unfoldable pub with_files : Draw → List TestFile → Report → Report
 with_files draw [] r = r
 with_files draw (f ∷ fs) r = with_files draw fs (with_file draw f r)
 
--- the report with its counts
+-- The report with the line of counts at its end.
 abbrev pub with_counts : Report → Report
 with_counts r = record { text = r.text ++ counts_line r.passed r.failed; passed = r.passed; failed = r.failed }

@@ -1,4 +1,4 @@
--- A state test file in the form of the Unleash client specification: each object's keys in order, each with its kind.
+-- Test files in the format of the Unleash client specification: the keys of each object in order, each with its kind.
 use Rattle.std.specs.Prelude.{ℕ, List, [], ◌∷◌, Bool, Option, Ok, Err, ok_or}
 use Rattle.std.specs.Option.{option_or, option_map_or}
 use Rattle.serde_json.specs.Data.{Data}
@@ -19,14 +19,14 @@ use Rattle.unl_spec_runner.specs.declared.document.TestFile.{TestFile}
 
 -- ---- tests
 
--- whether the feature is on, by its first spelling or else by its second
+-- Whether the feature is expected to be on: from the key's first spelling, or else from its second.
 unfoldable pub feature_enabled_in : Data → Reading (Option Bool)
 feature_enabled_in value = do
   first ← optional truth field.FeatureEnabled value
   second ← optional truth field.FeatureEnabledCamelCase value
   Ok (option_or first second)
 
--- the variant that a test expects
+-- The variant that a test expects.
 unfoldable pub expected_variant_of : Data → Reading ExpectedVariant
 expected_variant_of value = do
   named ← required name field.Name value
@@ -35,19 +35,19 @@ expected_variant_of value = do
   feature_enabled ← feature_enabled_in value
   Ok (record { name = named; enabled = enabled; payload = payload; feature_enabled = feature_enabled })
 
--- a test of a feature expects whether it is on
+-- The expected result of a feature test: whether the feature is on.
 unfoldable pub expected_result : Data → Reading Expected
 expected_result value = do
   on ← required truth field.ExpectedResult value
   Ok (On on)
 
--- a test of a variant expects a variant
+-- The expected result of a variant test: a variant.
 unfoldable pub expected_variant : Data → Reading Expected
 expected_variant value = do
   v ← required (object_of expected_variant_of) field.ExpectedResult value
   Ok (Variant v)
 
--- a test that expects what this reads
+-- A test whose expected result is read as given.
 unfoldable pub test_of : (Data → Reading Expected) → Data → Reading Test
 test_of expected_in value = do
   description ← defaulted [] (text 65536) field.Description value
@@ -58,11 +58,12 @@ test_of expected_in value = do
 
 -- ---- files
 
--- more tests than bytes fit into no input, so their count has no limit of its own
+-- The size limit of an input. An input can't contain more tests than it may have bytes, so their number has no limit of its
+-- own.
 abbrev pub most_tests : ℕ
 most_tests = 16777216
 
--- one test file
+-- A test file.
 unfoldable pub file_of : Data → Reading TestFile
 file_of value = do
   named ← defaulted [] any_text field.Name value
@@ -71,22 +72,22 @@ file_of value = do
   variant_tests ← defaulted [] (objects most_tests (test_of expected_variant)) field.VariantTests value
   Ok (record { state = state; tests = tests; variant_tests = variant_tests })
 
--- the state of a file is within its limits
+-- The state of a file is within its limits.
 abbrev pub IsValidFile : TestFile → Type 0
 IsValidFile file = IsValidState file.state
 
--- one file alone
+-- A single file as a list.
 abbrev pub alone : TestFile → Reading (List TestFile)
 alone file = Ok (file ∷ [])
 
--- one file that is the whole input
+-- A single file that is the whole input.
 unfoldable pub file_alone : Data → Reading (List TestFile)
 file_alone value = document file_of value >>= alone
 
--- the files that a value holds: an array of them, or one
+-- The files that a value spells: an array of files, or a single file.
 unfoldable pub files_of : Data → Reading (List TestFile)
 files_of value = option_map_or (each (document file_of)) (as_array value) (file_alone value)
 
--- the files that an input spells
+-- The files that an input spells.
 unfoldable pub files_in : List ℕ → Reading (List TestFile)
 files_in bytes = ok_or (json_of bytes) NotJson >>= files_of

@@ -1,4 +1,4 @@
-//! The check of an input.
+//! Checks an input of test files.
 ghost use Rattle.std.specs.Prelude.{◌≡◌, ◌≢◌, ◌≤◌, Err, IsErrOf};
 ghost use Rattle.unl_base.specs.Faults.{Rose};
 ghost use Rattle.unl_spec_runner.specs.Check.{Checks, accepted, fault_of, text_of};
@@ -12,30 +12,34 @@ use unl_base::{Draw, Sink, Source};
 use unl_documents::BadDocument;
 use unl_input::{AnswerFault, InputAnswer, InputRefusal, answer_input};
 
-/// Reads test files to the end of the source, evaluates their tests at the moment of the draw, and writes the report: a
-/// line for each test, and both counts. Nothing is written before the whole input is read and accepted.
+/// Reads test files to the end of the source, evaluates their tests at the moment and with the random word of the draw, and
+/// writes the report: a line for each test, then both counts. Nothing is written before the whole input is read and
+/// accepted.
 ///
 /// # Errors
-/// `TooLarge` exactly where the input has more than 16,777,216 bytes, and then `BadFile` exactly where it is no test file
-/// and no array of them, with its first fault: nothing is written. `ReadFault` where the source failed: nothing is
-/// written. `WriteFault` where the sink failed: a front of the report was written. `Memory` where memory ran out.
+/// - `TooLarge` if the input has more than 16,777,216 bytes. Nothing is written.
+/// - `BadFile` if the input is not too large but is neither a test file nor an array of test files; this is its first fault.
+///   Nothing is written.
+/// - `ReadFault` if the source failed. Nothing is written.
+/// - `WriteFault` if the sink failed. A prefix of the report was written.
+/// - `Memory` if memory ran out. Nothing is written.
 pub fn check<S: Source, K: Sink>(
     alloc: Global,
     source: &mut S,
     sink: &mut K,
     draw: &Draw,
 ) -> Result<Summary, CheckFault>
-    // The whole input was read. Its report was sent, and the summary has its counts; or it is refused and nothing was
-    // sent; or a front of the report was sent.
+    // On success, the whole input was read, its report was sent, and the summary has the report's counts. If the input is
+    // refused, nothing was sent. If a write fails, a prefix of the report was sent.
     ensures checks { Checks result draw.entry.now (S.left source.old) (S.left source.new) (K.sent sink.old) (K.sent sink.new) }
-    // Want of memory is no fault of the input.
+    // Out of memory is not a fault of the input.
     ensures named { result ≢ Err (CheckFault.BadFile BadDocument.Memory) }
-    // It doesn't give up by itself.
+    // A read or write fault is returned only if the stream failed.
     ensures read { IsErrOf result CheckFault.ReadFault → Rose (S.faults source.old) (S.faults source.new) }
     ensures write { IsErrOf result CheckFault.WriteFault → Rose (K.faults sink.old) (K.faults sink.new) }
     ensures source_later { S.faults source.old ≤ S.faults source.new }
     ensures sink_later { K.faults sink.old ≤ K.faults sink.new }
-    // A failed read is never told as want of memory.
+    // A failed read is never returned as out of memory.
     ensures untouched { IsErrOf result CheckFault.Memory → S.faults source.new ≡ S.faults source.old }
 {
     match answer_input::<Checking, S, K>(alloc, &Checking { draw: *draw }, source, sink) {
@@ -47,7 +51,7 @@ pub fn check<S: Source, K: Sink>(
     }
 }
 
-/// The fault for a refusal.
+/// Converts a refusal to a fault of the check.
 fn fault_of(refusal: InputRefusal) -> CheckFault
     ensures { result ≡ fault_of refusal }
 {
@@ -57,7 +61,7 @@ fn fault_of(refusal: InputRefusal) -> CheckFault
     }
 }
 
-/// Answers an input with the report of its test files at the moment of a draw.
+/// The computation that turns an input into the report of its test files, at the moment of a draw.
 #[derive(Drop)]
 struct Checking {
     draw: Draw,

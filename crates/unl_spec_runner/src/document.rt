@@ -1,4 +1,4 @@
-//! A state test file in the form of the Unleash client specification.
+//! Test files in the format of the Unleash client specification.
 ghost use Rattle.std.specs.Prelude.{◌≡◌, Result, IfOk, All};
 ghost use Rattle.serde_json.specs.Data.{Data};
 ghost use Rattle.serde_json.specs.View.{view};
@@ -24,39 +24,40 @@ use unl_documents::parsing::read_json;
 use unl_documents::{BadDocument, Field, List, Payload, State, Text};
 use unl_input::context_in;
 
-/// More tests than bytes fit into no input, so their count has no limit of its own.
+/// The size limit of an input. An input can't contain more tests than it may have bytes, so their number has no limit of its
+/// own.
 const MOST_TESTS: usize = 16_777_216;
 
-/// A test of a feature, or of its variant.
+/// A test of a feature or of its variant.
 #[derive(Debug, Drop)]
 pub struct Test {
-    /// At most 65,536 bytes.
+    /// The description, of at most 65,536 bytes.
     pub description: Text,
-    /// What the feature is evaluated for.
+    /// The context that the feature is evaluated for.
     pub context: Context,
     /// The feature's name.
     pub toggle: Text,
-    /// What the evaluation should give.
+    /// The expected result of the evaluation.
     pub expected: Expected,
 }
 
 /// A state with its tests.
 #[derive(Drop)]
 pub struct TestFile {
-    /// What the tests evaluate.
+    /// The state that contains the features.
     pub state: State,
     /// The tests of features.
     pub tests: List<Test>,
-    /// The tests of variants, which come after them.
+    /// The tests of variants, which are run after those of features.
     pub variant_tests: List<Test>,
 }
 
-/// A kind of what a test expects.
+/// A kind of expected result.
 pub trait Expects {
-    // What a test is read to expect.
+    // The expected result of a test.
     ghost expected_in: { Data → Result Expected BadDocument };
 
-    /// Reads what a test expects.
+    /// Reads the expected result of a test.
     ///
     /// # Errors
     /// Those of the value at `expectedResult`.
@@ -64,7 +65,7 @@ pub trait Expects {
         ensures { Gives result (expected_in (view test.now)) };
 }
 
-/// Tests expect whether the feature is on.
+/// The expected result is whether the feature is on.
 pub struct ResultTest;
 
 impl Expects for ResultTest {
@@ -77,7 +78,7 @@ impl Expects for ResultTest {
     }
 }
 
-/// Tests expect a variant.
+/// The expected result is a variant.
 pub struct VariantTest;
 
 impl Expects for VariantTest {
@@ -110,7 +111,7 @@ impl Document for ExpectedVariant {
     }
 }
 
-/// Whether the feature should be on: by `feature_enabled`, or else by `featureEnabled`.
+/// Reads whether the feature is expected to be on: from `feature_enabled`, or else from `featureEnabled`.
 #[tactic(auto, unfolding(crate::specs::TestFile::feature_enabled_in))]
 fn feature_enabled_in(alloc: Global, value: &Value) -> Result<Option<bool>, BadDocument>
     ensures { Gives result (feature_enabled_in (view value.now)) }
@@ -120,7 +121,7 @@ fn feature_enabled_in(alloc: Global, value: &Value) -> Result<Option<bool>, BadD
     Ok(first.or(second))
 }
 
-/// A test that expects this.
+/// A test with this kind of expected result.
 struct TestOf<E>(PhantomData<E>);
 
 impl<E: Expects> Kind for TestOf<E> {
@@ -224,7 +225,7 @@ impl Item for WholeFile {
     }
 }
 
-/// The files that a value holds: an array of them, or one.
+/// Reads the files that a value spells: an array of files, or a single file.
 #[tactic(auto, unfolding(crate::specs::TestFile::files_of))]
 fn files_of(alloc: Global, value: &Value) -> Result<List<TestFile>, BadDocument>
     ensures gives { Gives result (files_of (view value.now)) }
@@ -236,7 +237,7 @@ fn files_of(alloc: Global, value: &Value) -> Result<List<TestFile>, BadDocument>
     }
 }
 
-/// One file that is the whole input.
+/// Reads a single file that is the whole input.
 #[tactic(auto, unfolding(crate::specs::TestFile::file_alone))]
 fn file_alone(alloc: Global, value: &Value) -> Result<List<TestFile>, BadDocument>
     ensures gives { Gives result (file_alone (view value.now)) }
@@ -248,7 +249,7 @@ fn file_alone(alloc: Global, value: &Value) -> Result<List<TestFile>, BadDocumen
     Ok(files)
 }
 
-/// The files that an input spells.
+/// Reads the files that an input spells.
 #[tactic(auto, unfolding(crate::specs::TestFile::files_in))]
 pub fn files_in(alloc: Global, bytes: &[u8]) -> Result<List<TestFile>, BadDocument>
     ensures gives { Gives result (files_in bytes.now) }

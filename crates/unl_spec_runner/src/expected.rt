@@ -1,4 +1,4 @@
-//! What a test expects, and what it is given.
+//! Expected and actual results of tests.
 ghost use Rattle.std.specs.Prelude.{◌≡◌, false, IfOk, string_bytes, option_map};
 ghost use Rattle.serde_json.specs.View.{view};
 ghost use Rattle.serde_json.specs.Written.{compact_text, has_float};
@@ -11,7 +11,7 @@ use unl_dependencies::Evaluation;
 use unl_documents::written::{put, put_some};
 use unl_documents::{Copied, Field, Memory, Payload, Text};
 
-/// What a test expects, or what it is given.
+/// The expected or actual result of a test.
 #[derive(Debug, Drop)]
 pub enum Expected {
     /// Whether the feature is on.
@@ -20,21 +20,21 @@ pub enum Expected {
     Variant(ExpectedVariant),
 }
 
-/// A variant that a test expects, or is given.
+/// An expected or actual variant.
 #[derive(Debug, Drop)]
 pub struct ExpectedVariant {
-    /// The variant's name, or `disabled` where there is none.
+    /// The variant's name, or `disabled` if there is none.
     pub name: Text,
     /// Whether there is a variant.
     pub enabled: bool,
-    /// What the variant hands to the application.
+    /// The variant's payload for the application, if it has one.
     pub payload: Option<Payload>,
-    /// Whether the feature is on, where that is compared.
+    /// Whether the feature is on. Absent if that is not compared.
     pub feature_enabled: Option<bool>,
 }
 
 impl Expected {
-    /// An evaluation in the form of what is expected.
+    /// Converts an evaluation to the actual result, in the form of the expected one.
     #[tactic(auto, unfolding(crate::specs::Expected::given_as))]
     pub fn given_as(&self, alloc: Global, evaluation: &Evaluation) -> Result<Expected, Memory>
         ensures { IfOk result (λ given. given ≡ given_as self.now evaluation.now) }
@@ -47,7 +47,7 @@ impl Expected {
         }
     }
 
-    /// Whether what is given is what is expected.
+    /// Whether the actual result `given` equals the expected one.
     #[tactic(auto, unfolding(crate::specs::Expected::agrees))]
     pub fn agrees(&self, given: &Expected) -> bool
         ensures { result ≡ agrees self.now given.now }
@@ -59,7 +59,7 @@ impl Expected {
         }
     }
 
-    /// Its text in JSON.
+    /// Returns the JSON text of the result.
     pub fn text(&self, alloc: Global) -> Result<String, Memory>
         ensures { IfOk result (λ s. string_bytes s ≡ expected_text self.now) }
     {
@@ -79,7 +79,7 @@ impl Expected {
 }
 
 impl ExpectedVariant {
-    /// The variant of an evaluation, with whether the feature is on where that is compared.
+    /// Returns the actual variant of an evaluation. It includes whether the feature is on only if that is compared.
     #[tactic(auto, unfolding(crate::specs::Expected::variant_given))]
     fn given(&self, alloc: Global, evaluation: &Evaluation) -> Result<ExpectedVariant, Memory>
         ensures { IfOk result (λ given. given ≡ variant_given self.now evaluation.now) }
@@ -120,7 +120,7 @@ impl ExpectedVariant {
     }
 }
 
-/// What stands in the place of what is compared.
+/// Returns the actual value if it is compared.
 fn in_place_of(compared: &Option<bool>, given: bool) -> Option<bool>
     ensures { result ≡ option_map (λ _. given) compared.now }
 {
@@ -143,7 +143,7 @@ fn payloads_agree(expected: &Option<Payload>, given: &Option<Payload>) -> bool
     }
 }
 
-/// The text of a value that has no number with a point.
+/// Returns the JSON text of a value that contains no floating-point number.
 fn plain_text(alloc: Global, value: &Value) -> Result<String, Memory>
     requires { has_float (view value.now) ≡ false }
     ensures { IfOk result (λ s. string_bytes s ≡ compact_text (view value.now)) }

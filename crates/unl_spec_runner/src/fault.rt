@@ -1,19 +1,19 @@
-//! How a check ends.
+//! The outcomes of a check.
 use unl_documents::BadDocument;
 
-/// How many tests of an input passed, and how many failed.
+/// The number of tests that passed and of those that failed.
 #[derive(Clone, Copy, Debug, PartialEq, Eq)]
 pub struct Summary {
-    /// Those that were given what they expect.
+    /// The tests whose actual result is the expected one.
     pub passed: u64,
-    /// The others.
+    /// The other tests.
     pub failed: u64,
 }
 
 /// Why a check has no summary.
 #[derive(Debug, Drop, PartialEq)]
 pub enum CheckFault {
-    /// The input's first fault. It is never want of memory.
+    /// The input has this fault, its first. It is never `Memory`.
     BadFile(BadDocument),
     /// The input has more than 16,777,216 bytes.
     TooLarge,
@@ -21,6 +21,6 @@ pub enum CheckFault {
     ReadFault,
     /// The sink failed.
     WriteFault,
-    /// Memory ran out.
+    /// Out of memory.
     Memory,
 }

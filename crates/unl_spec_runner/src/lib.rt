@@ -1,5 +1,5 @@
-//! The check: features of a state are evaluated for the contexts of its test file, in the form of the Unleash client
-//! specification, and each result is compared with the one that the file expects.
+//! The command `check`: evaluates features of a state for the contexts in a test file, which has the format of the Unleash
+//! client specification, and compares each result with the expected one.
 #![tactic(auto)]
 
 mod checking;

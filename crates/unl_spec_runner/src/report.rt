@@ -1,4 +1,4 @@
-//! The report, as it grows.
+//! The report of a check, built line by line.
 ghost use Rattle.std.specs.Prelude.{◌≡◌, ◌+◌, ◌<◌, length, OnOk, IfOk, string_bytes};
 ghost use Rattle.unl_spec_runner.specs.Report.{counts_line};
 ghost use Rattle.unl_spec_runner.specs.Steps.{none_yet, with_counts, with_line};
@@ -8,7 +8,7 @@ use std::alloc::{AllocError, Global};
 use std::marker::Model;
 use unl_documents::Memory;
 
-/// What is printed so far, and how many tests passed and failed.
+/// The text so far, and the number of tests that passed and of those that failed.
 #[derive(Debug, Drop)]
 pub struct Report {
     printed: Vec<u8>,
@@ -24,12 +24,12 @@ impl Model for Report {
 
     ghost view = { λ r. record { text = r.printed.items; passed = r.passed; failed = r.failed } };
 
-    // Each test has a line, and each line has bytes.
+    // Each test has a line, and no line is empty.
     ghost invariant = { λ r. r.passed + r.failed ≤ length r.printed.items };
 }
 
 impl Report {
-    /// A report of nothing.
+    /// Returns an empty report.
     pub fn new(alloc: Global) -> Report
         ensures { result ≡ none_yet }
     {
@@ -40,14 +40,14 @@ impl Report {
         }
     }
 
-    /// What is printed so far.
+    /// Returns the text so far.
     pub fn text(&self) -> &[u8]
         ensures { result.now ≡ self.now.text }
     {
         &self.printed
     }
 
-    /// Both counts.
+    /// Returns both counts.
     pub fn summary(&self) -> Summary
         ensures passed { result.passed ≡ self.now.passed }
         ensures failed { result.failed ≡ self.now.failed }
@@ -58,14 +58,14 @@ impl Report {
         }
     }
 
-    /// The number of the test that comes next, from 1.
+    /// Returns the number of the next test, from 1.
     pub fn next_number(&self) -> u64
         ensures { result ≡ self.now.passed + self.now.failed + 1 }
     {
         self.passed + self.failed + 1
     }
 
-    /// Adds the line of a test, and counts it.
+    /// Appends the line of a test, and counts the test.
     pub fn add_line(&mut self, line: &[u8], passed: bool) -> Result<(), Memory>
         requires { 0 < length line.now }
         ensures { OnOk result (self.new ≡ with_line line.now passed self.old) }
@@ -79,7 +79,7 @@ impl Report {
         Ok(())
     }
 
-    /// Adds the line of the counts.
+    /// Appends the line with the counts.
     pub fn add_counts(&mut self, alloc: Global) -> Result<(), Memory>
         ensures { OnOk result (self.new ≡ with_counts self.old) }
     {

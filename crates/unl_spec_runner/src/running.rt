@@ -1,4 +1,4 @@
-//! Tests are run one after the other, and reported.
+//! Runs tests one by one and reports their results.
 ghost use Rattle.std.specs.Prelude.{◌≡◌, ◌<◌, length, All, IfOk, OnOk, string_bytes};
 ghost use Rattle.unl_dependencies.specs.Evaluation.{off};
 ghost use Rattle.unl_documents.specs.States.{IsValidState};
@@ -16,7 +16,7 @@ use unl_dependencies::{Evaluation, VariantAnswer, evaluate};
 use unl_documents::{Memory, State, Text};
 use unl_strategies::Moment;
 
-/// The report of files, one after the other, with the counts at its end.
+/// Returns the report of files, with the counts at its end.
 #[tactic(auto, using(crate::proofs::Counting::all_counted))]
 pub fn report_files(alloc: Global, files: &[TestFile], draw: &Draw) -> Result<Report, Memory>
     requires { All IsValidFile files.now }
@@ -44,7 +44,7 @@ fn run_files(
     Ok(())
 }
 
-/// Runs the tests of a file, and then its variant tests.
+/// Runs the tests of a file, then its variant tests.
 #[tactic(auto, unfolding(crate::specs::Steps::with_file))]
 fn run_file(alloc: Global, report: &mut Report, file: &TestFile, draw: &Draw) -> Result<(), Memory>
     requires { IsValidFile file.now }
@@ -77,7 +77,7 @@ fn run_tests(
     Ok(())
 }
 
-/// Evaluates the feature of a test, and adds the test's line.
+/// Evaluates the feature of a test, and appends the test's line.
 #[tactic(auto, unfolding(crate::specs::Steps::with_case, crate::specs::Report::passes))]
 fn run_test(
     alloc: Global,
@@ -94,7 +94,7 @@ fn run_test(
     report.add_line(line.as_bytes(), test.expected.agrees(&given))
 }
 
-/// What a test is given.
+/// Returns the actual result of a test.
 #[tactic(auto, unfolding(crate::specs::Report::given))]
 fn given(alloc: Global, state: &State, test: &Test, draw: &Draw) -> Result<Expected, Memory>
     requires { IsValidState state.now }
@@ -104,7 +104,7 @@ fn given(alloc: Global, state: &State, test: &Test, draw: &Draw) -> Result<Expec
     test.expected.given_as(alloc, &evaluation)
 }
 
-/// The evaluation of the feature that a test names; a feature that the state lacks is off.
+/// Evaluates the feature that a test names. A feature that the state lacks is off.
 #[tactic(auto, unfolding(crate::specs::Report::evaluated))]
 fn evaluated(alloc: Global, state: &State, test: &Test, draw: &Draw) -> Result<Evaluation, Memory>
     requires { IsValidState state.now }
@@ -121,7 +121,7 @@ fn evaluated(alloc: Global, state: &State, test: &Test, draw: &Draw) -> Result<E
     }
 }
 
-/// The evaluation of a feature that is off, which has no variant.
+/// Returns the evaluation of a feature that is off, which has no variant.
 fn off(alloc: Global) -> Result<Evaluation, Memory>
     ensures { IfOk result (λ e. e ≡ off) }
 {
@@ -135,7 +135,7 @@ fn off(alloc: Global) -> Result<Evaluation, Memory>
     })
 }
 
-/// The line of a test.
+/// Returns the line of a test.
 #[tactic(auto, unfolding(crate::specs::Report::line_of))]
 fn line_of(alloc: Global, number: u64, test: &Test, given: &Expected) -> Result<String, Memory>
     ensures line { IfOk result (λ s. string_bytes s ≡ line_of number test.now given.now) }
@@ -155,7 +155,7 @@ fn line_of(alloc: Global, number: u64, test: &Test, given: &Expected) -> Result<
     )?)
 }
 
-/// A text as a JSON string.
+/// Returns a text as a JSON string.
 fn quoted(alloc: Global, text: &Text) -> Result<String, Memory>
     ensures { IfOk result (λ s. string_bytes s ≡ quoted text.now) }
 {

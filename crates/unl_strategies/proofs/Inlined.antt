@@ -1,4 +1,4 @@
--- A strategy whose segments are written out is active for whom it was.
+-- A strategy is active for the same contexts after its segments are inlined.
 use Rattle.std.proofs.Common.{◌≡◌, ℕ, Bool, true, false, List, [], ◌∷◌, ◌++◌, Option, Some, None, refl, ap, ◌∙◌}
 use Rattle.std.specs.Prelude.{◌&&◌, codes, flat_map}
 use Rattle.std.specs.List.{list_all}

@@ -1,4 +1,4 @@
--- A text that is an item of a list stands in the list.
+-- A text that is an item of a list is a substring of the list.
 use Rattle.std.proofs.Common.{◌≡◌, ℕ, ◌-◌, List, [], ◌∷◌, ◌++◌, length, take, drop, Bool, true, false, ◌||◌, cond}
 use Rattle.std.proofs.Common.{inl, inr, refl, sym, ap, subst, ◌∙◌, append_assoc, take-append-drop}
 use Rattle.std.specs.Prelude.{◌⊎◌, ◌↔◌}
@@ -11,11 +11,11 @@ use Rattle.std.proofs.lemmas.Slice.Eq.{bytes_eq-Decides}
 use Rattle.unl_documents.specs.Texts.{trimmed, has_bytes, parts, items_among, comma_items}
 use Rattle.unl_strategies.specs.Lists.{is_listed}
 
--- the text is one of the items
+-- The text is one of the items.
 abbrev IsItem : List ℕ → List (List ℕ) → Type 0
 IsItem x items = list_any (λ item. bytes_eq item x) items ≡ true
 
--- what stands in a part of a text stands in the text, between what comes before and behind the part
+-- A substring of a part of a text is a substring of the text.
 within : (front part back x : List ℕ) → HasSubslice part x → HasSubslice (front ++ (part ++ back)) x
 within front part back x (a, b, is) =
     let inside : (a ++ (x ++ b)) ++ back ≡ a ++ (x ++ (b ++ back)) = append_assoc a (x ++ b) back ∙ ap (λ (p : List ℕ). a ++ p) (append_assoc x b back) in
@@ -23,7 +23,7 @@ within front part back x (a, b, is) =
     ap (λ (p : List ℕ). front ++ (p ++ back)) is ∙ ap (λ (p : List ℕ). front ++ p) inside in
     (front ++ a, b ++ back, whole ∙ sym (append_assoc front a (x ++ (b ++ back))))
 
--- what is left of a part when it is trimmed stands in it
+-- A trimmed part is a substring of the part.
 trimmed_stands : (part : List ℕ) → HasSubslice part (trimmed part)
 unfolding trimmed
 trimmed_stands part =
@@ -33,7 +33,7 @@ trimmed_stands part =
     let split : rest ≡ take kept rest ++ drop kept rest = sym (take-append-drop kept rest) in
     (take before part, drop kept rest, sym (take-append-drop before part) ∙ ap (λ (r : List ℕ). take before part ++ r) split)
 
--- what stands in a part stands in the parts joined
+-- A substring of the first part is a substring of the joined parts.
 in_first : (part : List ℕ) (others : List (List ℕ)) (x : List ℕ) → HasSubslice part x → HasSubslice (join_with_byte 44 (part ∷ others)) x
 in_first part [] x stands = stands
 in_first part (other ∷ more) x stands = within [] part (44 ∷ join_with_byte 44 (other ∷ more)) x stands
@@ -43,7 +43,7 @@ in_later : (part other : List ℕ) (more : List (List ℕ)) (x : List ℕ)
 in_later part other more x (a, b, is) =
     (part ++ (44 ∷ a), b, ap (λ (j : List ℕ). part ++ (44 ∷ j)) is ∙ sym (append_assoc part (44 ∷ a) (x ++ b)))
 
--- the first item is the text, or one behind it is
+-- The text equals the first item or is one of the others.
 either : (kept : Bool) (item x : List ℕ) (items : List (List ℕ)) → IsItem x (cond kept (item ∷ items) items) → (item ≡ x) ⊎ IsItem x items
 either false item x items listed = inr listed
 either true item x items listed =
@@ -57,7 +57,7 @@ later : (p : List ℕ) (ps : List (List ℕ)) (x : List ℕ) → (IsItem x (item
 later p [] x stands listed = absurd (cc)
 later p (other ∷ more) x stands listed = in_later p other more x (stands listed)
 
--- an item among parts stands in the parts joined
+-- An item of the parts is a substring of the joined parts.
 among_stands : (ps : List (List ℕ)) (x : List ℕ) → IsItem x (items_among ps) → HasSubslice (join_with_byte 44 ps) x
 among_stands [] x listed = absurd (cc)
 among_stands (p ∷ ps) x listed =
@@ -71,7 +71,7 @@ unfolding is_listed comma_items
 listed_stands list x listed =
     subst (λ (t : List ℕ). HasSubslice t x) (join_with_byte-slice_split 44 list) (among_stands (parts 44 list) x listed)
 
--- a search that doesn't find the text tells that it is no item
+-- A text that is not a substring of the list is not an item of it.
 pub not_listed : (found : Bool) (list x : List ℕ) → (found ≡ true) ↔ HasSubslice list x → found ≡ false → is_listed list x ≡ false
 not_listed found list x stands none =
     elim (is_listed list x) as (λ b. is_listed list x ≡ b → b ≡ false) [

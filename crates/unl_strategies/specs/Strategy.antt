@@ -17,68 +17,68 @@ use Rattle.unl_strategies.specs.Percent.{percent_of}
 use Rattle.unl_strategies.specs.Random.{random_number, random_id}
 use Rattle.unl_strategies.specs.Rollout.{is_rolled_out, is_drawn}
 
--- the value of a parameter, as it stands
+-- The value of the parameter with the given key, as it is given.
 abbrev pub value_at : List ℕ → List Pair → Option (List ℕ)
 value_at key [] = None
 value_at key (p ∷ ps) = if bytes_eq p.key key then Some p.value else value_at key ps
 
--- the value of a parameter; one of no bytes counts as absent
+-- The value of the parameter with the given key. An empty value counts as absent.
 unfoldable pub parameter : List ℕ → List Pair → Option (List ℕ)
 parameter key parameters = filled (value_at key parameters)
 
--- the value of a parameter, or another text where it is absent
+-- The value of the parameter with the given key, or `other` if it is absent or empty.
 unfoldable pub parameter_or : List ℕ → List ℕ → List Pair → List ℕ
 parameter_or other key parameters = unwrap_or (parameter key parameters) other
 
--- the userId, or else the sessionId, or else the random id
+-- The userId, or else the sessionId, or else the random id.
 abbrev pub default_id : Fields → List ℕ → List ℕ
 default_id context random = unwrap_or (option_or (field_of context (codes "userId")) (field_of context (codes "sessionId"))) random
 
--- the id that a rollout goes by; the random id is handed in
+-- The id that a stickiness selects: a field of the context, or the given random id.
 unfoldable pub id_by : List ℕ → Fields → List ℕ → Option (List ℕ)
 id_by stickiness context random =
     if bytes_eq stickiness (codes "default") then Some (default_id context random) else (
     if bytes_eq stickiness (codes "random") then Some random else
     field_of context stickiness)
 
--- the strategy's random number at its place in the feature
+-- The strategy's random number, from its index in the feature.
 abbrev pub random_at : List ℕ → ℕ → Moment → ℕ
 random_at feature index moment = random_number feature (mark.Strategy index) moment.word
 
--- the userId is listed
+-- The userId is an item of the parameter `userIds`.
 unfoldable pub is_user_listed : List Pair → Fields → Bool
 is_user_listed parameters context =
     option_map_or (λ id. is_listed (parameter_or [] (codes "userIds") parameters) id) (field_of context (codes "userId")) false
 
--- the remoteAddress is an address in some net of the list
+-- The remoteAddress is an address in a block of the parameter `IPs`.
 unfoldable pub is_address_listed : List Pair → Fields → Bool
 is_address_listed parameters context =
     option_map_or (λ text. is_in_nets (parameter_or [] (codes "IPs") parameters) text) (field_of context (codes "remoteAddress")) false
 
--- the percentage of the parameter takes in the field's text in its group
+-- The parameter's percentage includes the value of the field, in the parameter's group.
 unfoldable pub is_field_rolled_out : List ℕ → List Pair → Fields → Bool
 is_field_rolled_out name parameters context =
     option_map_or
     (λ id. is_rolled_out (percent_of (parameter_or [] (codes "percentage") parameters)) (parameter_or [] (codes "groupId") parameters) id)
     (field_of context name) false
 
--- the percentage takes in the strategy's random number
+-- The parameter's percentage includes the strategy's random number.
 unfoldable pub is_randomly_rolled_out : List Pair → ℕ → Bool
 is_randomly_rolled_out parameters random = is_drawn (percent_of (parameter_or [] (codes "percentage") parameters)) random
 
--- the percentage takes in the id, in a group that is the feature where none is named
+-- The parameter's percentage includes the id. The group is the feature's name if the parameters have none.
 abbrev pub is_id_rolled_out : List Pair → List ℕ → List ℕ → Bool
 is_id_rolled_out parameters feature id =
     is_rolled_out (percent_of (parameter_or [] (codes "rollout") parameters)) (parameter_or feature (codes "groupId") parameters) id
 
--- the percentage takes in the id of the stickiness
+-- The parameter's percentage includes the id that the stickiness selects.
 unfoldable pub is_flexibly_rolled_out : List Pair → List ℕ → ℕ → Fields → Bool
 is_flexibly_rolled_out parameters feature random context =
     option_map_or
     (is_id_rolled_out parameters feature)
     (id_by (parameter_or (codes "default") (codes "stickiness") parameters) context (decimal (random_id random))) false
 
--- the strategy's own rule, by its name
+-- The strategy's own rule, selected by its name. An unknown name's rule never holds.
 unfoldable pub rule_holds : Strategy → List ℕ → ℕ → Fields → Moment → Bool
 rule_holds s feature index context moment =
     if bytes_eq s.name (codes "default") then true else (
@@ -93,11 +93,11 @@ rule_holds s feature index context moment =
     then is_flexibly_rolled_out s.parameters feature (random_at feature index moment) context else
     false)))))))
 
--- there is a segment of the id, and all its constraints hold
+-- The list has a segment with the id, and all constraints of that segment hold.
 unfoldable pub is_met : List Segment → Fields → ℕ → ℕ → Bool
 is_met segments context now id = option_map_or (λ s. all_hold s.constraints context now) (segment_of id segments) false
 
--- each constraint holds, each segment that is named exists and holds, and the strategy's own rule holds
+-- All of the strategy's constraints hold, each segment that it refers to exists and holds, and its own rule holds.
 unfoldable pub is_active : Strategy → List ℕ → ℕ → List Segment → Fields → Moment → Bool
 is_active s feature index segments context moment =
     all_hold s.constraints context moment.now

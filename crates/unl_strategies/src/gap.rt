@@ -1,7 +1,8 @@
+//! The `::` of an IPv6 address.
 ghost use Rattle.std.specs.Prelude.{◌≡◌, option_map};
 ghost use Rattle.unl_strategies.specs.Addresses.{around_gap};
 
-/// The texts before and after the first two colons in a row.
+/// Splits the text at the first two colons in a row.
 pub(crate) fn cut_at_gap(text: &str) -> Option<(&str, &str)>
     ensures { option_map (λ sides. (sides.0.now, sides.1.now)) result ≡ around_gap text.now }
 {

@@ -1,22 +1,22 @@
-//! The ids that rollouts go by.
+//! The ids that decide rollouts.
 ghost use Rattle.std.specs.Prelude.{◌≡◌, List, Some, ℕ};
 ghost use Rattle.unl_strategies.specs.Ids.{id_with};
 ghost use Rattle.unl_strategies.specs.Strategy.{id_by as id_that, default_id as id_by_default};
 
 use unl_context::Context;
 
-/// What a rollout goes by.
+/// The id that decides a rollout.
 #[derive(Clone, Copy)]
 pub(crate) enum RolloutId<'a> {
-    /// A field of the context.
+    /// The value of a field of the context.
     Field(&'a str),
-    /// The random id, whose text is made only where it is asked for.
+    /// The random id, which is formatted only if it is needed.
     Random,
-    /// Nothing: the context lacks the field.
+    /// No id: the context lacks the field.
     Absent,
 }
 
-/// The id that a stickiness takes: a field of the context, or the random id.
+/// Returns the id that a stickiness selects: a field of the context, or the random id.
 #[tactic(auto, unfolding(crate::specs::Strategy::id_by))]
 pub(crate) fn id_by<'a>(stickiness: &str, context: &'a Context) -> RolloutId<'a>
     ensures { (random : List ℕ) → id_with result random ≡ id_that stickiness.now context.now random }
@@ -31,7 +31,7 @@ pub(crate) fn id_by<'a>(stickiness: &str, context: &'a Context) -> RolloutId<'a>
     }
 }
 
-/// The userId, or else the sessionId, or else the random id.
+/// Returns the userId, or else the sessionId, or else the random id.
 fn default_id<'a>(context: &'a Context) -> RolloutId<'a>
     ensures { (random : List ℕ) → id_with result random ≡ Some (id_by_default context.now random) }
 {

@@ -1,12 +1,12 @@
-//! What follows for rollouts.
+//! Laws on rollouts. Each is the contract of an empty function.
 ghost use Rattle.unl_strategies.specs.Laws.{EmptyRolloutsTakeNone, FullRolloutsTakeAll, RolloutsGrow};
 
-/// Whom a percentage takes in, each greater one takes in too.
+/// If a percentage includes an id, so does every greater percentage.
 pub fn rollouts_grow()
     ensures { RolloutsGrow }
 {}
 
-/// A percentage of 100 or more takes in everybody, and one of 0 nobody.
+/// A percentage of 100 or more includes every id, and a percentage of 0 includes none.
 pub fn full_rollouts_take_all()
     ensures all { FullRolloutsTakeAll }
     ensures none { EmptyRolloutsTakeNone }

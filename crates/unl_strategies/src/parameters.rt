@@ -5,7 +5,7 @@ ghost use Rattle.unl_strategies.specs.Strategy.{parameter as value_in, parameter
 
 use unl_documents::{List, Pair, Text};
 
-/// The value of the parameter of a key. A value of no bytes counts as absent.
+/// Returns the value of the parameter with the given key. An empty value counts as absent.
 #[tactic(auto, unfolding(crate::specs::Strategy::parameter))]
 pub fn parameter<'a>(parameters: &'a List<Pair>, key: &str) -> Option<&'a str>
     ensures { option_map (λ text. text.now) result ≡ value_in key.now parameters.now }
@@ -13,7 +13,7 @@ pub fn parameter<'a>(parameters: &'a List<Pair>, key: &str) -> Option<&'a str>
     nonempty(value_of(key, parameters.as_slice()))
 }
 
-/// The value of the parameter of a key, or another text where it is absent or has no bytes.
+/// Returns the value of the parameter with the given key, or `other` if the value is absent or empty.
 #[tactic(auto, unfolding(crate::specs::Strategy::parameter_or))]
 pub fn parameter_or<'a>(parameters: &'a List<Pair>, key: &str, other: &'a str) -> &'a str
     ensures { result.now ≡ value_or other.now key.now parameters.now }

@@ -20,9 +20,9 @@ use std::alloc::Global;
 use unl_context::Context;
 use unl_documents::{List, Memory, Pair, Strategy, Text};
 
-/// Whether a strategy's own rule holds, whatever its constraints and segments say. `feature` is the name of its
-/// feature, and `index` its place there, from 0. A strategy of an unknown name has no rule that holds. The error is want
-/// of memory.
+/// Whether a strategy's own rule holds, regardless of its constraints and segments. `feature` is the name of its feature,
+/// and `index` its index there, from 0. The rule of a strategy with an unknown name never holds. The only error is out of
+/// memory.
 #[tactic(auto, unfolding(crate::specs::Strategy::rule_holds))]
 pub fn rule(
     alloc: Global,
@@ -56,14 +56,14 @@ pub fn rule(
     }
 }
 
-/// The random number of the strategy at a place.
+/// Returns the random number of the strategy at an index of its feature.
 fn random_at(feature: &Text, index: u32, moment: &Moment) -> u32
     ensures { result ≡ number_at feature.now index moment.entry.now }
 {
     random_for(feature.as_str(), Mark::Strategy(index), moment.word)
 }
 
-/// The percentage that a parameter gives.
+/// Returns the percentage in the parameter with the given key.
 fn percent_at(parameters: &List<Pair>, key: &str) -> u32
     ensures { result ≡ percent_in (value_or [] key.now parameters.now) }
 {
@@ -81,7 +81,7 @@ fn is_user_listed(parameters: &List<Pair>, context: &Context) -> bool
     }
 }
 
-/// Whether the remoteAddress is an address in a net of the parameter `IPs`.
+/// Whether the remoteAddress is an address in a block of the parameter `IPs`.
 #[tactic(auto, unfolding(crate::specs::Strategy::is_address_listed))]
 fn is_address_listed(parameters: &List<Pair>, context: &Context) -> bool
     ensures { result ≡ address_listed parameters.now context.now }
@@ -92,7 +92,8 @@ fn is_address_listed(parameters: &List<Pair>, context: &Context) -> bool
     }
 }
 
-/// Whether the percentage takes in a field of the context, in the parameter's group or one of no name.
+/// Whether the percentage includes the value of a field of the context. The group is the parameter `groupId`, or empty if
+/// that is absent.
 #[tactic(auto, unfolding(crate::specs::Strategy::is_field_rolled_out))]
 fn is_field_rolled_out(name: &str, parameters: &List<Pair>, context: &Context) -> bool
     ensures { result ≡ field_rolled_out name.now parameters.now context.now }
@@ -106,7 +107,7 @@ fn is_field_rolled_out(name: &str, parameters: &List<Pair>, context: &Context) -
     }
 }
 
-/// Whether the percentage takes in the random number.
+/// Whether the percentage includes the random number.
 #[tactic(auto, unfolding(crate::specs::Strategy::is_randomly_rolled_out))]
 fn is_randomly_rolled_out(parameters: &List<Pair>, random: u32) -> bool
     ensures { result ≡ randomly_rolled_out parameters.now random }
@@ -114,8 +115,8 @@ fn is_randomly_rolled_out(parameters: &List<Pair>, random: u32) -> bool
     is_drawn(percent_at(parameters, "percentage"), random)
 }
 
-/// Whether the percentage takes in the id that the stickiness parameter chooses, in the parameter's group or the
-/// feature's.
+/// Whether the percentage includes the id that the parameter `stickiness` selects. The group is the parameter `groupId`, or
+/// the feature's name if that is absent.
 #[tactic(auto, unfolding(crate::specs::Strategy::is_flexibly_rolled_out))]
 fn is_flexibly_rolled_out(
     alloc: Global,
@@ -138,7 +139,7 @@ fn is_flexibly_rolled_out(
     }
 }
 
-/// Whether the percentage takes in an id, in the parameter's group or the feature's.
+/// Whether the percentage includes an id. The group is the parameter `groupId`, or the feature's name if that is absent.
 fn is_id_rolled_out(parameters: &List<Pair>, feature: &Text, id: &str) -> bool
     ensures { result ≡ id_rolled_out parameters.now feature.now id.now }
 {
@@ -146,7 +147,7 @@ fn is_id_rolled_out(parameters: &List<Pair>, feature: &Text, id: &str) -> bool
     is_rolled_out(percent_at(parameters, "rollout"), group, id)
 }
 
-/// The random id in decimal.
+/// Returns the random id in decimal.
 fn random_text(alloc: Global, random: u32) -> Result<Text, Memory>
     ensures { IfOk result (λ t. t ≡ decimal (id_number random)) }
 {

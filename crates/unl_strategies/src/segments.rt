@@ -1,4 +1,4 @@
-//! The segments that strategies name.
+//! The segments that strategies refer to.
 ghost use Rattle.std.specs.Prelude.{◌≡◌, IfOk};
 ghost use Rattle.std.specs.List.{list_all};
 ghost use Rattle.unl_strategies.specs.Strategy.{is_met as is_met_by};
@@ -8,7 +8,8 @@ use unl_constraints::segment_holds;
 use unl_context::Context;
 use unl_documents::{List, Memory, Segment, Shared, segment_of};
 
-/// Whether the list has a segment of each id, and the context meets it. `now` is in milliseconds since 1970.
+/// Whether, for each id, the list has a segment with that id and the context satisfies it. `now` is in milliseconds since
+/// 1970.
 pub(crate) fn all_met(
     alloc: Global,
     ids: &[u64],
@@ -26,7 +27,7 @@ pub(crate) fn all_met(
     Ok(true)
 }
 
-/// Whether the list has a segment of the id, and the context meets it.
+/// Whether the list has a segment with the id and the context satisfies it.
 #[tactic(auto, unfolding(crate::specs::Strategy::is_met))]
 fn is_met(
     alloc: Global,

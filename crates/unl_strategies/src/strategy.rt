@@ -1,4 +1,4 @@
-//! Whether a strategy is active.
+//! Decides whether a strategy is active.
 ghost use Rattle.std.specs.Prelude.{◌≡◌, IfOk};
 ghost use Rattle.unl_strategies.specs.Strategy.{is_active};
 
@@ -10,9 +10,9 @@ use unl_constraints::all_hold;
 use unl_context::Context;
 use unl_documents::{List, Memory, Segment, Shared, Strategy, Text};
 
-/// Whether a strategy is active: each of its constraints holds, each segment that it names is in the list and holds,
-/// and its own rule holds. `feature` is the name of its feature, and `index` its place there, from 0. Of segments of one
-/// id the first counts. The error is want of memory.
+/// Whether a strategy is active: all of its constraints hold, each segment that it refers to is in the list and holds, and
+/// its own rule holds. `feature` is the name of its feature, and `index` its index there, from 0. If several segments have
+/// the same id, the first counts. The only error is out of memory.
 #[tactic(auto, unfolding(crate::specs::Strategy::is_active))]
 pub fn active(
     alloc: Global,

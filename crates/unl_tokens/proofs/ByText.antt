@@ -1,4 +1,4 @@
--- What an index of texts finds, and how it grows.
+-- What a lookup in the index finds, and how the index grows.
 use Rattle.std.proofs.Common.{◌≡◌, ℕ, zero, suc, ◌+◌, ◌<◌, ◌≤◌, Bool, true, false, List, [], ◌∷◌, ◌++◌, length, get_or, Option, Some, None, Less, Equal, Greater, nat_cmp, refl, sym, ap, ◌∙◌, arith, inl, inr}
 use Rattle.std.specs.Prelude.{◌≢◌, All, AllPairs, IfSome, insert, slice_get, slice_set, option_and_then, if◌then◌else◌}
 use Rattle.std.specs.Cmp.Lexicographic.{slice_cmp, same_text}
@@ -39,7 +39,7 @@ not_less Greater h = absurd (cc)
 not_itself : (text : List ℕ) → is_lt (slice_cmp nat_cmp text text) ≡ false
 not_itself text = not_less _ (is_eq-slice_cmp text text ∙ text_refl text)
 
--- of two other texts, the second comes first where the first doesn't
+-- of two different texts, the second comes first if the first doesn't
 turned : (a b : List ℕ) → is_lt (slice_cmp nat_cmp a b) ≡ false → a ≢ b → slice_cmp nat_cmp b a ≡ Less
 turned a b not other = nat_list_cmp_total.antisymm b a ∙ by (slice_cmp nat_cmp a b) (is_eq-slice_cmp a b) not
   where
@@ -48,7 +48,7 @@ turned a b not other = nat_list_cmp_total.antisymm b a ∙ by (slice_cmp nat_cmp
     by Equal told not = absurd (other (same_text a b told))
     by Greater told not = refl
 
--- ---- the text at a place
+-- ---- the text at a position
 
 text_there : (tokens : List Token) (place : ℕ) (d : Token) → place < length tokens → text_at tokens place ≡ (get_or tokens place d).text
 text_there tokens place d lt = rw (slice_get-get_or tokens place d lt) refl
@@ -63,7 +63,7 @@ nowhere : (tokens : List Token) (text : List ℕ) (place : ℕ) → place_of tex
 nowhere [] text place none lt = absurd (omega arith)
 nowhere (t ∷ ts) text place none lt = λ same. different_text _ _ (none_passes (has_text text) (t ∷ ts) place t none lt) (sym (text_there (t ∷ ts) place t lt) ∙ same)
 
--- ---- what is found
+-- ---- what a lookup finds
 
 pub partitioned : (tokens : List Token) (text : List ℕ) (places : List ℕ) → AllPairs (ComesBefore tokens) places → IsPartitionedBy (is_below tokens text) places
 partitioned tokens text places rising i j d le lt below =
@@ -72,7 +72,7 @@ partitioned tokens text places rising i j d le lt below =
       | inr after ↦ let same : i ≡ j = omega arith in rw same below
     ]
 
--- a text stands at its point, or nowhere
+-- if a text is in the index at all, it is at its point
 only_there : (tokens : List Token) (text : List ℕ) (places : List ℕ) (at i place : ℕ) → AllPairs (ComesBefore tokens) places → IsPointOf tokens text places at → slice_get places i ≡ Some place → text_at tokens place ≡ text → i ≡ at
 only_there tokens text places at i place rising point stands same =
     let inside : i < length places = slice_get_within places i place stands in
@@ -91,7 +91,7 @@ only_there tokens text places at i place rising point stands same =
           ]
     ]
 
--- what stands at the point is the place of the text
+-- a token with this text is found at the point
 found_there : (tokens : List Token) (text : List ℕ) (places : List ℕ) (at place : ℕ) → IsTextIndex tokens places → IsPointOf tokens text places at → place < length tokens → text_at tokens place ≡ text
     → option_and_then (if_text tokens text) (slice_get places at) ≡ Some place
 found_there tokens text places at place index point lt same =
@@ -101,7 +101,7 @@ found_there tokens text places at place index point lt same =
     let told : bytes_eq (text_at tokens place) text ≡ true = rw same (text_refl text) in
     rw (stands, told) refl
 
--- what was picked stands there, and has the text
+-- a position that the lookup returns was at the point, and its token has the text
 picked : (tokens : List Token) (text : List ℕ) (stood : Option ℕ) (place : ℕ) → option_and_then (if_text tokens text) stood ≡ Some place → (stood ≡ Some place) × (text_at tokens place ≡ text)
 picked tokens text None place is = absurd (cc)
 picked tokens text (Some other) place is = by (bytes_eq (text_at tokens other) text) refl is
@@ -129,7 +129,7 @@ pub place_below : (tokens : List Token) (text : List ℕ) (found : Option ℕ) �
 place_below tokens text None is = tt
 place_below tokens text (Some place) is = (place_there tokens text place (sym is)).0
 
--- ---- one place more
+-- ---- inserting a position
 
 insert_all : {X : Type 0} (P : X → Type 0) (xs : List X) (at : ℕ) (y : X) → at ≤ length xs → All P xs → P y → All P (insert xs at y)
 insert_all P xs zero y le each new = All-cons P y xs new each
@@ -160,7 +160,7 @@ now_listed places at new inside =
     let longer : length (insert places at new) ≡ length places + 1 = length-insert places at new inside in
     (at, slice_get-get_or (insert places at new) at 0 (omega arith) ∙ ap Some (get_or-insert_at places at new 0 inside))
 
--- ---- a token with a new text, behind all
+-- ---- appending a token with a new text
 
 text_before : (tokens : List Token) (token : Token) (place : ℕ) → place < length tokens → text_at (tokens ++ token ∷ []) place ≡ text_at tokens place
 text_before tokens token place lt =
@@ -192,7 +192,7 @@ grows tokens token places at index fresh point inside =
           ];
     }
 
--- ---- a token in place of the one with its text
+-- ---- replacing the token with the same text
 
 text_stays : (tokens : List Token) (place : ℕ) (token : Token) (k : ℕ) → place_of token.text tokens ≡ Some place → text_at (slice_set tokens place token) k ≡ text_at tokens k
 text_stays tokens place token k is =

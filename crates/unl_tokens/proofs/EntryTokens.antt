@@ -1,4 +1,4 @@
--- The tokens of what is printed of a book.
+-- The JSON tokens printed for entries and answers.
 use Rattle.std.proofs.Common.{◌≡◌, [], ◌∷◌, ◌++◌, List, map, refl, ap, ◌∙◌, append_assoc}
 use Rattle.json.specs.Token.{begin_object, end_object, begin_array, end_array, key, string as string_token}
 use Rattle.unl_documents.specs.declared.field.Field.TheVariants as field
@@ -10,7 +10,7 @@ use Rattle.unl_tokens.specs.declared.token.Token.{Token}
 use Rattle.unl_tokens.specs.Kinds.{word_of}
 use Rattle.unl_tokens.specs.Requests.{projects_data, token_data, token_tokens, answer_data}
 
--- an entry, its keys in byte order
+-- an entry, with its keys in byte order
 pub entry_tokens : (t : Token)
     → tokens_of (token_data t)
     ≡ begin_object ∷ (tokens_at field.Projects (projects_data t.projects) ++ (tokens_at field.Token (string t.text)
@@ -18,7 +18,7 @@ pub entry_tokens : (t : Token)
 unfolding token_data
 entry_tokens t = refl
 
--- an answer, its entries in brackets
+-- an answer, with its entries in brackets
 pub answer_tokens : (tokens : List Token)
     → tokens_of (answer_data tokens)
     ≡ begin_object ∷ (key (key_of field.Tokens) ∷ (begin_array ∷ (token_tokens tokens ++ (end_array ∷ end_object ∷ []))))

@@ -1,4 +1,4 @@
--- Texts that stand several times: each counts once, where it comes first.
+-- Repeated texts: each counts once, where it first occurs.
 use Rattle.std.proofs.Common.{◌≡◌, ℕ, suc, ◌+◌, Bool, true, false, cond, List, [], ◌∷◌, ◌++◌, length, Option, Some, None, Ok, Err, refl, sym, ap, ◌∙◌, append_assoc, arith, inl, inr}
 use Rattle.std.specs.Prelude.{◌≢◌, ◌&&◌, ◌||◌, not, All, fold, filter, filter_map, nat_lt, option_to_list, if◌then◌else◌}
 use Rattle.std.specs.List.{position_or_len, cons_option}
@@ -23,11 +23,11 @@ use Rattle.unl_tokens.proofs.Same.{text_refl}
 abbrev Texts : Type 0
 Texts = List (List ℕ)
 
--- those that are not among these
+-- the texts that are not among the earlier ones
 abbrev others : Texts → Texts → Texts
 others before texts = filter (λ text. not (stands_in text before)) texts
 
--- those that are not this one
+-- the texts other than this one
 abbrev apart : List ℕ → Texts → Texts
 apart text texts = filter (λ other. not (bytes_eq text other)) texts
 
@@ -49,7 +49,7 @@ nothing_before : (texts : Texts) → others [] texts ≡ texts
 nothing_before [] = refl
 nothing_before (text ∷ texts) = ap (λ (ts : Texts). text ∷ ts) (nothing_before texts)
 
--- one more stands before
+-- one more earlier text
 not_or : (a b : Bool) → not (a || (b || false)) ≡ (not b && not a)
 not_or true true = refl
 not_or true false = refl
@@ -61,7 +61,7 @@ one_more text before texts =
     filter_same _ _ (λ (s : List ℕ). ap not (list_any-append (λ other. bytes_eq other s) before (text ∷ [])) ∙ not_or (stands_in s before) (bytes_eq text s)) texts
     ∙ sym (filter_both (λ s. not (stands_in s before)) (λ other. not (bytes_eq text other)) texts)
 
--- one that stands before already
+-- a text that is among the earlier ones already
 no_more : (text : List ℕ) (before texts : Texts) → stands_in text before ≡ true → others before texts ≡ others before (apart text texts)
 no_more text before texts stands =
     filter_same _ _ (λ (s : List ℕ). each s) texts ∙ sym (filter_both (λ s. not (stands_in s before)) (λ other. not (bytes_eq text other)) texts)
@@ -101,7 +101,7 @@ pub known_once : KnownOnce
 unfolding known
 known_once book asked = known_so book [] asked ∙ ap (filter_map (λ text. token_of text book)) (nothing_before (each_once asked))
 
--- ---- one token more in a book
+-- ---- one more token in a book
 
 put_next : (b : Bool) (n : ℕ) (a x : Token) (book : List Token)
     → put_at (cond (nat_lt (cond (not b) (1 + n) 0) (suc (length book))) (Some (cond (not b) (1 + n) 0)) None) (a ∷ book) x ≡ cond b (x ∷ book) (a ∷ put_at (cond (nat_lt n (length book)) (Some n) None) book x)
@@ -157,7 +157,7 @@ token_put t (a ∷ book) x =
     either false true never = refl
     either false false never = refl
 
--- ---- all of them
+-- ---- all tokens
 
 fold_texts : (tokens book : List Token) → texts_of (fold with_token book tokens) ≡ texts_of book ++ others (texts_of book) (each_once (texts_of tokens))
 unfolding each_once
@@ -188,7 +188,7 @@ fold_token t (x ∷ tokens) book =
     here true = refl
     here false = refl
 
--- a book is told by its texts and what token each has
+-- a book is determined by its texts and the token of each text
 same_later : (x : Token) (book tokens : List Token) → All (λ (t : Token). x.text ≢ t.text) tokens
     → filter_map (λ text. token_of text (x ∷ book)) (texts_of tokens) ≡ filter_map (λ text. token_of text book) (texts_of tokens)
 same_later x book [] other = refl

@@ -1,4 +1,4 @@
--- Which tokens were answered, by a mark at the place of each.
+-- Marking which tokens have been answered.
 use Rattle.std.proofs.Common.{◌≡◌, ℕ, ◌+◌, ◌<◌, Bool, true, false, cond, List, [], ◌∷◌, ◌++◌, length, get_or, map, take, drop}
 use Rattle.std.proofs.Common.{Option, Some, None, refl, sym, ap, ◌∙◌, append_assoc, arith, inl, inr}
 use Rattle.std.specs.Prelude.{◌≢◌, ◌||◌, position, slice_get, slice_set, option_and_then, option_to_list, if◌then◌else◌}
@@ -22,7 +22,7 @@ use Rattle.unl_tokens.specs.Valid.{HaveOtherTexts}
 use Rattle.unl_tokens.proofs.Different.{different_text, none_passes, no_place}
 use Rattle.unl_tokens.proofs.Same.{text_refl}
 
--- those are marked whose texts were asked before
+-- exactly the tokens whose texts were asked for before are marked
 pub record Marked (tokens : List Token) (before : List (List ℕ)) (marks : List Bool) : Type 0 where
   pub count : length marks ≡ length tokens
   pub each : (k : ℕ) (d : Token) (e : Bool) → k < length tokens → get_or marks k e ≡ stands_in (get_or tokens k d).text before
@@ -30,7 +30,7 @@ pub record Marked (tokens : List Token) (before : List (List ℕ)) (marks : List
 pub nothing_marked : (tokens : List Token) → Marked tokens [] (map (λ (t : Token). false) tokens)
 nothing_marked tokens = record { count = length-map tokens (λ (t : Token). false); each = λ k d e lt. get_or-map (λ (t : Token). false) tokens k d e lt }
 
--- ---- one text more is asked
+-- ---- asking for one more text
 
 or_false : (a b : Bool) → b ≡ false → (a || (b || false)) ≡ a
 or_false true b h = refl
@@ -108,14 +108,14 @@ next_answer None tokens before marks text at old =
 next_answer (Some place) [] before marks text at old = absurd (cc)
 next_answer (Some place) (t ∷ ts) before marks text at old = answered_at place (t ∷ ts) before marks text t at old
 
--- what one text more comes to
+-- one more text: the token answered for it, and the marks afterwards
 pub marks_go_on : (tokens : List Token) (before : List (List ℕ)) (marks : List Bool) (text : List ℕ) → HaveOtherTexts tokens → Marked tokens before marks → (unmarked tokens marks text ≡ answered tokens before text) × Marked tokens (before ++ text ∷ []) (marked tokens marks text)
 marks_go_on tokens before marks text different old = (
   next_answer (position (has_text text) tokens) tokens before marks text refl old,
   next_marks (position (has_text text) tokens) tokens before marks text refl different old,
 )
 
--- ---- what is printed, text after text
+-- ---- what is printed, one text after the other
 
 tokens_apart : (one rest : List Token) → token_tokens (one ++ rest) ≡ token_tokens one ++ token_tokens rest
 tokens_apart one rest = ap all_tokens (map-append token_data one rest) ∙ flat_map-append tokens_of (map token_data one) (map token_data rest)

@@ -1,4 +1,4 @@
--- The places of tokens in the order of their texts, and where a text stands among them.
+-- The index of tokens by text: their positions in the order of their texts.
 use Rattle.std.specs.Prelude.{◌≡◌, ◌<◌, ℕ, List, [], length, All, AllPairs, Bool, true, false, Option, Some, None, slice_get, if◌then◌else◌}
 use Rattle.std.specs.Cmp.Lexicographic.{slice_cmp}
 use Rattle.std.specs.List.Sorted.{IsPartitionPoint}
@@ -8,33 +8,33 @@ use Rattle.std.specs.Str.{bytes_eq}
 use Rattle.std.specs.declared.cmp.Ordering.TheVariants.{Less}
 use Rattle.unl_tokens.specs.declared.token.Token.{Token}
 
--- the text of the token at a place, with no bytes past the last
+-- the text of the token at a position, empty past the last
 abbrev pub text_at : List Token → ℕ → List ℕ
 text_at tokens place = option_map_or (λ t. t.text) (slice_get tokens place) []
 
--- the text at one place comes before the text at another
+-- the text at position a is less than the text at position b
 abbrev pub ComesBefore : List Token → ℕ → ℕ → Type 0
 ComesBefore tokens a b = slice_cmp nat_cmp (text_at tokens a) (text_at tokens b) ≡ Less
 
--- the place is one of these
+-- the position is in the list
 abbrev pub IsListed : ℕ → List ℕ → Type 0
 IsListed place places = (at : ℕ) × (slice_get places at ≡ Some place)
 
--- the place of each token, once, in the order of the texts
+-- a valid index: the position of each token, once, in the order of the texts
 pub record IsTextIndex (tokens : List Token) (places : List ℕ) : Type 0 where
   pub within : All (λ place. place < length tokens) places
   pub rising : AllPairs (ComesBefore tokens) places
   pub whole : (place : ℕ) → place < length tokens → IsListed place places
 
--- the text at a place comes before this one
+-- whether the text at a position is less than this text
 abbrev pub is_below : List Token → List ℕ → ℕ → Bool
 is_below tokens text place = is_lt (slice_cmp nat_cmp (text_at tokens place) text)
 
--- where the place of a text stands, or else belongs: in front of it are the places of lesser texts, and of no others
+-- the point of a text in the index: all lesser texts are before it, and no others
 abbrev pub IsPointOf : List Token → List ℕ → List ℕ → ℕ → Type 0
 IsPointOf tokens text places at =
     IsPartitionPoint (λ place. is_below tokens text place ≡ true) (λ place. is_below tokens text place ≡ false) places at
 
--- the place, if the text stands at it
+-- the position, if the token there has this text
 abbrev pub if_text : List Token → List ℕ → ℕ → Option ℕ
 if_text tokens text place = if bytes_eq (text_at tokens place) text then Some place else None

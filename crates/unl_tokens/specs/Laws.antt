@@ -1,4 +1,4 @@
--- Texts that stand several times: each counts once, where it comes first.
+-- Laws about repeated texts: each text counts once, where it first occurs.
 use Rattle.std.specs.Prelude.{◌≡◌, ℕ, List, [], ◌∷◌, map, filter, filter_map, not, Option, Some, None, option_and_then, Ok, if◌then◌else◌}
 use Rattle.std.specs.Option.{option_or}
 use Rattle.std.specs.Str.{bytes_eq}
@@ -11,7 +11,7 @@ use Rattle.unl_tokens.specs.Books.{has_text, tokens_from, gathered, book_of}
 use Rattle.unl_tokens.specs.Requests.{token_of, known}
 use Rattle.unl_tokens.specs.Valid.{HaveOtherTexts}
 
--- each text once, at the place where it comes first
+-- the list without repetitions: each text once, where it first occurs
 unfoldable pub each_once : List (List ℕ) → List (List ℕ)
 each_once [] = []
 each_once (text ∷ texts) = text ∷ filter (λ other. not (bytes_eq text other)) (each_once texts)
@@ -20,29 +20,29 @@ each_once (text ∷ texts) = text ∷ filter (λ other. not (bytes_eq text other
 abbrev pub texts_of : List Token → List (List ℕ)
 texts_of tokens = map (λ token. token.text) tokens
 
--- the last token with a text
+-- the last token with this text
 unfoldable pub last_of : List ℕ → List Token → Option Token
 last_of text [] = None
 last_of text (token ∷ tokens) = option_or (last_of text tokens) (if has_text text token then Some token else None)
 
--- for each text, at the place where it comes first, the last token with that text
+-- for each text, where it first occurs, the last token with that text
 abbrev pub latest : List Token → List Token
 latest tokens = filter_map (λ text. last_of text tokens) (each_once (texts_of tokens))
 
--- the tokens of a list of entries make the book of the latest
+-- the tokens of a list of entries become the book of the latest tokens
 abbrev pub LatestAreGathered : Type 0
 LatestAreGathered = (tokens : List Token) → gathered tokens ≡ latest tokens
 
--- a book that is read from an answer holds the latest of the answer's tokens
+-- a book read from an answer holds the latest of the answer's tokens
 abbrev pub LatestAreRead : Type 0
 LatestAreRead = (value : Data) (entries : Items) (tokens book : List Token)
     → option_and_then as_array (at field.Tokens value) ≡ Some entries → tokens_from 0 entries ≡ Ok tokens
     → book_of value ≡ Ok book → book ≡ latest tokens
 
--- of the texts that are asked, each is answered once, where it comes first, by the book's token with that text
+-- a request gets each text once, where it is first asked for, with the book's token of that text
 abbrev pub KnownOnce : Type 0
 KnownOnce = (book : List Token) (asked : List (List ℕ)) → known book asked ≡ filter_map (λ text. token_of text book) (each_once asked)
 
--- tokens of different texts are all kept, in their order
+-- a list of tokens with different texts becomes a book with all of them, in the same order
 abbrev pub DifferentAreKept : Type 0
 DifferentAreKept = (tokens : List Token) → HaveOtherTexts tokens → gathered tokens ≡ tokens

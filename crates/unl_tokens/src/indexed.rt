@@ -1,4 +1,4 @@
-//! Tokens with an index of their texts.
+//! Tokens with an index by text.
 ghost use Rattle.std.specs.Prelude.{◌≡◌, ◌↔◌, ◌<◌, ◌≤◌, [], ◌∷◌, ◌++◌, None, Some, IsTrue, IfOk, IfSome, insert, length};
 ghost use Rattle.std.specs.Prelude.{option_and_then, slice_get, slice_set};
 ghost use Rattle.unl_tokens.specs.Books.{place_of as place_of_text, with_token};
@@ -9,11 +9,11 @@ use std::alloc::Global;
 use std::marker::Model;
 use unl_documents::{Copied, List, Memory};
 
-/// Up to how many tokens a text is looked for among them one by one: to see that two texts differ takes less than to
-/// see which is below the other.
+/// Up to this many tokens, a lookup compares the texts one by one: comparing two texts for equality is cheaper than
+/// comparing their order.
 const FEW: usize = 24;
 
-/// Tokens, and their places in the order of their texts, so that a text is found by halving. Contracts see the tokens.
+/// Tokens, and their positions sorted by text for binary search. In contracts this is the list of the tokens.
 #[derive(Debug, Drop)]
 pub(crate) struct Indexed {
     tokens: List<Token>,
@@ -33,7 +33,7 @@ impl Model for Indexed {
 }
 
 impl Indexed {
-    /// No tokens. Takes no memory.
+    /// No tokens. Allocates nothing.
     pub(crate) fn new(alloc: Global) -> Indexed
         ensures { result ≡ [] }
     {
@@ -43,21 +43,21 @@ impl Indexed {
         }
     }
 
-    /// How many tokens there are. Takes no memory.
+    /// The number of tokens. Allocates nothing.
     pub(crate) fn len(&self) -> usize
         ensures { result ≡ length self.now }
     {
         self.tokens.len()
     }
 
-    /// Whether both have the same tokens in the same order. Takes no memory.
+    /// Whether both have the same tokens in the same order. Allocates nothing.
     pub(crate) fn is_same(&self, other: &Indexed) -> bool
         ensures { IsTrue result ↔ (self.now ≡ other.now) }
     {
         self.tokens == other.tokens
     }
 
-    /// The tokens in their order. Takes no memory.
+    /// The tokens in their order. Allocates nothing.
     pub(crate) fn tokens(&self) -> &List<Token>
         ensures { result.now ≡ self.now }
     {
@@ -71,7 +71,7 @@ impl Indexed {
         self.tokens
     }
 
-    /// The place of the token with a text. Takes no memory.
+    /// The position of the token with this text. Allocates nothing.
     pub(crate) fn place_of(&self, text: &[u8]) -> Option<usize>
         ensures place { result ≡ place_of_text text.now self.now }
         ensures below { IfSome result (λ place. place < length self.now) }
@@ -83,7 +83,7 @@ impl Indexed {
         found
     }
 
-    /// The tokens with one more: in the place of the one with its text, or else behind all.
+    /// Replaces the token with the same text, or appends the token if there is none.
     #[tactic(auto, unfolding(crate::specs::Books::with_token))]
     pub(crate) fn with_token(self, token: Token) -> Result<Indexed, Memory>
         ensures { IfOk result (λ all. all ≡ with_token self token) }
@@ -106,7 +106,7 @@ impl Copied for Indexed {
     }
 }
 
-/// The place of the token with a text, which each is compared with.
+/// The position of the token with this text, by linear search.
 fn place_among(tokens: &List<Token>, text: &[u8]) -> Option<usize>
     ensures place { result ≡ place_of_text text.now tokens.now }
     ensures below { IfSome result (λ place. place < length tokens.now) }
@@ -117,7 +117,7 @@ fn place_among(tokens: &List<Token>, text: &[u8]) -> Option<usize>
         .position(|token| token.text.as_str().as_bytes() == text)
 }
 
-/// Where the place of a text stands in an index, or else belongs, and that place if it stands there.
+/// The point of a text in the index (see [`point_of`]), and the position of the token with this text, if there is one.
 fn search(tokens: &List<Token>, places: &List<usize>, text: &[u8]) -> (usize, Option<usize>)
     requires { IsTextIndex tokens.now places.now }
     ensures point { IsPointOf tokens.now text.now places.now result.0 }
@@ -129,7 +129,7 @@ fn search(tokens: &List<Token>, places: &List<usize>, text: &[u8]) -> (usize, Op
     (at, place_at(tokens, places, at, text))
 }
 
-/// Where the place of a text stands in an index, or else belongs.
+/// The point in the index where the text's position is, or where it would be inserted.
 fn point_of(tokens: &List<Token>, places: &List<usize>, text: &[u8]) -> usize
     requires { IsTextIndex tokens.now places.now }
     ensures point { IsPointOf tokens.now text.now places.now result }
@@ -140,7 +140,7 @@ fn point_of(tokens: &List<Token>, places: &List<usize>, text: &[u8]) -> usize
         .partition_point(|place| text_at(tokens, *place).cmp(&text).is_lt())
 }
 
-/// What stands there in an index, if it is the place of the text.
+/// The position stored at a point of the index, if the token there has this text.
 fn place_at(tokens: &List<Token>, places: &List<usize>, at: usize, text: &[u8]) -> Option<usize>
     ensures { result ≡ option_and_then (if_text tokens.now text.now) (slice_get places.now at) }
 {
@@ -151,7 +151,7 @@ fn place_at(tokens: &List<Token>, places: &List<usize>, at: usize, text: &[u8]) 
     None
 }
 
-/// The text of the token at a place.
+/// The text of the token at a position, or an empty text past the end.
 fn text_at(tokens: &List<Token>, place: usize) -> &[u8]
     ensures { result.now ≡ text_at tokens.now place }
 {
@@ -161,7 +161,7 @@ fn text_at(tokens: &List<Token>, place: usize) -> &[u8]
     }
 }
 
-/// The tokens with this one in place of the one with its text.
+/// Replaces the token that has the same text.
 fn with_other(tokens: List<Token>, places: List<usize>, place: usize, token: Token) -> Indexed
     requires index { IsTextIndex tokens places }
     requires stands { place_of_text token.text tokens ≡ Some place }
@@ -172,7 +172,7 @@ fn with_other(tokens: List<Token>, places: List<usize>, place: usize, token: Tok
     Indexed { tokens, places }
 }
 
-/// The tokens with this one behind all.
+/// Appends a token whose text is new.
 fn with_new(
     tokens: List<Token>,
     places: List<usize>,
@@ -190,7 +190,7 @@ fn with_new(
     Ok(Indexed { tokens, places })
 }
 
-/// The tokens with another one at a place.
+/// Replaces the token at a position.
 fn replaced(mut tokens: List<Token>, place: usize, token: Token) -> List<Token>
     requires { place < length tokens }
     ensures { result ≡ slice_set tokens place token }
@@ -199,7 +199,7 @@ fn replaced(mut tokens: List<Token>, place: usize, token: Token) -> List<Token>
     tokens
 }
 
-/// The tokens with one more behind all.
+/// Appends a token.
 fn pushed(mut tokens: List<Token>, token: Token) -> Result<List<Token>, Memory>
     ensures { IfOk result (λ new. new ≡ tokens ++ token ∷ []) }
 {
@@ -207,7 +207,7 @@ fn pushed(mut tokens: List<Token>, token: Token) -> Result<List<Token>, Memory>
     Ok(tokens)
 }
 
-/// The places with one more at a point, before which those from there on stood.
+/// Inserts a position into the index at a point.
 fn inserted(places: List<usize>, at: usize, place: usize) -> Result<List<usize>, Memory>
     requires { at ≤ length places }
     ensures { IfOk result (λ new. new ≡ insert places at place) }

@@ -1,20 +1,20 @@
-//! Laws on texts that stand several times, each the contract of a function that does nothing.
+//! Laws about repeated texts. Each law is the contract of a function that does nothing.
 ghost use Rattle.unl_tokens.specs.Laws.{DifferentAreKept, KnownOnce, LatestAreGathered, LatestAreRead};
 
-/// A book that is read from an answer has each text of the answer's entries once, at the place of
-/// its first entry, with the token of its last entry.
+/// A book read from an answer has each text of the answer's entries once, in the position of its first entry and with the
+/// token of its last entry.
 pub fn latest_are_kept()
     ensures gathered { LatestAreGathered }
     ensures read { LatestAreRead }
 {}
 
-/// The known tokens of a request are those of the texts that are asked, each once, at the place
-/// where it is asked first.
+/// The known tokens of a request are those of the texts asked for, each once, in the position where its text is first
+/// asked for.
 pub fn known_once()
     ensures { KnownOnce }
 {}
 
-/// Tokens of different texts are all kept in a book, in their order.
+/// A list of tokens with different texts becomes a book with all of them, in the same order.
 pub fn different_are_kept()
     ensures { DifferentAreKept }
 {}

@@ -1,4 +1,4 @@
--- How often a peer is connected to, and what a refresh leaves of what is installed.
+-- The number of connections to a peer, and what a refresh preserves of what is installed.
 use Rattle.std.proofs.Common.{◌≡◌, ◌≤◌, ◌+◌, ◌==◌, ◌∙◌, ℕ, Bool, true, false, cond, not, List, drop, Option, Some, None, Result, Ok, Err, refl, sym, ap, subst, arith, inl, inr}
 use Rattle.std.specs.Prelude.{◌≢◌, option_map, IfOk, OnErr, OnOk}
 use Rattle.std.proofs.lemmas.List.{drop-drop, length-set}
@@ -26,52 +26,52 @@ use Rattle.unl_refresh.specs.Refresh.{Refreshed, Refreshes, after_batch, after_r
 use Rattle.unl_refresh.specs.Tokens.{Installs, RefreshesTokens, book_in_reply}
 use Rattle.unl_tokens.specs.declared.token.Token.{Token}
 
--- ---- how often
+-- ---- counting connections
 
--- a count that rose within a time rose in all of it
+-- a count that rose between two moments rose over any longer time
 rose_within : (before first last after : ℕ) → before ≤ first → last ≤ after → Rose first last → Rose before after
 rose_within before first last after begins ends rose = omega (arith, begins, ends, rose)
 
--- so no earlier part of the time, and no later one, is one in which it rose where it did not rise in all of it
+-- so, if it didn't rise over the whole time, it rose neither before nor after a moment of it
 pub none_before : (before middle after : ℕ) → middle ≤ after → ¬ (Rose before after) → ¬ (Rose before middle)
 none_before before middle after later none = λ rose. none (rose_within before before middle after (omega arith) later rose)
 
 pub none_after : (before middle after : ℕ) → before ≤ middle → ¬ (Rose before after) → ¬ (Rose middle after)
 none_after before middle after later none = λ rose. none (rose_within before middle after after later (omega arith) rose)
 
--- what no connect took stands as it was
+-- no connection uses up nothing
 pub none_taken : (replies : Option (List (List ℕ))) → replies ≡ option_map (λ list. drop 0 list) replies
 none_taken None = refl
 none_taken (Some list) = refl
 
--- what some connects took, and then others
+-- the replies used up by some connections and then by others
 taken_both : (replies middle last : Option (List (List ℕ))) (some more : ℕ) → middle ≡ option_map (λ list. drop some list) replies
     → last ≡ option_map (λ list. drop more list) middle → last ≡ option_map (λ list. drop (some + more) list) replies
 taken_both None middle last some more first then = then ∙ ap (option_map (λ list. drop more list)) first
 taken_both (Some list) middle last some more first then =
     then ∙ ap (option_map (λ list. drop more list)) first ∙ ap Some (drop-drop more some list)
 
--- no connect was made
+-- no connection was made
 pub connects_nothing : (replies : Option (List (List ℕ))) (faults : ℕ) → Connects 0 replies faults replies faults
 connects_nothing replies faults = record { later = omega arith; made = λ none. (0, omega arith, none_taken replies) }
 
--- after a fault nothing is said of how often
+-- after a fault `Connects` says nothing of the number
 pub after_fault : (least : ℕ) (replies replies_after : Option (List (List ℕ))) (faults faults_after : ℕ)
     → faults ≤ faults_after → Rose faults faults_after → Connects least replies faults replies_after faults_after
 after_fault least replies replies_after faults faults_after later rose = record { later = later; made = λ none. absurd (none rose) }
 
--- an exchange is one connect
+-- an exchange makes one connection
 pub one_connect : {request : List ℕ} {replies replies_after : Option (List (List ℕ))} {sent sent_after : Option (List ℕ)} {faults faults_after : ℕ}
     → Asks request replies sent replies_after sent_after → faults ≤ faults_after → Connects 1 replies faults replies_after faults_after
 one_connect asks later = record { later = later; made = λ none. (1, omega arith, asks.one_reply) }
 
--- at most one exchange is no less than no connect
+-- at most one exchange makes at least zero connections
 pub none_or_one : {request : List ℕ} {replies replies_after : Option (List (List ℕ))} {sent sent_after : Option (List ℕ)} {faults faults_after : ℕ}
     → AsksAtMostOnce request replies sent replies_after sent_after → faults ≤ faults_after → Connects 0 replies faults replies_after faults_after
 none_or_one {replies = replies} (inl (same, silent)) later = record { later = later; made = λ none. (0, omega arith, same ∙ none_taken replies) }
 none_or_one (inr part) later = record { later = later; made = λ none. (1, omega arith, part.one_reply) }
 
--- the same where there may be nothing to send
+-- as above, if there may be nothing to send
 pub told_at_most_once : (found : Option (Data × ℕ)) (host token : List ℕ) (replies replies_after : Option (List (List ℕ))) (sent sent_after : Option (List ℕ))
     (faults faults_after : ℕ) → AsksBulkAtMostOnce found host token replies sent replies_after sent_after → faults ≤ faults_after
     → Connects 0 replies faults replies_after faults_after
@@ -79,7 +79,7 @@ told_at_most_once None host token replies replies_after sent sent_after faults f
     record { later = later; made = λ none. (0, omega arith, asks.0 ∙ none_taken replies) }
 told_at_most_once (Some (report, count)) host token replies replies_after sent sent_after faults faults_after asks later = none_or_one asks later
 
--- some connects, and then others
+-- some connections, and then others
 pub connects_both : {least more : ℕ} {replies middle last : Option (List (List ℕ))} {faults faults_middle faults_last : ℕ}
     → Connects least replies faults middle faults_middle → Connects more middle faults_middle last faults_last
     → Connects (least + more) replies faults last faults_last
@@ -91,7 +91,7 @@ connects_both {least} {more} {replies} {middle} {last} {faults} {faults_middle} 
       (some.0 + others.0, omega (arith, some.1, others.1), taken_both replies middle last some.0 others.0 some.2 others.2);
 }
 
--- fewer than were made
+-- a smaller lower bound
 pub connects_fewer : {least fewer : ℕ} {replies replies_after : Option (List (List ℕ))} {faults faults_after : ℕ}
     → fewer ≤ least → Connects least replies faults replies_after faults_after → Connects fewer replies faults replies_after faults_after
 connects_fewer few connects = record {
@@ -99,7 +99,7 @@ connects_fewer few connects = record {
   made = λ none. let some = connects.made none in (some.0, omega (arith, few, some.1), some.2);
 }
 
--- ---- what stands after a refresh
+-- ---- what is installed after a refresh
 
 -- nothing was installed
 pub same_goes : (before after : Installed) → after ≡ before → Goes before after
@@ -132,7 +132,7 @@ reading_goes slot delta tag before (Ok got) = by_status (got.status == 304) (got
     by_status false true = batch_goes slot got.tag before (batch_in delta (number_held (place_of before slot)) got.body)
     by_status false false = same_goes before before refl
 
--- what a refresh of a slot leaves
+-- the effect of refreshing a slot
 pub slot_goes : {slot : ℕ} {ask : Ask} {before : Installed} {coming : Option (List ℕ)} {after : Refreshed}
     → Refreshes slot ask before coming after → Goes before after.installed
 slot_goes {slot} {ask} {before} refreshes =
@@ -151,28 +151,28 @@ installs_go (Ok book) before Held after installs = absurd installs
 installs_go (Ok book) before (Refused status) after installs = absurd installs
 installs_go (Ok book) before (BadAnswer bad) after installs = absurd installs
 
--- what a refresh of the book leaves
+-- the effect of refreshing the book
 pub book_goes : {texts : List (List ℕ)} {before : Installed} {coming : Option (List ℕ)} {outcome : Outcome} {after : Installed}
     → RefreshesTokens texts before coming outcome after → Goes before after
 book_goes {texts} {before} {coming} {outcome} {after} refreshes =
     installs_go (book_in_reply texts refreshes.reading) before outcome after refreshes.installs
 
--- ---- what was told of a refresh
+-- ---- from the result of a refresh
 
--- a refresh of the book goes on, whatever is told of it
+-- the effect of refreshing the book, whatever the result is
 pub book_told : (texts : List (List ℕ)) {before after : Installed} (coming : Option (List ℕ)) (told : Result Outcome RefreshFault)
     → IfOk told (λ outcome. RefreshesTokens texts before coming outcome after) → OnErr told (after ≡ before) → Goes before after
 book_told texts coming (Ok outcome) takes fault = book_goes takes
 book_told texts {before} {after} coming (Err e) takes fault = same_goes before after fault
 
--- a refresh of a slot does
+-- the effect of refreshing a slot, whatever the result is
 pub slot_told : (slot : ℕ) (ask : Ask) {before after : Installed} (coming tag : Option (List ℕ)) (told : Result Outcome RefreshFault)
     → IfOk told (λ outcome. Refreshes slot ask before coming (record { outcome = outcome; installed = after; tag = tag }))
     → OnErr told (after ≡ before) → Goes before after
 slot_told slot ask coming tag (Ok outcome) takes fault = slot_goes takes
 slot_told slot ask {before} {after} coming tag (Err e) takes fault = same_goes before after fault
 
--- where memory was found, one connect was made
+-- unless out of memory, one connection was made
 pub asked_once : {A : Type 0} (request : List ℕ) (replies replies_after : Option (List (List ℕ))) (sent sent_after : Option (List ℕ)) {faults faults_after : ℕ}
     (told : Result A RefreshFault) (result : Result Unit Memory) → OnOk result (told ≢ Err want) → OnOk told (Asks request replies sent replies_after sent_after)
     → (told ≡ Err peer_fault → Rose faults faults_after) → faults ≤ faults_after → OnOk result (Connects 1 replies faults replies_after faults_after)
@@ -181,12 +181,12 @@ asked_once request replies replies_after sent sent_after (Ok outcome) (Ok _) som
 asked_once request replies replies_after sent sent_after (Err peer_fault) (Ok _) some asks cause later = after_fault _ _ _ _ _ later (cause refl)
 asked_once request replies replies_after sent sent_after (Err want) (Ok _) some asks cause later = absurd (some refl)
 
--- what holds holds where memory was found
+-- a fact holds in the `Ok` case too
 pub if_ok : {A E X : Type 0} (result : Result A E) → X → OnOk result X
 if_ok (Ok a) x = x
 if_ok (Err e) x = tt
 
--- a connect for the book, and then some for the slots
+-- one connection for the book, and then some for the slots
 pub one_and_more : {A E : Type 0} {fewer : ℕ} (more : ℕ) {replies middle : Option (List (List ℕ))} (last : Option (List (List ℕ)))
     {faults faults_middle : ℕ} (faults_last : ℕ) (result : Result A E)
     → fewer ≤ more + 1 → Connects 1 replies faults middle faults_middle → OnOk result (Connects more middle faults_middle last faults_last)
@@ -196,7 +196,7 @@ one_and_more more last faults_last (Ok a) few first then =
     connects_fewer (omega (arith, few, count)) (connects_both first then)
 one_and_more more last faults_last (Err e) few first then = tt
 
--- some connects, and then perhaps others
+-- some connections, and then perhaps others
 pub connects_still : {least : ℕ} {replies middle last : Option (List (List ℕ))} {faults faults_middle faults_last : ℕ}
     → Connects least replies faults middle faults_middle → Connects 0 middle faults_middle last faults_last → Connects least replies faults last faults_last
 connects_still {least} first then =

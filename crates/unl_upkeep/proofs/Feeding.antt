@@ -1,11 +1,11 @@
--- Who is asked for what stands in each slot: one for each token.
+-- Each token has its feeder.
 use Rattle.std.proofs.Common.{◌≡◌, ◌<◌, ◌≤◌, ◌+◌, ◌∙◌, ℕ, Bool, List, [], ◌∷◌, ◌++◌, None, length, drop, map, get_or, ap, sym, arith, append-nil, append_assoc}
 use Rattle.std.proofs.lemmas.List.{drop_all, drop_more, map-append}
 use Rattle.unl_refresh.specs.declared.ask.Ask.{Ask}
 use Rattle.unl_upkeep.specs.Feeding.{Feeding, feeding_of, feedings}
 use Rattle.unl_upkeep.specs.declared.feeder.Feeder.{Feeder}
 
--- one token more has its feeder
+-- after one more token
 pub fed_next : (host : List ℕ) (delta : Bool) (tokens environments : List (List ℕ)) (place : ℕ) (token environment : List ℕ)
     (before after : List Feeder) (feeder : Feeder) → place < length tokens → length environments ≡ length tokens
     → feeder.environment ≡ environment → feeder.ask ≡ record { host = host; token = token; delta = delta; tag = None }
@@ -41,7 +41,7 @@ fed_next host delta tokens environments place token environment before after fee
     split : feedings host delta (drop place tokens) (drop place environments) ≡ wanted ∷ rest
     split = λ i. feedings host delta (drop_more tokens place token inside i) (drop_more environments place environment within i)
 
--- all of them have
+-- after all tokens
 pub all_fed : (host : List ℕ) (delta : Bool) (tokens environments : List (List ℕ)) (place : ℕ) (made : List Feeding) → length tokens ≤ place
     → made ++ feedings host delta (drop place tokens) (drop place environments) ≡ feedings host delta tokens environments
     → made ≡ feedings host delta tokens environments

@@ -1,4 +1,4 @@
--- What a turn takes of the replies to come.
+-- The replies that a turn uses up.
 use Rattle.std.proofs.Common.{◌≡◌, ◌⊎◌, ◌∙◌, ◌<◌, ◌≤◌, ℕ, ◌+◌, List, [], ◌∷◌, drop, get_or, length, map, Option, Some, None, Result, Ok, Err, ap, refl, subst, sym, arith, inl, inr}
 use Rattle.std.proofs.lemmas.List.{drop_all, drop_more, get_or-map, length-map}
 use Rattle.std.specs.Prelude.{◌≢◌, option_map, IfOk, OnErr, OnOk}
@@ -21,9 +21,9 @@ use Rattle.unl_refresh.specs.Metrics.{AsksBulkAtMostOnce, book_after}
 use Rattle.unl_refresh.specs.Refresh.{Refreshes}
 use Rattle.unl_refresh.specs.Tokens.{RefreshesTokens}
 
--- ---- by what was told of a refresh
+-- ---- from the result of a refresh
 
--- where memory was found and the peer did not fail, the book was taken
+-- unless out of memory or the peer failed, the book was applied
 pub book_taken : (texts : List (List ℕ)) (before after : Installed) (replies replies_after : Option (List (List ℕ))) {Failed : Type 0}
     (told : Result Outcome RefreshFault) (result : Result Unit Memory) → OnOk result (told ≢ Err want)
     → IfOk told (λ outcome. RefreshesTokens texts before (option_map next_of replies) outcome after)
@@ -36,7 +36,7 @@ book_taken texts before after replies replies_after (Ok outcome) (Ok u) some tak
 book_taken texts before after replies replies_after (Err peer_fault) (Ok u) some takes cause none one = absurd (none (cause refl))
 book_taken texts before after replies replies_after (Err want) (Ok u) some takes cause none one = absurd (some refl)
 
--- and so what stands in a slot
+-- and likewise the batch for a slot
 pub slot_taken : (slot : ℕ) (ask : Ask) (tag : Option (List ℕ)) (before after : Installed) (replies replies_after : Option (List (List ℕ)))
     {Failed : Type 0} (told : Result Outcome RefreshFault) (result : Result Unit Memory) → OnOk result (told ≢ Err want)
     → IfOk told (λ outcome. Refreshes slot ask before (option_map next_of replies) (record { outcome = outcome; installed = after; tag = tag }))
@@ -49,7 +49,7 @@ slot_taken slot ask tag before after replies replies_after (Ok outcome) (Ok u) s
 slot_taken slot ask tag before after replies replies_after (Err peer_fault) (Ok u) some takes cause none one = absurd (none (cause refl))
 slot_taken slot ask tag before after replies replies_after (Err want) (Ok u) some takes cause none one = absurd (some refl)
 
--- where memory was found and the peer did not fail, what an outcome tells of is so
+-- unless out of memory or the peer failed, what the outcome implies holds
 pub if_taken : {A Failed : Type 0} (X : Type 0) (told : Result A RefreshFault) (result : Result Unit Memory) → OnOk result (told ≢ Err want)
     → OnOk told X → (told ≡ Err peer_fault → Failed) → ¬ Failed → OnOk result X
 if_taken X told (Err e) some known cause none = tt
@@ -57,7 +57,7 @@ if_taken X (Ok outcome) (Ok u) some known cause none = known
 if_taken X (Err peer_fault) (Ok u) some known cause none = absurd (none (cause refl))
 if_taken X (Err want) (Ok u) some known cause none = absurd (some refl)
 
--- some keys of an environment were dropped of what was counted, or none
+-- some keys of an environment, or none, were dropped from the metrics
 pub dropped : (environment : List ℕ) (before after : Book) (told : Result MetricsOutcome RefreshFault)
     → IfOk told (λ outcome. after ≡ book_after environment outcome before) → OnErr told (after ≡ before)
     → (after ≡ before) ⊎ ((count : ℕ) × (after ≡ acknowledge environment count before))
@@ -67,7 +67,7 @@ dropped environment before after (Ok (Refused status)) takes fault = inl takes
 dropped environment before after (Ok (BadAnswer bad)) takes fault = inl takes
 dropped environment before after (Err e) takes fault = inl fault
 
--- what was counted was told by one connect at most
+-- sending metrics makes at most one connection
 pub told_once : (installed : Installed) (found : Option (Data × ℕ)) (host token : List ℕ) (replies replies_after : Option (List (List ℕ)))
     (sent sent_after : Option (List ℕ)) → AsksBulkAtMostOnce found host token replies sent replies_after sent_after
     → Tells (upkept installed replies) (upkept installed replies_after)
@@ -80,12 +80,12 @@ told_once installed (Some (report, count)) host token replies replies_after sent
 
 -- ---- slots
 
--- a slot was fed by what was asked with an ask that is for it
+-- a slot was fed, with an ask of its parameters
 pub fed_slot : {feeding : Feeding} {slot : ℕ} {ask : Ask} {tag : Option (List ℕ)} {before middle after : Upkept} → AsksFor feeding ask
     → TakesSlot slot ask tag before middle → Tells middle after → FeedsSlot feeding slot before after
 fed_slot {ask = ask} {tag = tag} {middle = middle} asks takes tells = (ask, asks, tag, middle, takes, tells)
 
--- one slot more was, and what feeds those behind it feeds all
+-- one more slot was fed; feeding the slots after it feeds all
 pub feeds_next : (feeders initial : List Feeder) (slot : ℕ) (feeder : Feeder) (start now next : Upkept) → slot < length feeders
     → map feeding_of feeders ≡ map feeding_of initial
     → ((last : Upkept) → FeedsFrom slot (drop slot (map feeding_of initial)) now last → FeedsFrom 0 (map feeding_of initial) start last)
@@ -118,7 +118,7 @@ fed_all feeders slot start now many before =
     none : drop slot (map feeding_of feeders) ≡ []
     none = drop_all slot (map feeding_of feeders) (omega (arith, many, as_many))
 
--- a turn was made for a duty, by what was asked for these texts and of these
+-- a turn was made for a duty, with its texts and its feedings
 pub made_turn : {A E : Type 0} (result : Result A E) (duty : Duty) (texts : List (List ℕ)) (feedings : List Feeding) (before middle after : Upkept)
     → texts ≡ duty.known → feedings ≡ duty.feeders → TakesBook texts before middle → OnOk result (FeedsFrom 0 feedings middle after)
     → OnOk result (MakesTurn duty.known duty.feeders before after)

@@ -1,8 +1,8 @@
--- How often a peer was connected to.
+-- Counting the connections to a peer.
 use Rattle.std.specs.Prelude.{◌≡◌, ℕ, ◌≤◌, List, Option, option_map, drop}
 use Rattle.unl_base.specs.Faults.{Rose}
 
--- A peer was connected to at least so often, each time for one of the replies that it has to come, unless it failed.
+-- Unless the peer failed, at least `least` connections were made to it, each of which used up one of the replies to come.
 pub record Connects
     (least : ℕ) (replies : Option (List (List ℕ))) (faults : ℕ) (replies_after : Option (List (List ℕ))) (faults_after : ℕ) : Type 0 where
   pub later : faults ≤ faults_after

@@ -1,15 +1,15 @@
--- Who is asked for what stands in each slot.
+-- The request parameters of each slot.
 use Rattle.std.specs.Prelude.{ℕ, Bool, List, [], ◌∷◌}
 use Rattle.unl_upkeep.specs.declared.feeder.Feeder.{Feeder}
 
--- the environment of a slot, and who is asked for it: at which server and with which token, for changes or for whole feeds
+-- the environment of a slot, the server and the token that it is refreshed with, and whether changes or whole feeds are requested
 pub record Feeding : Type 0 where
   pub environment : List ℕ
   pub host : List ℕ
   pub token : List ℕ
   pub delta : Bool
 
--- that of a feeder, whatever the tag of its next ask
+-- the parameters of a feeder, without its tag
 abbrev pub feeding_of : Feeder → Feeding
 feeding_of feeder = record {
   environment = feeder.environment;
@@ -18,7 +18,7 @@ feeding_of feeder = record {
   delta = feeder.ask.delta;
 }
 
--- one for each token at a server, whose environments stand in the same order
+-- one for each token, for one server; the environments are in the order of the tokens
 abbrev pub feedings : List ℕ → Bool → List (List ℕ) → List (List ℕ) → List Feeding
 feedings host delta [] environments = []
 feedings host delta (token ∷ tokens) [] = []

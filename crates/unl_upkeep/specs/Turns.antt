@@ -1,4 +1,4 @@
--- What a turn takes: the next reply is the upstream's book, and each one after it is for the next slot.
+-- The replies that a turn uses up: the first is the upstream's book, the next ones are for the slots, in order.
 use Rattle.std.specs.Prelude.{◌≡◌, ◌≤◌, ◌+◌, ℕ, List, [], ◌∷◌, Option, drop, length, option_map}
 use Rattle.unl_base.specs.Doors.{next_of}
 use Rattle.unl_delta.specs.Installing.{Installed}
@@ -8,7 +8,7 @@ use Rattle.unl_refresh.specs.declared.ask.Ask.{Ask}
 use Rattle.unl_refresh.specs.declared.outcome.Outcome.{Outcome}
 use Rattle.unl_upkeep.specs.Feeding.{Feeding}
 
--- the texts of the tokens that may be known, how many slots are asked for, who is asked for each of them, and which server is
+-- the texts of the tokens that may be known, the number of slots, the request parameters of each slot, and the server that is
 -- asked for the book
 pub record Duty : Type 0 where
   pub known : List (List ℕ)
@@ -21,57 +21,57 @@ pub record Upkept : Type 0 where
   pub installed : Installed
   pub replies : Option (List (List ℕ))
 
--- these together
+-- a constructor of `Upkept`
 abbrev pub upkept : Installed → Option (List (List ℕ)) → Upkept
 upkept installed replies = record { installed = installed; replies = replies }
 
--- the places are as many as before, and at most one publication more was made
+-- The number of places is unchanged, and at most one publication was made.
 pub record Goes (before after : Installed) : Type 0 where
   pub places : length after.places ≡ length before.places
   pub front : after.front ≤ before.front + 1
 
--- so many of the replies to come were taken
+-- `count` of the replies to come were used up.
 abbrev pub Taken : ℕ → Upkept → Upkept → Type 0
 Taken count before after = after.replies ≡ option_map (λ list. drop count list) before.replies
 
--- one reply was taken and read, and what it says of a book of these tokens is installed
+-- One reply was used up, and the book in it, limited to these texts, is installed.
 pub record TakesBook (texts : List (List ℕ)) (before after : Upkept) : Type 0 where
   pub outcome : Outcome
   pub refreshes : RefreshesTokens texts before.installed (option_map next_of before.replies) outcome after.installed
   pub one_reply : Taken 1 before after
 
--- One reply to an ask was taken and read, and what it says of what stands in a slot is installed. The next ask has this tag.
+-- One reply to the ask was used up and applied to the slot. The next ask has this tag.
 pub record TakesSlot (slot : ℕ) (ask : Ask) (tag : Option (List ℕ)) (before after : Upkept) : Type 0 where
   pub outcome : Outcome
   pub refreshes : Refreshes slot ask before.installed (option_map next_of before.replies)
       (record { outcome = outcome; installed = after.installed; tag = tag })
   pub one_reply : Taken 1 before after
 
--- what was counted was told, for which a reply was taken, or there was nothing to tell
+-- Metrics were sent, which used up one reply or none.
 pub record Tells (before after : Upkept) : Type 0 where
   pub same : after.installed ≡ before.installed
   pub count : ℕ
   pub once : count ≤ 1
   pub replies : Taken count before after
 
--- an ask is made where a slot is fed from: at its server and with its token, for changes or for whole feeds
+-- The ask has the server and token of the feeding, and requests changes or whole feeds as it does.
 pub record AsksFor (feeding : Feeding) (ask : Ask) : Type 0 where
   pub host : ask.host ≡ feeding.host
   pub token : ask.token ≡ feeding.token
   pub delta : ask.delta ≡ feeding.delta
 
--- a slot was asked for where it is fed from, and then what was counted there was told
+-- The slot was refreshed with its feeding, and then metrics were sent.
 abbrev pub FeedsSlot : Feeding → ℕ → Upkept → Upkept → Type 0
 FeedsSlot feeding slot before after =
     (ask : Ask) × AsksFor feeding ask × (tag : Option (List ℕ)) × (middle : Upkept) × TakesSlot slot ask tag before middle
     × Tells middle after
 
--- so for each slot from one on, in their order
+-- The same for each slot from `slot` on, in order.
 abbrev pub FeedsFrom : ℕ → List Feeding → Upkept → Upkept → Type 0
 FeedsFrom slot [] before after = after ≡ before
 FeedsFrom slot (feeding ∷ feedings) before after =
     (middle : Upkept) × FeedsSlot feeding slot before middle × FeedsFrom (slot + 1) feedings middle after
 
--- a turn for these tokens, and for the slots that are fed so: the book first, and then the slots
+-- One turn for these tokens and feedings: the book first, and then the slots.
 abbrev pub MakesTurn : List (List ℕ) → List Feeding → Upkept → Upkept → Type 0
 MakesTurn texts feedings before after = (middle : Upkept) × TakesBook texts before middle × FeedsFrom 0 feedings middle after

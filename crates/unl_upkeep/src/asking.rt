@@ -1,5 +1,5 @@
-//! Asking the upstream for what is new, and telling it what was counted. A fault of the peer ends no call, and want of
-//! memory is the one fault that is told.
+//! The requests of one poll: refreshing the book and the slots, and sending metrics. A fault of the peer fails no call; the
+//! only error is out of memory.
 ghost use Rattle.std.specs.Prelude.{◌≡◌, ◌≢◌, ◌<◌, ◌≤◌, ◌+◌, ◌-◌, ◌^◌, ◌⊎◌, ℕ, Err, IsTrue, OnErr, OnOk, length, map};
 ghost use Rattle.unl_base.specs.Faults.{Rose};
 ghost use Rattle.unl_delta.specs.Installing.{Installed};
@@ -21,7 +21,7 @@ use unl_documents::{List, Memory, Text};
 use unl_metrics::MetricsBook;
 use unl_refresh::{RefreshFault, refresh_once, refresh_tokens, send_metrics};
 
-/// Asks once for the book of these tokens, unless no more can be published.
+/// Makes one request for the book of these tokens, unless the front is at its maximum.
 pub(crate) fn refresh_book<I: Installer, P: Peer>(
     alloc: Global,
     to: &mut I,
@@ -46,7 +46,7 @@ pub(crate) fn refresh_book<I: Installer, P: Peer>(
     unless_memory(told)
 }
 
-/// Asks once for what is new in a slot, unless no more can be published.
+/// Makes one request for what is new in a slot, unless the front is at its maximum.
 fn refresh_slot<I: Installer, P: Peer>(
     alloc: Global,
     to: &mut I,
@@ -75,7 +75,7 @@ fn refresh_slot<I: Installer, P: Peer>(
     unless_memory(told)
 }
 
-/// Tells once what was counted in the environment of a slot.
+/// Makes one request that sends the metrics of a slot's environment.
 fn tell_metrics<P: Peer>(
     alloc: Global,
     book: &mut MetricsBook,
@@ -98,7 +98,7 @@ fn tell_metrics<P: Peer>(
     unless_memory(told)
 }
 
-/// Asks once for what is new in a slot, and tells what was counted there.
+/// Makes one request for what is new in a slot, then sends the metrics of its environment.
 fn feed_slot<I: Installer, P: Peer>(
     alloc: Global,
     to: &mut I,
@@ -124,7 +124,7 @@ fn feed_slot<I: Installer, P: Peer>(
     }
 }
 
-/// Does so for each slot that has a feeder.
+/// Does the same for each slot that has a feeder.
 pub(crate) fn feed_slots<I: Installer, P: Peer>(
     alloc: Global,
     to: &mut I,
@@ -155,7 +155,7 @@ pub(crate) fn feed_slots<I: Installer, P: Peer>(
     Ok(())
 }
 
-/// Whether memory ran out. Nothing else of what came is told.
+/// Returns an error only if out of memory. Drops every other result.
 fn unless_memory<T: Drop>(told: Result<T, RefreshFault>) -> Result<(), Memory>
     ensures ok { OnOk result (told ≢ Err RefreshFault.Memory) }
     ensures err { OnErr result (told ≡ Err RefreshFault.Memory) }

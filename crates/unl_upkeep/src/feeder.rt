@@ -1,4 +1,4 @@
-//! Who is asked for what stands in a slot.
+//! The request parameters of one slot.
 ghost use Rattle.std.specs.Prelude.{◌≡◌, IfOk, IsTrue, None};
 ghost use Rattle.unl_http_api.specs.RequestText.{fits_if_any, fits_line};
 
@@ -6,7 +6,7 @@ use std::alloc::Global;
 use unl_documents::{Memory, Text};
 use unl_refresh::Ask;
 
-/// The environment of a slot, and how a server is asked for it.
+/// The environment of a slot, and the request that refreshes it.
 #[derive(Drop)]
 pub(crate) struct Feeder {
     pub environment: Text,
@@ -16,7 +16,7 @@ pub(crate) struct Feeder {
     ghost tag: { IsTrue (fits_if_any ask.tag) },
 }
 
-/// Who asks with a token.
+/// Returns a feeder that uses a token.
 pub(crate) fn feeder_with(
     alloc: Global,
     host: &Text,
@@ -35,10 +35,10 @@ pub(crate) fn feeder_with(
     Ok(Feeder { environment, ask })
 }
 
-/// An ask at a server with a token, of which nothing stands yet.
+/// Returns an ask for a server and a token, without a tag.
 ///
 /// # Errors
-/// Want of memory.
+/// `Memory` if out of memory.
 pub fn first_ask(alloc: Global, host: &Text, token: &Text, delta: bool) -> Result<Ask, Memory>
     ensures { IfOk result (λ ask. ask ≡ record { host = host.now; token = token.now; delta = delta; tag = None }) }
 {

@@ -1,4 +1,4 @@
-//! Those who are asked for what stands in the slots of a board.
+//! The feeders of all slots of a board.
 ghost use Rattle.std.specs.Prelude.{◌≡◌, All, IfOk, IsTrue, length, map};
 ghost use Rattle.unl_http_api.specs.RequestText.{fits_line};
 ghost use Rattle.unl_upkeep.specs.Feeding.{feeding_of, feedings};
@@ -7,7 +7,7 @@ use crate::feeder::{Feeder, feeder_with};
 use std::alloc::Global;
 use unl_documents::{List, Memory, Text};
 
-/// One feeder for each token, over a server and in the order of the tokens. The environments stand in the same order.
+/// Returns one feeder for each token, in the order of the tokens. The environments are in the same order.
 pub(crate) fn feeders(
     alloc: Global,
     host: &Text,
@@ -30,7 +30,7 @@ pub(crate) fn feeders(
     )
 }
 
-/// One feeder for each token.
+/// Returns one feeder for each token.
 fn feeders_of(
     alloc: Global,
     host: &Text,

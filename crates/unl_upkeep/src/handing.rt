@@ -1,12 +1,12 @@
-//! Handing on what was counted, through a book that threads share.
+//! Moving metrics through a book that threads share.
 ghost use Rattle.unl_upkeep.specs.Handing.{IsHandedOn, Moves, TakesOver};
 
 use std::alloc::Global;
 use std::sync::{Mutex, Wait};
 use unl_metrics::MetricsBook;
 
-/// Adds what a book has to the shared one and empties it, or keeps it where there is no room for it or no memory. An empty
-/// book waits for nobody.
+/// Adds the contents of a book to the shared one and empties it. If the result wouldn't fit, or if out of memory, both stay
+/// unchanged. If the book is empty, returns without taking the lock.
 pub fn hand_on<W: Wait>(alloc: Global, rt: &W, shared: &Mutex<MetricsBook>, book: &mut MetricsBook)
     ensures { IsHandedOn book.old book.new }
 {
@@ -17,7 +17,8 @@ pub fn hand_on<W: Wait>(alloc: Global, rt: &W, shared: &Mutex<MetricsBook>, book
     move_all(alloc, book, &mut all);
 }
 
-/// Adds what the shared book has to another and empties it, or leaves it there where there is no room for it or no memory.
+/// Adds the contents of the shared book to another and empties it. If they wouldn't fit, or if out of memory, both stay
+/// unchanged.
 pub(crate) fn take_over<W: Wait>(
     alloc: Global,
     rt: &W,
@@ -30,7 +31,7 @@ pub(crate) fn take_over<W: Wait>(
     move_all(alloc, &mut all, book);
 }
 
-/// Adds what one book has to another and empties it, or leaves both where there is no room for it or no memory.
+/// Adds the contents of one book to another and empties it. If they wouldn't fit, or if out of memory, both stay unchanged.
 fn move_all(alloc: Global, from: &mut MetricsBook, to: &mut MetricsBook)
     ensures { Moves from.old to.old from.new to.new }
 {

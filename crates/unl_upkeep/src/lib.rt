@@ -1,5 +1,5 @@
-//! What keeps a board up to date: in each turn an upstream is asked for its book and for each slot, what it answers is published,
-//! and it is told what was counted ([`Upkeep`]). What threads count is handed on through a book that they share ([`hand_on`]).
+//! Keeping a board up to date ([`Upkeep`]). Each turn requests the book and each slot from an upstream, publishes the replies,
+//! and sends metrics. Threads pass their metrics on through a shared book ([`hand_on`]).
 #![tactic(auto)]
 
 mod asking;

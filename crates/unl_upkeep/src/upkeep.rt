@@ -1,4 +1,4 @@
-//! What keeps a board up to date.
+//! The state that keeps a board up to date.
 ghost use Rattle.std.specs.Prelude.{◌≡◌, ◌≤◌, ◌+◌, All, IfOk, IsTrue, OnOk, length};
 ghost use Rattle.unl_base.specs.Faults.{Rose};
 ghost use Rattle.unl_http_api.specs.RequestText.{fits_line};
@@ -18,8 +18,8 @@ use unl_delta::Installer;
 use unl_documents::{List, Memory, Text};
 use unl_metrics::MetricsBook;
 
-/// Who is asked for each slot of a board, the texts of the tokens that may be known, the server that is asked, and what was
-/// counted and is not told yet. Contracts see all of it but what was counted and the tags of what stands.
+/// The feeders of a board's slots, the texts of the tokens that may be known, the upstream server, and the metrics that aren't
+/// sent yet. Contracts see all of it except the metrics and the tags.
 #[derive(Drop)]
 pub struct Upkeep {
     feeders: Vec<Feeder>,
@@ -47,11 +47,11 @@ impl Model for Upkeep {
 }
 
 impl Upkeep {
-    /// That of a board with a slot for each of the upstream's tokens, whose environments these are. It asks the upstream at its
-    /// `HOST:PORT`, for changes where `delta` says so and else for whole feeds. Nothing is counted yet.
+    /// Creates the state for a board with one slot for each of the upstream's tokens; `environments` are those of the slots. The
+    /// upstream is at its `HOST:PORT`. `delta` selects requests for changes; otherwise whole feeds. The metrics are empty.
     ///
     /// # Errors
-    /// Want of memory.
+    /// `Memory` if out of memory.
     pub fn new(
         alloc: Global,
         upstream: &Text,
@@ -81,11 +81,11 @@ impl Upkeep {
         })
     }
 
-    /// Asks the upstream once for the book and once for each slot, publishes what it answers, and tells it what was counted. A
-    /// fault of the upstream ends nothing.
+    /// Makes one request for the book and one for each slot, publishes the replies, and sends the metrics. A fault of the
+    /// upstream doesn't end the turn.
     ///
     /// # Errors
-    /// Want of memory, with which the turn ends.
+    /// `Memory` if out of memory. The turn ends then.
     pub fn turn<I: Installer, P: Peer>(
         &mut self,
         alloc: Global,
@@ -109,7 +109,7 @@ impl Upkeep {
         }
     }
 
-    /// Takes over what was counted since, unless there is no room for it. The lock is held no longer than that.
+    /// Moves the shared metrics into this book, unless they wouldn't fit or memory runs out. The lock is held only for that.
     pub fn take_over<W: Wait>(&mut self, alloc: Global, rt: &W, shared: &Mutex<MetricsBook>)
         ensures same { self.new ≡ self.old }
     {
@@ -117,7 +117,7 @@ impl Upkeep {
     }
 }
 
-/// The same texts once more.
+/// Returns copies of the texts.
 fn copies(alloc: Global, texts: &[Text]) -> Result<List<Text>, Memory>
     ensures { IfOk result (λ copies. copies ≡ texts.now) }
 {

@@ -1,4 +1,4 @@
--- How many requests a link asked, and the draws that answering them took.
+-- How many requests a link asked, and how many draws their answers took.
 use Rattle.std.proofs.Common.{◌≡◌, ℕ, ◌+◌, ◌⊎◌, inl, inr, List, [], ◌∷◌, length, Option, Some, None, refl, ap, ◌∙◌, arith}
 use Rattle.std.proofs.lemmas.List.{drop-drop}
 use Rattle.unl_base.specs.declared.draws.Draw.{Draw}
@@ -13,7 +13,7 @@ use Rattle.unl_http_api.specs.declared.request.Request.{Request}
 use Rattle.unl_http_api.specs.Session.{Reads}
 use Rattle.unl_upstream.specs.Served.{draws_after}
 
--- what one answer gives a request, with its draw
+-- the type of a relation between a state, a request, its draw, its reply, and the state after it
 abbrev Giving : Type 0 → Type 1
 Giving S = S → Request → Draw → Reply → S → Type 0
 
@@ -25,17 +25,17 @@ answered_counts {S} gives count (q ∷ qs) text before after answered =
     let step : Answers gives before q answered.0 middle = answered.3 in
     answered_counts gives (count + 1) qs answered.2 middle after answered.5 ∙ ap (λ n. n + length qs) step.counted ∙ omega arith
 
--- some draws and then others
+-- taking n draws and then m is taking n + m
 pub draws_both : (m n : ℕ) (coming : Coming) → draws_after m (draws_after n coming) ≡ draws_after (n + m) coming
 draws_both m n None = refl
 draws_both m n (Some told) = ap (λ (ds : List Draw). Some (ds, told.1)) (drop-drop m n told.0)
 
--- no draw
+-- taking no draw changes nothing
 draws_none : (coming : Coming) → coming ≡ draws_after 0 coming
 draws_none None = refl
 draws_none (Some told) = refl
 
--- one draw
+-- taking one draw leaves the draws after one
 draws_one : (coming : Coming) (draw : Draw) (coming_after : Coming) → TakesDraw coming draw coming_after → coming_after ≡ draws_after 1 coming
 draws_one None draw coming_after taken = taken
 draws_one (Some ([], last)) draw coming_after taken = taken.1
@@ -55,12 +55,12 @@ answered_draws {S} gives count (q ∷ qs) text before after answered =
 
 -- ---- a link that was served
 
--- by one that want of memory leaves as it was
+-- a handler whose state does not change when memory runs out
 abbrev pub Stays : {S : Type 0} → S → Request → Draw → S → Type 0
 Stays before q draw after = after ≡ before
 
--- What it asked first, as many requests as were answered, and how many draws that took: as many, and at want of memory perhaps
--- one more.
+-- Its first requests, as many as were answered, and the number of draws that they took: as many, or one more if memory ran
+-- out.
 pub record Took
     {S : Type 0} (gives : Giving S) (bytes : List ℕ) (before : S) (coming : Coming) (end : End) (count : ℕ) (after : S) (coming_after : Coming) : Type 0 where
   pub requests : List Request

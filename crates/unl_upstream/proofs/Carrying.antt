@@ -1,4 +1,4 @@
--- What keeping commands carries on.
+-- What keeping commands preserves and changes.
 use Rattle.std.proofs.Common.{◌≡◌, ◌≢◌, ◌<◌, ◌≤◌, ◌⊎◌, inl, inr, ℕ, ◌+◌, Bool, true, false, cond, List, [], ◌∷◌, ◌++◌, take, drop, length, length-append, Option, Some, None, Result, Ok, Err, IsOk, IfErr, option_map, IfSome, refl, sym, ap, ◌∙◌, subst, arith, append_assoc, append-nil}
 use Rattle.std.specs.Prelude.{nat_lt}
 use Rattle.std.specs.Result.{IsErrAnd}
@@ -23,13 +23,13 @@ use Rattle.unl_upstream.proofs.Leading.{command_one, commands_both, lead_more}
 use Rattle.unl_upstream.proofs.Served.{after_both}
 use Rattle.unl_upstream.proofs.Standing.{accepted_both, are_added}
 
--- ---- what was ready
+-- ---- prepared commands
 
--- what was ready is obeyed so
+-- the result of committing a prepared command
 abbrev obeyed_with : Prepared → UpstreamState → Obeyed
 obeyed_with ready up = record { up = committed ready up; number = ready.number }
 
--- a command for which there was room is obeyed so
+-- a prepared command for which there is room is accepted with this result
 room_obeyed : (count : ℕ) (r : Obeying Prepared) (up : UpstreamState) (ready : Prepared) → with_room count r ≡ Ok ready
     → with_room count (r >>= λ made. Ok (obeyed_with made up)) ≡ Ok (obeyed_with ready up)
 room_obeyed count (Err refusal) up ready is = absurd cc
@@ -45,11 +45,11 @@ pub keepable_is : (command : Command) (before : KeptState) (ready : Prepared) �
 unfolding commanded
 keepable_is command before ready is = room_obeyed before.keeper.count (prepared command before.up) before.up ready is
 
--- there is room for one more
+-- below the maximum there is room
 room : {T : Type 0} (count : ℕ) (x : T) → count < 10000000 → with_room count (Ok x) ≡ Ok x
 room count x low = let yes : nat_lt count most_rows ≡ true = lt-ltb count most_rows low in rw yes refl
 
--- or there is none
+-- at the maximum there is none
 no_room : {T : Type 0} (count : ℕ) (x : T) → 10000000 ≤ count → with_room count (Ok x) ≡ Err (KeeperFull count)
 no_room count x high = let no : nat_lt count most_rows ≡ false = le-ltb count most_rows high in rw no refl
 
@@ -70,14 +70,14 @@ refused_so count command up refusal e is told some =
     let here : prepared command up ≡ Err refusal = told (λ wanting. some (is ∙ ap refused_as wanting)) in
     ap (λ (r : Obeying Prepared). with_room count (r >>= λ made. Ok (obeyed_with made up))) here ∙ ap Err (sym is)
 
--- the same where the refusal was passed on
+-- the same for a refusal that was converted and returned
 pub passed_on : {T : Type 0} (r : Result T KeepCommandRefusal) (count : ℕ) (command : Command) (up : UpstreamState) (refusal : CommandRefusal)
     → IsErrAnd r (λ e. e ≡ refused_as refusal) → (refusal ≢ command_refusal.Memory → prepared command up ≡ Err refusal)
     → IfErr r (λ e. e ≢ Memory → with_room count (commanded command up) ≡ Err e)
 passed_on (Ok x) count command up refusal is told = absurd is
 passed_on (Err e) count command up refusal is told = refused_so count command up refusal e is told
 
--- a keeper's fault is no refusal of a command
+-- a keeper's fault is not a refusal of a command
 no_fault : (count : ℕ) (r : Obeying Obeyed) → with_room count r ≡ Err KeeperFault → ⊥
 no_fault count (Ok obeyed) is = decided (nat_lt count most_rows) is
   where
@@ -90,7 +90,7 @@ no_fault count (Err command_refusal.NoSuchSegment) is = cc
 no_fault count (Err (command_refusal.TooMany n)) is = cc
 no_fault count (Err command_refusal.Memory) is = cc
 
--- a command that was refused is not kept, and nothing changes
+-- a refused command is not kept, and nothing changes
 pub refuses_so : (command : Command) (state : KeptState) (e : KeepCommandRefusal) → (e ≢ Memory → keepable command state ≡ Err e) → Keeps command state (Err e) state
 refuses_so command state NoSuchEnvironment told = record { cause = told (λ m. cc); same = refl }
 refuses_so command state NoSuchFeature told = record { cause = told (λ m. cc); same = refl }
@@ -100,7 +100,7 @@ refuses_so command state (KeeperFull n) told = record { cause = told (λ m. cc);
 refuses_so command state KeeperFault told = absurd (no_fault state.keeper.count (commanded command state.up) (told (λ m. cc)))
 refuses_so command state Memory told = refl
 
--- what putting a text came to, as keeping a command
+-- the result of storing a text, as that of keeping its command
 abbrev pub kept_as : Result ℕ KeepRefusal → Result ℕ KeepCommandRefusal
 kept_as (Ok number) = Ok number
 kept_as (Err fault.Fault) = Err KeeperFault
@@ -128,7 +128,7 @@ kept_so command before after ready text (Err fault.Fault) awaits is spelled puts
     }
 kept_so command before after ready text (Err fault.Memory) awaits is spelled puts = puts
 
--- what could be kept is accepted
+-- a command that can be kept is accepted
 pub accepted_kept : (command : Command) (before : KeptState) (obeyed : Obeyed) → keepable command before ≡ Ok obeyed → commanded command before.up ≡ Ok obeyed
 accepted_kept command before obeyed is = decided (commanded command before.up) refl is
   where
@@ -142,7 +142,7 @@ accepted_kept command before obeyed is = decided (commanded command before.up) r
 
 -- ---- the rows
 
--- nothing stands past a row that was written
+-- no row follows a row just written
 past_none : (count : ℕ) (text : List ℕ) (rows : Option (List (List ℕ))) → IfSome rows (λ list. count ≤ length list)
     → option_map (λ list. drop (count + 1) list) (with_row count text rows) ≡ option_map (λ list. []) rows
 past_none count text None has = refl
@@ -151,7 +151,7 @@ past_none count text (Some list) has =
     let all : length (take count list ++ text ∷ []) ≡ length (take count list) + 1 = length-append (take count list) (text ∷ []) in
     ap Some (drop_all (count + 1) (take count list ++ text ∷ []) (omega (arith, here, all)))
 
--- a keeper has the rows that it keeps, after a row was put and after one failed to be
+-- after a put, successful or not, there are still at least as many rows as are kept
 has_row : (count : ℕ) (text : List ℕ) (rows : Option (List (List ℕ))) → IfSome rows (λ list. count ≤ length list)
     → IfSome (with_row count text rows) (λ list. count + 1 ≤ length list)
 has_row count text None has = tt
@@ -164,7 +164,7 @@ fewer : (count : ℕ) (rows : Option (List (List ℕ))) → IfSome rows (λ list
 fewer count None has = tt
 fewer count (Some list) has = omega (arith, has)
 
--- a text was written down behind the kept rows
+-- after a successful put, the text follows the earlier kept rows
 rows_written : (text : List ℕ) (before after : KeeperState) → HasKept before → IsWritten text before after
     → kept_rows after ≡ option_map (λ list. list ++ text ∷ []) (kept_rows before)
 rows_written text before after has row = (λ i. kept (row.counted i) (row.rows i)) ∙ kept_more before.count text before.rows has
@@ -174,7 +174,7 @@ past_written : (text : List ℕ) (before after : KeeperState) → HasKept before
 past_written text before after has row =
     (λ i. option_map (λ list. drop (row.counted i) list) (row.rows i)) ∙ past_none before.count text before.rows has
 
--- the keeper failed
+-- after a failed put, the kept rows are unchanged
 rows_failed : (text : List ℕ) (before after : KeeperState) → HasKept before → IsFailed text before after → kept_rows after ≡ kept_rows before
 rows_failed text before after has row = by_rows row.rows
   where
@@ -182,7 +182,7 @@ rows_failed text before after has row = by_rows row.rows
     by_rows (inl same) = λ i. kept (row.counted i) (same i)
     by_rows (inr left) = (λ i. kept (row.counted i) (left i)) ∙ kept_same before.count text before.rows has
 
--- a keeper has the rows that it keeps, whatever came of one more
+-- after any attempt to keep a command, there are still at least as many rows as are kept
 has_written : (text : List ℕ) (before after : KeeperState) → HasKept before → IsWritten text before after → HasKept after
 has_written text before after has row =
     subst (λ (rows : Option (List (List ℕ))). IfSome rows (λ list. after.count ≤ length list)) (sym row.rows)
@@ -204,7 +204,7 @@ has_failed text before after has row = by_rows row.rows
 
 -- ---- what changed
 
--- commands that were acknowledged and accepted changed the upstream alone, and are counted
+-- the acknowledged commands, all accepted, are all that changed the upstream, and the keeper counts them
 moves_by : (tried : List Tried) (before after : KeptState) → after.up ≡ after_commands (acknowledged tried) before.up
     → accepted (acknowledged tried) before.up ≡ acknowledged tried → after.keeper.count ≡ before.keeper.count + length (acknowledged tried)
     → Moves tried before after
@@ -265,7 +265,7 @@ moves_more one others before middle after first second =
     ∙ ap (λ (cs : List Command). acknowledged (one ∷ []) ++ cs) second.all_accepted ∙ both)
     (omega (arith, first.counted, second.counted, lengths))
 
--- what keeping commands, one after another, changes
+-- what attempts to keep commands, in order, change
 pub moves_all : (tried : List Tried) (before after : KeptState) → KeepsAll tried before after → Moves tried before after
 moves_all [] before after keeps = subst (λ (s : KeptState). Moves [] before s) (sym keeps) (moves_by [] before before refl refl (omega arith))
 moves_all (one ∷ others) before after keeps =
@@ -273,7 +273,7 @@ moves_all (one ∷ others) before after keeps =
 
 -- ---- one command
 
--- nothing more
+-- appending no commands changes nothing
 append_none : (o : Option (List Command)) → option_map (λ commands. commands ++ []) o ≡ o
 append_none None = refl
 append_none (Some commands) = ap Some (append-nil commands)
@@ -290,7 +290,7 @@ carries_same one none calm as_before before after same =
       faults = omega (arith, calm);
     })
 
--- the rows lead one further
+-- one more row, of an accepted command, still leads to the upstream
 lead_further : (opening : UpstreamState) (text : List ℕ) (command : Command) (up : UpstreamState) (obeyed : Obeyed) → command_in text ≡ Ok command
     → commanded command up ≡ Ok obeyed → (o : Option (List (List ℕ))) → IfSome o (λ texts. LeadTo opening texts up)
     → IfSome (option_map (λ list. list ++ text ∷ []) o) (λ texts. LeadTo opening texts obeyed.up)
@@ -372,7 +372,7 @@ carries_failed command before after has told =
         (this_left before.up (command ∷ failed) (command_text command) before.keeper.rows
         (record { command = command; spelled = told.spelled; accepts = could_be command before told.obeyed; one = inl refl }))
 
--- what keeping a command carries on
+-- what one attempt to keep a command preserves and changes
 pub carries_one : (command : Command) (before : KeptState) (result : Result ℕ KeepCommandRefusal) (after : KeptState) → HasKept before.keeper
     → Keeps command before result after → Carries (record { command = command; result = result } ∷ []) before after
 carries_one command before (Ok number) after has keeps = carries_written command before number after has keeps
@@ -400,7 +400,7 @@ has_one command before (Err Memory) after has keeps = has_same before after has 
 
 -- ---- one after another
 
--- commands behind others
+-- appending two lists of commands in turn
 pub both_behind : (first second : List Command) (o : Option (List Command))
     → option_map (λ commands. commands ++ second) (option_map (λ commands. commands ++ first) o) ≡ option_map (λ commands. commands ++ (first ++ second)) o
 both_behind first second None = refl
@@ -429,7 +429,7 @@ carries_nothing before after same =
       faults = omega arith;
     })
 
--- what keeping commands, one after another, carries on
+-- what attempts to keep commands, in order, preserve and change
 pub carries_all : (tried : List Tried) (before after : KeptState) → HasKept before.keeper → KeepsAll tried before after → Carries tried before after
 carries_all [] before after has keeps = carries_nothing before after keeps
 carries_all (one ∷ others) before after has keeps =
@@ -442,7 +442,7 @@ pub keeps_both : (first second : List Tried) (before middle after : KeptState) �
 keeps_both [] second before middle after one two = subst (λ (s : KeptState). KeepsAll second s after) one two
 keeps_both (t ∷ first) second before middle after one two = (one.0, one.1, keeps_both first second one.0 middle after one.2 two)
 
--- what was acknowledged of some and then of others
+-- the acknowledged ones of two lists of attempts
 pub acknowledged_both : (first second : List Tried) → acknowledged (first ++ second) ≡ acknowledged first ++ acknowledged second
 acknowledged_both [] second = refl
 acknowledged_both (one ∷ first) second = decided one.result (acknowledged_both first second)
@@ -452,14 +452,14 @@ acknowledged_both (one ∷ first) second = decided one.result (acknowledged_both
     decided (Ok number) others = ap (λ (cs : List Command). one.command ∷ cs) others
     decided (Err refusal) others = others
 
--- at how many of both the keeper failed
+-- the failures of the keeper in two lists of attempts
 pub faults_both : (first second : List Tried) → faults_among (first ++ second) ≡ faults_among first + faults_among second
 faults_both [] second = omega arith
 faults_both (one ∷ first) second = let others : faults_among (first ++ second) ≡ faults_among first + faults_among second = faults_both first second in omega (arith, others)
 
--- ---- whatever was to be kept
+-- ---- any attempts
 
--- what some kept commands lead to leads on
+-- attempts that lead to a state, and more from there on
 pub keeps_more : (start before after : KeptState) (tried : List Tried) → KeepsSome start before → KeepsAll tried before after → KeepsSome start after
 keeps_more start before after tried led keeps =
     record { tried = led.tried ++ tried; keeps = keeps_both led.tried tried start before after led.keeps keeps }
@@ -467,11 +467,11 @@ keeps_more start before after tried led keeps =
 pub holds_on : (before after : KeptState) → HasKept before.keeper → KeepsSome before after → HoldsOn before after
 holds_on before after has some = record { some = some; carries = carries_all some.tried before after has some.keeps }
 
--- nothing was
+-- no attempt at all
 pub holds_still : (state : KeptState) → HasKept state.keeper → HoldsOn state state
 holds_still state has = holds_on state state has (record { tried = []; keeps = refl })
 
--- the same where this stands last
+-- the same, ending in an equal state
 pub holds_same : (before after : KeptState) (up : UpstreamState) (keeper : KeeperState) → HoldsOn before after → after.up ≡ up → after.keeper ≡ keeper
     → HoldsOn before (record { up = up; keeper = keeper })
 holds_same before after up keeper holds first second = subst (HoldsOn before) (λ i. record { up = first i; keeper = second i }) holds

@@ -1,4 +1,4 @@
--- How deep a command nests in what it is written as: at most nine deep.
+-- The nesting depth of a written command: at most nine.
 use Rattle.std.proofs.Common.{ℕ, ◌≤◌, List, [], ◌∷◌, map, Bool, Option, Some, None, arith}
 use Rattle.std.specs.Cmp.Lexicographic.{slice_cmp}
 use Rattle.std.specs.Ordering.{nat_cmp, match_ordering}
@@ -20,7 +20,7 @@ use Rattle.unl_upstream.specs.declared.command.Command.{Command}
 use Rattle.unl_upstream.specs.declared.command.Command.TheVariants.{PutFeature, RemoveFeature, PutSegment, RemoveSegment}
 use Rattle.unl_upstream.specs.Writing.{command_data}
 
--- a list is as deep as its deepest item
+-- a list of values of depth at most n has depth at most n
 items_deep : {T : Type 0} (written : T → Data) (n : ℕ) → ((x : T) → depth (written x) ≤ n) → (xs : List T) → items_depth (items_of (map written xs)) ≤ n
 items_deep written n small [] = omega arith
 items_deep written n small (x ∷ xs) = omega (arith, small x, items_deep written n small xs)

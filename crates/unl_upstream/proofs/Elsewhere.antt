@@ -1,4 +1,4 @@
--- A command does the same at an upstream of the same slots.
+-- A command has the same effect on any upstream with the same slots.
 use Rattle.std.proofs.Common.{◌≡◌, ℕ, List, [], ◌∷◌, Option, Some, None, Ok, refl, sym, ap, ◌∙◌, option_and_then}
 use Rattle.unl_core.specs.declared.board.Slot.{Slot}
 use Rattle.unl_core.specs.Board.{place_in, snapshot_in, taking}
@@ -9,7 +9,7 @@ use Rattle.unl_upstream.specs.Upstream.{Obeyed, UpstreamState, commanded, prepar
 use Rattle.unl_upstream.proofs.Leading.{Begins, IsTaken, begins, taken, takes}
 use Rattle.unl_upstream.proofs.Standing.{IsObeyed, obeyed_by, obeyed_with, ready_with}
 
--- it is accepted there too, and leads to the same slots
+-- the command is accepted there too, and results in the same slots
 pub record Obeys (command : Command) (up after other : UpstreamState) : Type 0 where
   pub obeyed : Obeyed
   pub accepts : commanded command other ≡ Ok obeyed
@@ -27,7 +27,7 @@ obeys command up other obeyed same accepts =
       same = ap (taking o.slot (version_after o.version o.event)) same ∙ sym (ap (λ (u : UpstreamState). u.board.slots) o.is);
     }
 
--- rows lead there too, to the same slots
+-- the rows can be applied there too, and result in the same slots
 pub record Leads (rows : List (List ℕ)) (after other : UpstreamState) : Type 0 where
   pub last : UpstreamState
   pub leads : rows_after rows other ≡ Some last

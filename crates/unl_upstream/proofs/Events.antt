@@ -1,4 +1,4 @@
--- The events that commands come to, and the histories that these make.
+-- The events of commands, and the histories that these make.
 use Rattle.std.proofs.Common.{◌≡◌, ℕ, ◌<◌, ◌≤◌, ◌+◌, List, [], ◌∷◌, ◌++◌, length, Bool, true, false, cond, Option, Some, None, Ok, Err, ap, refl, sym, subst, ◌∙◌, arith, length-append, inl}
 use Rattle.std.specs.Prelude.{◌==◌, ◌||◌, filter, nat_lt, ok_or}
 use Rattle.std.specs.List.{AllByRecursion as Every}
@@ -25,14 +25,14 @@ use Rattle.unl_upstream.specs.History.{IsHistoryOf, event_at, events_from, histo
 
 -- ---- one event
 
--- what an accepted command comes to at a version
+-- the event of an accepted command at a version
 pub record ComesTo (v : EnvVersion) (command : Command) (event : Event) : Type 0 where
   pub is : event ≡ event_at (v.number + 1) v.state command
   pub change : is_change event ≡ true
   pub number : number_of event ≡ v.number + 1
   pub is_true : IsTrueOf v.state event
 
--- the number is the next one
+-- the event has the next number
 numbered : (n : ℕ) (event : ℕ → Event) (e : Event) → (number_after n >>= λ m. Ok (event m)) ≡ Ok e → e ≡ event (n + 1)
 numbered n event e is = decided (n == last_number) is
   where
@@ -40,7 +40,7 @@ numbered n event e is = decided (n == last_number) is
     decided true refused = absurd cc
     decided false told = cc
 
--- what comes after a test that passed
+-- the result after a test that passed
 after_test : (t : Bool) (refusal : CommandRefusal) (rest : Obeying Event) (e : Event) → (cond t (Ok tt) (Err refusal) >>= λ (u : Unit {0}). rest) ≡ Ok e → rest ≡ Ok e
 after_test true refusal rest e is = is
 after_test false refusal rest e is = absurd cc
@@ -121,7 +121,7 @@ numbers_within n s (c ∷ cs) =
       every_weaker (λ (x : Event). number_of x ≤ n + 1 + length cs) (λ (x : Event). number_of x ≤ n + length (c ∷ cs)) (events_from (n + 1) (step e s) cs) (λ x le. omega arith) (numbers_within (n + 1) (step e s) cs),
     )
 
--- the history of one command more
+-- the history with one more command
 one_more : (n : ℕ) (s : State) (commands : List Command) (c : Command)
     → events_from n s (commands ++ c ∷ []) ≡ events_from n s commands ++ event_at (n + length commands + 1) (fold_events (events_from n s commands) s) c ∷ []
 one_more n s [] c = ap (λ (m : ℕ). event_at (m + 1) s c ∷ []) (omega arith)
@@ -130,13 +130,13 @@ one_more n s (d ∷ ds) c =
     ap (λ (es : List Event). e ∷ es) (one_more (n + 1) (step e s) ds c
     ∙ ap (λ (m : ℕ). events_from (n + 1) (step e s) ds ++ event_at m (fold_events (events_from (n + 1) (step e s) ds) (step e s)) c ∷ []) (omega arith))
 
--- ---- a version that stands for the history of accepted commands
+-- ---- a version that represents the history of accepted commands
 
 pub nothing_stands : (epoch : ℕ) → IsHistoryOf epoch [] (empty_at epoch)
 unfolding later up_to
 nothing_stands epoch = record { era = refl; stands = record { moment = inl refl; state = refl; base = omega arith; entries = refl }; number = refl }
 
--- its number is that of the last of them
+-- no event of its history has a higher number
 none_later : (epoch : ℕ) (commands : List Command) (v : EnvVersion) → IsHistoryOf epoch commands v → Every (λ x. number_of x ≤ v.number) (history_of commands)
 none_later epoch commands v is =
     subst (λ (n : ℕ). Every (λ (x : Event). number_of x ≤ n) (history_of commands)) (omega (arith, is.number)) (numbers_within 0 empty_state commands)
@@ -145,7 +145,7 @@ all_seen : (features : List Feature) → filter (λ feature. everything feature.
 all_seen [] = refl
 all_seen (feature ∷ features) = ap (λ (fs : List Feature). feature ∷ fs) (all_seen features)
 
--- its state is the one that they lead to
+-- its state is that after all events of its history
 state_is : (epoch : ℕ) (commands : List Command) (v : EnvVersion) → IsHistoryOf epoch commands v → v.state ≡ fold_events (history_of commands) empty_state
 state_is epoch commands v is =
     let whole : State = revision (history_of commands) v.number in

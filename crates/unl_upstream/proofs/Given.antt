@@ -1,4 +1,4 @@
--- The commands that requests give, and what they do.
+-- The commands that requests give, and their effect.
 use Rattle.std.proofs.Common.{◌≡◌, ℕ, List, Bool, true, false, cond, Option, Some, None, Ok, Err, refl, ap, ◌∙◌}
 use Rattle.std.specs.Prelude.{◌&&◌, option_to_list}
 use Rattle.std.specs.Str.{bytes_eq}
@@ -16,12 +16,12 @@ use Rattle.unl_upstream.specs.History.{after_commands, up_after}
 use Rattle.unl_upstream.specs.Requests.{command_given, if_read, shown_with}
 use Rattle.unl_upstream.specs.Upstream.{Obeyed, Obeying, UpstreamState, commanded}
 
--- the command of an order
+-- the command of an order, if any
 abbrev pub ordered : Order → Option Command
 ordered (Obey command) = Some command
 ordered (Reply reply) = None
 
--- an order has this command, or none
+-- the order has this command, or none
 Has : Order → Option Command → Type 0
 Has order given = ordered order ≡ given
 
@@ -43,7 +43,7 @@ command_has : (up : UpstreamState) (q : Request) → Has (order_at up q) (cond (
 unfolding Has
 command_has up q = either (is_post q.method) _ _ (shown_with up.secret q q.token) None (token_has up q q.token) refl
 
--- a request orders the command that it gives
+-- a request's order has the command that the request gives
 pub order_has : (up : UpstreamState) (q : Request) (draw : Draw) → ordered (order_of up q draw) ≡ command_given up.secret q
 unfolding order_of Has
 order_has up q draw = decided (names_commands (route_of q.target)) (command_has up q)

@@ -1,4 +1,4 @@
--- What links hand on, by the commands that were kept and by how many draws are gone.
+-- The state after served links, described by the kept commands and by the number of draws taken.
 use Rattle.std.proofs.Common.{◌≡◌, ℕ, ◌+◌, List, [], ◌∷◌, ◌++◌, length, length-append, append_assoc, append-nil, refl, sym, ap, ◌∙◌, subst, arith}
 use Rattle.unl_exchange.specs.Answering.{Coming}
 use Rattle.unl_upstream.specs.declared.command.Command.{Command}
@@ -15,14 +15,14 @@ use Rattle.unl_upstream.proofs.Served.{after_both}
 
 -- ---- one link
 
--- a link is named by the commands of these that were kept; where the keeper failed at none of them, no reply is 503 `KeeperFault`
+-- a link is described by those of these commands that were kept; if the keeper failed at none, no reply is 503 `KeeperFault`
 record NamesCalmly
     (before : KeptState) (coming : Coming) (bytes : List ℕ) (back : List ℕ × ℕ) (tried : List Tried) (taken : ℕ) (after : KeptState)
     (coming_after : Coming) : Type 0 where
   pub names : LinkNames before coming bytes back (acknowledged tried) taken after coming_after
   pub calm : faults_among tried ≡ 0 → NoKeeperFault 0 (serving before 0 coming) names.requests names.text names.reached names.answered
 
--- a link has such names
+-- one served link is described by its commands and its draws
 record HasNames (before : KeptState) (coming : Coming) (bytes : List ℕ) (back : List ℕ × ℕ) (after : KeptState) (coming_after : Coming) : Type 0 where
   pub tried : List Tried
   pub keeps : KeepsAll tried before after

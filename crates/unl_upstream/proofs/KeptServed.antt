@@ -1,4 +1,4 @@
--- What the answers of a connection keep.
+-- What the answered requests of a connection keep.
 use Rattle.std.proofs.Common.{◌≡◌, ◌≢◌, ℕ, ◌+◌, ◌⊎◌, inl, inr, List, [], ◌∷◌, ◌++◌, Option, Some, None, Result, Ok, Err, IfOk, OnErr, refl, sym, ap, ◌∙◌, subst, arith}
 use Rattle.unl_base.specs.declared.draws.Draw.{Draw}
 use Rattle.unl_exchange.specs.Answering.{Answerer, Answers, LacksMemory}
@@ -27,17 +27,17 @@ use Rattle.unl_upstream.proofs.Given.{order_has, ordered}
 use Rattle.unl_upstream.proofs.Carrying.{carries_all, faults_both, kept_so, refuses_so}
 use Rattle.unl_upstream.proofs.Statuses.{answered_calmly, answered_status, kept_calmly, kept_status}
 
--- ---- what is seen of the parts that answer
+-- ---- from the handler's parts to its model
 
--- what one answer of the parts does, by what is seen of them
+-- one answer, for a handler that is seen through `seen`
 abbrev pub Over : {S : Type 0} → (S → KeptState) → Answerer S → Request → Reply → Answerer S → Type 0
 Over seen = Answers (λ state request draw reply after. Gives (seen state) request draw reply (seen after))
 
--- what want of memory does
+-- memory ran out at a request, for such a handler
 abbrev pub Lacking : {S : Type 0} → (S → KeptState) → Answerer S → Request → Answerer S → Type 0
 Lacking seen = LacksMemory (λ state request draw after. GivesUp (seen state) request draw (seen after))
 
--- an upstream with its keeper, as they are seen
+-- the model of such a handler: an upstream with its keeper
 abbrev pub seen_of : {S : Type 0} → (S → KeptState) → Answerer S → KeptServing
 seen_of seen s = record { state = seen s.state; count = s.count; coming = s.coming }
 
@@ -69,7 +69,7 @@ shows seen before after = record {
 
 -- ---- what is kept
 
--- what one request keeps, before what others do
+-- the attempts of one request come before those of the others
 keeps_first : (given : Option Command) (before middle after : KeptState) (q : Request) (draw : Draw) (reply : Reply) (others : List Tried)
     → (tells : Tells given before q draw reply middle) → KeepsAll others middle after
     → KeepsAll (tried_of given before q draw reply middle tells ++ others) before after
@@ -83,13 +83,13 @@ keeps_in count (q ∷ qs) text before after (reply, middle, more, step, split, r
     keeps_first (command_given before.state.up.secret q) before.state middle.state after.state q step.draw reply (tried_in (count + 1) middle qs more after rest)
     step.given (keeps_in (count + 1) qs more middle after rest)
 
--- a reply isn't 503 `KeeperFault`, unless the keeper failed at the command of its request
+-- a reply is 503 `KeeperFault` only if the keeper failed at the command of its request
 tells_calm : (given : Option Command) (before after : KeptState) (q : Request) (draw : Draw) (reply : Reply) (tells : Tells given before q draw reply after)
     → faults_among (tried_of given before q draw reply after tells) ≡ 0 → reply ≢ refused KeeperFault
 tells_calm None before after q draw reply tells none = answered_calmly reply before.up before.up q draw tells.1
 tells_calm (Some command) before after q draw reply tells none = λ is. kept_calmly tells.result (omega (arith, none)) (sym tells.is ∙ is)
 
--- so none is where it failed at none of them
+-- so no reply is, if the keeper failed at none of them
 pub calm_in : (count : ℕ) (qs : List Request) (text : List ℕ) (before after : KeptServing) (answered : AnsweredAll Step count before qs text after)
     → faults_among (tried_in count before qs text after answered) ≡ 0 → NoKeeperFault count before qs text after answered
 calm_in count [] text before after answered none = tt
@@ -102,7 +102,7 @@ calm_in count (q ∷ qs) text before after (reply, middle, more, step, split, re
       calm_in (count + 1) qs more middle after rest (omega (arith, none, both)),
     )
 
--- so many requests were answered, and what was to be kept of them is all that changed the upstream and its keeper
+-- `count` requests were answered, and attempts to keep their commands are all that changed the upstream and its keeper
 pub keeps_on : (before after : KeptServing) (end : End) (count : ℕ) → HasKept before.state.keeper → Reaches Step Lacks before end after count
     → KeepsOn before end count after
 keeps_on before after end count has reaches =
@@ -123,13 +123,13 @@ keeps_on before after end count has reaches =
 
 -- ---- one reply
 
--- a command awaits its put: it is accepted, there is room for it, and its text is read as it
+-- a command is ready to be stored: it is accepted, there is room for it, and its text is read back as it
 pub record IsAwaiting (command : Command) (before : KeptState) (ready : Prepared) (text : List ℕ) : Type 0 where
   pub awaits : with_room before.keeper.count (prepared command before.up) ≡ Ok ready
   pub text_is : text ≡ command_text command
   pub spelled : command_in (command_text command) ≡ Ok command
 
--- its text was written down
+-- the reply if its text was stored
 pub replies_kept : (command : Command) (before after : KeptState) (ready : Prepared) (text : List ℕ) (number made : ℕ) (told : Reply)
     → IsAwaiting command before ready text → made ≡ ready.number → told ≡ numbered made → Puts ready text before (Ok number) after
     → RepliesTo command before told after
@@ -140,7 +140,7 @@ replies_kept command before after ready text number made told awaiting counted i
   is = is ∙ ap numbered (counted ∙ sym puts.is);
 }
 
--- the keeper failed
+-- the reply if the keeper failed
 pub replies_failed : (command : Command) (before after : KeptState) (ready : Prepared) (text : List ℕ) (failed : Reply)
     → IsAwaiting command before ready text → failed ≡ refused KeeperFault → Puts ready text before (Err fault.Fault) after
     → RepliesTo command before failed after
@@ -151,7 +151,7 @@ replies_failed command before after ready text failed awaiting is puts = record 
   is = is;
 }
 
--- the command was refused
+-- the reply if the command was refused
 pub replies_refused : (command : Command) (state : KeptState) (refusal : KeepCommandRefusal) (r : Result Reply Wanting)
     → IfOk r (λ reply. reply ≡ refused refusal) → refusal ≢ Memory → (refusal ≢ Memory → keepable command state ≡ Err refusal)
     → IfOk r (λ reply. RepliesTo command state reply state)
@@ -163,14 +163,14 @@ replies_refused command state refusal (Ok reply) is other told = record {
   is = is;
 }
 
--- nothing changed
+-- an error leaves an unchanged value unchanged
 pub same_still : {T E A : Type 0} (r : Result T E) (x : A) → OnErr r (x ≡ x)
 same_still (Ok y) x = tt
 same_still (Err e) x = refl
 
 -- ---- one answer
 
--- a request that gives this command, or none, is answered as it is ordered
+-- a request that gives no command is answered with the reply of its order
 pub tells_none : (before : KeptState) (q : Request) (draw : Draw) (reply : Reply) → order_of before.up q draw ≡ order.Reply reply → Gives before q draw reply before
 unfolding upstream_answer
 tells_none before q draw reply is =
@@ -183,7 +183,7 @@ tells_some before after q draw reply command is replies =
     let given : Some command ≡ command_given before.up.secret q = sym (ap ordered is) ∙ order_has before.up q draw in
     subst (λ (o : Option Command). Tells o before q draw reply after) given replies
 
--- what one answer keeps
+-- the attempts of one answered request lead from its state before to that after
 keeps_given : (given : Option Command) (before after : KeptState) (q : Request) (draw : Draw) (reply : Reply) → (tells : Tells given before q draw reply after)
     → KeepsAll (tried_of given before q draw reply after tells) before after
 keeps_given None before after q draw reply tells = tells.0

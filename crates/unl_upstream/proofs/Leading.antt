@@ -1,4 +1,4 @@
--- Rows that lead an upstream somewhere, and the commands that they spell.
+-- Rows that are applied to an upstream, and the commands that they spell.
 use Rattle.std.proofs.Common.{◌≡◌, ℕ, zero, suc, ◌≤◌, List, [], ◌∷◌, ◌++◌, length, map, take, slice_get, Option, Some, None, Ok, Err, option_and_then, refl, sym, ap, ◌∙◌, subst, arith}
 use Rattle.std.specs.List.{cons_option}
 use Rattle.unl_documents.specs.declared.fault.BadDocument.{BadDocument}
@@ -13,7 +13,7 @@ use Rattle.unl_upstream.specs.Upstream.{Obeyed, Obeying, UpstreamState, commande
 
 -- ---- one row
 
--- a row that leads somewhere spells a command that is accepted
+-- a row that is applied spells a command that is accepted
 pub record IsTaken (text : List ℕ) (up after : UpstreamState) : Type 0 where
   pub command : Command
   pub obeyed : Obeyed
@@ -53,13 +53,13 @@ rows_both (text ∷ first) second up = next (row_after text up) (rows_both first
     next None others = refl
     next (Some middle) others = others middle
 
--- one more row
+-- one more row is applied after the others
 pub rows_more : (texts : List (List ℕ)) (text : List ℕ) (up middle after : UpstreamState) → rows_after texts up ≡ Some middle → row_after text middle ≡ Some after
     → rows_after (texts ++ text ∷ []) up ≡ Some after
 rows_more texts text up middle after leads more =
     rows_both texts (text ∷ []) up ∙ ap (option_and_then (rows_after (text ∷ []))) leads ∙ ap (option_and_then (rows_after [])) more
 
--- the first row leads where the others begin
+-- the first row is applied, and then the others
 pub record Begins (text : List ℕ) (texts : List (List ℕ)) (up after : UpstreamState) : Type 0 where
   pub middle : UpstreamState
   pub first : row_after text up ≡ Some middle
@@ -74,16 +74,16 @@ begins text texts up after is = next (row_after text up) refl is
 
 -- ---- rows and the commands that they spell
 
--- readings of these commands
+-- the successful readings of these commands
 abbrev all_ok : List Command → List (Reading Command)
 all_ok commands = map Ok commands
 
--- all but the first
+-- all items but the first
 others_of : {X : Type 0} → List X → List X
 others_of [] = []
 others_of (x ∷ xs) = xs
 
--- one before others that are spelled and accepted
+-- one accepted command before others that are spelled and accepted
 lead_first : (text : List ℕ) (texts : List (List ℕ)) (opening after : UpstreamState) (command : Command) (obeyed : Obeyed) → command_in text ≡ Ok command
     → commanded command opening ≡ Ok obeyed → LeadTo obeyed.up texts after → LeadTo opening (text ∷ texts) after
 lead_first text texts opening after command obeyed spelled accepts others =
@@ -106,12 +106,12 @@ rows_lead (text ∷ texts) opening after is =
     lead_first text texts opening after t.command t.obeyed t.spelled t.accepts
     (subst (λ (u : UpstreamState). LeadTo u texts after) (sym t.is) (rows_lead texts b.middle after b.others))
 
--- no fault is among commands
+-- a list of successful readings begins with no fault
 no_fault : (commands : List Command) (fault : BadDocument) (others : List (Reading Command)) → Err fault ∷ others ≡ map Ok commands → ⊥
 no_fault [] fault others is = cc
 no_fault (command ∷ commands) fault others is = cc
 
--- no more are accepted than are given
+-- no more commands are accepted than are given
 accepted_few : (commands : List Command) (up : UpstreamState) → length (accepted commands up) ≤ length commands
 accepted_few [] up = omega arith
 accepted_few (command ∷ commands) up = decided (commanded command up) (accepted_few commands)
@@ -148,14 +148,14 @@ lead_rows (text ∷ texts) opening after lead =
     decided (Ok command) spelled tail all leads others = obeys command (commanded command opening) spelled refl (ap others_of tail) all leads others
     decided (Err fault) spelled tail all leads others = absurd (no_fault (commands_in texts) fault (map command_in texts) tail)
 
--- one more row
+-- one more row, of an accepted command, after those that lead to `up`
 pub lead_more : (texts : List (List ℕ)) (text : List ℕ) (opening up : UpstreamState) (command : Command) (obeyed : Obeyed) → command_in text ≡ Ok command
     → commanded command up ≡ Ok obeyed → LeadTo opening texts up → LeadTo opening (texts ++ text ∷ []) obeyed.up
 lead_more texts text opening up command obeyed spelled accepts lead =
     rows_lead (texts ++ text ∷ []) opening obeyed.up
     (rows_more texts text opening up obeyed.up (lead_rows texts opening up lead) (takes text up command obeyed spelled accepts))
 
--- the commands of more rows
+-- the commands of two lists of rows
 pub commands_both : (first second : List (List ℕ)) → commands_in (first ++ second) ≡ commands_in first ++ commands_in second
 commands_both [] second = refl
 commands_both (text ∷ first) second = decided (command_in text) (commands_both first second)
@@ -165,11 +165,11 @@ commands_both (text ∷ first) second = decided (command_in text) (commands_both
     decided (Ok command) others = ap (λ (cs : List Command). command ∷ cs) others
     decided (Err fault) others = others
 
--- the command of one row
+-- the command of a single row
 pub command_one : (text : List ℕ) (command : Command) → command_in text ≡ Ok command → commands_in (text ∷ []) ≡ command ∷ []
 command_one text command spelled = ap (λ (r : Reading Command). cons_option (if_read r) []) spelled
 
--- a row among those that lead somewhere doesn't stop there
+-- if all rows can be applied, none of them is refused in its turn
 pub no_stop : (rows : List (List ℕ)) (count : ℕ) (text : List ℕ) (opening up last : UpstreamState) → rows_after rows opening ≡ Some last
     → slice_get rows count ≡ Some text → rows_after (take count rows) opening ≡ Some up → row_after text up ≡ None → ⊥
 no_stop [] count text opening up last whole here before stops = cc

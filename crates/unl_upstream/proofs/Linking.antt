@@ -1,4 +1,4 @@
--- A link that was served, as it comes back to a door that tells its links.
+-- Served links, on a door whose links are observable.
 use Rattle.std.proofs.Common.{ℕ, zero, suc, List, [], Option, Some, Result, Ok, Err, refl, ap, subst}
 use Rattle.unl_base.specs.declared.Failed.{Failed}
 use Rattle.unl_exchange.specs.Answering.{Answerer, Coming, answerer}
@@ -12,7 +12,7 @@ use Rattle.unl_http_api.specs.declared.reply.Reply.{Reply}
 use Rattle.unl_http_api.specs.declared.request.Request.{Request}
 use Rattle.unl_upstream.specs.Served.{HostsAllBy, LinkServedBy, ServesLinkBy}
 
--- what is done on a link is told where the link is
+-- serving a link, seen from the door: the bytes given, the bytes sent, and the faults
 tells : {S : Type 0} (Step : Answerer S → Request → Reply → Answerer S → Type 0) (Lacks : Answerer S → Request → Answerer S → Type 0)
     (Changes : Answerer S → End → ℕ → Answerer S → Type 0) → Tells (ServesLinkBy Step Lacks Changes) (LinkServedBy Step Lacks Changes)
 tells Step Lacks Changes before coming bytes link_after after coming_after served =
@@ -33,9 +33,9 @@ tells Step Lacks Changes before coming bytes link_after after coming_after serve
       };
     }
 
--- ---- what is seen of the parts that serve
+-- ---- from the server's parts to its model
 
--- what serving a link by the parts does, by what is seen of them
+-- serving a link, for a server that is seen through `seen`
 abbrev pub Over : {S T : Type 0} → (T → Coming → LinkState → LinkState → T → Coming → Type 0) → (S → T) → S → Coming → LinkState → LinkState → S → Coming → Type 0
 Over Serves seen server coming link link_after after coming_after = Serves (seen server) coming link link_after (seen after) coming_after
 
@@ -60,7 +60,7 @@ hosts_seen Serves seen zero before after hosts = ap (seen_of seen) hosts
 hosts_seen Serves seen (suc n) before after hosts =
     (seen_of seen hosts.0, hosts_seen Serves seen n before hosts.0 hosts.1, link_seen Serves seen hosts.0 after hosts.2)
 
--- the links of a door were served, as far as it tells them
+-- the links of a door were served; what this says depends on what is observable of it
 pub hosts_told : {S T : Type 0} (Step : Answerer T → Request → Reply → Answerer T → Type 0) (Lacks : Answerer T → Request → Answerer T → Type 0)
     (Changes : Answerer T → End → ℕ → Answerer T → Type 0) (seen : S → T) (result : Result ℕ Failed) (before after : Served S)
     → HostsAllServed (Over (ServesLinkBy Step Lacks Changes) seen) result before after

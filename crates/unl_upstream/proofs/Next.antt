@@ -19,11 +19,11 @@ use Rattle.unl_upstream.specs.Upstream.{IsNext, batch_of, is_named, place_with}
 
 -- ---- its batch
 
--- changes of the version's epoch from its number on, up to a higher one, apply
+-- a batch in the version's epoch, from its number up to a higher one, is to be applied
 goes_on : (v : EnvVersion) (n : ℕ) → v.number < n → changes_verdict (Some v) false v.epoch (Some v.number) n ≡ Apply
 goes_on v n above = let same : ltb v.epoch v.epoch ≡ false = grind arith in let past : leb n v.number ≡ false = grind arith in let reached : leb v.number v.number ≡ true = le-leb v.number v.number (omega arith) in rw (same, past, reached) refl
 
--- the batch of the next event applies
+-- the batch of the next event is to be applied
 pub next_applies : (v : EnvVersion) (event : Event) → IsNext v event → verdict_of (place_with v) (batch_of v event) ≡ Apply
 next_applies v (Hydration n state) next = absurd (no_change next.change)
   where
@@ -34,17 +34,17 @@ next_applies v (FeatureRemoved n name project) next = goes_on v n (omega (arith,
 next_applies v (SegmentUpdated n segment) next = goes_on v n (omega (arith, next.number))
 next_applies v (SegmentRemoved n id) next = goes_on v n (omega (arith, next.number))
 
--- and is well formed
+-- and is a valid batch
 pub next_is_batch : (v : EnvVersion) (event : Event) → IsNext v event → IsValidBatch (batch_of v event)
 next_is_batch v event next = record { order = record { changes = tt; numbers = (omega arith, tt) }; events = (next.valid, tt) }
 
 -- ---- the feature of a name
 
--- the project of the feature that was found
+-- the project of a feature, if one was found
 abbrev pub project_found : Option Feature → Option (List ℕ)
 project_found found = option_map (λ feature. feature.project) found
 
--- the project is that of the first feature of the name
+-- `project_of` is the project of the first feature with the name
 pub found_project : (name : List ℕ) (features : List Feature) → project_found (find (is_named name) features) ≡ project_of name features
 found_project name [] = refl
 found_project name (f ∷ fs) = decided (bytes_eq f.name name) (found_project name fs)
@@ -54,7 +54,7 @@ found_project name (f ∷ fs) = decided (bytes_eq f.name name) (found_project na
     decided true others = refl
     decided false others = others
 
--- a feature that stands has a name and a project within the limits
+-- an existing feature has a name and a project within the limits
 pub named_within : (name project : List ℕ) (features : List Feature) → All IsValidFeature features → project_of name features ≡ Some project → IsName name × IsName project
 named_within name project [] valid is = absurd cc
 named_within name project (f ∷ fs) valid is = decided (bytes_eq f.name name) refl is (named_within name project fs (All-tail IsValidFeature f fs valid))

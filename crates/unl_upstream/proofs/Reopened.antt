@@ -1,4 +1,4 @@
--- Rows that were applied, one after another.
+-- The rows applied by reopening, one after another.
 use Rattle.std.proofs.Common.{◌≡◌, ◌≢◌, ◌+◌, ℕ, zero, suc, List, [], ◌∷◌, ◌++◌, take, drop, length, length-append, slice_get, Option, Some, None, Result, Ok, Err, IsOk, true, option_map, IfSome, refl, sym, ap, ◌∙◌, subst, arith, append-nil, take-append-drop}
 use Rattle.std.proofs.lemmas.List.{take_all, drop_all}
 use Rattle.unl_keeper.specs.Rows.{kept}
@@ -25,7 +25,7 @@ one_longer [] count text is = none_is_some is
 one_longer (row ∷ rows) zero text is = ap (λ row. row ∷ []) (same_some is)
 one_longer (row ∷ rows) (suc count) text is = ap (λ others. row ∷ others) (one_longer rows count text is)
 
--- one more was
+-- the texts applied so far, with the next row, are again the first rows
 first_more : (rows : Option (List (List ℕ))) (count : ℕ) (texts : List (List ℕ)) (text : List ℕ) → IfSome rows (λ list. texts ≡ take count list)
     → IfSome rows (λ list. slice_get list count ≡ Some text) → IfSome rows (λ list. texts ++ text ∷ [] ≡ take (count + 1) list)
 first_more None count texts text first there = tt
@@ -45,7 +45,7 @@ applies_more opening rows count up after applies takes =
 
 -- ---- how reopening ends
 
--- all rows were applied
+-- if all rows were applied, the upstream is the initial one after the kept commands
 all_kept : (opening up : UpstreamState) (count : ℕ) (rows : Option (List (List ℕ))) → Applies opening rows count up → IfSome rows (λ list. count ≡ length list)
     → IfSome (kept count rows) (λ texts. LeadTo opening texts up)
 all_kept opening up count None applies whole = tt
@@ -72,7 +72,7 @@ reopened before after count opened counted whole applies = record {
 
 -- ---- reopening what was kept
 
--- all rows of a keeper lead somewhere, and spell the kept commands and at most one more
+-- applying all rows of a keeper succeeds, and they spell the kept commands and at most one more
 record Whole (fresh : UpstreamState) (front rows : List (List ℕ)) (failed : List Command) : Type 0 where
   last : UpstreamState
   leads : rows_after rows fresh ≡ Some last

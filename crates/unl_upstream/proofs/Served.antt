@@ -1,4 +1,4 @@
--- What the commands of a connection do to an upstream.
+-- The effect of a connection's commands on an upstream.
 use Rattle.std.proofs.Common.{◌≡◌, ℕ, ◌+◌, ◌⊎◌, inl, inr, List, [], ◌∷◌, ◌++◌, refl, sym, ap, ◌∙◌}
 use Rattle.std.specs.Prelude.{option_to_list}
 use Rattle.unl_base.specs.declared.draws.Draw.{Draw}
@@ -16,7 +16,7 @@ use Rattle.unl_upstream.specs.Upstream.{UpstreamState}
 use Rattle.unl_upstream.proofs.Given.{answer_leads}
 use Rattle.unl_upstream.proofs.Standing.{secret_stays, some_added}
 
--- the command that a request gives is added, where it is accepted
+-- the command of a request is added to the histories, if it is accepted
 pub answer_adds : (up after : UpstreamState) (q : Request) (draw : Draw) (reply : Reply) → upstream_answer up q draw ≡ record { reply = reply; up = after }
     → AreAdded (accepted (option_to_list (command_given up.secret q)) up) up after
 answer_adds up after q draw reply is =
@@ -27,12 +27,12 @@ commands_secret : (commands : List Command) (up : UpstreamState) → (after_comm
 commands_secret [] up = refl
 commands_secret (command ∷ commands) up = commands_secret commands (after_command command up) ∙ secret_stays command up
 
--- some commands after others
+-- two lists of commands, applied in order
 pub after_both : (first second : List Command) (up : UpstreamState) → after_commands (first ++ second) up ≡ after_commands second (after_commands first up)
 after_both [] second up = refl
 after_both (command ∷ first) second up = after_both first second (after_command command up)
 
--- what stands after requests is what their commands leave
+-- the upstream after requests is that after their commands
 pub requests_up : (count : ℕ) (qs : List Request) (text : List ℕ) (before after : Serving) → AnsweredAll Step count before qs text after
     → after.state ≡ after_commands (commands_given before.state.secret qs) before.state
 requests_up count [] text before after answered = ap (λ (s : Serving). s.state) answered.1
@@ -48,7 +48,7 @@ requests_up count (q ∷ qs) text before after answered =
     ∙ ap (after_commands (commands_given before.state.secret qs)) first
     ∙ sym (after_both (option_to_list (command_given before.state.secret q)) (commands_given before.state.secret qs) before.state)
 
--- what stands after a connection is what the commands of its requests leave
+-- the upstream after a connection is that after the commands of its requests
 pub obeys : (before after : Serving) (end : End) (count : ℕ) → Reaches Step Lacks before end after count → Obeys before.state count after.state
 obeys before after end count reaches = record {
   requests = reaches.requests;

@@ -1,4 +1,4 @@
--- The slots of an upstream, and the version of an environment among them.
+-- The slots of an upstream, and the version of an environment in them.
 use Rattle.std.proofs.Common.{◌≡◌, ℕ, zero, suc, ◌≤◌, ◌+◌, List, [], ◌∷◌, length, Bool, true, false, cond, Option, Some, map, All, ap, refl, sym, subst, ◌∙◌, arith}
 use Rattle.std.specs.Prelude.{◌||◌, find, is_some, nat_le, nat_lt, option_and_then}
 use Rattle.std.specs.List.{list_all, list_any, position_from}
@@ -14,21 +14,21 @@ use Rattle.unl_documents.specs.Limits.{IsName}
 use Rattle.unl_documents.specs.Texts.{is_name}
 use Rattle.unl_upstream.specs.Upstream.{AreNamed, opening_slot}
 
--- the version of the slot that was found
+-- the version of a slot, if one was found
 abbrev version_of : Option Slot → Option EnvVersion
 version_of found = option_and_then (λ slot. slot.snapshot) found
 
--- a slot with another version
+-- the slot with this version
 abbrev with_version : Slot → EnvVersion → Slot
 with_version slot v = record slot { snapshot = Some v }
 
--- ---- at the beginning
+-- ---- the initial slots
 
 names_of-opening : (epoch : ℕ) (names : List (List ℕ)) → names_of (map (opening_slot epoch) names) ≡ names
 names_of-opening epoch [] = refl
 names_of-opening epoch (x ∷ xs) = ap (λ names. x ∷ names) (names_of-opening epoch xs)
 
--- slots of different names
+-- the initial slots of different names are valid slots
 pub slots_opened : (epoch : ℕ) (slots : List Slot) (names : List (List ℕ)) → slots ≡ map (opening_slot epoch) names → length names ≤ 8 → AreDifferent names → AreSlots slots
 slots_opened epoch slots names are few different =
     subst AreSlots (sym are) (record {
@@ -36,7 +36,7 @@ slots_opened epoch slots names are few different =
       different = subst AreDifferent (sym (names_of-opening epoch names)) different;
     })
 
--- nothing stands yet in any of them
+-- each of them has an empty version
 pub opened_empty : (epoch : ℕ) (environment : List ℕ) (names : List (List ℕ)) (v : EnvVersion) → snapshot_in environment (map (opening_slot epoch) names) ≡ Some v → v ≡ empty_at epoch
 opened_empty epoch environment [] v is = absurd cc
 opened_empty epoch environment (x ∷ xs) v is = decided (same_text x environment) is (opened_empty epoch environment xs v)
@@ -46,7 +46,7 @@ opened_empty epoch environment (x ∷ xs) v is = decided (same_text x environmen
     decided true found others = cc
     decided false more others = others more
 
--- the environments are those of these names
+-- their environments are these names
 pub opened_names : (epoch : ℕ) (environment : List ℕ) (names : List (List ℕ))
     → is_some (snapshot_in environment (map (opening_slot epoch) names)) ≡ list_any (λ name. same_text name environment) names
 opened_names epoch environment [] = refl
@@ -59,7 +59,7 @@ opened_names epoch environment (x ∷ xs) = decided (same_text x environment) (o
 
 -- ---- after a version was published
 
--- no place before the first one is found
+-- a position found from n on is at least n
 not_before : (test : Slot → Bool) (n j : ℕ) (slots : List Slot) → position_from test n slots ≡ Some j → n ≤ j
 not_before test n j [] is = absurd cc
 not_before test n j (x ∷ xs) is = decided (test x) is (not_before test (n + 1) j xs)
@@ -68,7 +68,7 @@ not_before test n j (x ∷ xs) is = decided (test x) is (not_before test (n + 1)
     decided true found others = let same : n ≡ j = cc in omega arith
     decided false more others = let above : n + 1 ≤ j = others more in omega arith
 
--- the environment's slot has it
+-- the environment has the new version
 pub taken_here : (environment : List ℕ) (n k : ℕ) (slots : List Slot) (v : EnvVersion) → position_from (is_named environment) n slots ≡ Some (k + n)
     → snapshot_in environment (taking k v slots) ≡ Some v
 taken_here environment n k [] v is = absurd cc
@@ -86,11 +86,11 @@ taken_here environment n (suc k) (x ∷ xs) v is = decided (is_named environment
     decided true found others = let same : n ≡ suc k + n = cc in absurd (omega arith)
     decided false more others = others (more ∙ ap Some (omega arith))
 
--- a name is not two others
+-- a name cannot be equal to two different names
 not_both : (name environment other : List ℕ) → same_text name environment ≡ true → same_text environment other ≡ false → same_text name other ≡ false
 not_both name environment other here apart = ap (λ (text : List ℕ). same_text text other) (text_same name environment here) ∙ apart
 
--- each other environment has what it had
+-- every other environment keeps its version
 pub taken_elsewhere : (environment other : List ℕ) (n k : ℕ) (slots : List Slot) (v : EnvVersion) → position_from (is_named environment) n slots ≡ Some (k + n)
     → same_text environment other ≡ false → snapshot_in other (taking k v slots) ≡ snapshot_in other slots
 taken_elsewhere environment other n k [] v is apart = absurd cc
@@ -123,7 +123,7 @@ all_within : (names : List (List ℕ)) → list_all is_name names ≡ true → A
 all_within [] is = All-nil IsName
 all_within (x ∷ xs) is = and_parts (is_name x) (list_all is_name xs) is (λ first others. All-cons IsName x xs (within x first) (all_within xs others))
 
--- slots of names that are names
+-- slots with valid names have environments within the limits
 pub named_opened : (epoch : ℕ) (slots : List Slot) (names : List (List ℕ)) → slots ≡ map (opening_slot epoch) names → list_all is_name names ≡ true → AreNamed slots
 named_opened epoch slots names are named =
     subst AreNamed (sym are) (subst (All IsName) (sym (names_of-opening epoch names)) (all_within names named))
@@ -133,7 +133,7 @@ names_kept slot v [] = refl
 names_kept zero v (x ∷ xs) = refl
 names_kept (suc slot) v (x ∷ xs) = ap (λ names. x.environment ∷ names) (names_kept slot v xs)
 
--- a version that was published changes no name
+-- publishing a version changes no name
 pub named_after : (slot : ℕ) (v : EnvVersion) (slots slots_after : List Slot) → AreNamed slots → slots_after ≡ taking slot v slots → AreNamed slots_after
 named_after slot v slots slots_after named are = subst AreNamed (sym are) (subst (All IsName) (sym (names_kept slot v slots)) named)
 
@@ -147,6 +147,6 @@ named_from environment n k (x ∷ xs) named is = decided (is_named environment x
         subst IsName (text_same x.environment environment here) (All-head IsName x.environment (names_of xs) named)
     decided false here more others = others more
 
--- an environment that stands has a name
+-- an existing environment has a name within the limits
 pub named_at : (environment : List ℕ) (slot : ℕ) (slots : List Slot) → AreNamed slots → place_in environment slots ≡ Some slot → IsName environment
 named_at environment slot slots named is = named_from environment 0 slot slots named is

@@ -1,4 +1,4 @@
--- Where an upstream stands after commands.
+-- The state of an upstream after commands.
 use Rattle.std.proofs.Common.{◌≡◌, ℕ, List, [], ◌∷◌, ◌++◌, Bool, true, false, cond, Option, Some, None, Ok, Err, ap, refl, sym, subst, ◌∙◌, arith, append_assoc}
 use Rattle.std.specs.Prelude.{is_some, ok_or}
 use Rattle.std.proofs.lemmas.List.{append-nil}
@@ -31,7 +31,7 @@ ready_with slot version event slots = record { slot = slot; number = number_of e
 abbrev pub obeyed_with : Prepared → UpstreamState → Obeyed
 obeyed_with ready up = record { up = committed ready up; number = ready.number }
 
--- a command was accepted, and came to an event at its environment's version
+-- a command was accepted: its slot, the old version, and the event
 pub record IsObeyed (command : Command) (up : UpstreamState) (obeyed : Obeyed) : Type 0 where
   pub slot : ℕ
   pub version : EnvVersion
@@ -62,7 +62,7 @@ obeyed_by command up obeyed is = at_slot (place_in (environment_of command) up.b
     at_slot (Some slot) None at stood none = absurd cc
     at_slot (Some slot) (Some version) at stood all = at_event slot version (event_of command version) at stood refl all
 
--- the version of the command's environment is the new one
+-- the command's environment has the new version
 new_here : (command : Command) (up : UpstreamState) (obeyed : Obeyed) (o : IsObeyed command up obeyed) (environment : List ℕ) → environment_of command ≡ environment
     → snapshot_in environment obeyed.up.board.slots ≡ Some (version_after o.version o.event)
 new_here command up obeyed o environment here =
@@ -70,7 +70,7 @@ new_here command up obeyed o environment here =
     ap (λ (u : UpstreamState). snapshot_in (environment_of command) u.board.slots) o.is
     ∙ taken_here (environment_of command) 0 o.slot up.board.slots (version_after o.version o.event) (o.at ∙ ap Some (omega arith)))
 
--- each other environment has what it had
+-- every other environment keeps its version
 same_elsewhere : (command : Command) (up : UpstreamState) (obeyed : Obeyed) → IsObeyed command up obeyed → (environment : List ℕ) → same_text (environment_of command) environment ≡ false
     → snapshot_in environment obeyed.up.board.slots ≡ snapshot_in environment up.board.slots
 same_elsewhere command up obeyed o environment apart =
@@ -87,11 +87,11 @@ secret_stays command up = decided (commanded command up) refl
 
 -- ---- versions
 
--- the version of an environment stands for the history of these commands
+-- the version of an environment represents the history of these commands
 Holds : ℕ → List ℕ → List Command → UpstreamState → Type 0
 Holds epoch environment commands up = (v : EnvVersion) → snapshot_in environment up.board.slots ≡ Some v → IsHistoryOf epoch commands v
 
--- a command for the environment is one more
+-- a command for the environment extends its history
 holds_here : (epoch : ℕ) (environment : List ℕ) (before : List Command) (command : Command) (up : UpstreamState) (obeyed : Obeyed) → IsObeyed command up obeyed
     → environment_of command ≡ environment → Holds epoch environment before up → Holds epoch environment (before ++ command ∷ []) obeyed.up
 unfolding Holds
@@ -101,7 +101,7 @@ holds_here epoch environment before command up obeyed o here holds v is =
     let this : version_after o.version o.event ≡ v = cc in
     subst (IsHistoryOf epoch (before ++ command ∷ [])) this (one_stands epoch before command o.version o.event (holds o.version stood) o.told)
 
--- one for another changes nothing here
+-- a command for another environment does not
 holds_elsewhere : (epoch : ℕ) (environment : List ℕ) (before : List Command) (command : Command) (up : UpstreamState) (obeyed : Obeyed) → IsObeyed command up obeyed
     → same_text (environment_of command) environment ≡ false → Holds epoch environment before up → Holds epoch environment before obeyed.up
 unfolding Holds
@@ -129,7 +129,7 @@ all_hold epoch environment before (command ∷ commands) up holds = decided (com
     decided (Err refusal) is others = others before up holds
     decided (Ok obeyed) is others = counted obeyed (same_text (environment_of command) environment) (obeyed_by command up obeyed is) refl others
 
--- the accepted ones of commands are added to the histories
+-- the accepted ones of these commands are added to the histories
 all_added : (commands : List Command) (up : UpstreamState) → AreAdded (accepted commands up) up (after_commands commands up)
 unfolding Holds
 all_added commands up epoch before are environment v is =
@@ -140,17 +140,17 @@ all_added commands up epoch before are environment v is =
 pub some_added : (commands : List Command) (up after : UpstreamState) → after ≡ after_commands commands up → AreAdded (accepted commands up) up after
 some_added commands up after leads = subst (λ (u : UpstreamState). AreAdded (accepted commands up) up u) (sym leads) (all_added commands up)
 
--- those of commands that were all accepted
+-- commands that were all accepted are all added
 pub are_added : (commands : List Command) (up after : UpstreamState) → after ≡ after_commands commands up → accepted commands up ≡ commands → AreAdded commands up after
 are_added commands up after leads all = subst (λ (cs : List Command). AreAdded cs up after) all (some_added commands up after leads)
 
--- that of a command that was obeyed
+-- an accepted command is added
 pub one_added : (command : Command) (up after : UpstreamState) (number : ℕ) → commanded command up ≡ Ok (record { up = after; number = number })
     → AreAdded (command ∷ []) up after
 one_added command up after number is =
     are_added (command ∷ []) up after (sym (ap (up_after up) is)) (ap (λ (r : Obeying Obeyed). if_accepted command r []) is)
 
--- at first the versions stand for no command
+-- the initial versions represent the empty history
 none_added : (boot : ℕ) (secret : List ℕ) (environments : List (List ℕ)) (book : List Token) (epoch : ℕ)
     → AreHistories epoch [] (opening boot secret environments book epoch)
 none_added boot secret environments book epoch environment v is =
@@ -200,7 +200,7 @@ environments_are boot secret environments book epoch commands environment =
 pub refused_is_nothing : (command : Command) (up : UpstreamState) (refusal : CommandRefusal) → commanded command up ≡ Err refusal → after_command command up ≡ up
 refused_is_nothing command up refusal is = ap (up_after up) is
 
--- what was done with a command that was obeyed
+-- the upstream after an accepted command
 after_is : (command : Command) (up : UpstreamState) (obeyed : Obeyed) → commanded command up ≡ Ok obeyed → after_command command up ≡ obeyed.up
 after_is command up obeyed is = ap (up_after up) is
 
@@ -225,7 +225,7 @@ others_are_accepted (command ∷ commands) up = decided (commanded command up) r
         ap (λ (x : Obeying Obeyed). if_accepted command x (accepted (accepted commands obeyed.up) (up_after up x))) is
         ∙ ap (λ (cs : List Command). command ∷ cs) (others obeyed.up)
 
--- what is accepted of some commands and then of others
+-- the accepted ones of two lists of commands in order
 pub accepted_both : (first second : List Command) (up : UpstreamState) → accepted (first ++ second) up ≡ accepted first up ++ accepted second (after_commands first up)
 accepted_both [] second up = refl
 accepted_both (command ∷ first) second up = decided (commanded command up) (accepted_both first second)

@@ -1,4 +1,5 @@
--- The statuses of an upstream's replies: each is one of HTTP, and none but of a command that was to be kept is 503 `KeeperFault`.
+-- The statuses of an upstream's replies: each is an HTTP status, and only the reply to a command that was to be kept may be
+-- 503 `KeeperFault`.
 use Rattle.std.proofs.Common.{◌≡◌, ◌≢◌, ◌≤◌, ◌⊎◌, inl, inr, sym, subst, refl, ap, ◌∙◌, ℕ, List, length, Bool, true, false, ◌||◌, Option, Some, None, cond, arith, Result, Ok, Err}
 use Rattle.std.specs.Prelude.{codes}
 use Rattle.std.specs.Str.{bytes_eq}
@@ -43,7 +44,7 @@ use Rattle.unl_upstream.specs.Kept.{fault_of}
 use Rattle.unl_upstream.specs.KeptServing.{kept_reply}
 use Rattle.unl_upstream.specs.Upstream.{Obeyed, Obeying, UpstreamState, commanded, refused_as}
 
--- a status of at most 500, or one of two words with 503
+-- the reply has a status from 100 to 500, or is a 503 with one of two error names
 abbrev IsPlain : AReply → Type 0
 IsPlain r = ((100 ≤ r.status) × (r.status ≤ 500)) ⊎ ((r ≡ refusal 503 (codes "NotReady")) ⊎ (r ≡ refusal 503 (codes "TooManyConstraints")))
 
@@ -52,16 +53,16 @@ plain_status r (inl within) = omega (arith, within.0, within.1)
 plain_status r (inr (inl is)) = subst (λ (x : AReply). IsStatusCode x.status) (sym is) (omega arith)
 plain_status r (inr (inr is)) = subst (λ (x : AReply). IsStatusCode x.status) (sym is) (omega arith)
 
--- the word of a keeper's fault is neither of them
+-- neither of these names is that of a keeper's fault
 plain_differs : (r : AReply) → IsPlain r → r ≢ refused KeeperFault
 unfolding serde_json_on_literals
 plain_differs r (inl within) is = let status : r.status ≡ 503 = ap (λ (x : AReply). x.status) is in absurd (omega (arith, within.1, status))
 plain_differs r (inr (inl is)) same = let few : 20 ≡ 23 = ap (λ (x : AReply). length x.body) (sym is ∙ same) in absurd (omega (arith, few))
 plain_differs r (inr (inr is)) same = let many : 30 ≡ 23 = ap (λ (x : AReply). length x.body) (sym is ∙ same) in absurd (omega (arith, many))
 
--- ---- what a board answers
+-- ---- replies from a board
 
--- what a function takes
+-- the argument type of a function
 abbrev ArgumentOf : {A B : Type 0} → (A → B) → Type 0
 ArgumentOf {A} f = A
 
@@ -160,7 +161,7 @@ board_told board q draw = by_known (route_of q.target)
     by_known None = inl (omega arith)
     by_known (Some route) = allowed (is_commands route || allows (methods_of route) q.method) _ _ (route_told board q draw route) (inl (omega arith))
 
--- ---- what an upstream answers
+-- ---- replies of an upstream
 
 refused_plainly : (cause : CommandRefusal) → IsPlain (refused (refused_as cause))
 refused_plainly plainly.NoSuchEnvironment = inl (omega arith)
@@ -191,17 +192,17 @@ answered_plainly up q draw =
     either_order up (names_commands (route_of q.target)) _ _ (either_order up (is_post q.method) _ _ (token_told up q q.token) (inl (omega arith)))
     (board_told up.board q draw)
 
--- so the reply of an answer has a status of HTTP
+-- so every reply has an HTTP status
 pub answered_status : (r : AReply) (up after : UpstreamState) (q : Request) (draw : Draw) → upstream_answer up q draw ≡ record { reply = r; up = after } → IsStatusCode r.status
 answered_status r up after q draw is =
     subst (λ (a : Answered). IsStatusCode a.reply.status) is (plain_status (upstream_answer up q draw).reply (answered_plainly up q draw))
 
--- and isn't 503 `KeeperFault`
+-- and without a keeper is never 503 `KeeperFault`
 pub answered_calmly : (r : AReply) (up after : UpstreamState) (q : Request) (draw : Draw) → upstream_answer up q draw ≡ record { reply = r; up = after } → r ≢ refused KeeperFault
 answered_calmly r up after q draw is =
     subst (λ (a : Answered). a.reply ≢ refused KeeperFault) is (plain_differs (upstream_answer up q draw).reply (answered_plainly up q draw))
 
--- ---- what comes of a command that was to be kept
+-- ---- replies to commands that were to be kept
 
 kept_plainly : (result : Result ℕ KeepCommandRefusal) → fault_of result ≡ 0 → IsPlain (kept_reply result)
 kept_plainly (Ok number) none = inl (omega arith)
@@ -223,6 +224,6 @@ kept_status (Err (KeeperFull n)) = omega arith
 kept_status (Err KeeperFault) = omega arith
 kept_status (Err Memory) = omega arith
 
--- it is 503 `KeeperFault` where the keeper failed alone
+-- such a reply is 503 `KeeperFault` only if the keeper failed
 pub kept_calmly : (result : Result ℕ KeepCommandRefusal) → fault_of result ≡ 0 → kept_reply result ≢ refused KeeperFault
 kept_calmly result none = plain_differs (kept_reply result) (kept_plainly result none)

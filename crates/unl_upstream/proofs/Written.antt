@@ -1,4 +1,4 @@
--- What is written of a command is read as it.
+-- A written command is read back as the same command.
 use Rattle.std.proofs.Common.{◌≡◌, ◌≤◌, ℕ, List, true, false, Some, Ok, IsUtf8, refl, sym, subst, ap, ◌∙◌, arith}
 use Rattle.std.specs.Prelude.{codes}
 use Rattle.serde_json.specs.Data.{Data, array, boolean, depth, null, number, object, string}
@@ -27,7 +27,7 @@ present_one (string bytes) is = absurd cc
 present_one (array values) is = absurd cc
 present_one (object inside) is = refl
 
--- an object at a key
+-- an object written under a key is read back
 one_back : {T : Type 0} {reads : Data → Reading T} {written : T → Data} {P : T → Type 0} → ComesBack reads written P → (f : Field) (value : Data)
     (x : T) → P x → at f value ≡ present (written x) → required (object_of reads) f value ≡ Ok x
 unfolding object_of
@@ -73,7 +73,7 @@ document_is (RemoveFeature environment named) = refl
 document_is (PutSegment environment segment) = refl
 document_is (RemoveSegment environment id) = refl
 
--- what is written is read as a document
+-- the written value is read back as a document
 pub written_back : (command : Command) → IsValidCommand command → HasNames command → document command_of (command_data command) ≡ Ok command
 written_back command valid names = document_is command ∙ command_back command valid names
 
@@ -86,13 +86,13 @@ no_float (RemoveFeature environment named) = refl
 no_float (PutSegment environment segment) = rw (no_float_segment segment) refl
 no_float (RemoveSegment environment id) = refl
 
--- the text of what is written of a command
+-- the serialized text of the written value is `command_text`
 pub text_is : (command : Command) (value : Data) (bytes : List ℕ) → value ≡ command_data command → (has_float value ≡ false → bytes ≡ compact_text value)
     → bytes ≡ command_text command
 unfolding command_text
 text_is command value bytes is written = written (ap has_float is ∙ no_float command) ∙ ap compact_text is
 
--- is read as the command
+-- this text is read back as the command
 pub text_back : (command : Command) (value : Data) (bytes : List ℕ) → value ≡ command_data command → (depth value ≤ max_depth → read bytes ≡ Some value)
     → IsUtf8 bytes → document command_of value ≡ Ok command → command_in bytes ≡ Ok command
 unfolding command_in

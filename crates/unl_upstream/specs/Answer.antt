@@ -1,4 +1,4 @@
--- What an upstream answers a request: the first case that fits.
+-- The reply of an upstream to a request: the first case that applies.
 use Rattle.std.specs.Prelude.{ℕ, List, codes, Bool, false, if◌then◌else◌, Option, Some, None, Ok, Err}
 use Rattle.std.specs.Str.{bytes_eq}
 use Rattle.serde_json.specs.Data.{object, no_members}
@@ -32,11 +32,11 @@ unchanged up given = record { reply = given; up = up }
 
 -- ---- commands
 
--- the new number of the environment
+-- the reply to an accepted command: the new version number of the environment
 abbrev pub numbered : ℕ → AReply
 numbered n = reply 200 (object (with field.Number (count n) no_members))
 
--- why a command is refused or not kept; want of memory is no refusal, and has no word
+-- the reply to a command that is refused or not kept; `Memory` is no refusal, and its reply has no error name
 abbrev pub refused : KeepCommandRefusal → AReply
 refused NoSuchEnvironment = refusal 404 (codes "NoSuchEnvironment")
 refused NoSuchFeature = refusal 404 (codes "NoSuchFeature")
@@ -46,47 +46,48 @@ refused (KeeperFull count) = refusal 409 (codes "TooMany")
 refused KeeperFault = refusal 503 (codes "KeeperFault")
 refused Memory = bare 500
 
--- what a command comes to
+-- the reply to a command with this result, and the upstream after it
 abbrev pub told : UpstreamState → Obeying Obeyed → Answered
 told up (Ok obeyed) = record { reply = numbered obeyed.number; up = obeyed.up }
 told up (Err cause) = unchanged up (refused (refused_as cause))
 
 -- ---- all requests
 
--- the command of a body, if it is one
+-- the command of a body, or the reply to a bad body
 abbrev pub order_in : Reading Command → Order
 order_in (Ok command) = Obey command
 order_in (Err fault) = Reply (refusal 400 (codes "BadBody"))
 
--- a command may be given by who shows the secret
+-- a command must come with the secret as its token
 abbrev pub order_with : UpstreamState → Request → Option (List ℕ) → Order
 order_with up q None = Reply (refusal 401 (codes "NoToken"))
 order_with up q (Some token) =
     if bytes_eq token up.secret then order_in (command_in q.body) else Reply (refusal 403 (codes "UnknownToken"))
 
--- a request at the route of commands
+-- what a request on the route of commands asks for: it must be a POST
 abbrev pub order_at : UpstreamState → Request → Order
 order_at up q = if is_post q.method then order_with up q q.token else Reply (bad_method route.Commands)
 
--- a route is known, and is the one of commands
+-- the route is known, and is that of commands
 abbrev pub names_commands : Option Route → Bool
 names_commands None = false
 names_commands (Some route) = is_commands route
 
--- what a request orders: all but commands is answered as Edge answers it, over the upstream's board; reports are not kept
+-- what a request asks for: a command, or else the reply that Edge gives from the upstream's board; a report is answered but
+-- not kept
 unfoldable pub order_of : UpstreamState → Request → Draw → Order
 order_of up q draw = if names_commands (route_of q.target) then order_at up q else Reply (answer_of up.board q draw).reply
 
--- the document in the command of an order is within its limits
+-- the feature or segment in a command is within its limits
 abbrev pub IsValidOrder : Order → Type 0
 IsValidOrder (Obey command) = IsValidCommand command
 IsValidOrder (Reply reply) = Unit {0}
 
--- what an order comes to
+-- the reply to what a request asks for, and the upstream after it
 abbrev pub done : UpstreamState → Order → Answered
 done up (Obey command) = told up (commanded command up)
 done up (Reply reply) = unchanged up reply
 
--- commands are obeyed, and all else is answered
+-- the reply to a request, and the upstream after it
 unfoldable pub upstream_answer : UpstreamState → Request → Draw → Answered
 upstream_answer up q draw = done up (order_of up q draw)

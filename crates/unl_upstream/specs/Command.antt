@@ -1,4 +1,4 @@
--- What a command is, and what it is read as: its keys in order, each with its kind. The forms are chosen by this project.
+-- Commands, and how they are read: each command's keys in order, each with its kind. The forms are chosen by this project.
 use Rattle.std.specs.Prelude.{ℕ, List, codes, Ok, Err, ok_or, if◌then◌else◌}
 use Rattle.std.specs.Str.{bytes_eq}
 use Rattle.serde_json.specs.Data.{Data}
@@ -12,14 +12,14 @@ use Rattle.unl_documents.specs.Valid.{IsValidFeature, IsValidSegment}
 use Rattle.unl_upstream.specs.declared.command.Command.{Command}
 use Rattle.unl_upstream.specs.declared.command.Command.TheVariants.{PutFeature, RemoveFeature, PutSegment, RemoveSegment}
 
--- the environment that a command is for
+-- the environment of a command
 abbrev pub environment_of : Command → List ℕ
 environment_of (PutFeature environment feature) = environment
 environment_of (RemoveFeature environment name) = environment
 environment_of (PutSegment environment segment) = environment
 environment_of (RemoveSegment environment id) = environment
 
--- the document in a command is within its limits
+-- the feature or segment in a command is within its limits
 abbrev pub IsValidCommand : Command → Type 0
 IsValidCommand (PutFeature environment feature) = IsValidFeature feature
 IsValidCommand (RemoveFeature environment name) = Unit {0}
@@ -28,35 +28,35 @@ IsValidCommand (RemoveSegment environment id) = Unit {0}
 
 -- ---- reading
 
--- a feature is put in
+-- `put-feature`: the environment and the feature
 unfoldable pub put_feature_of : Data → Reading Command
 put_feature_of value = do
   environment ← required name field.Environment value
   feature ← required (object_of feature_of) field.Feature value
   Ok (PutFeature environment feature)
 
--- a feature is taken out
+-- `remove-feature`: the environment and the feature's name
 unfoldable pub remove_feature_of : Data → Reading Command
 remove_feature_of value = do
   environment ← required name field.Environment value
   named ← required name field.Name value
   Ok (RemoveFeature environment named)
 
--- a segment is put in
+-- `put-segment`: the environment and the segment
 unfoldable pub put_segment_of : Data → Reading Command
 put_segment_of value = do
   environment ← required name field.Environment value
   segment ← required (object_of segment_of) field.Segment value
   Ok (PutSegment environment segment)
 
--- a segment is taken out
+-- `remove-segment`: the environment and the segment's id
 unfoldable pub remove_segment_of : Data → Reading Command
 remove_segment_of value = do
   environment ← required name field.Environment value
   id ← required any_whole field.Id value
   Ok (RemoveSegment environment id)
 
--- the command of a word
+-- the command with this command word
 unfoldable pub command_by : List ℕ → Data → Reading Command
 command_by word value =
     if bytes_eq word (codes "put-feature") then put_feature_of value else (
@@ -65,13 +65,13 @@ command_by word value =
     if bytes_eq word (codes "remove-segment") then remove_segment_of value else
     Err (WrongKind field.Command))))
 
--- the command that an object stands for
+-- reads a command from a JSON object
 unfoldable pub command_of : Data → Reading Command
 command_of value = do
   word ← required any_text field.Command value
   command_by word value
 
--- the command that the bytes of a body or of a line spell in JSON
+-- reads a command from the JSON bytes of a body or of a line
 unfoldable pub command_in : List ℕ → Reading Command
 command_in bytes = do
   value ← ok_or (json_of bytes) NotJson

@@ -1,4 +1,4 @@
--- The history of an environment of an upstream: the commands that were accepted.
+-- The history of an environment of an upstream: the commands that were accepted for it.
 use Rattle.std.specs.Prelude.{◌≡◌, ℕ, ◌+◌, List, [], ◌∷◌, ◌++◌, length, filter, unwrap_or, Some, Ok, Err}
 use Rattle.unl_core.specs.Board.{same_text, snapshot_in}
 use Rattle.unl_delta.specs.declared.event.Event.{Event}
@@ -14,7 +14,7 @@ use Rattle.unl_upstream.specs.Upstream.{UpstreamState, Obeying, Obeyed, commande
 
 -- ---- the accepted commands
 
--- the upstream after a command; where the command is refused it is as before
+-- the upstream after a command with this result; a refused command changes nothing
 abbrev pub up_after : UpstreamState → Obeying Obeyed → UpstreamState
 up_after up (Ok obeyed) = obeyed.up
 up_after up (Err refusal) = up
@@ -23,17 +23,17 @@ up_after up (Err refusal) = up
 abbrev pub after_command : Command → UpstreamState → UpstreamState
 after_command command up = up_after up (commanded command up)
 
--- the upstream after one command after the other
+-- the upstream after commands, applied in order
 abbrev pub after_commands : List Command → UpstreamState → UpstreamState
 after_commands [] up = up
 after_commands (command ∷ commands) up = after_commands commands (after_command command up)
 
--- the command before the others, unless it is refused
+-- the other commands, preceded by this one if it was accepted
 abbrev pub if_accepted : Command → Obeying Obeyed → List Command → List Command
 if_accepted command (Ok obeyed) commands = command ∷ commands
 if_accepted command (Err refusal) commands = commands
 
--- those that are accepted of commands one after the other
+-- those commands that are accepted when all are applied in order
 abbrev pub accepted : List Command → UpstreamState → List Command
 accepted [] up = []
 accepted (command ∷ commands) up = if_accepted command (commanded command up) (accepted commands (after_command command up))
@@ -44,36 +44,36 @@ for_environment environment commands = filter (λ command. same_text (environmen
 
 -- ---- their history
 
--- the event of a command at a number; a removal has the project that the feature had
+-- the event of a command at a number; a removal has the project of the removed feature
 abbrev pub event_at : ℕ → State → Command → Event
 event_at n s (PutFeature environment feature) = FeatureUpdated n feature
 event_at n s (RemoveFeature environment name) = FeatureRemoved n name (unwrap_or (project_of name s.features) [])
 event_at n s (PutSegment environment segment) = SegmentUpdated n segment
 event_at n s (RemoveSegment environment id) = SegmentRemoved n id
 
--- the events of commands one after the other, numbered from n + 1 on
+-- the events of commands in order, numbered from n + 1 on
 abbrev pub events_from : ℕ → State → List Command → List Event
 events_from n s [] = []
 events_from n s (command ∷ commands) = event_at (n + 1) s command ∷ events_from (n + 1) (step (event_at (n + 1) s command) s) commands
 
--- the history of accepted commands for one environment, numbered 1, 2, 3 and on
+-- the history of accepted commands for one environment, numbered from 1
 abbrev pub history_of : List Command → List Event
 history_of commands = events_from 0 empty_state commands
 
--- a version of this epoch stands for the history of these commands, and its number is their count
+-- the version is of this epoch, represents the history of these commands, and its number is their count
 pub record IsHistoryOf (epoch : ℕ) (commands : List Command) (v : EnvVersion) : Type 0 where
   pub era : v.epoch ≡ epoch
   pub stands : StandsFor (history_of commands) everything v
   pub number : v.number ≡ length commands
 
--- ---- what an upstream's versions stand for
+-- ---- what an upstream's versions represent
 
--- the version of each environment stands for the history of those of these commands that are for it
+-- each environment's version represents the history of those commands that are for it
 abbrev pub AreHistories : ℕ → List Command → UpstreamState → Type 0
 AreHistories epoch commands up = (environment : List ℕ) (v : EnvVersion) → snapshot_in environment up.board.slots ≡ Some v
     → IsHistoryOf epoch (for_environment environment commands) v
 
--- of whatever commands the versions stood for the histories, they stand for those of these and some more then
+-- if the versions represented the histories of some commands before, they represent those of these commands and `more` after
 abbrev pub AreAdded : List Command → UpstreamState → UpstreamState → Type 0
 AreAdded more up after = (epoch : ℕ) (commands : List Command) → AreHistories epoch commands up
     → AreHistories epoch (commands ++ more) after

@@ -1,4 +1,4 @@
--- The commands that a keeper of an upstream keeps, and what keeping one more does.
+-- The commands kept by an upstream's keeper, and the effect of keeping one more.
 use Rattle.std.specs.Prelude.{◌≡◌, ◌≤◌, ◌⊎◌, ℕ, ◌+◌, ◌-◌, ◌^◌, min, nat_lt, Bool, true, List, [], ◌∷◌, ◌++◌}
 use Rattle.std.specs.Prelude.{drop, filter_map, length, map}
 use Rattle.std.specs.Prelude.{if◌then◌else◌, Option, option_map, Result, Ok, Err, IsOk, IfSome, ⊤}
@@ -18,14 +18,14 @@ use Rattle.unl_upstream.specs.Writing.{command_text}
 
 -- ---- an upstream and its keeper
 
--- how a keeper stands: whether it is opened, how often it has failed, how many rows it keeps, and its rows where it tells them
+-- the state of a keeper: whether it is open, its fault count, the number of kept rows, and its rows if observable
 pub record KeeperState : Type 0 where
   pub opened : Bool
   pub faults : ℕ
   pub count : ℕ
   pub rows : Option (List (List ℕ))
 
--- how a keeper stands, by these meanings
+-- the state of a keeper, given the ghost functions of its type
 abbrev pub keeper_by : {K : Type 0} → (K → Bool) → (K → ℕ) → (K → ℕ) → (K → Option (List (List ℕ))) → K → KeeperState
 keeper_by opened faults count rows keeper =
     record { opened = opened keeper; faults = faults keeper; count = count keeper; rows = rows keeper }
@@ -35,57 +35,57 @@ pub record KeptState : Type 0 where
   pub up : UpstreamState
   pub keeper : KeeperState
 
--- these together
+-- an upstream and a keeper as one record
 abbrev pub kept_state : UpstreamState → KeeperState → KeptState
 kept_state up keeper = record { up = up; keeper = keeper }
 
 -- ---- the kept commands
 
--- the commands that the texts are read as, in order
+-- the commands that the texts are read as, in order; texts that are no command are left out
 abbrev pub commands_in : List (List ℕ) → List Command
 commands_in texts = filter_map (λ text. if_read (command_in text)) texts
 
--- the rows that a keeper keeps, where it tells them
+-- the kept rows, if observable
 abbrev pub kept_rows : KeeperState → Option (List (List ℕ))
 kept_rows keeper = kept keeper.count keeper.rows
 
--- the commands that a keeper keeps, where it tells its rows
+-- the kept commands, if the rows are observable
 abbrev pub kept_commands : KeeperState → Option (List Command)
 kept_commands keeper = option_map commands_in (kept_rows keeper)
 
--- Each of these texts is read as a command that is accepted, one after another from an upstream on, and they lead there.
+-- Each text is read as a command. These are all accepted when applied in order to `opening`, which results in `up`.
 pub record LeadTo (opening : UpstreamState) (texts : List (List ℕ)) (up : UpstreamState) : Type 0 where
   pub spelled : map command_in texts ≡ map Ok (commands_in texts)
   pub all_accepted : accepted (commands_in texts) opening ≡ commands_in texts
   pub leads : up ≡ after_commands (commands_in texts) opening
 
--- the upstream is the opening one after the kept commands in order, as far as these are told
+-- the upstream is `opening` after the kept commands in order, if these are observable
 abbrev pub IsAfterKept : UpstreamState → KeptState → Type 0
 IsAfterKept opening state = IfSome (kept_rows state.keeper) (λ texts. LeadTo opening texts state.up)
 
 -- ---- keeping one more
 
--- a keeper keeps so many rows at most
+-- the maximum number of kept rows
 abbrev pub most_rows : ℕ
 most_rows = 10000000
 
--- what a command comes to, where a keeper of so many rows is to keep it
+-- the result of a command, or that a keeper with `count` rows is full
 abbrev pub with_room : {T : Type 0} → ℕ → Obeying T → Result T KeepCommandRefusal
 with_room count (Ok x) = if nat_lt count most_rows then Ok x else Err (KeeperFull count)
 with_room count (Err cause) = Err (refused_as cause)
 
--- what keeping a command comes to, unless the keeper fails or memory is wanting
+-- the result of keeping a command, unless the keeper fails or memory runs out
 abbrev pub keepable : Command → KeptState → Result Obeyed KeepCommandRefusal
 keepable command state = with_room state.keeper.count (commanded command state.up)
 
--- a text was written down behind the kept rows, past which nothing stands then
+-- a put succeeded: the text is the last kept row, and no row follows it
 pub record IsWritten (text : List ℕ) (before after : KeeperState) : Type 0 where
   pub opened : after.opened ≡ true
   pub counted : after.count ≡ before.count + 1
   pub rows : after.rows ≡ with_row before.count text before.rows
   pub still : after.faults ≡ before.faults
 
--- the keeper failed: it keeps what it kept, past which stands what stood there or the text
+-- a put failed: the kept rows are unchanged; what follows them is unchanged too, or is the text
 pub record IsFailed (text : List ℕ) (before after : KeeperState) : Type 0 where
   pub opened : after.opened ≡ true
   pub counted : after.count ≡ before.count
@@ -93,42 +93,42 @@ pub record IsFailed (text : List ℕ) (before after : KeeperState) : Type 0 wher
   pub later : before.faults ≤ after.faults
   pub rose : Rose before.faults after.faults
 
--- what is ready is published once its text was written down
+-- the prepared command's text was stored, and the command published
 pub record Publishes (ready : Prepared) (text : List ℕ) (before : KeptState) (number : ℕ) (after : KeptState) : Type 0 where
   pub is : number ≡ ready.number
   pub up : after.up ≡ committed ready before.up
   pub row : IsWritten text before.keeper after.keeper
 
--- a text failed to be written down, and nothing was published
+-- the put of a text failed, and nothing was published
 pub record Leaves (text : List ℕ) (before after : KeptState) : Type 0 where
   pub up : after.up ≡ before.up
   pub row : IsFailed text before.keeper after.keeper
 
--- what putting a text came to
+-- the result of storing a text and publishing its command
 abbrev pub Puts : Prepared → List ℕ → KeptState → Result ℕ KeepRefusal → KeptState → Type 0
 Puts ready text before (Ok number) after = Publishes ready text before number after
 Puts ready text before (Err put_refusal.Fault) after = Leaves text before after
 Puts ready text before (Err put_refusal.Memory) after = after ≡ before
 
--- the command was accepted, and is kept behind those before it
+-- the command was accepted, and its text is the last kept row
 pub record Acknowledges (command : Command) (before : KeptState) (number : ℕ) (after : KeptState) : Type 0 where
   pub obeyed : keepable command before ≡ Ok (record { up = after.up; number = number })
   pub spelled : command_in (command_text command) ≡ Ok command
   pub row : IsWritten (command_text command) before.keeper after.keeper
 
--- the command was accepted, but the keeper failed
+-- the command was accepted, but the put failed
 pub record FailsToKeep (command : Command) (before after : KeptState) : Type 0 where
   pub obeyed : IsOk (keepable command before)
   pub spelled : command_in (command_text command) ≡ Ok command
   pub up : after.up ≡ before.up
   pub row : IsFailed (command_text command) before.keeper after.keeper
 
--- the command was refused so, and nothing changed
+-- the command was refused for this reason, and nothing changed
 pub record Refuses (command : Command) (before : KeptState) (refusal : KeepCommandRefusal) (after : KeptState) : Type 0 where
   pub cause : keepable command before ≡ Err refusal
   pub same : after ≡ before
 
--- what keeping a command came to; want of memory changes nothing
+-- the result of keeping a command; running out of memory changes nothing
 abbrev pub Keeps : Command → KeptState → Result ℕ KeepCommandRefusal → KeptState → Type 0
 Keeps command before (Ok number) after = Acknowledges command before number after
 Keeps command before (Err NoSuchEnvironment) after = Refuses command before NoSuchEnvironment after
@@ -141,28 +141,28 @@ Keeps command before (Err Memory) after = after ≡ before
 
 -- ---- one after another
 
--- a command that was to be kept, and what came of it
+-- an attempt to keep a command, and its result
 pub record Tried : Type 0 where
   pub command : Command
   pub result : Result ℕ KeepCommandRefusal
 
--- these were to be kept, one after another
+-- these attempts were made in order
 abbrev pub KeepsAll : List Tried → KeptState → KeptState → Type 0
 KeepsAll [] before after = after ≡ before
 KeepsAll (one ∷ others) before after =
     (middle : KeptState) × Keeps one.command before one.result middle × KeepsAll others middle after
 
--- the command before the others, where it was acknowledged
+-- the other commands, preceded by this one if it was acknowledged
 abbrev pub if_kept : Command → Result ℕ KeepCommandRefusal → List Command → List Command
 if_kept command (Ok number) others = command ∷ others
 if_kept command (Err refusal) others = others
 
--- those that were acknowledged
+-- the commands that were acknowledged
 abbrev pub acknowledged : List Tried → List Command
 acknowledged [] = []
 acknowledged (one ∷ others) = if_kept one.command one.result (acknowledged others)
 
--- one at a fault of the keeper, and else none
+-- 1 if the keeper failed, else 0
 abbrev pub fault_of : Result ℕ KeepCommandRefusal → ℕ
 fault_of (Ok number) = 0
 fault_of (Err NoSuchEnvironment) = 0
@@ -173,12 +173,12 @@ fault_of (Err (KeeperFull count)) = 0
 fault_of (Err KeeperFault) = 1
 fault_of (Err Memory) = 0
 
--- at how many the keeper failed
+-- the number of attempts at which the keeper failed
 abbrev pub faults_among : List Tried → ℕ
 faults_among [] = 0
 faults_among (one ∷ others) = fault_of one.result + faults_among others
 
--- the commands whose put failed since the last one that was written, once this one was to be kept
+-- the commands whose put failed since the last successful put, after one more attempt
 abbrev pub failed_by : List Command → Command → Result ℕ KeepCommandRefusal → List Command
 failed_by failed command (Ok number) = []
 failed_by failed command (Err NoSuchEnvironment) = failed
@@ -189,85 +189,86 @@ failed_by failed command (Err (KeeperFull count)) = failed
 failed_by failed command (Err KeeperFault) = command ∷ failed
 failed_by failed command (Err Memory) = failed
 
--- the same once these were, one after another
+-- the same after these attempts in order
 abbrev pub failed_after : List Command → List Tried → List Command
 failed_after failed [] = failed
 failed_after failed (one ∷ others) = failed_after (failed_by failed one.command one.result) others
 
--- ---- what stands past the kept rows
+-- ---- what follows the kept rows
 
--- the rows past those that a keeper keeps, where it tells them
+-- the rows after the kept ones, if observable
 abbrev pub past_rows : KeeperState → Option (List (List ℕ))
 past_rows keeper = option_map (λ list. drop keeper.count list) keeper.rows
 
--- the command is one of these
+-- the command is in the list
 abbrev pub IsOneOf : Command → List Command → Type 0
 IsOneOf command [] = ⊥
 IsOneOf command (other ∷ others) = (other ≡ command) ⊎ IsOneOf command others
 
--- a text of a command that the upstream accepts, which is one of these
+-- the text is of a command that the upstream accepts and that is in the list
 pub record IsLeft (up : UpstreamState) (failed : List Command) (text : List ℕ) : Type 0 where
   pub command : Command
   pub spelled : command_in text ≡ Ok command
   pub accepts : IsOk (commanded command up)
   pub one : IsOneOf command failed
 
--- none, or one text of a command that the upstream accepts, which is one of these
+-- there is no text, or one text of a command that the upstream accepts and that is in the list
 abbrev pub AreLeft : UpstreamState → List Command → List (List ℕ) → Type 0
 AreLeft up failed [] = ⊤
 AreLeft up failed (text ∷ []) = IsLeft up failed text
 AreLeft up failed (text ∷ other ∷ texts) = ⊥
 
--- past the kept rows stands at most one, of a command that the upstream accepts and whose put was one of these
+-- at most one row follows the kept ones; it is of a command that the upstream accepts and whose put is one of the failed ones
 abbrev pub LeavesOne : KeptState → List Command → Type 0
 LeavesOne state failed = IfSome (past_rows state.keeper) (AreLeft state.up failed)
 
 -- ---- what each call carries
 
--- a count of faults rose by so many at least, or stands at its end
+-- a fault count rose by at least `n`, or is at its maximum, 2^64 - 1
 abbrev pub RoseBy : ℕ → ℕ → ℕ → Type 0
 RoseBy n before now = min (before + n) (2 ^ 64 - 1) ≤ now
 
--- the acknowledged commands alone changed the upstream, whose versions stand for theirs too, and they are counted
+-- the acknowledged commands alone changed the upstream, all are accepted, its versions now represent them too, and the keeper
+-- counts them
 pub record Moves (tried : List Tried) (before after : KeptState) : Type 0 where
   pub leads : after.up ≡ after_commands (acknowledged tried) before.up
   pub all_accepted : accepted (acknowledged tried) before.up ≡ acknowledged tried
   pub versions : AreAdded (acknowledged tried) before.up after.up
   pub counted : after.keeper.count ≡ before.keeper.count + length (acknowledged tried)
 
--- What holds of an upstream and its keeper holds on, once these were to be kept.
+-- What held for an upstream and its keeper still holds after these attempts.
 pub record Carries (tried : List Tried) (before after : KeptState) : Type 0 where
-  -- the upstream is still the opening one after the kept commands in order
+  -- the upstream is still the initial one after the kept commands in order
   pub stands : (opening : UpstreamState) → IsAfterKept opening before → IsAfterKept opening after
-  -- the acknowledged commands, and no others, changed it, and are kept behind those before
+  -- exactly the acknowledged commands changed it, and follow the earlier kept commands
   pub moves : Moves tried before after
   pub appended : kept_commands after.keeper ≡ option_map (λ commands. commands ++ acknowledged tried) (kept_commands before.keeper)
-  -- past the kept rows stands none, or the text of one command that the upstream accepts; where it is another one than
-  -- before, it is of a command whose put failed and was followed by none that was written
+  -- after the kept rows there is no row, or the text of one command that the upstream accepts; if it differs from before, it
+  -- is of a command whose put failed with no successful put since
   pub left : (failed : List Command) → LeavesOne before failed → LeavesOne after (failed_after failed tried)
-  -- the keeper failed as often at least as commands weren't kept for its faults
+  -- the fault count rose by at least the number of commands not kept because the keeper failed
   pub faults : RoseBy (faults_among tried) before.keeper.faults after.keeper.faults
 
--- some commands were to be kept, one after another, and nothing else changed the upstream and its keeper
+-- some attempts to keep commands were made in order, and nothing else changed the upstream and its keeper
 pub record KeepsSome (before after : KeptState) : Type 0 where
   pub tried : List Tried
   pub keeps : KeepsAll tried before after
 
--- the same, and what held of the upstream and its keeper holds on
+-- the same, and what held for the upstream and its keeper still holds
 pub record HoldsOn (before after : KeptState) : Type 0 where
   pub some : KeepsSome before after
   pub carries : Carries some.tried before after
 
--- a keeper has as many rows as it keeps
+-- there are at least as many rows as are kept
 abbrev pub HasKept : KeeperState → Type 0
 HasKept keeper = IfSome keeper.rows (λ list. keeper.count ≤ length list)
 
--- what calls of an upstream and its keeper carry on, whatever calls and faults these are
+-- any attempts to keep commands, with any faults, preserve what held for an upstream and its keeper
 abbrev pub KeepingCarries : Type 0
 KeepingCarries =
     (tried : List Tried) (before after : KeptState) → HasKept before.keeper → KeepsAll tried before after → Carries tried before after
 
--- calls that follow one another are calls too
+-- attempts after other attempts are attempts too
 abbrev pub KeepingGoesOn : Type 0
 KeepingGoesOn = (first second : List Tried) (before middle after : KeptState) → KeepsAll first before middle → KeepsAll second middle after
     → KeepsAll (first ++ second) before after

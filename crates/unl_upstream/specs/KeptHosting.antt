@@ -1,5 +1,5 @@
--- Links that a door hands out, served one after another by an upstream that keeps its commands. What is not told of a door,
--- of its links or of draws is none.
+-- The links of a door, served one after another by an upstream that keeps its commands. What is not observable of a door, of
+-- its links or of draws is `None`.
 use Rattle.std.specs.Prelude.{◌≡◌, ℕ, ◌+◌, ◌⊎◌, List, [], ◌∷◌, ◌++◌, length, Result, ⊤}
 use Rattle.unl_base.specs.declared.Failed.{Failed}
 use Rattle.unl_exchange.specs.Answering.{Coming}
@@ -16,42 +16,43 @@ use Rattle.unl_upstream.specs.Served.{draws_after}
 use Rattle.unl_upstream.specs.Served.{HostsAllBy, LinkServedBy}
 use Rattle.unl_upstream.specs.Upstream.{UpstreamState}
 
--- A link that gave these bytes was served, and had then sent and failed as it did. So many of its requests were answered,
--- each with the next draw, and what was to be kept of them is all that changed the upstream and its keeper.
+-- A link that gave these bytes was served; the pair is what it had sent, and its fault count. A number of its requests were
+-- answered, each with the next draw. Attempts to keep their commands are all that changed the upstream and its keeper.
 abbrev pub LinkServed : KeptState → Coming → List ℕ → List ℕ × ℕ → KeptState → Coming → Type 0
 LinkServed = LinkServedBy Step Lacks KeepsOn
 
 -- ---- links one after another
 
--- where commands that were to be kept led so far, they lead on
+-- from every state from which attempts to keep commands lead to `before`, attempts also lead to `after`
 abbrev pub GoesOn : KeptState → KeptState → Type 0
 GoesOn before after = (start : KeptState) → KeepsSome start before → KeepsSome start after
 
--- Links that gave these bytes were served one after another, and each had then sent and failed so often.
+-- Links that gave these bytes were served one after another; the pairs are what each had sent, and its fault count.
 abbrev pub Linked : KeptState → Coming → List (List ℕ) → List (List ℕ × ℕ) → KeptState → Coming → Type 0
 Linked = LinkedBy LinkServed
 
--- what stands while links are served: the upstream and its keeper, the draws to come, and the door's links
+-- the state while links are served: the upstream and its keeper, the upcoming draws, and the door's links
 abbrev pub Hosting : Type 0
 Hosting = Linking KeptState
 
--- So many links were handed out, and as many were handed back. Where a door tells its links, each was served.
+-- This number of links were handed out, and as many handed back. If the door's links are observable, each was served.
 abbrev pub Hosts : Hosting → Hosting → ℕ → Type 0
 Hosts = HandsBack LinkServed
 
--- as many links as are answered, or at a fault of the door some
+-- on success the returned number of links were served; if the door failed, some number of them
 abbrev pub HostsAll : Result ℕ Failed → Hosting → Hosting → Type 0
 HostsAll = HostsAllBy LinkServed
 
--- ---- named by the commands that were kept, and by how many draws are gone
+-- ---- the state, described by the kept commands and by the number of draws taken
 
--- The upstream is the opening one after these commands, and its keeper keeps as many more than when it was reopened.
+-- The upstream is `start` after these commands, and its keeper keeps one row for each of them, after the `reopened` rows that
+-- it was reopened with.
 pub record IsNamed (start : UpstreamState) (reopened : ℕ) (commands : List Command) (state : KeptState) : Type 0 where
   pub up : state.up ≡ after_commands commands start
   pub count : state.keeper.count ≡ reopened + length commands
 
--- A link was served. It asked these requests first, as many as were answered; the commands are those of theirs that were
--- accepted and kept. As many draws were taken, and at want of memory perhaps one more.
+-- A link was served. `requests` are its first requests, as many as were answered. `commands` are those of their commands that
+-- were accepted and kept. One draw was taken for each answered request, and perhaps one more if memory ran out.
 pub record LinkNames
     (before : KeptState) (coming : Coming) (bytes : List ℕ) (back : List ℕ × ℕ) (commands : List Command) (taken : ℕ)
     (after : KeptState) (coming_after : Coming) : Type 0 where
@@ -66,8 +67,8 @@ pub record LinkNames
   pub gives : commands ≡ acknowledged (tried_in 0 (serving before 0 coming) requests text reached answered)
   pub takes : (taken ≡ served.count) ⊎ ((served.end ≡ Memory) × (taken ≡ served.count + 1))
 
--- Links were served one after another, the first after these commands from an upstream on and with so many of its draws
--- gone, and the last left those after them: each adds its commands to the commands, and its draws to the draws.
+-- Links were served one after another. The first began after `commands` from `start`, with `gone` draws taken; the last ended
+-- after `commands_after`, with `gone_after` draws taken. Each link adds its commands and its draws to these.
 abbrev pub LinkedByNames :
     UpstreamState → ℕ → Coming → List Command → ℕ → KeptState → List (List ℕ) → List (List ℕ × ℕ) → List Command → ℕ → KeptState → Type 0
 LinkedByNames start reopened coming commands gone state [] [] commands_after gone_after after =
@@ -92,9 +93,9 @@ NoKeeperFaults start reopened coming commands gone state (bytes ∷ links) (back
     NoKeeperFault 0 (serving state 0 (draws_after gone coming)) names.requests names.text names.reached names.answered
     × NoKeeperFaults start reopened coming (commands ++ more) (gone + taken) middle links backs commands_after gone_after after others
 
--- Links were served, and what then stands is named by commands and by draws from an upstream on. What was to be kept of all
--- their requests, in order, is all that changed it and its keeper. Where the keeper failed at none of it, no reply is 503
--- `KeeperFault`.
+-- Links were served, and the state after them is described by commands and draws from `start` on. Attempts to keep the
+-- commands of all their requests, in order, are all that changed the upstream and its keeper. If the keeper failed at none of
+-- them, no reply is 503 `KeeperFault`.
 pub record LinksName
     (start : UpstreamState) (reopened : ℕ) (coming : Coming) (commands : List Command) (gone : ℕ) (state : KeptState)
     (links : List (List ℕ)) (backs : List (List ℕ × ℕ)) (after : KeptState) (coming_after : Coming) : Type 0 where
@@ -109,7 +110,7 @@ pub record LinksName
   pub calm : faults_among tried ≡ 0
       → NoKeeperFaults start reopened coming commands gone state links backs commands_after gone_after after linked
 
--- what links hand on has such names
+-- the state after served links is always described in this way
 abbrev pub KeptLinksNameCommands : Type 0
 KeptLinksNameCommands = (start : UpstreamState) (reopened : ℕ) (coming : Coming) (commands : List Command) (gone : ℕ) (state : KeptState)
     (links : List (List ℕ)) (backs : List (List ℕ × ℕ)) (after : KeptState) (coming_after : Coming)

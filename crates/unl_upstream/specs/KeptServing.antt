@@ -1,4 +1,4 @@
--- What an upstream that keeps its commands does on a connection.
+-- An upstream that keeps its commands, on a connection.
 use Rattle.std.specs.Prelude.{◌≡◌, ◌≢◌, ℕ, ◌+◌, List, [], ◌∷◌, ◌++◌, Option, Some, None, Result, Ok, Err, ⊤}
 use Rattle.unl_base.specs.declared.draws.Draw.{Draw}
 use Rattle.unl_exchange.specs.Answering.{Answerer, Answers, Coming, LacksMemory, answerer}
@@ -17,39 +17,39 @@ use Rattle.unl_upstream.specs.Served.{ServesLinkBy}
 
 -- ---- one request
 
--- the reply to a command that was to be kept
+-- the reply to a command with this result of keeping it
 abbrev pub kept_reply : Result ℕ KeepCommandRefusal → Reply
 kept_reply (Ok number) = numbered number
 kept_reply (Err refusal) = refused refusal
 
--- a command was to be kept, and its reply says what came of it
+-- an attempt was made to keep a command, and the reply states its result
 pub record RepliesTo (command : Command) (before : KeptState) (reply : Reply) (after : KeptState) : Type 0 where
   pub result : Result ℕ KeepCommandRefusal
   pub keeps : Keeps command before result after
   pub found : result ≢ Err Memory
   pub is : reply ≡ kept_reply result
 
--- a request that gives this command, or none, is replied to so
+-- the reply to a request that gives this command, or none
 abbrev pub Tells : Option Command → KeptState → Request → Draw → Reply → KeptState → Type 0
 Tells None before q draw reply after = (after ≡ before) × (upstream_answer before.up q draw ≡ unchanged before.up reply)
 Tells (Some command) before q draw reply after = RepliesTo command before reply after
 
--- a request is answered: its command is kept, where it gives one, and else it is answered as without a keeper
+-- a request is answered: its command, if it gives one, is kept, and any other request is answered as without a keeper
 abbrev pub Gives : KeptState → Request → Draw → Reply → KeptState → Type 0
 Gives before q draw reply after = Tells (command_given before.up.secret q) before q draw reply after
 
--- want of memory changes nothing
+-- running out of memory changes nothing
 abbrev pub GivesUp : KeptState → Request → Draw → KeptState → Type 0
 GivesUp before q draw after = after ≡ before
 
--- what was to be kept of one request
+-- the attempt to keep the command of one request, if it gives one
 abbrev pub tried_of : (given : Option Command) (before : KeptState) (q : Request) (draw : Draw) (reply : Reply) (after : KeptState)
     → Tells given before q draw reply after → List Tried
 tried_of None before q draw reply after tells = []
 tried_of (Some command) before q draw reply after tells = record { command = command; result = tells.result } ∷ []
 
--- A request is answered, and what holds of the upstream and its keeper holds on. Unless the keeper failed at its command the
--- reply isn't 503 `KeeperFault`.
+-- A request is answered, and what held for the upstream and its keeper still holds. Unless the keeper failed at its command,
+-- the reply is not 503 `KeeperFault`.
 pub record CarriesAnswer (before : KeptState) (q : Request) (draw : Draw) (reply : Reply) (after : KeptState) : Type 0 where
   pub gives : Gives before q draw reply after
   pub tried : List Tried
@@ -59,11 +59,11 @@ pub record CarriesAnswer (before : KeptState) (q : Request) (draw : Draw) (reply
 
 -- ---- a connection
 
--- an upstream with its keeper that has answered so many requests of a connection, and the draws to come
+-- an upstream with its keeper, the number of requests of the connection that it has answered, and the upcoming draws
 abbrev pub KeptServing : Type 0
 KeptServing = Answerer KeptState
 
--- these together
+-- these three as one record
 abbrev pub serving : KeptState → ℕ → Coming → KeptServing
 serving state count coming = answerer state count coming
 
@@ -71,11 +71,11 @@ serving state count coming = answerer state count coming
 abbrev pub Step : KeptServing → Request → Reply → KeptServing → Type 0
 Step = Answers Gives
 
--- a draw was taken, and then memory was wanting
+-- a draw was taken, and then memory ran out
 abbrev pub Lacks : KeptServing → Request → KeptServing → Type 0
 Lacks = LacksMemory GivesUp
 
--- what was to be kept of requests that were answered, in order
+-- the attempts to keep the commands of answered requests, in order
 abbrev pub tried_in : (count : ℕ) (before : KeptServing) (qs : List Request) (text : List ℕ) (after : KeptServing)
     → Answered Step count before qs text after → List Tried
 tried_in count before [] text after answered = []
@@ -83,15 +83,15 @@ tried_in count before (q ∷ qs) text after (reply, middle, more, step, split, r
     tried_of (command_given before.state.up.secret q) before.state q step.draw reply middle.state step.given
     ++ tried_in (count + 1) middle qs more after rest
 
--- no reply to requests that were answered is 503 `KeeperFault`
+-- none of the replies to these requests is 503 `KeeperFault`
 abbrev pub NoKeeperFault : (count : ℕ) (before : KeptServing) (qs : List Request) (text : List ℕ) (after : KeptServing)
     → Answered Step count before qs text after → Type 0
 NoKeeperFault count before [] text after answered = ⊤
 NoKeeperFault count before (q ∷ qs) text after (reply, middle, more, step, split, rest) =
     (reply ≢ refused KeeperFault) × NoKeeperFault (count + 1) middle qs more after rest
 
--- In every case so many requests were answered one after another, and what was to be kept of them alone changed the upstream
--- and its keeper. Where the keeper failed at none of it, no reply is 503 `KeeperFault`.
+-- In every case `count` requests were answered in order, and attempts to keep their commands are all that changed the
+-- upstream and its keeper. If the keeper failed at none of them, no reply is 503 `KeeperFault`.
 pub record KeepsOn (before : KeptServing) (end : End) (count : ℕ) (after : KeptServing) : Type 0 where
   pub reaches : Reaches Step Lacks before end after count
   pub tried : List Tried

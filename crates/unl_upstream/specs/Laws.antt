@@ -1,4 +1,4 @@
--- What holds of an upstream after any commands, from its opening on.
+-- Properties that hold for an upstream after any commands, from its initial state on.
 use Rattle.std.specs.Prelude.{◌≡◌, ℕ, List, [], ◌∷◌, is_some}
 use Rattle.std.specs.List.{list_any}
 use Rattle.unl_core.specs.Board.{same_text, snapshot_in}
@@ -9,23 +9,23 @@ use Rattle.unl_upstream.specs.declared.command.Command.{Command}
 use Rattle.unl_upstream.specs.Upstream.{UpstreamState, opening}
 use Rattle.unl_upstream.specs.History.{AreHistories, IsHistoryOf, accepted, after_commands, history_of}
 
--- the line of histories of an upstream that began in an epoch: the one history that these commands make
+-- the line of histories of an upstream that began in this epoch: the one history that these commands make
 abbrev pub line_of : ℕ → List Command → List Era
 line_of epoch commands = record { epoch = epoch; history = history_of commands } ∷ []
 
--- each environment's version stands for the history of its accepted commands, in the epoch of the opening
+-- each environment's version represents the history of its accepted commands, in the epoch that the upstream began with
 abbrev pub VersionsStand : Type 0
 VersionsStand =
     (boot : ℕ) (secret : List ℕ) (environments : List (List ℕ)) (book : List Token) (epoch : ℕ) (commands : List Command)
     → AreHistories epoch (accepted commands (opening boot secret environments book epoch))
     (after_commands commands (opening boot secret environments book epoch))
 
--- a version that stands for such a history stands in its line, seen by who sees all
+-- a version that represents such a history belongs to that line, for a client that sees all projects
 abbrev pub VersionsStandInLines : Type 0
 VersionsStandInLines = (epoch : ℕ) (commands : List Command) (v : EnvVersion) → IsHistoryOf epoch commands v
     → IsLine (line_of epoch commands) × StandsIn (line_of epoch commands) everything v
 
--- an environment has a version exactly where the upstream began with it
+-- an environment has a version exactly if the upstream began with it
 abbrev pub EnvironmentsStay : Type 0
 EnvironmentsStay =
     (boot : ℕ) (secret : List ℕ) (environments : List (List ℕ)) (book : List Token) (epoch : ℕ) (commands : List Command)

@@ -1,4 +1,4 @@
--- What reopening an upstream from its keeper comes to.
+-- The result of reopening an upstream from its keeper.
 use Rattle.std.specs.Prelude.{◌≡◌, ◌≢◌, ◌≤◌, ℕ, ◌+◌, true, List, [], ◌∷◌, ◌++◌, length, take, slice_get, Option, Some, None}
 use Rattle.std.specs.Prelude.{option_and_then, option_map, Result, Ok, Err, IfSome, ⊤}
 use Rattle.unl_keeper.specs.declared.refusal.KeepRefusal.{KeepRefusal}
@@ -13,39 +13,39 @@ use Rattle.unl_upstream.specs.Command.{command_in}
 use Rattle.unl_upstream.specs.Kept.{IsAfterKept, IsOneOf, KeeperState, KeptState, LeavesOne, kept_commands, kept_state}
 use Rattle.unl_upstream.specs.Upstream.{Obeyed, Obeying, UpstreamState, commanded, opening}
 
--- it is an upstream that has accepted nothing
+-- it is an initial upstream, which has applied no command
 abbrev pub IsOpening : UpstreamState → Type 0
 IsOpening up = (boot : ℕ) × (secret : List ℕ) × (environments : List (List ℕ)) × (book : List Token) × (epoch : ℕ)
     × (up ≡ opening boot secret environments book epoch)
 
 -- ---- one row
 
--- the upstream after a command that is accepted
+-- the upstream after a command, if the command is accepted
 abbrev pub if_obeyed : Obeying Obeyed → Option UpstreamState
 if_obeyed (Ok obeyed) = Some obeyed.up
 if_obeyed (Err cause) = None
 
--- the upstream after the command that a text is read as, where it is one and is accepted
+-- the upstream after the command that a text is read as, if it is one and is accepted
 abbrev pub after_reading : UpstreamState → Reading Command → Option UpstreamState
 after_reading up (Ok command) = if_obeyed (commanded command up)
 after_reading up (Err fault) = None
 
--- the upstream after the command of a row; none where the row is no command or its command is refused
+-- the upstream after the command of a row; `None` if the row is no command or its command is refused
 unfoldable pub row_after : List ℕ → UpstreamState → Option UpstreamState
 row_after text up = after_reading up (command_in text)
 
--- the same after rows, one after another
+-- the upstream after several rows, applied in order
 abbrev pub rows_after : List (List ℕ) → UpstreamState → Option UpstreamState
 rows_after [] up = Some up
 rows_after (text ∷ texts) up = option_and_then (rows_after texts) (row_after text up)
 
--- a text that the keeper gave behind so many others, the row there where it is told, leads further
+-- the keeper returned the text of the row after the first `before` ones, and applying it to `up` results in `after`
 pub record TakesRow (before : ℕ) (rows : Option (List (List ℕ))) (up after : UpstreamState) : Type 0 where
   pub text : List ℕ
   pub there : IfSome rows (λ list. slice_get list before ≡ Some text)
   pub leads : row_after text up ≡ Some after
 
--- why the row behind so many others was not applied
+-- why the row after the first `before` ones was not applied
 abbrev pub Bars : ℕ → Option (List (List ℕ)) → ℕ → ℕ → UpstreamState → ReopenFault → Type 0
 Bars before rows faults faults_after up (BadRow place text) = (place ≡ before + 1) × (row_after text up ≡ None)
     × IfSome rows (λ list. slice_get list before ≡ Some text)
@@ -53,28 +53,28 @@ Bars before rows faults faults_after up (NoRow place) = (place ≡ before + 1) �
 Bars before rows faults faults_after up Fault = Rose faults faults_after
 Bars before rows faults faults_after up Memory = ⊤
 
--- a refusal of the keeper, where its rows are applied
+-- the fault that a refusal of the keeper becomes on reopening
 abbrev pub fault_of : KeepRefusal → ReopenFault
 fault_of put_refusal.Fault = Fault
 fault_of put_refusal.Memory = Memory
 
 -- ---- all rows
 
--- So many texts that the keeper gave, the first rows where these are told, lead from the opening upstream to this one.
+-- The keeper returned `count` texts, the first rows if these are observable. Applying them to `opening` results in `up`.
 pub record Applies (opening : UpstreamState) (rows : Option (List (List ℕ))) (count : ℕ) (up : UpstreamState) : Type 0 where
   pub texts : List (List ℕ)
   pub counted : length texts ≡ count
   pub first : IfSome rows (λ list. texts ≡ take count list)
   pub leads : rows_after texts opening ≡ Some up
 
--- what stands of the keeper in every case: its rows are as before, and where it was opened it is
+-- in every case the keeper's rows are unchanged, it stays open if it was, and its fault count does not fall
 pub record IsSameKeeper (before after : KeeperState) : Type 0 where
   pub rows : after.rows ≡ before.rows
   pub stays : before.opened ≡ true → after.opened ≡ true
   pub later : before.faults ≤ after.faults
 
--- The keeper is open, and all its rows are kept and were applied: the upstream is the opening one after the kept commands,
--- past which nothing stands.
+-- The keeper is open, and all its rows are kept and were applied. The upstream is the initial one after the kept commands,
+-- and no row follows these.
 pub record Reopened (before : KeptState) (count : ℕ) (after : KeptState) : Type 0 where
   pub opened : after.keeper.opened ≡ true
   pub counted : count ≡ after.keeper.count
@@ -83,12 +83,12 @@ pub record Reopened (before : KeptState) (count : ℕ) (after : KeptState) : Typ
   pub stands : IsAfterKept before.up after
   pub left : LeavesOne after []
 
--- the rows before a place, from 1, were applied
+-- the rows before row `place` were applied, and `At` holds for their number
 abbrev pub Before : KeptState → ℕ → KeptState → (ℕ → Type 0) → Type 0
 Before before place after At = (count : ℕ) × (place ≡ count + 1) × (place ≤ after.keeper.count)
     × Applies before.up after.keeper.rows count after.up × At count
 
--- what reopening came to
+-- the result of reopening
 abbrev pub Reopens : KeptState → Result ℕ ReopenFault → KeptState → Type 0
 Reopens before (Ok count) after = Reopened before count after
 Reopens before (Err (BadRow place text)) after = Before before place after
@@ -100,13 +100,13 @@ Reopens before (Err Memory) after = (count : ℕ) × Applies before.up after.kee
 
 -- ---- reopening what was kept
 
--- none, or one of these
+-- the list is empty, or has one command, which is among the failed ones
 abbrev pub IsAtMostOne : List Command → List Command → Type 0
 IsAtMostOne [] failed = ⊤
 IsAtMostOne (command ∷ []) failed = IsOneOf command failed
 IsAtMostOne (command ∷ other ∷ commands) failed = ⊥
 
--- The kept commands were applied, or these and one more, which is one of those whose put failed; and each of them is kept.
+-- The kept commands were applied, or these and one more, whose put had failed. All of them are now kept.
 pub record GivesBack
     (before : KeptState) (failed : List Command) (fresh : UpstreamState) (result : Result ℕ ReopenFault)
     (reopened : KeptState) : Type 0 where
@@ -117,8 +117,8 @@ pub record GivesBack
   pub commands : kept_commands reopened.keeper ≡ option_map (λ kept. kept ++ more) (kept_commands before.keeper)
   pub stands : IsAfterKept fresh reopened
 
--- Where an upstream is the opening one after the kept commands, and past them stands one at most whose put failed, then
--- reopening the keeper with an opening upstream of the same environments and epoch gives these back.
+-- If an upstream is the initial one after the kept commands, and at most one row of a failed put follows them, then reopening
+-- the keeper with an initial upstream of the same slots restores these.
 abbrev pub ReopeningGivesBack : Type 0
 ReopeningGivesBack = (opening fresh : UpstreamState) (before reopened : KeptState) (keeper : KeeperState) (failed : List Command)
     (rows : List (List ℕ)) (result : Result ℕ ReopenFault) → fresh.board.slots ≡ opening.board.slots

@@ -8,16 +8,16 @@ use Rattle.unl_upstream.specs.declared.command.Command.{Command}
 use Rattle.unl_upstream.specs.Answer.{names_commands}
 use Rattle.unl_upstream.specs.Command.{command_in}
 
--- the command that was read, if one was
+-- the command that was read, if any
 abbrev pub if_read : Reading Command → Option Command
 if_read (Ok command) = Some command
 if_read (Err fault) = None
 
--- the command of a body, if the secret is shown
+-- the command of a body, if the request shows the secret
 abbrev pub shown_with : List ℕ → Request → Option (List ℕ) → Option Command
 shown_with secret q None = None
 shown_with secret q (Some token) = if bytes_eq token secret then if_read (command_in q.body) else None
 
--- the command that a request gives, if it gives one
+-- the command that a request gives, if any
 abbrev pub command_given : List ℕ → Request → Option Command
 command_given secret q = if names_commands (route_of q.target) && is_post q.method then shown_with secret q q.token else None

@@ -1,4 +1,4 @@
--- Links that were served, by whoever answers their requests. `Changes before end count after` is what so many answers changed.
+-- Served links, for any request handler. `Changes before end count after` is what `count` answers changed.
 use Rattle.std.specs.Prelude.{◌≡◌, ℕ, List, [], Option, Some, Result, Ok, Err, drop, option_map}
 use Rattle.unl_base.specs.Faults.{Rose}
 use Rattle.unl_base.specs.declared.Failed.{Failed}
@@ -11,11 +11,11 @@ use Rattle.unl_http_api.specs.declared.end.End.TheVariants.{ReadFault, WriteFaul
 use Rattle.unl_http_api.specs.declared.reply.Reply.{Reply}
 use Rattle.unl_http_api.specs.declared.request.Request.{Request}
 
--- the draws to come once so many are gone; where they aren't told, nothing is told
+-- the draws to come after `gone` of them were taken; where the draws are not observable, neither are these
 abbrev pub draws_after : ℕ → Coming → Coming
 draws_after gone coming = option_map (λ told. (drop gone told.0, told.1)) coming
 
--- a link was served: so many requests were answered, and this changed
+-- a link was served: `count` of its requests were answered, with these changes
 pub record ServesLinkBy
     {S : Type 0} (Step : Answerer S → Request → Reply → Answerer S → Type 0) (Lacks : Answerer S → Request → Answerer S → Type 0)
     (Changes : Answerer S → End → ℕ → Answerer S → Type 0) (before : S) (coming : Coming) (link link_after : LinkState) (after : S)
@@ -25,8 +25,8 @@ pub record ServesLinkBy
   pub conversation : Converses Step Lacks link (answerer before 0 coming) end (answerer after count coming_after) count link_after
   pub changes : Changes (answerer before 0 coming) end count (answerer after count coming_after)
 
--- A link that gave these bytes was served, and had then sent and failed as it did. So many of its requests were answered,
--- each with the next draw, and this changed.
+-- A link that gave these bytes was served; `back` is what it had sent, and its fault count. `count` of its requests were
+-- answered, each with the next draw, with these changes.
 pub record LinkServedBy
     {S : Type 0} (Step : Answerer S → Request → Reply → Answerer S → Type 0) (Lacks : Answerer S → Request → Answerer S → Type 0)
     (Changes : Answerer S → End → ℕ → Answerer S → Type 0) (before : S) (coming : Coming) (bytes : List ℕ) (back : List ℕ × ℕ)
@@ -42,8 +42,8 @@ pub record LinkServedBy
   pub read_cause : end ≡ ReadFault → Rose 0 back.1
   pub write_cause : end ≡ WriteFault → Rose 0 back.1
 
--- As many links as are answered were handed out, or at a fault of the door some, and as many were handed back. Where a door tells
--- its links, each was served so.
+-- On success the returned number of links were handed out, and as many handed back; if the door failed, some number of them.
+-- If the door's links are observable, each was served as `LinkServed` says.
 abbrev pub HostsAllBy :
     {S : Type 0} → (S → Coming → List ℕ → List ℕ × ℕ → S → Coming → Type 0) → Result ℕ Failed → Linking S → Linking S → Type 0
 HostsAllBy LinkServed (Ok served) before after = HandsBack LinkServed before after served

@@ -1,4 +1,4 @@
--- What an upstream does on a connection: each request is answered, and the commands among them are obeyed in their order.
+-- An upstream on a connection: each request is answered, and its command, if it gives one, is applied, in order.
 use Rattle.std.specs.Prelude.{◌≡◌, ℕ, List, [], ◌∷◌, ◌++◌, length, option_to_list}
 use Rattle.unl_base.specs.declared.draws.Draw.{Draw}
 use Rattle.unl_exchange.specs.Answering.{Answerer, Answers, Coming, LacksMemory, answerer}
@@ -12,19 +12,19 @@ use Rattle.unl_upstream.specs.Upstream.{UpstreamState}
 
 -- ---- one request
 
--- a request is answered, and this stands then
+-- a request is answered with this reply, which leaves this upstream
 abbrev pub Gives : UpstreamState → Request → Draw → Reply → UpstreamState → Type 0
 Gives up q draw given up_after = upstream_answer up q draw ≡ record { reply = given; up = up_after }
 
--- want of memory changes nothing
+-- running out of memory changes nothing
 abbrev pub GivesUp : UpstreamState → Request → Draw → UpstreamState → Type 0
 GivesUp up q draw up_after = up_after ≡ up
 
--- an upstream that has answered so many requests of a connection, and the draws to come
+-- an upstream, the number of requests of the connection that it has answered, and the upcoming draws
 abbrev pub Serving : Type 0
 Serving = Answerer UpstreamState
 
--- these together
+-- these three as one record
 abbrev pub serving : UpstreamState → ℕ → Coming → Serving
 serving up count coming = answerer up count coming
 
@@ -32,7 +32,7 @@ serving up count coming = answerer up count coming
 abbrev pub Step : Serving → Request → Reply → Serving → Type 0
 Step = Answers Gives
 
--- a draw was taken, and then memory was wanting
+-- a draw was taken, and then memory ran out
 abbrev pub Lacks : Serving → Request → Serving → Type 0
 Lacks = LacksMemory GivesUp
 
@@ -43,8 +43,8 @@ abbrev pub commands_given : List ℕ → List Request → List Command
 commands_given secret [] = []
 commands_given secret (q ∷ qs) = option_to_list (command_given secret q) ++ commands_given secret qs
 
--- So many requests were answered, and what then stands is what their commands leave. The versions stand for those too that
--- were accepted.
+-- `count` requests were answered, and their commands are all that changed the upstream. Its versions now represent those too
+-- that were accepted.
 pub record Obeys (up : UpstreamState) (count : ℕ) (up_after : UpstreamState) : Type 0 where
   pub requests : List Request
   pub counted : length requests ≡ count

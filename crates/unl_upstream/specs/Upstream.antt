@@ -1,4 +1,4 @@
--- An upstream: how it begins, and what each command does to it. The limits and the refusals are chosen by this project.
+-- An upstream: its initial state, and the effect of each command. The limits and the refusals are chosen by this project.
 use Rattle.std.specs.Prelude.{◌≡◌, true, false, ℕ, ◌+◌, ◌-◌, ◌^◌, ◌==◌, ◌||◌, nat_lt, List, [], ◌∷◌, length, map, Bool, if◌then◌else◌}
 use Rattle.std.specs.Prelude.{All, Some, is_some, ok_or, Result, Ok, Err}
 use Rattle.std.specs.List.{list_any}
@@ -27,120 +27,120 @@ use Rattle.unl_upstream.specs.declared.refusal.KeepCommandRefusal.{KeepCommandRe
 use Rattle.unl_upstream.specs.declared.refusal.KeepCommandRefusal.TheVariants as keep
 use Rattle.unl_upstream.specs.Command.{environment_of}
 
--- the board that is answered over, and what shows that a command may be given
+-- the board that requests are answered from, and the secret that allows a request to give commands
 pub record UpstreamState : Type 0 where
   pub board : Board
   pub secret : List ℕ
 
--- the environments of slots have names within the limits
+-- the environments of the slots have names within the limits
 abbrev pub AreNamed : List Slot → Type 0
 AreNamed slots = All IsName (names_of slots)
 
--- ---- how it begins
+-- ---- the initial state
 
--- an environment with nothing in it, at the number 0 of an epoch
+-- the initial slot of an environment: an empty version, at number 0 of the epoch
 abbrev pub opening_slot : ℕ → List ℕ → Slot
 opening_slot epoch environment = record { environment = environment; snapshot = Some (empty_at epoch) }
 
--- a board of these environments with an empty host, on which the book was published once
+-- the initial board: these environments, an empty host, and the book published once
 abbrev pub opening_board : ℕ → List (List ℕ) → List Token → ℕ → Board
 opening_board boot environments book epoch =
     with_tokens book (record { boot = boot; host = []; generation = 0; book = []; slots = map (opening_slot epoch) environments })
 
--- an upstream that was given no command
+-- the initial upstream, before any command
 abbrev pub opening : ℕ → List ℕ → List (List ℕ) → List Token → ℕ → UpstreamState
 opening boot secret environments book epoch = record { board = opening_board boot environments book epoch; secret = secret }
 
--- ---- what a command comes to at a version
+-- ---- the event of a command
 
--- a reading of a command at a version: what comes of it, or why it is refused
+-- the result of a command, or why it is refused
 abbrev pub Obeying : Type 0 → Type 0
 Obeying T = Result T CommandRefusal
 
--- an environment has so many features at most
+-- the maximum number of features in an environment
 abbrev pub most_features : ℕ
 most_features = 10000
 
--- an environment has so many segments at most
+-- the maximum number of segments in an environment
 abbrev pub most_segments : ℕ
 most_segments = 1000
 
--- the last number that a version may have
+-- the last version number
 abbrev pub last_number : ℕ
 last_number = 2 ^ 64 - 1
 
--- the feature has this name
+-- whether the feature has this name
 abbrev pub is_named : List ℕ → Feature → Bool
 is_named name feature = bytes_eq feature.name name
 
--- a feature has this name
+-- whether any feature has this name
 abbrev pub has_feature : List ℕ → List Feature → Bool
 has_feature name features = is_some (project_of name features)
 
--- a segment has this id
+-- whether any segment has this id
 abbrev pub has_segment : ℕ → List Segment → Bool
 has_segment id segments = list_any (λ segment. segment.id == id) segments
 
--- there is room for what stands already, and for a new one below the limit
+-- there is room if the item exists already, or the count is below the maximum
 abbrev pub room_for : Bool → ℕ → ℕ → Obeying (Unit {0})
 room_for stands most count = if stands || nat_lt count most then Ok tt else Err (TooMany count)
 
--- what is asked for stands
+-- the item to remove must exist
 abbrev pub found : Bool → CommandRefusal → Obeying (Unit {0})
 found stands refusal = if stands then Ok tt else Err refusal
 
--- the number above
+-- the next version number, or a refusal at the last one
 abbrev pub number_after : ℕ → Obeying ℕ
 number_after n = if n == last_number then Err (TooMany n) else Ok (n + 1)
 
--- a feature is put in place of the one of its name, or beside the others
+-- the event that adds a feature, or replaces the one with the same name
 unfoldable pub feature_put : Feature → EnvVersion → Obeying Event
 feature_put feature v = do
   room ← room_for (has_feature feature.name v.state.features) most_features (length v.state.features)
   number ← number_after v.number
   Ok (FeatureUpdated number feature)
 
--- a feature is removed, from the project that it has
+-- the event that removes a feature, with the project of that feature
 unfoldable pub feature_removed : List ℕ → EnvVersion → Obeying Event
 feature_removed name v = do
   project ← ok_or (project_of name v.state.features) NoSuchFeature
   number ← number_after v.number
   Ok (FeatureRemoved number name project)
 
--- a segment is put in place of the one of its id, or beside the others
+-- the event that adds a segment, or replaces the one with the same id
 unfoldable pub segment_put : Segment → EnvVersion → Obeying Event
 segment_put segment v = do
   room ← room_for (has_segment segment.id v.state.segments) most_segments (length v.state.segments)
   number ← number_after v.number
   Ok (SegmentUpdated number segment)
 
--- a segment is removed
+-- the event that removes a segment
 unfoldable pub segment_removed : ℕ → EnvVersion → Obeying Event
 segment_removed id v = do
   stands ← found (has_segment id v.state.segments) NoSuchSegment
   number ← number_after v.number
   Ok (SegmentRemoved number id)
 
--- the event that a command comes to, one number above the version's
+-- the event of a command at a version, numbered one above it
 abbrev pub event_of : Command → EnvVersion → Obeying Event
 event_of (PutFeature environment feature) v = feature_put feature v
 event_of (RemoveFeature environment name) v = feature_removed name v
 event_of (PutSegment environment segment) v = segment_put segment v
 event_of (RemoveSegment environment id) v = segment_removed id v
 
--- an event is a change within the limits, one number above the version's
+-- the event is a change within the limits, numbered one above the version
 pub record IsNext (v : EnvVersion) (event : Event) : Type 0 where
   pub change : is_change event ≡ true
   pub number : number_of event ≡ v.number + 1
   pub valid : IsValidEvent event
 
--- ---- what a command does to an upstream
+-- ---- the effect of a command on an upstream
 
--- a place with this version, which is not held
+-- a place with this version, not held
 abbrev pub place_with : EnvVersion → Place
 place_with v = record { version = Some v; held = false }
 
--- the batch of one event, for one who has the version
+-- the batch of one event, for a client at this version
 abbrev pub batch_of : EnvVersion → Event → Batch
 batch_of v event = record { epoch = v.epoch; after = Some v.number; events = event ∷ [] }
 
@@ -148,14 +148,14 @@ batch_of v event = record { epoch = v.epoch; after = Some v.number; events = eve
 abbrev pub version_after : EnvVersion → Event → EnvVersion
 version_after v event = next_version (place_with v) (batch_of v event)
 
--- the slot, the number and the version that a command comes to, and the slots that these were made from
+-- a prepared command: the slot, the new number, the new version, and the slots that it was prepared from
 pub record Prepared : Type 0 where
   pub slot : ℕ
   pub number : ℕ
   pub snapshot : EnvVersion
   pub from : List Slot
 
--- what a command comes to at an upstream
+-- the prepared command: the new version of its environment, not yet published
 unfoldable pub prepared : Command → UpstreamState → Obeying Prepared
 prepared command up = do
   slot ← ok_or (place_in (environment_of command) up.board.slots) NoSuchEnvironment
@@ -163,22 +163,22 @@ prepared command up = do
   event ← event_of command version
   Ok (record { slot = slot; number = number_of event; snapshot = version_after version event; from = up.board.slots })
 
--- the version is published at its slot; all else stays
+-- publishes the new version in its slot; the rest of the upstream is unchanged
 abbrev pub committed : Prepared → UpstreamState → UpstreamState
 committed ready up = record up { board = with_snapshot ready.slot ready.snapshot up.board }
 
--- the upstream after a command, and the new number of the command's environment
+-- the upstream after a command, and the new version number of the command's environment
 pub record Obeyed : Type 0 where
   pub up : UpstreamState
   pub number : ℕ
 
--- what a command does: the first refusal that fits, or else the event is published
+-- the effect of a command: the first refusal that applies, or else its event is published
 unfoldable pub commanded : Command → UpstreamState → Obeying Obeyed
 commanded command up = do
   ready ← prepared command up
   Ok (record { up = committed ready up; number = ready.number })
 
--- a refusal of a command, where it is to be kept
+-- the refusal of a command, as that of a command to be kept
 abbrev pub refused_as : CommandRefusal → KeepCommandRefusal
 refused_as NoSuchEnvironment = keep.NoSuchEnvironment
 refused_as NoSuchFeature = keep.NoSuchFeature

@@ -1,4 +1,4 @@
--- What a command is written as. A `put` keeps the keys in byte order.
+-- The JSON form of a command. A `put` keeps the keys in byte order.
 use Rattle.std.specs.Prelude.{ℕ, List, codes}
 use Rattle.serde_json.specs.Data.{Data, Members, no_members, object, string}
 use Rattle.serde_json.specs.Written.{compact_text}
@@ -9,11 +9,11 @@ use Rattle.unl_upstream.specs.declared.command.Command.{Command}
 use Rattle.unl_upstream.specs.declared.command.Command.TheVariants.{PutFeature, RemoveFeature, PutSegment, RemoveSegment}
 use Rattle.unl_upstream.specs.Command.{environment_of}
 
--- the word of a command and its environment, put into what else it has
+-- the members, with the command word and the environment added
 abbrev pub with_head : List ℕ → List ℕ → Members → Members
 with_head word environment members = with field.Command (string word) (with field.Environment (string environment) members)
 
--- a command as it is written
+-- the JSON value of a command
 unfoldable pub command_data : Command → Data
 command_data (PutFeature environment feature) =
     object (with_head (codes "put-feature") environment (with field.Feature (feature_data feature) no_members))
@@ -24,17 +24,17 @@ command_data (PutSegment environment segment) =
 command_data (RemoveSegment environment id) =
     object (with_head (codes "remove-segment") environment (with field.Id (count id) no_members))
 
--- the text that a command is kept as: what it is written as, in JSON
+-- the text that a command is kept as: its JSON value in compact form
 unfoldable pub command_text : Command → List ℕ
 command_text command = compact_text (command_data command)
 
--- the name that is removed, where one is, is a name within the limits
+-- if the command removes a feature, the feature's name is within the limits of names
 abbrev pub RemovesName : Command → Type 0
 RemovesName (PutFeature environment feature) = Unit {0}
 RemovesName (RemoveFeature environment name) = IsName name
 RemovesName (PutSegment environment segment) = Unit {0}
 RemovesName (RemoveSegment environment id) = Unit {0}
 
--- the environment, and the name that is removed, are names within the limits
+-- the environment, and the name of a removed feature, are within the limits of names
 abbrev pub HasNames : Command → Type 0
 HasNames command = IsName (environment_of command) × RemovesName command

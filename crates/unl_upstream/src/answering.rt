@@ -1,4 +1,4 @@
-//! What an upstream answers a request.
+//! The reply of an upstream to a request.
 ghost use Rattle.std.specs.Prelude.{◌≡◌, IfOk, OnErr, option_to_list};
 ghost use Rattle.serde_json.specs.Data.{object, no_members};
 ghost use Rattle.serde_json.specs.View.{view};
@@ -29,11 +29,11 @@ use unl_documents::{BadDocument, Field, List, Memory};
 use unl_http_api::{Reply, Request, Route, is_post};
 
 impl Upstream {
-    /// Answers a request: a command is obeyed where it comes with the secret, and any other request is answered as Edge
-    /// does, over the upstream's board.
+    /// Answers a request. A command that comes with the secret is applied. Any other request is answered as Edge does, from
+    /// the upstream's board.
     ///
     /// # Errors
-    /// Want of memory. The upstream is then as before.
+    /// `Memory`: out of memory. The upstream is then unchanged.
     pub fn answer(&mut self, alloc: Global, request: &Request, draw: &Draw) -> Result<Reply, Memory>
         ensures answer { IfOk result (λ reply. upstream_answer self.old request.now draw.entry.now
             ≡ record { reply = reply; up = self.new }) }
@@ -57,7 +57,7 @@ impl Upstream {
         }
     }
 
-    /// What a request orders.
+    /// Returns what a request asks for.
     #[tactic(auto, unfolding(crate::specs::Answer::order_of))]
     pub(crate) fn order_of(
         &self,
@@ -75,7 +75,7 @@ impl Upstream {
         Ok(Order::Reply(answer.reply))
     }
 
-    /// What a request at the route of commands orders.
+    /// Returns what a request on the route of commands asks for.
     fn order_at(&self, alloc: Global, request: &Request) -> Result<Order, Memory>
         ensures order { IfOk result (λ order. order ≡ order_at self.now request.now) }
         ensures valid { IfOk result IsValidOrder }
@@ -92,7 +92,7 @@ impl Upstream {
         order_in(alloc, request.body.as_slice())
     }
 
-    /// Obeys a command once its reply is made.
+    /// Applies a command. The reply is built before the command is committed, so that running out of memory changes nothing.
     #[tactic(auto, unfolding(crate::specs::Upstream::commanded))]
     fn obey(&mut self, alloc: Global, command: &Command) -> Result<Reply, Memory>
         requires { IsValidCommand command.now }
@@ -111,7 +111,7 @@ impl Upstream {
     }
 }
 
-/// What the body of a request that shows the secret orders.
+/// Returns what the body of a request asks for, after the request has shown the secret.
 fn order_in(alloc: Global, body: &[u8]) -> Result<Order, Memory>
     ensures order { IfOk result (λ order. order ≡ order_in (command_in body.now)) }
     ensures valid { IfOk result IsValidOrder }
@@ -123,7 +123,7 @@ fn order_in(alloc: Global, body: &[u8]) -> Result<Order, Memory>
     }
 }
 
-/// Whether a target is the route of commands.
+/// Returns whether a target is the route of commands.
 fn names_commands(alloc: Global, target: &[u8]) -> Result<bool, Memory>
     ensures { IfOk result (λ is. is ≡ names_commands (route_of target.now)) }
 {
@@ -133,7 +133,7 @@ fn names_commands(alloc: Global, target: &[u8]) -> Result<bool, Memory>
     }
 }
 
-/// The reply with the new number of an environment.
+/// Returns the reply with the new version number of an environment.
 pub(crate) fn numbered(alloc: Global, number: u64) -> Result<Reply, Memory>
     ensures { IfOk result (λ reply. reply ≡ numbered number) }
 {
@@ -141,6 +141,7 @@ pub(crate) fn numbered(alloc: Global, number: u64) -> Result<Reply, Memory>
     made(alloc, StatusCode::OK, &body)
 }
 
+/// Returns an object with the member `number`.
 fn number_object(alloc: Global, number: u64) -> Result<Value, Memory>
     ensures { IfOk result (λ v. view v ≡ object (with field.Number (count number) no_members)) }
 {
@@ -149,7 +150,7 @@ fn number_object(alloc: Global, number: u64) -> Result<Value, Memory>
     Ok(Value::Object(members))
 }
 
-/// The reply to a command that is refused or not kept.
+/// Returns the reply to a command that is refused or not kept.
 pub(crate) fn refused(alloc: Global, refusal: KeepCommandRefusal) -> Result<Reply, Memory>
     ensures { IfOk result (λ reply. reply ≡ refused refusal) }
 {

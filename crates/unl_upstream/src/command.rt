@@ -1,23 +1,24 @@
+//! The commands of an upstream.
 ghost use Rattle.std.specs.Prelude.{◌≡◌};
 ghost use Rattle.unl_upstream.specs.Command.{environment_of};
 
 use unl_documents::{Feature, Segment, Text};
 
-/// What an upstream is told to change in one of its environments.
+/// A change to one environment of an upstream.
 #[derive(Drop)]
 pub enum Command {
-    /// The feature takes the place of the one of its name, or stands beside the others.
+    /// Adds the feature, or replaces the one with the same name.
     PutFeature { environment: Text, feature: Feature },
-    /// The feature of that name goes.
+    /// Removes the feature with this name.
     RemoveFeature { environment: Text, name: Text },
-    /// The segment takes the place of the one of its id, or stands beside the others.
+    /// Adds the segment, or replaces the one with the same id.
     PutSegment { environment: Text, segment: Segment },
-    /// The segment of that id goes.
+    /// Removes the segment with this id.
     RemoveSegment { environment: Text, id: u64 },
 }
 
 impl Command {
-    /// The environment that it is for. Takes no memory.
+    /// Returns the environment that the command is for. Allocates nothing.
     pub fn environment(&self) -> &str
         ensures { result.now ≡ environment_of self.now }
     {

@@ -1,4 +1,4 @@
-//! The event that a command comes to at a version.
+//! Turns a command into the next event of an environment, at its current version.
 ghost use Rattle.std.specs.Prelude.{◌≡◌, IfOk, OnOk, find, option_map};
 ghost use Rattle.unl_delta.specs.State.{project_of};
 ghost use Rattle.unl_delta.specs.Valid.{IsValidVersion};
@@ -18,13 +18,13 @@ use unl_delta::keyed::found_in_series;
 use unl_delta::{EnvVersion, Event};
 use unl_documents::{Copied, Feature, Segment, Shared, Text};
 
-/// An environment has so many features at most.
+/// The maximum number of features in an environment.
 const MOST_FEATURES: usize = 10_000;
 
-/// An environment has so many segments at most.
+/// The maximum number of segments in an environment.
 const MOST_SEGMENTS: usize = 1_000;
 
-/// The event that a command comes to, one number above the version's.
+/// Returns the event of a command at a version. Its number is one above the version's.
 pub(crate) fn event_of(
     alloc: Global,
     command: &Command,
@@ -44,6 +44,7 @@ pub(crate) fn event_of(
     }
 }
 
+/// Returns the event that adds a feature, or replaces the one with the same name.
 #[tactic(auto, unfolding(crate::specs::Upstream::feature_put))]
 fn put_feature(
     alloc: Global,
@@ -64,6 +65,7 @@ fn put_feature(
     Ok(Event::FeatureUpdated { number, feature })
 }
 
+/// Returns the event that removes a feature, with the feature's project.
 #[tactic(auto, using(crate::proofs::Next::named_within), unfolding(crate::specs::Upstream::feature_removed))]
 fn remove_feature(alloc: Global, name: &Text, version: &EnvVersion) -> Result<Event, CommandRefusal>
     requires { IsValidVersion version.now }
@@ -82,6 +84,7 @@ fn remove_feature(alloc: Global, name: &Text, version: &EnvVersion) -> Result<Ev
     })
 }
 
+/// Returns the event that adds a segment, or replaces the one with the same id.
 #[tactic(auto, unfolding(crate::specs::Upstream::segment_put))]
 fn put_segment(
     alloc: Global,
@@ -101,6 +104,7 @@ fn put_segment(
     Ok(Event::SegmentUpdated { number, segment })
 }
 
+/// Returns the event that removes a segment.
 #[tactic(auto, unfolding(crate::specs::Upstream::segment_removed))]
 fn remove_segment(id: u64, version: &EnvVersion) -> Result<Event, CommandRefusal>
     ensures gives { result ≡ segment_removed id version.now }
@@ -113,14 +117,14 @@ fn remove_segment(id: u64, version: &EnvVersion) -> Result<Event, CommandRefusal
     Ok(Event::SegmentRemoved { number, id })
 }
 
-/// The number above.
+/// Returns the number plus one, or `TooMany` if it is the last one.
 fn number_after(number: u64) -> Result<u64, CommandRefusal>
     ensures { result ≡ number_after number }
 {
     number.checked_add(1).ok_or(CommandRefusal::TooMany(number))
 }
 
-/// The project of the feature of a name.
+/// Returns the project of the feature with this name.
 fn project_of<'a>(name: &Text, version: &'a EnvVersion) -> Option<&'a Text>
     requires { IsValidVersion version.now }
     ensures { option_map (λ t. t.now) result ≡ project_of name.now version.now.state.features }
@@ -131,6 +135,7 @@ fn project_of<'a>(name: &Text, version: &'a EnvVersion) -> Option<&'a Text>
     }
 }
 
+/// Returns the feature with this name.
 fn feature_named<'a>(name: &Text, version: &'a EnvVersion) -> Option<&'a Feature>
     requires { IsValidVersion version.now }
     ensures { option_map (λ f. f.now) result ≡ find (is_named name.now) version.now.state.features }
@@ -138,7 +143,7 @@ fn feature_named<'a>(name: &Text, version: &'a EnvVersion) -> Option<&'a Feature
     found_in_series(&version.state.features, name)
 }
 
-/// Whether a feature has this name.
+/// Returns whether a feature has this name.
 fn has_feature(name: &Text, version: &EnvVersion) -> bool
     requires { IsValidVersion version.now }
     ensures { result ≡ has_feature name.now version.now.state.features }
@@ -146,7 +151,7 @@ fn has_feature(name: &Text, version: &EnvVersion) -> bool
     project_of(name, version).is_some()
 }
 
-/// Whether a segment has this id.
+/// Returns whether a segment has this id.
 fn has_segment(id: u64, segments: &[Shared<Segment>]) -> bool
     ensures { result ≡ has_segment id segments.now }
 {

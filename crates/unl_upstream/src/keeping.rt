@@ -1,4 +1,4 @@
-//! A command is written down before it is published.
+//! Keeps a command: its text is stored before it is published.
 ghost use Rattle.std.specs.Prelude.{◌≡◌, ◌≢◌, ◌<◌, true, [], ◌∷◌, Ok, Err, IfOk, IfErr, OnOk};
 ghost use Rattle.unl_upstream.specs.Command.{IsValidCommand, command_in};
 ghost use Rattle.unl_upstream.specs.Kept.{Carries, Keeps, Puts, kept_state, keeper_by, with_room};
@@ -15,23 +15,23 @@ use std::alloc::Global;
 use unl_documents::{Memory, Text};
 use unl_keeper::{KeepRefusal, Keeper};
 
-/// A keeper keeps so many commands at most.
+/// The maximum number of commands that a keeper keeps.
 const MOST_ROWS: u64 = 10_000_000;
 
-/// A command that is accepted and for which a keeper has room: what it comes to, and the text that it is kept as.
+/// An accepted command for which the keeper has room: the prepared command, and the text to store.
 #[derive(Drop)]
 pub(crate) struct Awaiting {
     pub ready: Ready,
     pub text: Text,
 }
 
-/// Keeps a command: what it comes to is prepared, its text is written down by the keeper, and only then it is published. It
-/// answers the new number of its environment, one above the old.
+/// Keeps a command: prepares it, stores its text with the keeper, and only then publishes it. Returns the new version number
+/// of its environment, one above the old.
 ///
 /// # Errors
-/// The first refusal that fits; `KeeperFull` where none of them does and the keeper keeps 10,000,000 commands or more;
-/// `KeeperFault` where the keeper failed and has counted it; or want of memory. The upstream and the kept commands are then
-/// as before.
+/// The first refusal that applies. `KeeperFull`: no other refusal applies, and the keeper keeps 10,000,000 commands or more.
+/// `KeeperFault`: the keeper failed and incremented its fault count. `Memory`: out of memory. On every error the upstream and
+/// the kept commands are unchanged.
 pub fn keep<K: Keeper>(
     alloc: Global,
     up: &mut Upstream,
@@ -72,10 +72,10 @@ fn keep_one<K: Keeper>(
     }
 }
 
-/// What a command comes to, and its text, where a keeper has room for it.
+/// Prepares a command and its text, if the keeper has room for it.
 ///
 /// # Errors
-/// As [`keep`] says, but for the keeper's own faults.
+/// As for [`keep`], without the failures of the keeper.
 #[tactic(auto, using(crate::proofs::Carrying::awaited, crate::proofs::Carrying::full, crate::proofs::Carrying::refused_so))]
 pub(crate) fn await_put<K: Keeper>(
     alloc: Global,
@@ -100,10 +100,10 @@ pub(crate) fn await_put<K: Keeper>(
     Ok(Awaiting { ready, text })
 }
 
-/// Writes a command's text down, and publishes what the command comes to. Nothing behind the keeper wants memory.
+/// Stores a command's text, then publishes the prepared command. Nothing after the keeper's put can run out of memory.
 ///
 /// # Errors
-/// The keeper's own.
+/// Those of the keeper.
 pub(crate) fn put<K: Keeper>(
     alloc: Global,
     up: &mut Upstream,

@@ -1,4 +1,4 @@
-//! Links that a door hands out, served one after another by an upstream that keeps its commands.
+//! Serves the links of a door one after another, with an upstream that keeps its commands.
 ghost use Rattle.std.specs.Prelude.{◌≡◌, true, OnOk};
 ghost use Rattle.unl_base.specs.Doors.{IsClosed, IsListening};
 ghost use Rattle.unl_base.specs.Faults.{HasCause};
@@ -45,10 +45,12 @@ impl<'a, K: Keeper> Server for KeptUpstream<'a, K> {
     ) };
 }
 
-/// Serves one link after the other as [`Upstream::host`] does, but that commands are kept before they are answered.
+/// Serves the links of a door one after another and hands each back, until the door is closed. Returns how many links were
+/// served. Each command is kept before it is acknowledged. A fault of a link, or running out of memory while serving it, ends
+/// that link alone.
 ///
 /// # Errors
-/// `Failed`: the door could hand out no link, which it counted.
+/// `Failed`: the door could not hand out a link, and incremented its fault count.
 pub fn host_kept<K: Keeper, D: Door, R: Draws, W: Wait>(
     rt: &W,
     alloc: Global,
@@ -64,7 +66,8 @@ pub fn host_kept<K: Keeper, D: Door, R: Draws, W: Wait>(
         (linking (kept_state up.old (keeper_by K.opened K.faults K.count K.rows keeper.old)) (R.coming draws.old) (D.state door.old))
         (linking (kept_state up.new (keeper_by K.opened K.faults K.count K.rows keeper.new)) (R.coming draws.new) (D.state door.new)) }
 
-    // Whatever the door tells: what was to be kept of the links is all that changed the upstream and its keeper.
+    // Even if the door's links are not observable: attempts to keep the commands of the links are all that changed the
+    // upstream and its keeper.
     ensures carries { HoldsOn (kept_state up.old (keeper_by K.opened K.faults K.count K.rows keeper.old))
         (kept_state up.new (keeper_by K.opened K.faults K.count K.rows keeper.new)) }
     ensures closed { OnOk result (IsClosed (D.state door.new)) }

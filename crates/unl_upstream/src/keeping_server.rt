@@ -1,4 +1,4 @@
-//! An upstream and its keeper, as they answer and serve together.
+//! Answers requests with an upstream and its keeper, and serves connections with them.
 ghost use Rattle.unl_exchange.specs.Conversation.{Converses};
 ghost use Rattle.unl_exchange.specs.Links.{link_state};
 ghost use Rattle.std.specs.Prelude.{◌≡◌, true, IfOk, OnErr};
@@ -20,10 +20,10 @@ use unl_exchange::{Answering, Server, converse};
 use unl_http_api::{End, Reply, Request};
 use unl_keeper::{KeepRefusal, Keeper};
 
-/// Answers a request as [`Upstream::answer`] does, but that its command, if it gives one, is kept before it is answered.
+/// Answers a request as [`Upstream::answer`] does, but keeps its command, if it gives one, before acknowledging it.
 ///
 /// # Errors
-/// Want of memory. The upstream and the keeper are then as before.
+/// `Memory`: out of memory. The upstream and the keeper are then unchanged.
 pub fn answer_kept<K: Keeper>(
     alloc: Global,
     up: &mut Upstream,
@@ -62,7 +62,8 @@ fn answer_one<K: Keeper>(
     }
 }
 
-/// Keeps a command once its reply is made, and the one that is given where the keeper fails.
+/// Keeps a command. Both possible replies, for success and for a fault of the keeper, are built before the put, so that
+/// nothing after it can run out of memory.
 fn obey_kept<K: Keeper>(
     alloc: Global,
     up: &mut Upstream,
@@ -102,7 +103,7 @@ pub(crate) struct KeptUpstream<'a, K> {
     pub keeper: &'a mut K,
 }
 
-/// Answers requests by an upstream that keeps its commands.
+/// The request handler of an upstream that keeps its commands.
 pub(crate) struct ByKept<'a, K>(PhantomData<&'a K>);
 
 impl<'a, K: Keeper> Answering for ByKept<'a, K> {
@@ -141,7 +142,7 @@ impl<'a, K: Keeper> Answering for ByKept<'a, K> {
     ghost keeps_on = { Prim.search rules };
 }
 
-/// Serves a connection as [`Upstream::serve`] does, but that commands are kept before they are answered.
+/// Serves a connection as [`Upstream::serve`] does, but keeps each command before acknowledging it.
 pub fn serve_kept<K: Keeper, L: Link, R: Draws>(
     alloc: Global,
     up: &mut Upstream,
@@ -152,15 +153,15 @@ pub fn serve_kept<K: Keeper, L: Link, R: Draws>(
     requires { K.opened keeper.old ≡ true }
     ensures stays { K.opened keeper.new ≡ true }
 
-    // The conversation of an upstream that keeps its commands: its session, its replies, its end, how many requests were
-    // answered, each with the next draw, and each cause.
+    // The whole conversation: its session, its replies, how it ended, how many requests were answered (each with the next
+    // draw), and the cause of each failure.
     ensures converses { Converses Step Lacks
         (link_state (L.left link.old) (L.sent link.old) (L.Source.faults link.old))
         (serving (kept_state up.old (keeper_by K.opened K.faults K.count K.rows keeper.old)) 0 (R.coming draws.old)) result.1
         (serving (kept_state up.new (keeper_by K.opened K.faults K.count K.rows keeper.new)) result.0 (R.coming draws.new)) result.0
         (link_state (L.left link.new) (L.sent link.new) (L.Source.faults link.new)) }
 
-    // In every case what was to be kept of the answered requests is all that changed the upstream and its keeper.
+    // In every case, attempts to keep the commands of the answered requests are all that changed the upstream and its keeper.
     ensures keeps { KeepsOn
         (serving (kept_state up.old (keeper_by K.opened K.faults K.count K.rows keeper.old)) 0 (R.coming draws.old)) result.1 result.0
         (serving (kept_state up.new (keeper_by K.opened K.faults K.count K.rows keeper.new)) result.0 (R.coming draws.new)) }

@@ -1,4 +1,4 @@
-//! What holds of an upstream after any commands.
+//! Properties that hold for an upstream after any commands.
 ghost use Rattle.std.specs.Prelude.{◌≡◌, List, Err, option_to_list};
 ghost use Rattle.unl_delta.specs.History.{IsHistory};
 ghost use Rattle.unl_base.specs.declared.draws.Draw.{Draw};
@@ -15,20 +15,20 @@ ghost use Rattle.unl_upstream.specs.Reopening.{ReopeningGivesBack};
 ghost use Rattle.unl_upstream.specs.Laws.{EnvironmentsStay, VersionsStand};
 ghost use Rattle.unl_upstream.specs.Laws.{VersionsStandInLines};
 
-/// After any commands each environment's version stands for the history of those that were accepted for it, its number is
-/// their count, and its epoch is the one that the upstream began with. So it stands in the line of that one history.
+/// After any commands, each environment's version represents the history of the commands accepted for it. Its number is their
+/// count, and its epoch is the one that the upstream began with. So the version belongs to the line of that one history.
 pub fn versions_stand()
     ensures history { (commands : List Command) → IsHistory (history_of commands) }
     ensures stands { VersionsStand }
     ensures lines { VersionsStandInLines }
 {}
 
-/// After any commands an environment has a version exactly where the upstream began with it.
+/// After any commands, an environment has a version exactly if the upstream began with it.
 pub fn environments_stay()
     ensures { EnvironmentsStay }
 {}
 
-/// A refused command changes nothing, so the accepted ones alone lead to the same, and are accepted.
+/// A refused command changes nothing. So the accepted commands alone lead to the same state, and are all accepted.
 pub fn refused_changes_nothing()
     ensures one { (command : Command) (up : UpstreamState) (refusal : CommandRefusal) → commanded command up ≡ Err refusal
         → after_command command up ≡ up }
@@ -37,31 +37,29 @@ pub fn refused_changes_nothing()
     ensures again { (commands : List Command) (up : UpstreamState) → accepted (accepted commands up) up ≡ accepted commands up }
 {}
 
-/// An answer leads where the command that the request gives does, if it gives one, and no command changes the secret.
+/// Answering a request has the effect of the command that the request gives, if it gives one. No command changes the secret.
 pub fn requests_give_commands()
     ensures one { (up : UpstreamState) (q : Request) (draw : Draw) → (upstream_answer up q draw).up
         ≡ after_commands (option_to_list (command_given up.secret q)) up }
     ensures secret { (command : Command) (up : UpstreamState) → (after_command command up).secret ≡ up.secret }
 {}
 
-/// Whatever commands are to be kept, one after another, and whatever faults come: the upstream is still the opening one after
-/// the kept commands, of which the acknowledged ones are all that were added; and past them stands at most one, whose put
-/// failed.
+/// After any attempts to keep commands, with any faults: the upstream is still the initial one after the kept commands, the
+/// acknowledged commands are all that were added to these, and at most one row follows the kept ones, left by a failed put.
 pub fn keeping_carries()
     ensures carries { KeepingCarries }
     ensures goes_on { KeepingGoesOn }
 {}
 
-/// A keeper that is reopened, with an opening upstream of the same environments and epoch, gives back the kept commands, or
-/// these and one more whose put failed since the last that was written. Nothing but a fault or want of memory keeps it from
-/// that.
+/// Reopening a keeper, with an initial upstream of the same environments and epoch, restores the kept commands, or these and
+/// one more whose put failed since the last successful put. Only a fault or running out of memory can prevent it.
 pub fn reopening_gives_back()
     ensures { ReopeningGivesBack }
 {}
 
-/// Links that were served by an upstream that keeps its commands lead where the commands before them and then the kept ones
-/// of their answered requests lead, and its keeper keeps as many more; a draw is gone for each request, and at want of memory
-/// perhaps one more.
+/// The state after an upstream that keeps its commands has served links is that after the commands before them, then the kept
+/// commands of their answered requests. Its keeper keeps that many more rows. Each request takes one draw, and a link that
+/// ran out of memory may take one more.
 pub fn kept_links_name_commands()
     ensures { KeptLinksNameCommands }
 {}

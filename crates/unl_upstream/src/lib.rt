@@ -1,4 +1,4 @@
-//! The upstream: it is told what to change in its environments, and answers requests over what stands there.
+//! The upstream: applies commands to its environments, and answers requests from their current state.
 #![tactic(auto)]
 
 mod answering;

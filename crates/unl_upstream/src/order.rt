@@ -1,13 +1,13 @@
-//! What a request orders.
+//! What a request asks for: a command to apply, or only a reply.
 
 use crate::command::Command;
 use unl_http_api::Reply;
 
-/// What to do about a request.
+/// What to do with a request.
 #[derive(Drop)]
 pub(crate) enum Order {
-    /// The command that it gives is to be obeyed.
+    /// The request gives this command, which is to be applied.
     Obey(Command),
-    /// It gives none, and this is its reply.
+    /// The request gives no command, and this is its reply.
     Reply(Reply),
 }

@@ -1,4 +1,4 @@
-//! Reading commands.
+//! Reading commands from JSON.
 ghost use Rattle.std.specs.Prelude.{◌≡◌, IfOk};
 ghost use Rattle.serde_json.specs.View.{view};
 ghost use Rattle.unl_documents.specs.Kinds.{document};
@@ -29,6 +29,7 @@ impl Document for Command {
     }
 }
 
+/// Reads the command with this command word.
 #[tactic(auto, unfolding(crate::specs::Command::command_by))]
 fn command_by(alloc: Global, word: &str, value: &Value) -> Result<Command, BadDocument>
     ensures gives { Gives result (command_by word.now (view value.now)) }
@@ -43,6 +44,7 @@ fn command_by(alloc: Global, word: &str, value: &Value) -> Result<Command, BadDo
     }
 }
 
+/// Reads `put-feature`: the environment and the feature.
 #[tactic(auto, unfolding(crate::specs::Command::put_feature_of))]
 fn put_feature(alloc: Global, value: &Value) -> Result<Command, BadDocument>
     ensures gives { Gives result (put_feature_of (view value.now)) }
@@ -56,6 +58,7 @@ fn put_feature(alloc: Global, value: &Value) -> Result<Command, BadDocument>
     })
 }
 
+/// Reads `remove-feature`: the environment and the feature's name.
 #[tactic(auto, unfolding(crate::specs::Command::remove_feature_of))]
 fn remove_feature(alloc: Global, value: &Value) -> Result<Command, BadDocument>
     ensures gives { Gives result (remove_feature_of (view value.now)) }
@@ -66,6 +69,7 @@ fn remove_feature(alloc: Global, value: &Value) -> Result<Command, BadDocument>
     Ok(Command::RemoveFeature { environment, name })
 }
 
+/// Reads `put-segment`: the environment and the segment.
 #[tactic(auto, unfolding(crate::specs::Command::put_segment_of))]
 fn put_segment(alloc: Global, value: &Value) -> Result<Command, BadDocument>
     ensures gives { Gives result (put_segment_of (view value.now)) }
@@ -79,6 +83,7 @@ fn put_segment(alloc: Global, value: &Value) -> Result<Command, BadDocument>
     })
 }
 
+/// Reads `remove-segment`: the environment and the segment's id.
 #[tactic(auto, unfolding(crate::specs::Command::remove_segment_of))]
 fn remove_segment(alloc: Global, value: &Value) -> Result<Command, BadDocument>
     ensures gives { Gives result (remove_segment_of (view value.now)) }
@@ -89,11 +94,11 @@ fn remove_segment(alloc: Global, value: &Value) -> Result<Command, BadDocument>
     Ok(Command::RemoveSegment { environment, id })
 }
 
-/// The command that a value stands for.
+/// Reads a command from a JSON value.
 ///
 /// # Errors
-/// `NotJson` where the value is no object. Else the first fault of its keys: of `command`, of which four are known,
-/// `environment`, and then `feature`, `name`, `segment` or `id`. Or want of memory.
+/// `NotJson`: the value is no object. Otherwise the first fault of its keys, in this order: `command`, which must be one of
+/// four words, `environment`, and then `feature`, `name`, `segment` or `id`. Or `Memory`: out of memory.
 pub fn read_command(alloc: Global, value: &Value) -> Result<Command, BadDocument>
     ensures gives { Gives result (document command_of (view value.now)) }
     ensures valid { IfOk result IsValidCommand }
@@ -101,7 +106,7 @@ pub fn read_command(alloc: Global, value: &Value) -> Result<Command, BadDocument
     read_document(alloc, value)
 }
 
-/// The command that the bytes of a body or of a line spell in JSON, as [`read_command`] reads it.
+/// Reads a command from the JSON bytes of a body or of a line, as [`read_command`] does.
 #[tactic(auto, unfolding(crate::specs::Command::command_in))]
 pub(crate) fn read_command_bytes(alloc: Global, bytes: &[u8]) -> Result<Command, BadDocument>
     ensures gives { Gives result (command_in bytes.now) }

@@ -1,4 +1,4 @@
-//! What a command comes to, before it is published.
+//! A prepared command, before it is published.
 ghost use Rattle.std.specs.Prelude.{◌≡◌, IfOk};
 ghost use Rattle.unl_core.specs.declared.board.Install.TheVariants as installs;
 ghost use Rattle.unl_upstream.specs.Upstream.{IsNext, version_after};
@@ -11,8 +11,8 @@ use unl_core::{Install, Slot};
 use unl_delta::{Batch, Event, Place};
 use unl_documents::{List, Memory, Shared};
 
-/// What a command comes to at an upstream, before it is published there: a slot, a number and a version. Contracts see
-/// beside them the slots that these were made from, which take no bytes.
+/// A prepared command that is not yet published: the slot of its environment, the new version number, and the new version.
+/// Contracts also see the slots that it was prepared from, which take no space at run time.
 #[derive(Drop)]
 pub struct Ready {
     slot: usize,
@@ -30,7 +30,7 @@ impl Model for Ready {
 }
 
 impl Ready {
-    /// What comes to this at these slots.
+    /// Creates a prepared command for a slot, as prepared from `slots`.
     pub(crate) fn at(
         slots: &List<Slot>,
         slot: usize,
@@ -48,7 +48,7 @@ impl Ready {
         }
     }
 
-    /// What is installed of it.
+    /// Returns the installation that publishes the command.
     pub(crate) fn into_install(self) -> Install
         ensures { result ≡ installs.Env self.slot self.snapshot }
     {
@@ -61,7 +61,7 @@ impl Ready {
         Install::Env(slot, snapshot)
     }
 
-    /// The number that the command's environment gets. Takes no memory.
+    /// Returns the version number that the command's environment gets. Allocates nothing.
     pub fn number(&self) -> u64
         ensures { result ≡ self.now.number }
     {
@@ -69,7 +69,7 @@ impl Ready {
     }
 }
 
-/// The snapshot of the version after the next event.
+/// Returns the snapshot of the version after the next event.
 #[tactic(auto, using(crate::proofs::Next::next_applies, crate::proofs::Next::next_is_batch))]
 pub(crate) fn snapshot_after(
     alloc: Global,

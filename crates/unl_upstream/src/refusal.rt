@@ -1,3 +1,4 @@
+//! Why a command is refused, or is not kept.
 ghost use Rattle.std.specs.Prelude.{◌≡◌};
 ghost use Rattle.unl_upstream.specs.declared.refusal.CommandRefusal.TheVariants.{Memory as memory};
 ghost use Rattle.unl_upstream.specs.declared.refusal.KeepCommandRefusal.TheVariants.{Memory as want};
@@ -7,19 +8,19 @@ use std::alloc::AllocError;
 use thiserror::Error;
 use unl_documents::Memory;
 
-/// Why a command is refused: the first of these that fits; or that memory is wanting.
+/// Why a command is refused: the first of these variants that applies, in this order, or `Memory`.
 #[derive(Clone, Copy, Debug, PartialEq, Eq)]
 pub enum CommandRefusal {
-    /// The upstream has no environment of that name.
+    /// The upstream has no environment of this name.
     NoSuchEnvironment,
-    /// No feature of the name that is to be removed stands.
+    /// The feature to remove does not exist.
     NoSuchFeature,
-    /// No segment of the id that is to be removed stands.
+    /// The segment to remove does not exist.
     NoSuchSegment,
-    /// A name or an id is new, and as many features or segments stand as there may be: their count, 10,000 or 1,000. Or
-    /// else the environment's number is the last one, 2^64 - 1, which is carried then.
+    /// The name or id is new and the environment is full, at 10,000 features or 1,000 segments: carries that count. Or the
+    /// environment's version number is the last one, 2^64 - 1: carries that number.
     TooMany(u64),
-    /// Memory ran out.
+    /// Out of memory.
     Memory,
 }
 
@@ -39,29 +40,29 @@ impl From<AllocError> for CommandRefusal {
     }
 }
 
-/// Why a command is not kept: the first of these that fits; or that the keeper failed, or memory is wanting.
+/// Why a command is not kept: the first refusal that applies, in the order of `NoSuchEnvironment` to `KeeperFull`, or a
+/// failure of the keeper, or `Memory`.
 #[derive(Clone, Copy, Debug, PartialEq, Eq, Error)]
 pub enum KeepCommandRefusal {
-    /// The upstream has no environment of that name.
+    /// The upstream has no environment of this name.
     #[error("there is no such environment")]
     NoSuchEnvironment,
-    /// No feature of the name that is to be removed stands.
+    /// The feature to remove does not exist.
     #[error("there is no such feature")]
     NoSuchFeature,
-    /// No segment of the id that is to be removed stands.
+    /// The segment to remove does not exist.
     #[error("there is no such segment")]
     NoSuchSegment,
-    /// As many features or segments stand as there may be, or the environment's number is the last one: the count or the
-    /// number is carried.
+    /// The environment is full, or its version number is the last one: carries the count or the number.
     #[error("there are {0} already")]
     TooMany(u64),
-    /// The keeper keeps 10,000,000 commands or more: their count is carried.
+    /// The keeper keeps 10,000,000 commands or more: carries their count.
     #[error("{0} commands are kept already")]
     KeeperFull(u64),
-    /// The keeper failed, which has counted it.
+    /// The keeper failed, and incremented its fault count.
     #[error("the keeper failed")]
     KeeperFault,
-    /// Memory ran out.
+    /// Out of memory.
     #[error("out of memory")]
     Memory,
 }

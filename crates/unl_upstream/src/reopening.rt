@@ -1,4 +1,4 @@
-//! A keeper's rows are applied again, in order.
+//! Reopens an upstream: applies the rows of its keeper in order.
 ghost use Rattle.std.specs.Prelude.{◌≡◌, ◌≤◌, ◌<◌, ◌+◌, ◌^◌, true, false, Some, None, IfOk, IfErr, OnOk, OnErr};
 ghost use Rattle.unl_upstream.specs.Kept.{keeper_by, kept_state};
 ghost use Rattle.unl_upstream.specs.Reopening.{Bars, IsOpening, IsSameKeeper, Reopens, TakesRow, row_after};
@@ -14,16 +14,16 @@ use unl_keeper::{KeepRefusal, Keeper};
 /// Why an upstream was not reopened.
 #[derive(Debug, Drop, Error)]
 pub enum ReopenFault {
-    /// The text that the keeper gave at this place, from 1, is no command, or its command is refused.
+    /// The row with this number, from 1, has this text, which is no command, or whose command is refused.
     #[error("row {0} is no command that is accepted")]
     BadRow(u64, Text),
-    /// The keeper gave no text at this place, from 1.
+    /// The keeper has no row with this number, from 1.
     #[error("row {0} is not there")]
     NoRow(u64),
-    /// The keeper failed, which has counted it.
+    /// The keeper failed, and incremented its fault count.
     #[error("the keeper failed")]
     Fault,
-    /// Memory ran out.
+    /// Out of memory.
     #[error("out of memory")]
     Memory,
 }
@@ -41,13 +41,13 @@ impl From<KeepRefusal> for ReopenFault {
     }
 }
 
-/// Opens a keeper, and applies the commands of its rows in order to an upstream that has accepted nothing. It answers how
-/// many these were.
+/// Opens a keeper, and applies the commands of its rows in order to an upstream that has applied none. Returns the number of
+/// rows.
 ///
 /// # Errors
-/// `BadRow` where the text of a row is no command, or its command is refused; `NoRow` where the keeper has no row in a
-/// place; `Fault` where the keeper failed and has counted it; or want of memory. The upstream then has the commands before
-/// that place.
+/// `BadRow`: the text of a row is no command, or its command is refused. `NoRow`: the keeper lacks a row. `Fault`: the keeper
+/// failed and incremented its fault count. `Memory`: out of memory. On an error at a row the upstream has the commands of the
+/// rows before it.
 pub fn reopen<K: Keeper>(
     alloc: Global,
     up: &mut Upstream,
@@ -74,10 +74,10 @@ pub fn reopen<K: Keeper>(
     Ok(count)
 }
 
-/// Applies the row behind so many others.
+/// Applies the row after the first `before` rows.
 ///
 /// # Errors
-/// As [`reopen`] says. The upstream is then as before.
+/// As for [`reopen`]. The upstream is then unchanged.
 fn take_row<K: Keeper>(
     alloc: Global,
     up: &mut Upstream,
@@ -104,7 +104,7 @@ fn take_row<K: Keeper>(
     }
 }
 
-/// Applies the command of a row, and answers whether it is one and is accepted.
+/// Applies the command of a row. Returns whether the row is a command and is accepted.
 #[tactic(auto, unfolding(crate::specs::Reopening::row_after))]
 fn obey_row(alloc: Global, up: &mut Upstream, row: &Text) -> Result<bool, Memory>
     ensures obeyed { IfOk result (λ is. is ≡ true → row_after row.now up.old ≡ Some up.new) }

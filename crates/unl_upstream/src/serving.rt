@@ -1,4 +1,4 @@
-//! An upstream on a connection.
+//! Serves a connection with an upstream.
 ghost use Rattle.unl_exchange.specs.Conversation.{Converses};
 ghost use Rattle.unl_exchange.specs.Links.{link_state};
 ghost use Rattle.unl_upstream.specs.Serving.{Lacks, Obeys, Step, serving};
@@ -10,7 +10,7 @@ use unl_documents::Memory;
 use unl_exchange::{Answering, converse};
 use unl_http_api::{End, Reply, Request};
 
-/// Answers requests by an upstream.
+/// The request handler of an upstream.
 pub(crate) struct ByUpstream;
 
 impl Answering for ByUpstream {
@@ -43,22 +43,22 @@ impl Answering for ByUpstream {
 }
 
 impl Upstream {
-    /// Serves a connection: each request is answered with a draw of its own, and replied to, until the connection ends. It
-    /// answers how many requests it answered, and how the connection ended.
+    /// Serves a connection: answers each request, with its own draw, until the connection ends. Returns how many requests
+    /// were answered, and how the connection ended.
     pub fn serve<L: Link, R: Draws>(
         &mut self,
         alloc: Global,
         link: &mut L,
         draws: &mut R,
     ) -> (usize, End)
-        // The conversation of an upstream: its session, its replies, its end, how many requests were answered, each with the
-        // next draw, and each cause.
+        // The whole conversation: its session, its replies, how it ended, how many requests were answered (each with the next
+        // draw), and the cause of each failure.
         ensures converses { Converses Step Lacks
             (link_state (L.left link.old) (L.sent link.old) (L.Source.faults link.old))
             (serving self.old 0 (R.coming draws.old)) result.1 (serving self.new result.0 (R.coming draws.new)) result.0
             (link_state (L.left link.new) (L.sent link.new) (L.Source.faults link.new)) }
 
-        // In every case the commands of the answered requests are all that changed the upstream.
+        // In every case, the commands of the answered requests are all that changed the upstream.
         ensures obeyed { Obeys self.old result.0 self.new }
     {
         converse::<ByUpstream, L, R>(alloc, self, link, draws)

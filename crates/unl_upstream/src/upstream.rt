@@ -1,3 +1,4 @@
+//! An upstream and its commands: prepare, commit, and both in one step.
 ghost use Rattle.std.specs.Prelude.{◌≡◌, ◌≢◌, ◌≤◌, true, [], ◌∷◌, IfErr, IfOk, OnErr, OnOk, Ok, Err, length, map};
 ghost use Rattle.std.specs.List.{list_all};
 ghost use Rattle.std.specs.Str.{bytes_eq};
@@ -22,7 +23,7 @@ use unl_delta::EnvVersion;
 use unl_documents::{List, Memory, Shared, Text};
 use unl_tokens::Book;
 
-/// A board whose environments are changed by commands, and the secret that they are given with.
+/// A board whose environments are changed by commands, and the secret that requests must show to give commands.
 #[derive(Drop)]
 pub struct Upstream {
     board: Board,
@@ -41,9 +42,9 @@ impl Model for Upstream {
 }
 
 impl Upstream {
-    /// An upstream of up to eight environments of different names, each empty and at the number 0 of the epoch, on whose board
-    /// the book was published once. An upstream that lost what it had begins with a higher epoch than before, so that those
-    /// behind it take what it has.
+    /// Creates an upstream of up to eight environments with different names. Each environment is empty, at number 0 of the
+    /// epoch. The book of tokens is published once on the board. An upstream that lost its state must begin with a higher
+    /// epoch than before, so that its clients take what it has.
     #[tactic(auto, using(crate::proofs::Slots::slots_opened, crate::proofs::Slots::named_opened))]
     pub fn new(
         alloc: Global,
@@ -68,7 +69,7 @@ impl Upstream {
         })
     }
 
-    /// The board that stands. Takes no memory.
+    /// Returns the current board. Allocates nothing.
     pub fn board(&self) -> &Board
         ensures value { result.now ≡ self.now.board }
         ensures slots { AreSlots result.now.slots }
@@ -76,18 +77,18 @@ impl Upstream {
         &self.board
     }
 
-    /// Whether these bytes are the secret.
+    /// Returns whether these bytes are the secret.
     pub(crate) fn is_secret(&self, token: &[u8]) -> bool
         ensures { result ≡ bytes_eq token.now self.now.secret }
     {
         token == self.secret.as_str().as_bytes()
     }
 
-    /// Obeys a command, and answers the new number of its environment, one above the old. The version that it makes stands for
-    /// the history with this command, where the one before stood for that without.
+    /// Applies a command and returns the new version number of its environment, one above the old. If the old version
+    /// represents the history without this command, the new one represents the history with it.
     ///
     /// # Errors
-    /// The first refusal that fits, or want of memory. The upstream is then as before.
+    /// The first refusal that applies, or `Memory`: out of memory. The upstream is then unchanged.
     pub fn apply(&mut self, alloc: Global, command: &Command) -> Result<u64, CommandRefusal>
         requires { IsValidCommand command.now }
         ensures applied { IfOk result (λ number. commanded command.now self.old ≡ Ok (record { up = self.new; number = number })) }
@@ -98,7 +99,7 @@ impl Upstream {
         self.apply_one(alloc, command)
     }
 
-    /// Obeys a command.
+    /// Applies a command.
     #[tactic(auto, unfolding(crate::specs::Upstream::commanded))]
     fn apply_one(&mut self, alloc: Global, command: &Command) -> Result<u64, CommandRefusal>
         requires { IsValidCommand command.now }
@@ -110,11 +111,11 @@ impl Upstream {
         Ok(self.commit(ready))
     }
 
-    /// What a command comes to here. A command that comes to something names an environment that stands, and a feature that
-    /// stands where it removes one, so its names are within the limits.
+    /// Prepares a command: computes the new version of its environment without publishing it. On success the command names an
+    /// existing environment, and an existing feature if it removes one, so these names are within the limits.
     ///
     /// # Errors
-    /// The first refusal that fits, or want of memory.
+    /// The first refusal that applies, or `Memory`: out of memory.
     #[tactic(auto, unfolding(crate::specs::Upstream::prepared), using(crate::proofs::Slots::named_at))]
     pub fn prepare(&self, alloc: Global, command: &Command) -> Result<Ready, CommandRefusal>
         requires { IsValidCommand command.now }
@@ -135,8 +136,8 @@ impl Upstream {
         Ok(Ready::at(&self.board.slots, slot, number, snapshot))
     }
 
-    /// Publishes what a command comes to, and answers its number. It was prepared at the versions that stand. Takes no
-    /// memory.
+    /// Publishes a prepared command and returns the new version number of its environment. The command must have been
+    /// prepared from the current versions. Allocates nothing.
     #[tactic(auto, using(crate::proofs::Slots::named_after))]
     pub fn commit(&mut self, ready: Ready) -> u64
         requires { ready.from ≡ self.old.board.slots }
@@ -149,7 +150,7 @@ impl Upstream {
     }
 }
 
-/// A slot for each environment, with nothing in it.
+/// Returns a slot for each environment, with an empty version.
 fn opening_slots(alloc: Global, environments: &[Text], epoch: u64) -> Result<Vec<Slot>, Memory>
     ensures { IfOk result (λ slots. slots.items ≡ map (opening_slot epoch) environments.now) }
 {
@@ -160,6 +161,7 @@ fn opening_slots(alloc: Global, environments: &[Text], epoch: u64) -> Result<Vec
     Ok(slots)
 }
 
+/// Returns the slot of an environment, with an empty version at number 0 of the epoch.
 fn opening_slot(alloc: Global, environment: &str, epoch: u64) -> Result<Slot, Memory>
     ensures { IfOk result (λ slot. slot ≡ opening_slot epoch environment.now) }
 {

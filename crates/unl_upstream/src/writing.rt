@@ -1,4 +1,4 @@
-//! Writing commands.
+//! Writing commands as JSON.
 ghost use Rattle.std.specs.Prelude.{◌≡◌, IfOk, Ok, OnOk};
 ghost use Rattle.serde_json.specs.View.{members_view, view};
 ghost use Rattle.unl_documents.specs.Kinds.{document};
@@ -12,9 +12,9 @@ use std::alloc::Global;
 use unl_documents::written::{Written, put, put_value};
 use unl_documents::{Feature, Field, Memory, Segment, Text};
 
-/// The value that a command is written as: its word, its environment, and the feature, the name, the segment or the id. It
-/// is read as the command, where the document in it is within its limits and its environment, and the name that it removes,
-/// are names.
+/// Writes a command as a JSON object: its command word, its environment, and the feature, name, segment or id. The value is
+/// read back as the same command if the document in it is within its limits, and the environment and any removed name are
+/// names.
 #[tactic(auto, using(crate::proofs::Written::written_back))]
 pub fn write_command(alloc: Global, command: &Command) -> Result<Value, Memory>
     ensures written { IfOk result (λ value. view value ≡ command_data command.now) }
@@ -24,7 +24,7 @@ pub fn write_command(alloc: Global, command: &Command) -> Result<Value, Memory>
     command_value(alloc, command)
 }
 
-/// The text that a command is kept as: what it is written as, in JSON.
+/// Returns the JSON text that a command is kept as: that of [`write_command`].
 pub(crate) fn command_text(alloc: Global, command: &Command) -> Result<Text, Memory>
     ensures text { IfOk result (λ text. text ≡ command_text command.now) }
     ensures reads_back { IsValidCommand command.now → HasNames command.now
@@ -35,6 +35,7 @@ pub(crate) fn command_text(alloc: Global, command: &Command) -> Result<Text, Mem
     Ok(Text::from(text))
 }
 
+/// Builds the JSON object of a command.
 fn command_value(alloc: Global, command: &Command) -> Result<Value, Memory>
     ensures { IfOk result (λ value. view value ≡ command_data command.now) }
 {
@@ -52,7 +53,7 @@ fn command_value(alloc: Global, command: &Command) -> Result<Value, Memory>
     }
 }
 
-/// The word of a command and its environment, put into what else it has.
+/// Adds the command word and the environment to the members.
 fn put_head(
     members: &mut Map<String, Value>,
     alloc: Global,
@@ -71,6 +72,7 @@ fn put_head(
     )
 }
 
+/// Builds a `put-feature` object.
 #[tactic(auto, unfolding(crate::specs::Writing::command_data))]
 fn put_feature(alloc: Global, environment: &Text, feature: &Feature) -> Result<Value, Memory>
     ensures { IfOk result (λ value. view value ≡ command_data (command.PutFeature environment.now feature.now)) }
@@ -81,6 +83,7 @@ fn put_feature(alloc: Global, environment: &Text, feature: &Feature) -> Result<V
     Ok(Value::Object(members))
 }
 
+/// Builds a `remove-feature` object.
 #[tactic(auto, unfolding(crate::specs::Writing::command_data))]
 fn remove_feature(alloc: Global, environment: &Text, name: &Text) -> Result<Value, Memory>
     ensures { IfOk result (λ value. view value ≡ command_data (command.RemoveFeature environment.now name.now)) }
@@ -91,6 +94,7 @@ fn remove_feature(alloc: Global, environment: &Text, name: &Text) -> Result<Valu
     Ok(Value::Object(members))
 }
 
+/// Builds a `put-segment` object.
 #[tactic(auto, unfolding(crate::specs::Writing::command_data))]
 fn put_segment(alloc: Global, environment: &Text, segment: &Segment) -> Result<Value, Memory>
     ensures { IfOk result (λ value. view value ≡ command_data (command.PutSegment environment.now segment.now)) }
@@ -101,6 +105,7 @@ fn put_segment(alloc: Global, environment: &Text, segment: &Segment) -> Result<V
     Ok(Value::Object(members))
 }
 
+/// Builds a `remove-segment` object.
 #[tactic(auto, unfolding(crate::specs::Writing::command_data))]
 fn remove_segment(alloc: Global, environment: &Text, id: u64) -> Result<Value, Memory>
     ensures { IfOk result (λ value. view value ≡ command_data (command.RemoveSegment environment.now id)) }

@@ -1,14 +1,14 @@
-//! The arguments: those of the command line, and behind them the lines of a file.
+//! Reads the arguments: those of the command line, followed by the lines of a file.
 use std::alloc::{AllocError, Global};
 use std::env::{Args, VarError};
 use std::io::ErrorKind;
 use std::rt::{Env, Files};
 use std::{env, fs, io};
 
-/// The environment variable that names the file.
+/// The environment variable with the path of the file.
 pub(crate) const FILE_VARIABLE: &str = "UNL_EDGE_WORDS_FILE";
 
-/// Why there are no arguments.
+/// Why the arguments could not be read.
 #[derive(Clone, Copy, Debug, PartialEq, Eq)]
 pub enum ArgumentsFault {
     /// An argument, the path of the file or the file isn't UTF-8, or the file can't be read.
@@ -17,10 +17,10 @@ pub enum ArgumentsFault {
     Memory,
 }
 
-/// Why there are no arguments, with what the system says.
+/// Why the arguments could not be read, with the error of the system.
 #[derive(Drop)]
 pub(crate) enum Cause {
-    /// What is named isn't UTF-8.
+    /// The named item isn't UTF-8.
     NotText(&'static str),
     /// The file can't be read.
     File(String, io::Error),
@@ -34,11 +34,11 @@ impl From<AllocError> for Cause {
     }
 }
 
-/// The arguments of the command line without the program's own name. Where the variable `UNL_EDGE_WORDS_FILE` names a file, each
-/// of its lines that isn't empty is one more argument behind them.
+/// Reads the arguments of the command line, without the program's name. If the environment variable `UNL_EDGE_WORDS_FILE`
+/// names a file, each non-empty line of it is appended as an argument. If the variable is empty, no file is read.
 ///
 /// # Errors
-/// `Bad` where an argument, the path or the file isn't UTF-8, or the file can't be read; or out of memory.
+/// `Bad` if an argument, the path or the file isn't UTF-8, or if the file can't be read. `Memory` if memory runs out.
 pub fn read_arguments<R: Env + Files + AllocGlobal>(rt: &R) -> Result<Vec<String>, ArgumentsFault> {
     match arguments(rt) {
         Ok(words) => Ok(words),
@@ -47,7 +47,7 @@ pub fn read_arguments<R: Env + Files + AllocGlobal>(rt: &R) -> Result<Vec<String
     }
 }
 
-/// The arguments, or why there are none.
+/// Reads the arguments, as [`read_arguments`], with the error of the system.
 pub(crate) fn arguments<R: Env + Files + AllocGlobal>(rt: &R) -> Result<Vec<String>, Cause> {
     let args = match env::args(rt) {
         Ok(args) => args,
@@ -65,12 +65,12 @@ pub(crate) fn arguments<R: Env + Files + AllocGlobal>(rt: &R) -> Result<Vec<Stri
     Ok(words)
 }
 
-/// The arguments behind the program's own name.
+/// The arguments after the program's name.
 fn behind_name(alloc: Global, args: Args) -> Result<Vec<String>, AllocError> {
     args.skip(1).collect(alloc)
 }
 
-/// Adds the lines of a file.
+/// Appends the non-empty lines of a file.
 fn push_file<R: Files + AllocGlobal>(
     rt: &R,
     path: String,
@@ -83,7 +83,7 @@ fn push_file<R: Files + AllocGlobal>(
     }
 }
 
-/// Adds each line of a text that isn't empty.
+/// Appends the non-empty lines of a text.
 fn push_lines(alloc: Global, text: &str, words: &mut Vec<String>) -> Result<(), AllocError> {
     for line in text.lines() {
         if !line.is_empty() {

@@ -1,12 +1,13 @@
-//! What the upstream over a database file reports of that file.
+//! What the durable upstream reports about its database file.
 use std::alloc::{AllocError, Global};
 use std::fmt::Display;
 use std::fs;
 use std::rt::Files;
 use std::time::UNIX_EPOCH;
 
-/// Warns where a database file or the log beside it was changed after the moment that the epoch says in seconds: then the epoch
-/// may have been in use already. A file that isn't there, or whose time can't be read, is no cause.
+/// Warns if the database file or its write-ahead log was changed after the epoch, a time in seconds since 1970: the epoch
+/// may have been used before. A file that doesn't exist, or whose time can't be read, causes no warning. Neither does
+/// running out of memory.
 pub fn warn_of_epoch<R: Files + Eprint>(rt: &R, alloc: Global, path: &str, epoch: u64) {
     let Ok(log) = log_of(alloc, path) else {
         return;
@@ -20,7 +21,7 @@ pub fn warn_of_epoch<R: Files + Eprint>(rt: &R, alloc: Global, path: &str, epoch
     }
 }
 
-/// Reports how many commands a database has, and the epoch in which they are served.
+/// Reports the number of commands in a database, and the epoch in which they are served.
 pub fn report_commands<R: Eprint>(rt: &R, count: u64, epoch: u64) {
     let _ = rt.eprintln(format_args!("{count} commands, epoch {epoch}"));
 }
@@ -30,12 +31,12 @@ pub fn report_unopened<R: Eprint, F: Display>(rt: &R, path: &str, fault: &F) {
     let _ = rt.eprintln(format_args!("{path}: {fault}"));
 }
 
-/// The path of the log beside a database.
+/// The path of the database's write-ahead log.
 fn log_of(alloc: Global, path: &str) -> Result<String, AllocError> {
     format!(in alloc; "{path}-wal")
 }
 
-/// When a file was last changed, in seconds since 1970: 0 where that can't be read.
+/// The modification time of a file, in seconds since 1970. 0 if it can't be read.
 fn changed_at<R: Files>(rt: &R, path: &str) -> u64 {
     let Ok(metadata) = fs::metadata(rt, path) else {
         return 0;

@@ -1,34 +1,34 @@
 //! The options of each command, as its usage lists them.
 
-/// What the value of an option is.
+/// The kind of an option's value.
 #[derive(Clone, Copy, Debug, PartialEq, Eq)]
 pub(crate) enum Kind {
     /// Decimal digits.
     Number,
-    /// Items with commas between them.
+    /// Comma-separated items.
     List,
     /// Any other text.
     Other,
 }
 
-/// An option of a command, which takes one value.
+/// An option of a command. It takes one value.
 #[derive(Clone, Copy, Debug)]
 pub(crate) struct CommandOption {
-    /// Its name, without the hyphens before it.
+    /// Its name, without the leading hyphens.
     pub name: &'static str,
-    /// What its value is.
+    /// The kind of its value.
     pub kind: Kind,
-    /// How a usage spells its value.
+    /// The placeholder for its value in the usage.
     pub value: &'static str,
-    /// What its value is where it isn't given. None where it must be given.
+    /// The default value. `None` if the option is required.
     pub absent: Option<&'static str>,
-    /// What its value may be.
+    /// The valid values.
     pub range: &'static str,
-    /// What it is for.
+    /// Its purpose.
     pub purpose: &'static str,
 }
 
-/// The commands and what they do, in the order in which a usage lists them.
+/// The commands and what they do, in the order of the usage.
 pub(crate) const COMMANDS: [(&str, &str); 7] = [
     (
         "edge",
@@ -280,7 +280,7 @@ static LOAD: [CommandOption; 2] = [
     },
 ];
 
-/// The options of a command, those that must be given first. None where no command has this name.
+/// The options of a command, required ones first. `None` if there is no such command.
 pub(crate) fn options_of(command: &str) -> Option<&'static [CommandOption]> {
     match command {
         "replay" => Some(&[]),
@@ -294,7 +294,7 @@ pub(crate) fn options_of(command: &str) -> Option<&'static [CommandOption]> {
     }
 }
 
-/// A value that every command takes at this option, which must be given.
+/// A value for a required option that every command accepts.
 pub(crate) fn sample_of(option: &str) -> &'static str {
     match option {
         "upstream" => "h:1",

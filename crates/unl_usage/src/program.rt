@@ -1,16 +1,16 @@
 //! The programs that take arguments.
 
-/// A program, whose arguments are refused.
+/// A program that reports refused arguments.
 #[derive(Clone, Copy, Debug, PartialEq, Eq)]
 pub enum Program {
-    /// The edge with all its commands, the first argument being the command.
+    /// The edge with all its commands. The first argument is the command.
     Edge,
-    /// The upstream over a database file, the first argument being the path of the file.
+    /// The upstream with a database file. The first argument is the path of the file.
     DurableUpstream,
 }
 
 impl Program {
-    /// The name of its file.
+    /// The name of the executable.
     pub fn name(self) -> &'static str {
         match self {
             Program::Edge => "unl_edge",

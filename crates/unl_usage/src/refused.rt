@@ -1,4 +1,4 @@
-//! Why arguments are refused, and the usage behind it.
+//! Reports why arguments are refused, followed by the usage.
 use crate::arguments::{Cause, FILE_VARIABLE, arguments};
 use crate::options::{CommandOption, options_of};
 use crate::program::Program;
@@ -9,7 +9,7 @@ use std::alloc::{AllocError, Global};
 use std::fmt::Display;
 use std::rt::{Env, Files};
 
-/// Writes on the error stream why a program refuses its arguments, which are read again, and its usage. It writes nothing where
+/// Reads the arguments again, and prints on standard error why the program refuses them, and its usage. Prints nothing if
 /// memory runs out.
 pub fn report_refusal<R: Env + Files + AllocGlobal + Eprint>(rt: &R, program: Program) {
     match arguments(rt) {
@@ -27,12 +27,13 @@ pub fn report_refusal<R: Env + Files + AllocGlobal + Eprint>(rt: &R, program: Pr
     }
 }
 
-/// Writes a line on the error stream.
+/// Prints a line on standard error.
 fn report<E: Eprint, D: Display + Drop>(rt: &E, line: D) {
     let _ = rt.eprintln(line);
 }
 
-/// Why a program refuses its arguments, and its usage, as lines. No value that was given is among them, since it may be secret.
+/// Why a program refuses its arguments, and its usage, as lines; or its version, if the first argument is `--version` or
+/// `-V`. The text contains none of the given values, since they may be secret.
 ///
 /// # Errors
 /// Out of memory.
@@ -54,7 +55,7 @@ pub fn refusal_text(
     Ok(text)
 }
 
-/// Adds why `unl_edge` refuses its arguments.
+/// Appends why `unl_edge` refuses its arguments.
 fn push_edge(
     alloc: Global,
     text: &mut String,
@@ -69,7 +70,7 @@ fn push_edge(
     push_usage(text, Program::Edge, first, options)
 }
 
-/// Adds why the first argument names no command, but for one that asks for help.
+/// Appends why the first argument names no command, unless it asks for help.
 fn push_no_command(text: &mut String, first: &str) -> Result<(), AllocError> {
     match first {
         "--help" | "-h" | "help" => Ok(()),
@@ -78,7 +79,7 @@ fn push_no_command(text: &mut String, first: &str) -> Result<(), AllocError> {
     }
 }
 
-/// Adds why `unl_keeping` refuses its arguments.
+/// Appends why `unl_keeping` refuses its arguments.
 fn push_durable(
     alloc: Global,
     text: &mut String,
@@ -98,7 +99,7 @@ fn push_durable(
     push_usage(text, program, command, options)
 }
 
-/// Adds why the options of a command are refused, which stand behind the first argument.
+/// Appends why the options after the first argument are refused.
 fn push_fault(
     alloc: Global,
     text: &mut String,
@@ -121,7 +122,7 @@ fn push_fault(
     }
 }
 
-/// Adds of which program and command it speaks.
+/// Appends the program and the command that refuse the arguments.
 fn push_place(text: &mut String, program: Program, command: &str) -> Result<(), AllocError> {
     match program {
         Program::Edge => write!(text, "unl_edge {command}: "),
@@ -129,7 +130,7 @@ fn push_place(text: &mut String, program: Program, command: &str) -> Result<(), 
     }
 }
 
-/// Adds why the arguments are no options with their values.
+/// Appends why the arguments aren't options with values.
 fn push_slip(text: &mut String, slip: &Slip<'_>) -> Result<(), AllocError> {
     match *slip {
         Slip::Help => Ok(()),
@@ -151,7 +152,7 @@ fn push_slip(text: &mut String, slip: &Slip<'_>) -> Result<(), AllocError> {
     }
 }
 
-/// Adds which option's value is the first that is refused.
+/// Appends which option's value is refused first.
 fn push_values(
     alloc: Global,
     text: &mut String,
@@ -169,7 +170,7 @@ fn push_values(
     )
 }
 
-/// Adds why the value of an option is refused.
+/// Appends why the value of an option is refused.
 fn push_value(
     text: &mut String,
     option: &CommandOption,

@@ -1,42 +1,48 @@
-//! The options that arguments give, or the first argument that is none.
+//! Scans arguments for options, up to the first argument that is none.
 use crate::options::CommandOption;
 use std::alloc::{AllocError, Global};
 
-/// An option and the value that is given for it.
+/// An option and its given value.
 #[derive(Clone, Copy, Debug)]
 pub(crate) struct Given<'a> {
     pub option: CommandOption,
     pub value: &'a str,
 }
 
-/// Why arguments are no options with their values.
+/// Why the arguments aren't options with values.
 #[derive(Clone, Copy, Debug)]
 pub(crate) enum Slip<'a> {
-    /// The usage is asked for.
+    /// The arguments ask for help.
     Help,
-    /// The argument in this place, from 1, is neither an option nor the value of one.
+    /// The argument at this position, from 1, is neither an option nor the value of one.
     Stray(usize),
-    /// The command has no option of this name.
+    /// The command has no option with this name.
     Unknown(&'a str),
     /// The option has no value.
     NoValue(CommandOption),
     /// The option is given twice.
     Twice(CommandOption),
-    /// The option must be given.
+    /// The option is required, and missing.
     Missing(CommandOption),
 }
 
-/// What arguments give, or why they give nothing.
+/// The given options, or why there are none.
 pub(crate) type Scanned<'a> = Result<Vec<Given<'a>>, Slip<'a>>;
 
-/// What an argument is where an option may begin.
+/// An argument at a place where an option may begin.
 enum Word<'a> {
+    /// An option with its value.
     Whole(Given<'a>),
+    /// An option whose value is the next argument.
     Begun(CommandOption),
+    /// Not an option of the command.
     None(Slip<'a>),
 }
 
-/// Reads the arguments behind a command as its options: `--name value` or `--name=value`, each at most once.
+/// Scans the arguments after a command for its options: `--name value` or `--name=value`, each at most once.
+///
+/// # Errors
+/// `AllocError`: out of memory.
 pub(crate) fn scan<'a>(
     alloc: Global,
     options: &[CommandOption],
@@ -73,7 +79,7 @@ pub(crate) fn scan<'a>(
     }
 }
 
-/// What an argument is that is no option's value: it is in this place behind the command.
+/// Classifies an argument that is not the value of the option before it. `place` is its position after the command, from 0.
 fn read_word<'a>(options: &[CommandOption], word: &'a str, place: usize) -> Word<'a> {
     if word == "--help" || word == "-h" {
         return Word::None(Slip::Help);
@@ -93,12 +99,12 @@ fn read_word<'a>(options: &[CommandOption], word: &'a str, place: usize) -> Word
     }
 }
 
-/// Whether an argument can be the value of the option before it.
+/// Whether an argument can be the value of the option before it: it is `-`, or doesn't begin with a hyphen.
 fn is_value(word: &str) -> bool {
     word == "-" || !word.starts_with('-')
 }
 
-/// The options that are given, where each that must be is among them.
+/// The given options, if all required ones are among them.
 fn with_required<'a>(options: &[CommandOption], found: Vec<Given<'a>>) -> Scanned<'a> {
     for option in options {
         if option.absent.is_none() && value_of(&found, option.name).is_none() {
@@ -108,12 +114,12 @@ fn with_required<'a>(options: &[CommandOption], found: Vec<Given<'a>>) -> Scanne
     Ok(found)
 }
 
-/// The option of this name.
+/// The option with this name.
 fn option_named(options: &[CommandOption], name: &str) -> Option<CommandOption> {
     options.iter().find(|option| option.name == name).copied()
 }
 
-/// The value that is given for the option of this name.
+/// The value given for the option with this name.
 pub(crate) fn value_of<'a>(found: &[Given<'a>], name: &str) -> Option<&'a str> {
     for given in found {
         if given.option.name == name {

@@ -1,22 +1,22 @@
-//! The usage of the programs and of their commands.
+//! The usage texts of the programs and their commands.
 use crate::options::{COMMANDS, CommandOption};
 use crate::program::Program;
 use std::alloc::AllocError;
 
-/// The version of the programs, and the kit that they were last proved with.
+/// The version of the programs, and the kit that last proved them.
 const VERSION: &str = "1.0.0, proved with rattle-kit-13f of the logic dac8208d650f15bf";
 
-/// The variable that names a file with further arguments.
+/// The note on the environment variable that names a file with more arguments.
 const FILE_NOTE: &str =
     "Where UNL_EDGE_WORDS_FILE names a file, its lines are further arguments, one a line.";
 
-/// Adds the version.
+/// Appends the version.
 pub(crate) fn push_version(text: &mut String, program: Program) -> Result<(), AllocError> {
     let name = program.name();
     write!(text, "{name} {VERSION}")
 }
 
-/// Adds the list of the commands.
+/// Appends the list of commands.
 pub(crate) fn push_commands(text: &mut String) -> Result<(), AllocError> {
     text.push_str("usage: unl_edge COMMAND [--OPTION VALUE ..]")?;
     for (name, purpose) in &COMMANDS {
@@ -28,7 +28,7 @@ pub(crate) fn push_commands(text: &mut String) -> Result<(), AllocError> {
     text.push_str(FILE_NOTE)
 }
 
-/// Adds the usage of a command.
+/// Appends the usage of a command.
 pub(crate) fn push_usage(
     text: &mut String,
     program: Program,
@@ -49,7 +49,7 @@ pub(crate) fn push_usage(
     text.push_str(FILE_NOTE)
 }
 
-/// Adds an option that must be given to the first line.
+/// Appends a required option to the first line.
 fn push_named(text: &mut String, option: &CommandOption) -> Result<(), AllocError> {
     if option.absent.is_some() {
         return Ok(());
@@ -59,7 +59,7 @@ fn push_named(text: &mut String, option: &CommandOption) -> Result<(), AllocErro
     write!(text, " --{name} {value}")
 }
 
-/// Adds the line of an option.
+/// Appends the line of an option.
 fn push_option(text: &mut String, option: &CommandOption) -> Result<(), AllocError> {
     let name = option.name;
     let value = option.value;

@@ -1,5 +1,5 @@
-//! Which value of an option is refused. Whether one is, is asked of `read_words` itself: each value alone, beside values that
-//! every command takes.
+//! Finds out which option's value is refused, by trying each value in `read_words`, together with sample values for the
+//! other required options.
 use crate::options::{CommandOption, Kind, sample_of};
 use crate::scan::Given;
 use std::alloc::{AllocError, Global};
@@ -8,21 +8,21 @@ use unl_words::{WordsRefusal, read_words};
 /// Why the value of an option is refused.
 #[derive(Clone, Copy, Debug)]
 pub(crate) enum ValueFault {
-    /// It is no number.
+    /// It is not a number.
     NoNumber,
     /// It is a number outside the range.
     OutOfRange,
-    /// It is a list with no item in it.
+    /// It is a list without items.
     EmptyList,
-    /// The item in this place of the list, from 1, is refused alone.
+    /// The item at this position of the list, from 1, is refused on its own.
     BadItem(usize),
-    /// The items are too many, or two are alike that must not be.
+    /// There are too many items, or two are equal that must differ.
     BadItems,
-    /// It is another text than the option takes.
+    /// It is a text that the option doesn't accept.
     BadText,
 }
 
-/// Why the value of an option of this command is refused, where it is.
+/// Why the value of an option of this command is refused. `None` if it isn't.
 pub(crate) fn fault_of(
     alloc: Global,
     command: &str,
@@ -65,7 +65,7 @@ fn list_fault(
     }
 }
 
-/// Whether a command takes this value of an option.
+/// Whether a command accepts this value of an option.
 fn takes(
     alloc: Global,
     command: &str,
@@ -93,7 +93,7 @@ fn word_of(alloc: Global, name: &str, value: &str) -> Result<String, AllocError>
     format!(in alloc; "--{name}={value}")
 }
 
-/// Whether a text is a number, perhaps a large one.
+/// Whether a text is a number, of any size.
 fn is_number(text: &str) -> bool {
     !text.is_empty() && text.bytes().all(|byte| byte.is_ascii_digit())
 }

@@ -1,4 +1,4 @@
--- The function gives the one place that the relation has.
+-- The function computes the only choice that satisfies the relation.
 use Rattle.std.proofs.Common.{◌≡◌, ℕ, ◌+◌, ◌<◌, ◌≤◌, ◌%◌, Bool, true, false, cond, eqb, List, Option, Some, None, refl, sym, ap, ◌∙◌, arith, inl, inr}
 use Rattle.std.specs.Prelude.{position, is_some, is_none, unwrap_or, MatchBool, IfSome, IfNone, ◌==◌, length}
 use Rattle.std.specs.List.{list_any}
@@ -12,7 +12,7 @@ use Rattle.unl_variants.proofs.Firsts.{first_at, first_only, some_passes}
 use Rattle.unl_variants.proofs.Reaching.{place_is_reached, reached_once}
 
 module _ (group : List ℕ) (vs : List Variant) (context : Fields) (random : ℕ) where
-  -- the target lies within the sum
+  -- the number drawn is between 1 and the sum of the weights
   target_within : 0 < total_weight vs → (0 < target_of group vs context random) × (target_of group vs context random ≤ total_weight vs)
   unfolding target_of normalized_of
   target_within some = omega arith
@@ -33,7 +33,7 @@ module _ (group : List ℕ) (vs : List Variant) (context : Fields) (random : ℕ
       let there : list_any (is_overridden context) vs ≡ true = sym (some_passes (is_overridden context) vs) ∙ ap is_some is in
       (some, rw there (first_at (is_overridden context) vs k is))
 
-  -- what the function gives stands in the relation
+  -- the function's value satisfies the relation
   pub choice_is : IsChosen group vs context random (choice_of group vs context random)
   unfolding choice_of
   choice_is = elim (cases_lt 0 (total_weight vs)) [
@@ -54,7 +54,7 @@ module _ (group : List ℕ) (vs : List Variant) (context : Fields) (random : ℕ
   chosen_once (Some j) None is none = absurd (omega (arith, none, is.0))
   chosen_once (Some j) (Some k) a b = ap Some (chosen_places j k _ refl a.1 b.1)
 
-  -- so what stands in the relation is what the function gives
+  -- so a choice that satisfies the relation is the function's value
   pub value_is : (found : Option ℕ) → IsChosen group vs context random found → found ≡ choice_of group vs context random
   value_is found is = chosen_once found (choice_of group vs context random) is choice_is
 
@@ -70,11 +70,11 @@ module _ (group : List ℕ) (vs : List Variant) (context : Fields) (random : ℕ
   inside_is None is = tt
   inside_is (Some k) is = picked_inside k _ is.1
 
-  -- what an override gives is chosen
+  -- a variant found by an override is chosen
   pub overridden_is : (k : ℕ) → 0 < total_weight vs → position (is_overridden context) vs ≡ Some k → IsChosen group vs context random (Some k)
   overridden_is k some is = picked (Some k) some is
 
-  -- what the weights give is chosen, where there is no override
+  -- without an override, the variant found by the weights is chosen
   pub drawn_is : (found : Option ℕ) → 0 < total_weight vs → position (is_overridden context) vs ≡ None
       → IfSome found (IsReached (target_of group vs context random) vs) → IfNone found (total_weight vs < target_of group vs context random) → IsChosen group vs context random found
   drawn_is None some none reached far = absurd (omega (arith, (target_within some).1, far))

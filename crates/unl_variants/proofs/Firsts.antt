@@ -1,4 +1,4 @@
--- The first place whose item passes.
+-- The position of the first item that passes a test.
 use Rattle.std.proofs.Common.{◌≡◌, ℕ, ◌+◌, ◌<◌, ◌≤◌, Bool, true, false, cond, List, [], ◌∷◌, length, get_or, Option, Some, None, refl, sym, ap, ◌∙◌, arith, inl, inr}
 use Rattle.std.specs.Prelude.{position, is_some, ◌||◌}
 use Rattle.std.specs.List.{list_any, position_from, position_or_len}
@@ -12,11 +12,11 @@ some_from : {T : Type 0} (p : T → Bool) (i : ℕ) (xs : List T) → is_some (p
 some_from p i [] = refl
 some_from p i (x ∷ xs) = elim (p x) as (λ b. is_some (cond b (Some i) (position_from p (i + 1) xs)) ≡ (b || list_any p xs)) [ true ↦ refl | false ↦ some_from p (i + 1) xs ]
 
--- there is one exactly where some item passes
+-- there is a position exactly if some item passes
 pub some_passes : {T : Type 0} (p : T → Bool) (xs : List T) → is_some (position p xs) ≡ list_any p xs
 some_passes p xs = ap is_some (position_from-zero p xs) ∙ some_from p 0 xs
 
--- what `position` gives is the first place
+-- `position` returns the first position
 pub first_at : {T : Type 0} (p : T → Bool) (xs : List T) (k : ℕ) → position p xs ≡ Some k → IsFirst p xs k
 first_at p [] k is = absurd (cc)
 first_at p (x ∷ xs) k is =
@@ -27,7 +27,7 @@ first_at p (x ∷ xs) k is =
       not_before = λ j d low below. (position-Some p (x ∷ xs) k d is).2 j below;
     }
 
--- and the only one
+-- there is only one first position
 pub first_only : {T : Type 0} (p : T → Bool) (xs : List T) (k : ℕ) → IsFirst p xs k → position p xs ≡ Some k
 first_only p [] k first = absurd (omega (arith, first.inside))
 first_only p (x ∷ xs) k first =

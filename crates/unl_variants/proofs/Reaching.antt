@@ -1,4 +1,4 @@
--- The first place whose weight, with those before it, reaches a target.
+-- The first position whose weight, added to those before it, reaches a target.
 use Rattle.std.proofs.Common.{◌≡◌, ℕ, zero, suc, ◌+◌, ◌*◌, ◌<◌, ◌≤◌, Bool, true, false, List, [], ◌∷◌, length, take, get_or, Option, Some, None, refl, sym, ap, subst, ◌∙◌, arith, inl, inr}
 use Rattle.std.specs.Prelude.{nat_le, position, is_some}
 use Rattle.std.specs.List.{list_any, sum_by}
@@ -14,7 +14,7 @@ length_sums : (before : ℕ) (vs : List Variant) → length (sums_from before vs
 length_sums before [] = refl
 length_sums before (v ∷ vs) = ap suc (length_sums (before + v.weight) vs)
 
--- each sum is that of the weights up to its place and with it
+-- each sum is that of the weights up to and including its position
 sum_at : (before : ℕ) (vs : List Variant) (k d : ℕ) → k < length vs → get_or (sums_from before vs) k d ≡ before + total_weight (take (suc k) vs)
 sum_at before [] k d inside = absurd (omega (arith, inside))
 sum_at before (v ∷ vs) zero d inside = rw sum_by-cons (omega arith)
@@ -49,7 +49,7 @@ place_by : (target : ℕ) (vs : List Variant) (found : Option ℕ) → 0 < targe
 place_by target vs None some is there = absurd (cc)
 place_by target vs (Some k) some is there = (k, refl, reached_first target vs k some (first_at (λ sum. nat_le target sum) (sums_from 0 vs) k is))
 
--- a target within the sum is reached
+-- a target up to the sum of the weights is reached
 pub place_is_reached : (target : ℕ) (vs : List Variant) → 0 < target → target ≤ total_weight vs → (k : ℕ) × (place_reached target vs ≡ Some k) × IsReached target vs k
 unfolding place_reached
 place_is_reached target vs some far =
@@ -59,7 +59,7 @@ heavier : (vs : List Variant) (j k : ℕ) → j < k → weight_before (j + 1) vs
 heavier vs j k below =
     subst (λ front. total_weight front ≤ total_weight (take k vs)) (take-take (j + 1) k vs (omega arith)) (sum_by-take-le (λ (v : Variant). v.weight) (take k vs) (j + 1))
 
--- only one place reaches it first
+-- only one position reaches it first
 pub reached_once : (target : ℕ) (vs : List Variant) (j k : ℕ) → IsReached target vs j → IsReached target vs k → j ≡ k
 reached_once target vs j k a b =
     elim (cases_lt j k) [
@@ -72,7 +72,7 @@ reached_once target vs j k a b =
 
 -- ---- within the limits
 
--- the sum so far and the next weight
+-- the sum so far plus the next weight is at most 100,000
 pub fits_more : (vs : List Variant) (i : ℕ) (v : Variant) → AreWithinLimits vs → i < length vs → v ≡ get_or vs i v → total_weight (take i vs) + v.weight ≤ 100000
 fits_more vs i v limits inside is =
     let more : total_weight (take i vs) + (get_or vs i v).weight ≤ total_weight vs = sum_by_more_le (λ (v : Variant). v.weight) vs i v inside in

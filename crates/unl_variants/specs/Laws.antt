@@ -1,10 +1,10 @@
--- The function and the relation say the same.
+-- The function and the relation agree.
 use Rattle.std.specs.Prelude.{◌≡◌, ℕ, List, Option}
 use Rattle.unl_documents.specs.declared.variant.Variant.{Variant}
 use Rattle.unl_context.specs.Context.{Fields}
 use Rattle.unl_variants.specs.Variant.{IsChosen, choice_of}
 
--- what the function gives is chosen
+-- the function's value is chosen by the relation
 abbrev pub ChoiceIsChosen : Type 0
 ChoiceIsChosen = (group : List ℕ) (variants : List Variant) (context : Fields) (random : ℕ)
     → IsChosen group variants context random (choice_of group variants context random)

@@ -1,5 +1,5 @@
--- Which of a list of variants is chosen, as the Unleash reference on variants says it. The seed, and that the first
--- variant's stickiness tells the id, are this project's choice.
+-- Which of a list of variants is chosen, as the Unleash reference on variants describes it. The seed, and that the first
+-- variant's stickiness selects the id, are chosen by this project.
 use Rattle.std.specs.Prelude.{◌≡◌, ℕ, ◌+◌, ◌<◌, ◌≤◌, List, [], ◌∷◌, codes, length, take, All, Bool, true, false, ◌||◌, ◌==◌, nat_le}
 use Rattle.std.specs.Prelude.{position, MatchBool, Option, Some, None, unwrap_or, decimal, if◌then◌else◌}
 use Rattle.std.specs.List.{sum_by, list_any, HoldsAt, AllWithin}
@@ -12,7 +12,7 @@ use Rattle.unl_context.specs.Context.{Fields}
 use Rattle.unl_context.specs.Context.{field_of}
 use Rattle.unl_murmur.specs.Murmur3.{normalized_of}
 
--- at most 100 variants, each of a weight of at most 1,000
+-- at most 100 variants, each with a weight of at most 1,000
 abbrev pub AreWithinLimits : List Variant → Type 0
 AreWithinLimits variants = IsListOf 100 (λ v. v.weight ≤ 1000) variants
 
@@ -20,79 +20,79 @@ AreWithinLimits variants = IsListOf 100 (λ v. v.weight ≤ 1000) variants
 abbrev pub total_weight : List Variant → ℕ
 total_weight variants = sum_by (λ v. v.weight) variants
 
--- the sum of the weights of the variants before a place
+-- the sum of the weights of the variants before a position
 abbrev pub weight_before : ℕ → List Variant → ℕ
 weight_before place variants = total_weight (take place variants)
 
--- the text is one of the values
+-- whether the text is one of the values
 abbrev pub is_among : List (List ℕ) → List ℕ → Bool
 is_among values text = list_any (λ value. bytes_eq value text) values
 
--- the override's values hold the context's value of its field
+-- whether the override's values include the context's value of its field
 unfoldable pub is_meant : Fields → Override → Bool
 is_meant context o = option_map_or (is_among o.values) (field_of context o.field) false
 
--- an override gives the variant to the context
+-- whether an override gives the variant to the context
 abbrev pub is_overridden : Fields → Variant → Bool
 is_overridden context variant = list_any (is_meant context) variant.overrides
 
--- the stickiness that counts is the first variant's; no text where it is absent
+-- the first variant's stickiness, which applies to all; empty if absent
 abbrev pub stickiness_of : List Variant → List ℕ
 stickiness_of [] = []
 stickiness_of (v ∷ vs) = unwrap_or v.stickiness []
 
--- the user's id, or else the session's
+-- the user id, or the session id if there is no user id
 abbrev pub own_id : Fields → Option (List ℕ)
 own_id context = option_or (field_of context (codes "userId")) (field_of context (codes "sessionId"))
 
--- the text that a stickiness takes from a context, if there is one
+-- the text that a stickiness selects from a context, if any
 unfoldable pub sticky_text : List ℕ → Fields → Option (List ℕ)
 sticky_text name context =
     if bytes_eq name (codes "") || bytes_eq name (codes "default") then own_id context else (
     if bytes_eq name (codes "random") then None else field_of context name)
 
--- the id that is hashed: without such a text the random number in decimal
+-- the id that is hashed: the selected text, or the random number in decimal
 unfoldable pub id_of : List Variant → Fields → ℕ → List ℕ
 id_of variants context random = unwrap_or (sticky_text (stickiness_of variants) context) (decimal random)
 
--- a number from 1 to the sum of the weights, by the hash of the group and the id
+-- the number drawn: from 1 to the sum of the weights, by the hash of the group and the id
 unfoldable pub target_of : List ℕ → List Variant → Fields → ℕ → ℕ
 target_of group variants context random = normalized_of group (id_of variants context random) (total_weight variants) 86028157
 
--- the first place whose item passes
+-- the position of the first item that passes
 pub record IsFirst {T : Type 0} (passes : T → Bool) (xs : List T) (place : ℕ) : Type 0 where
   pub inside : place < length xs
   pub here : HoldsAt (λ x. passes x ≡ true) xs place
   pub not_before : AllWithin (λ x. passes x ≡ false) xs 0 place
 
--- the weight at the place, with all before it, reaches the target, and those before it don't
+-- the weights before the position don't reach the target, and with the weight at the position they do
 pub record IsReached (target : ℕ) (variants : List Variant) (place : ℕ) : Type 0 where
   pub inside : place < length variants
   pub above : weight_before place variants < target
   pub up_to : target ≤ weight_before (place + 1) variants
 
--- an override counts before any draw
+-- with an override for the context, the first such variant; otherwise the first variant that reaches the number drawn
 abbrev pub IsPicked : List ℕ → List Variant → Fields → ℕ → ℕ → Type 0
 IsPicked group variants context random place =
     MatchBool (list_any (is_overridden context) variants)
     (IsFirst (is_overridden context) variants place)
     (IsReached (target_of group variants context random) variants place)
 
--- the place that is chosen in a group for a context; none where the weights sum to 0
+-- the position chosen in a group for a context; None if the weights sum to 0
 abbrev pub IsChosen : List ℕ → List Variant → Fields → ℕ → Option ℕ → Type 0
 IsChosen group variants context random None = total_weight variants ≡ 0
 IsChosen group variants context random (Some place) = (0 < total_weight variants) × IsPicked group variants context random place
 
--- the sums of the weights up to each variant and with it
+-- for each variant, the sum of the weights up to and including it
 abbrev pub sums_from : ℕ → List Variant → List ℕ
 sums_from before [] = []
 sums_from before (v ∷ vs) = (before + v.weight) ∷ sums_from (before + v.weight) vs
 
--- the first place where the sum reaches the target
+-- the first position where the sum reaches the target
 unfoldable pub place_reached : ℕ → List Variant → Option ℕ
 place_reached target variants = position (λ sum. nat_le target sum) (sums_from 0 variants)
 
--- the place that is chosen, as a function
+-- the position chosen, as a function
 unfoldable pub choice_of : List ℕ → List Variant → Fields → ℕ → Option ℕ
 choice_of group variants context random =
     if total_weight variants == 0 then None

@@ -1,3 +1,4 @@
+//! Chooses the variant for a context.
 ghost use Rattle.std.specs.Prelude.{◌≡◌, ◌==◌, ◌<◌, ℕ, Option, length, is_none, IfSome};
 ghost use Rattle.unl_variants.specs.Variant.{AreWithinLimits, IsChosen, choice_of, target_of, total_weight as total_weight_of};
 
@@ -9,14 +10,15 @@ use unl_context::Context;
 use unl_documents::{List, Variant};
 use unl_murmur::normalized;
 
-/// The seed under which variants are drawn, so that they don't follow the rollouts.
+/// The seed of the hash that draws a variant, chosen so that variants don't follow the rollouts.
 const SEED: u32 = 86_028_157;
 
-/// The place of the variant that is chosen in a group for a context, from 0. `random` is the id, in decimal, where the
-/// context has none. None exactly where the weights sum to 0. It takes no memory.
+/// The position of the variant chosen for a context, counted from 0. Returns `None` exactly if the weights sum to 0.
+/// Allocates nothing.
 ///
-/// The first variant with an override for the context is chosen, or else the first one whose weight, with those before
-/// it, reaches a number from 1 to the sum of all weights: the hash of the group and the id.
+/// The first variant with an override for the context is chosen. Without one, a number from 1 to the sum of all weights is
+/// drawn: the hash of the group and the id. The first variant is chosen whose weight, added to those before it, reaches that
+/// number. If the context has no id, `random` in decimal is the id.
 pub fn choose(
     group: &str,
     variants: &List<Variant>,
@@ -33,7 +35,7 @@ pub fn choose(
     chosen_place(group, variants.as_slice(), context, random)
 }
 
-/// The place that is chosen: an override counts before any draw.
+/// The position of the chosen variant. An override takes precedence over the draw.
 fn chosen_place(group: &str, variants: &[Variant], context: &Context, random: u32) -> Option<usize>
     requires limits { AreWithinLimits variants.now }
     ensures { IsChosen group.now variants.now context.now random result }
@@ -48,7 +50,7 @@ fn chosen_place(group: &str, variants: &[Variant], context: &Context, random: u3
     place_reached(variants, target(group, variants, context, random, total))
 }
 
-/// The number that the weights have to reach.
+/// The number drawn, which the weights must reach.
 #[tactic(auto, unfolding(crate::specs::Variant::target_of, crate::specs::Variant::id_of, unl_murmur::specs::Murmur3::normalized_of))]
 fn target(group: &str, variants: &[Variant], context: &Context, random: u32, total: u32) -> u32
     requires some { 0 < total }

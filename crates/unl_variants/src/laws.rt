@@ -1,12 +1,12 @@
-//! The function that gives the chosen place, and the relation that says which one it is, agree.
+//! Laws: the function that computes the choice, and the relation that defines it, agree.
 ghost use Rattle.unl_variants.specs.Laws.{ChoiceIsChosen, OnlyChoiceIsChosen};
 
-/// What the function gives stands in the relation.
+/// The function's value satisfies the relation.
 pub fn choice_is_chosen()
     ensures { ChoiceIsChosen }
 {}
 
-/// What stands in the relation is what the function gives, so at most one place is chosen.
+/// Any choice that satisfies the relation is the function's value, so there is at most one.
 pub fn only_choice_is_chosen()
     ensures { OnlyChoiceIsChosen }
 {}

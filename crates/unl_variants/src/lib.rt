@@ -1,4 +1,4 @@
-//! The choice of one of a feature's variants for a context: by overrides, or else by weights.
+//! Chooses one of a feature's variants for a context: by overrides, otherwise by weights.
 #![tactic(auto)]
 
 mod choosing;

@@ -1,3 +1,4 @@
+//! Overrides, which give a variant to certain contexts.
 ghost use Rattle.std.specs.Prelude.{◌≡◌, position};
 ghost use Rattle.std.specs.List.{list_any};
 ghost use Rattle.unl_variants.specs.Variant.{is_among as among, is_meant as meant, is_overridden as overridden};
@@ -5,21 +6,21 @@ ghost use Rattle.unl_variants.specs.Variant.{is_among as among, is_meant as mean
 use unl_context::Context;
 use unl_documents::{Override, Text, Variant};
 
-/// The place of the first variant that an override gives to a context.
+/// The position of the first variant with an override for the context.
 pub(crate) fn first_overridden(variants: &[Variant], context: &Context) -> Option<usize>
     ensures { result ≡ position (overridden context.now) variants.now }
 {
     variants.iter().position(|variant| has_override(variant.overrides.as_slice(), context))
 }
 
-/// Whether one of the overrides is meant for a context.
+/// Whether one of the overrides matches the context.
 fn has_override(overrides: &[Override], context: &Context) -> bool
     ensures { result ≡ list_any (meant context.now) overrides.now }
 {
     overrides.iter().any(|one| is_meant(one, context))
 }
 
-/// Whether an override's values hold the context's value of its field.
+/// Whether an override's values include the context's value of its field.
 #[tactic(auto, unfolding(crate::specs::Variant::is_meant))]
 fn is_meant(one: &Override, context: &Context) -> bool
     ensures { result ≡ meant context.now one.now }

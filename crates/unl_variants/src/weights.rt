@@ -1,3 +1,4 @@
+//! Sums of weights.
 ghost use Rattle.std.specs.Prelude.{◌≡◌, ◌<◌, IfSome, IfNone};
 ghost use Rattle.unl_variants.specs.Variant.{AreWithinLimits, total_weight as total_weight_of, IsReached};
 
@@ -15,7 +16,7 @@ pub(crate) fn total_weight(variants: &[Variant]) -> u32
     total
 }
 
-/// The first place whose weight, with those before it, reaches the target.
+/// The first position whose weight, added to those before it, reaches the target.
 pub(crate) fn place_reached(variants: &[Variant], target: u32) -> Option<usize>
     requires limits { AreWithinLimits variants.now }
     requires some { 0 < target }

@@ -1,4 +1,4 @@
--- Contexts that a query sets.
+-- Contexts that are read from a query.
 use Rattle.std.proofs.Common.{◌≡◌, ◌∙◌, ◌&&◌, not, Bool, true, false, length, Some, Ok, Err, cond, refl, sym, subst, ap, arith, nat_lt, true≢false}
 use Rattle.std.proofs.lemmas.Bool.Decides.{nat_tests}
 use Rattle.std.specs.List.{list_all}
@@ -17,7 +17,7 @@ passed : (made context : Fields) (within : Bool) → is_within_limits made ≡ w
 passed made context true is same = let here : made ≡ context = cc in subst (λ (c : Fields). is_within_limits c ≡ true) here is
 passed made context false is same = absurd cc
 
--- what a query is read as is within its limits
+-- The context that a query spells is within its limits.
 pub query_within : (query : Text) (context : Fields) → query_context query ≡ Ok context → is_within_limits context ≡ true
 unfolding query_context
 query_within query context reads = passed (set_by (pairs_of query)) context (is_within_limits (set_by (pairs_of query))) refl reads
@@ -35,7 +35,7 @@ short name is =
     let over : nat_lt 4096 (length name) ≡ false = grind (arith, nat_tests) in
     ap not over
 
--- a context stays within its limits in the environment of a token
+-- A context stays within its limits when its environment is set to that of a token.
 pub placed_within : (token : Text) (context : Fields) → is_token true token ≡ true → is_within_limits context ≡ true
     → is_within_limits (placed (environment_of token) context) ≡ true
 unfolding is_within_limits

@@ -1,4 +1,4 @@
--- Texts that differ, in one list and in two.
+-- Distinct texts, in one list and in two.
 use Rattle.std.proofs.Common.{◌≡◌, ◌&&◌, ◌||◌, ◌++◌, Bool, true, false, not, List, [], ◌∷◌, refl}
 use Rattle.std.proofs.lemmas.List.Folds.{list_any-append}
 use Rattle.std.specs.Str.{bytes_eq}
@@ -10,7 +10,8 @@ right_true : (a : Bool) → a ≡ (a && true)
 right_true true = refl
 right_true false = refl
 
--- `here` in the rest, `there` in the others; the rest and the others differ, and are apart
+-- `here`: the text is in the rest of its list; `there`: it is in the other list; `rest` and `others`: the texts of each list
+-- are distinct; `apart`: no text is in both.
 regrouped : (here there rest others apart : Bool)
     → (not (here || there) && (rest && (others && apart))) ≡ ((not here && rest) && (others && (not there && apart)))
 regrouped true there rest others apart = refl
@@ -19,7 +20,7 @@ regrouped false true true false apart = refl
 regrouped false true false others apart = refl
 regrouped false false rest others apart = refl
 
--- the texts of two lists differ where those of each differ and none is in both
+-- The texts of two lists together are distinct if those of each list are and no text is in both.
 pub different_together : (texts others : List Text) → are_different (texts ++ others) ≡ (are_different texts && (are_different others && are_apart texts others))
 unfolding are_different
 different_together [] others = right_true (are_different others)

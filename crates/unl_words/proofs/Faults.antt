@@ -1,4 +1,4 @@
--- What clap's errors and its definition of a fault say of the words.
+-- How clap's errors and its definition of a fault determine the result.
 use Rattle.std.proofs.Common.{◌≡◌, ◌≢◌, List, [], ◌∷◌, Ok, Err, refl, sym, subst, ap, inl, inr, true≢false}
 use Rattle.std.specs.Prelude.{IsErr, IsErrAnd}
 use Rattle.clap.specs.Words.{HasKind, Kinds, Row, kind_of}
@@ -13,14 +13,14 @@ bad_else : (refusal : WordsRefusal) → refusal ≢ Memory → Bad ≡ refusal
 bad_else Bad not = refl
 bad_else Memory not = absurd (not refl)
 
--- an error other than want of memory comes of a fault
+-- An error other than out of memory is caused by a fault in the arguments.
 pub faulted : (kinds : Kinds) (rows : List Row) (e : Error) → HasKind kinds e → refusal_of (kind_of e) ≢ Memory
     → faultless kinds rows ≡ Err (refusal_of (kind_of e))
 faulted [] rows e (inl memory) not = absurd (not (ap refusal_of memory))
 faulted [] rows e (inr none) not = absurd none
 faulted (k ∷ ks) rows e has not = ap Err (bad_else (refusal_of (kind_of e)) not)
 
--- a refusal that is handed on gives what it gave
+-- If a refusal is forwarded unchanged, what was shown for it holds for the result.
 pub handed_on : (result : WordsReading) (refusal : WordsRefusal) (reading : WordsReading) → IsErr result → IsErrAnd result (λ e. e ≡ refusal)
     → (refusal ≢ Memory → reading ≡ Err refusal) → Gives Memory result reading
 handed_on (Ok words) refusal reading is same gives = absurd (true≢false (sym is))

@@ -1,4 +1,4 @@
--- What is known of values whose tests passed.
+-- Properties of values that passed their tests.
 use Rattle.std.proofs.Common.{◌≡◌, ◌∙◌, ◌≤◌, ◌&&◌, ◌||◌, ℕ, Bool, true, false, not, List, [], ◌∷◌, length, All, Ok, Err, arith, nat_le, nat_lt, refl, sym, true≢false}
 use Rattle.std.proofs.lemmas.Bool.Decides.{nat_tests}
 use Rattle.std.proofs.lemmas.List.Elements.{All-cons, All-nil}
@@ -19,19 +19,19 @@ use Rattle.unl_tokens.specs.Scopes.{scope_of}
 use Rattle.unl_words.specs.Lists.{are_different, has_count, is_named, is_token}
 use Rattle.unl_words.specs.Values.{is_line}
 
--- a count within its bounds
+-- A number of items within its bounds.
 pub counted : (least most : ℕ) (items : List Text) → has_count least most items ≡ true → (least ≤ length items) × (length items ≤ most)
 counted least most items has =
     let parts = both (nat_le least (length items)) (nat_le (length items) most) has in
     (grind (arith, nat_tests), grind (arith, nat_tests))
 
--- a name
+-- A text that passes the test is a name.
 pub name_is : (text : Text) → is_name text ≡ true → IsName text
 name_is text is =
     let parts = both (nat_lt 0 (length text)) (nat_le (length text) 255) is in
     (grind (arith, nat_tests), grind (arith, nat_tests))
 
--- names
+-- Texts that pass the test are names.
 pub names_are : (texts : List Text) → list_all is_name texts ≡ true → All IsName texts
 names_are [] are = All-nil IsName
 names_are (text ∷ texts) are =
@@ -54,7 +54,7 @@ none_equal text (other ∷ others) none =
     (λ same. true≢false (sym ((bytes_eq-Decides other text).1 same) ∙ parts.0))
     (none_equal text others parts.1)
 
--- no text is the first again, and the others differ
+-- The first text is not among the others, and the others are distinct.
 pub others_differ : (text : Text) (texts : List Text) → are_different (text ∷ texts) ≡ true
     → All (λ (other : Text). ¬ (other ≡ text)) texts × (are_different texts ≡ true)
 unfolding are_different
@@ -66,7 +66,7 @@ projects_are : (projects : Projects) → are_names projects ≡ true → AreName
 projects_are projects.All are = tt
 projects_are (projects.Only names) are = names_are names are
 
--- a token's text is read, and names a project and an environment
+-- A text that is read as a token, with names as its environment and projects.
 pub record IsTokenText (text : Text) : Type 0 where
   pub few : IsUpTo 512 text
   pub scope : Scope
@@ -88,7 +88,7 @@ named_is may_be_open text (Ok scope) spelled named few =
     }
 named_is may_be_open text (Err e) spelled named few = absurd (true≢false (sym named))
 
--- a token's text
+-- A text that passes the test is a token.
 pub token_is : (may_be_open : Bool) (text : Text) → is_token may_be_open text ≡ true → IsTokenText text
 token_is may_be_open text is =
     let parts = both (nat_le (length text) 512) (is_line text && is_named may_be_open (scope_of text)) is in

@@ -1,4 +1,4 @@
--- Texts that are split at the last of a character.
+-- Texts that are split at the last occurrence of a character.
 use Rattle.std.proofs.Common.{◌≡◌, ◌∙◌, ◌+◌, ◌-◌, ◌<◌, ◌≤◌, ℕ, zero, suc, List, get_or, take, drop, length, Option, Some, None, MatchOption, option_map, refl, sym, ap, arith, Bor, ⊎_elim, ne_eqb, eq-eqb, length-drop, get_or-drop}
 use Rattle.std.proofs.lemmas.Bool.{cases_eq, cond-true, cond-false}
 use Rattle.std.proofs.lemmas.Str.{len_utf8_ascii}
@@ -19,7 +19,7 @@ found_below c text k (suc n) l at none =
     (λ other. cond-false _ _ _ (ne_eqb _ c (none n (omega arith) (omega arith))) ∙ found_below c text k n (omega arith) at (λ i a b. none i a (omega arith)))
     (cases_eq k n)
 
--- what `rsplit_once` gives at an ASCII character
+-- The result of `rsplit_once` at an ASCII character.
 pub split_last : (c : ℕ) (text : List ℕ) (r : Option (Bor (List ℕ) × Bor (List ℕ)))
     → MatchOption r (RFindsChar c text None) (λ x. (i : ℕ) × (j : ℕ) × RFindsChar c text (Some (i, j)) × (x.0.now ≡ take i text) × (x.1.now ≡ drop j text) × (i ≤ j) × (length x.0.now ≡ i) × (length x.1.now + j ≡ length text))
     → c < 128 → option_map (λ x. (x.0.now, x.1.now)) r ≡ rsplit_once c text

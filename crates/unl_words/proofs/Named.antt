@@ -1,4 +1,4 @@
--- The command that the first word names.
+-- The command that the first argument names.
 use Rattle.std.proofs.Common.{◌≡◌, ◌∙◌, ℕ, Bool, true, false, true≢false, List, [], ◌∷◌, map, Option, Some, None, is_some, refl, ap, subst, sym, codes}
 use Rattle.std.specs.Prelude.{ok_or}
 use Rattle.std.specs.Str.{bytes_eq}
@@ -16,7 +16,7 @@ apart a b not = go (bytes_eq a b) refl
     go false e = refl
     go true e = absurd (not ((bytes_eq-Decides a b).0 e))
 
--- another first word names none
+-- A first argument that is no command's name names no command.
 pub unnamed : {X : Type 0} (text : X → Text) (words : List X) (first : X) (name : Text) → Some first ≡ slice_get words 0 → name ≡ text first
     → (name ≡ codes "replay" → ⊥) → (name ≡ codes "check" → ⊥) → (name ≡ codes "edge" → ⊥) → (name ≡ codes "upstream" → ⊥)
     → (name ≡ codes "follow" → ⊥) → (name ≡ codes "explain" → ⊥) → (name ≡ codes "load" → ⊥)
@@ -36,7 +36,7 @@ unnamed text (word ∷ words) first name is named replay check edge upstream fol
       apart name (codes "load") load,
     ) refl
 
--- what is none is no command
+-- An absent command is not a command.
 pub none_named : (found : Option Command) (command : Command) → found ≡ None → found ≡ Some command → ⊥
 none_named found command none some = true≢false (ap is_some (sym some) ∙ ap is_some none)
 
@@ -68,7 +68,7 @@ pub load_named : (rest : List Text) → command_of (codes "load" ∷ rest) ≡ S
 unfolding command_of
 load_named rest = refl
 
--- a first word that spells a command names it
+-- A first argument that spells a command's name names it.
 pub named : {X : Type 0} (text : X → Text) (words : List X) (first : X) (name known : Text) (command : Command)
     → Some first ≡ slice_get words 0 → name ≡ text first → name ≡ known → ((rest : List Text) → command_of (known ∷ rest) ≡ Some command)
     → command_of (map text words) ≡ Some command
@@ -77,14 +77,14 @@ named text (word ∷ words) first name known command is spelled same of =
     let here : text word ≡ known = cc in
     subst (λ (w : Text). command_of (w ∷ map text words) ≡ Some command) (sym here) (of (map text words))
 
--- what the command asks for is what the words ask for
+-- The reading of the command is the reading of all arguments.
 pub exactly : (words : List Text) (command : Command) (result : WordsReading) → command_of words ≡ Some command
     → Gives Memory result (asked_of command words) → Gives Memory result (words_of words)
 unfolding words_of
 exactly words command result named gives =
     subst (λ (found : Option Command). Gives Memory result (ok_or found Bad >>= (λ (c : Command). asked_of c words))) (sym named) gives
 
--- the words name one command
+-- The arguments name only one command.
 pub taken : (words : List Text) (known command : Command) (result : WordsReading) → command_of words ≡ Some known
     → AnswersTaken known words result → command_of words ≡ Some command → AnswersTaken command words result
 taken words known command result named answers is =

@@ -1,4 +1,4 @@
--- Texts of digits, as `parse` reads them.
+-- Texts of digits, as read by `parse`.
 use Rattle.std.proofs.Common.{◌≡◌, ◌<◌, ◌&&◌, ℕ, Bool, true, false, nat_le, nat_lt, length, ◌^◌, List, [], ◌∷◌, Err, refl, sym, true≢false, arith}
 use Rattle.clap.proofs.WalkLemmas.{both}
 use Rattle.std.proofs.lemmas.Bool.Decides.{nat_tests}
@@ -20,7 +20,7 @@ and_false : (a : Bool) → (a && false) ≡ false
 and_false true = refl
 and_false false = refl
 
--- a number has no sign, and `parse` takes each of its bytes
+-- A number has no sign, and `parse` accepts each of its bytes.
 digits : (text : List ℕ) → is_number text ≡ true → (without_leading_plus text ≡ text) × IsNumeral 10 text
 digits [] is = absurd (true≢false (sym is))
 digits (c ∷ cs) is =
@@ -28,7 +28,7 @@ digits (c ∷ cs) is =
     let here = tells_all_ascii_digits.parts c cs all in
     (without_leading_plus_none (c ∷ cs) (λ plus. omega (arith, here.0)), (omega arith, all_digits (c ∷ cs) all))
 
--- what `parse` gives is the number
+-- The result of `parse` is the number.
 pub number_read : (least most : ℕ) (text : List ℕ) (number : ℕ) → is_number text ≡ true → number ≡ digits_value 10 (without_leading_plus text)
     → within least most number ≡ number_within least most text
 unfolding number_within
@@ -36,7 +36,7 @@ number_read least most text number is reads =
     let value : number ≡ digits_value 10 text = rw (digits text is).0 at reads in
     rw (is, value) refl
 
--- a number that `parse` refuses is greater than each that it could give
+-- A number that `parse` rejects is greater than any that it could return.
 pub number_too_great : (least most : ℕ) (text : List ℕ) → is_number text ≡ true → most < 2 ^ 64
     → ¬ (IsNumeral 10 (without_leading_plus text) × (digits_value 10 (without_leading_plus text) < 2 ^ 64))
     → Err Bad ≡ number_within least most text

@@ -1,11 +1,11 @@
--- The options of a command, one after the other.
+-- The options of a command, added one by one.
 use Rattle.std.proofs.Common.{◌≡◌, ◌∙◌, ◌+◌, ◌<◌, ◌≤◌, ℕ, List, [], ◌∷◌, ◌++◌, length, get_or, map, take, ap, sym}
 use Rattle.std.proofs.lemmas.List.{map-append, take_all, take_more}
 use Rattle.std.proofs.lemmas.List.Sums.{fold-append}
 use Rattle.std.specs.List.{fold}
 use Rattle.clap.specs.Words.{App, Rule, with_rule}
 
--- one option more
+-- One more option is added.
 pub one_more : {X : Type 0} (rule : X → Rule) (start now new : App) (names : List X) (i : ℕ) (x : X) → i < length names
     → now ≡ fold with_rule start (map rule (take i names)) → new ≡ with_rule now (rule (get_or names i x))
     → new ≡ fold with_rule start (map rule (take (i + 1) names))
@@ -16,7 +16,7 @@ one_more rule start now new names i x low before step =
     ∙ ap (fold with_rule start) (map-append rule (take i names) (name ∷ []))
     ∙ fold-append with_rule start (map rule (take i names)) (rule name ∷ []))
 
--- the options of all names
+-- All options are added.
 pub all_given : {X : Type 0} (rule : X → Rule) (start now : App) (names : List X) (i : ℕ) → length names ≤ i
     → now ≡ fold with_rule start (map rule (take i names)) → now ≡ fold with_rule start (map rule names)
 all_given rule start now names i past before = before ∙ ap (λ xs. fold with_rule start (map rule xs)) (take_all i names past)

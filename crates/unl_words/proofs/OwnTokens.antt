@@ -1,4 +1,4 @@
--- The tokens of an upstream's words make a book.
+-- The tokens in an upstream's arguments form a book.
 use Rattle.std.proofs.Common.{◌≡◌, ◌≢◌, ◌≤◌, ◌+◌, ◌&&◌, ◌||◌, ◌∙◌, ℕ, Bool, true, false, not, ltb, List, [], ◌∷◌, ◌++◌, length, map, All, Some, Result, Ok, Err, refl, sym, ap, arith, nat_le, length-append, true≢false}
 use Rattle.std.specs.Prelude.{codes, ⊤}
 use Rattle.std.specs.List.{list_all}
@@ -33,7 +33,7 @@ use Rattle.unl_words.proofs.Known.{others_differ}
 
 -- ---- one text
 
--- what a token's text says, where it names its projects
+-- What is known of a token's text that names its projects.
 record Says (words : List ℕ) : Type 0 where
   few : length words ≤ 512
   scope : Scope
@@ -60,7 +60,7 @@ says words is =
     let few : length words ≤ 512 = grind (arith, nat_tests) in
     says_of words (scope_of words) refl rest.1 few
 
--- the value is read as the token of this text
+-- The value is read as the token with this text.
 IsEntry : Data → List ℕ → Type 0
 IsEntry value words = (token : Token) × (entry_of value ≡ Ok (Some token)) × (token.text ≡ words)
 
@@ -80,7 +80,7 @@ entry_read word kind words known is =
 
 -- ---- all of them
 
--- the values are read as the tokens of these texts
+-- The values are read as the tokens with these texts.
 AreEntries : List Data → List (List ℕ) → Type 0
 AreEntries [] [] = ⊤
 AreEntries [] (words ∷ texts) = ⊥
@@ -103,7 +103,7 @@ entries_both [] (words ∷ texts) more others are also = absurd are
 entries_both (value ∷ values) [] more others are also = absurd are
 entries_both (value ∷ values) (words ∷ texts) more others are also = (are.0, entries_both values texts more others are.1 also)
 
--- the tokens of values
+-- The tokens that are read from the values.
 record AreTokens (place : ℕ) (values : List Data) (texts : List (List ℕ)) : Type 0 where
   tokens : List Token
   read : tokens_from place (items_of values) ≡ Ok tokens
@@ -122,7 +122,7 @@ tokens_of place (value ∷ values) (words ∷ texts) are =
       named = ap (λ (t : List ℕ). t ∷ map (λ (t : Token). t.text) rest.tokens) are.0.2 ∙ ap (λ (ts : List (List ℕ)). words ∷ ts) rest.named;
     }
 
--- no token has the text of this one
+-- No token has the same text as this one.
 none_has : (token : Token) (tokens : List Token) → All (λ (other : List ℕ). ¬ (other ≡ token.text)) (map (λ (t : Token). t.text) tokens)
     → All (λ (other : Token). token.text ≢ other.text) tokens
 none_has token [] none = All-nil (λ (other : Token). token.text ≢ other.text)
@@ -137,7 +137,7 @@ other_texts (token ∷ tokens) differ =
     let parts = others_differ token.text (map (λ (t : Token). t.text) tokens) differ in
     AllPairs-cons (λ (a b : Token). a.text ≢ b.text) token tokens (none_has token tokens parts.0) (other_texts tokens parts.1)
 
--- the answer of both lists is read
+-- The response for both lists can be read.
 Reads : List (List ℕ) → List (List ℕ) → Type 0
 Reads clients frontends = (tokens : List Token) × (book_of (own_answer clients frontends) ≡ Ok tokens)
 
@@ -157,7 +157,7 @@ reads clients frontends are also fit =
     let few : ltb 1024 (length all.tokens) ≡ false = le-ltb _ _ (omega (arith, counted, below)) in
     (all.tokens, rw (all.read, gathered_same all.tokens (other_texts all.tokens differ), few) refl)
 
--- the answer of both lists is read whole, as their book
+-- The response for both lists is read completely, and results in their book.
 pub own_book_read : (clients frontends : List (List ℕ)) → are_own_tokens clients ≡ true → are_own_tokens frontends ≡ true → fit_one_book clients frontends ≡ true
     → book_of (own_answer clients frontends) ≡ Ok (own_book clients frontends)
 unfolding own_book Reads

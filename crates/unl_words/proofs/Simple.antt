@@ -1,4 +1,4 @@
--- The commands are simple, and no option of theirs has a rule on another.
+-- The commands are simple, and none of their options has a rule about another.
 use Rattle.std.proofs.Common.{◌≡◌, true, refl}
 use Rattle.clap.specs.Words.{is_simple_and_free}
 use Rattle.unl_words.specs.Words.{check_app, edge_app, explain_app, follow_app, load_app, replay_app, upstream_app}

@@ -1,4 +1,4 @@
--- The tokens that an upstream knows, made of the texts that its words give.
+-- The tokens that an upstream knows, from the texts in its arguments.
 use Rattle.std.specs.Prelude.{ℕ, List, [], ◌++◌, codes, map, Result, Ok, Err}
 use Rattle.serde_json.specs.Data.{Data, string, array, object, no_members}
 use Rattle.serde_json.specs.View.{items_of}
@@ -8,28 +8,28 @@ use Rattle.unl_tokens.specs.declared.fault.BadBook.{BadBook}
 use Rattle.unl_tokens.specs.declared.token.Token.{Token}
 use Rattle.unl_tokens.specs.Books.{book_of}
 
--- a token's text as an entry of this kind, whose projects the text names
+-- A token's text as an entry of the given kind. The text names the token's projects.
 unfoldable pub own_entry : List ℕ → List ℕ → Data
 own_entry kind text = object (
     with field.Token (string text) (
     with field.Kind (string kind)
     no_members))
 
--- the entries of both lists
+-- The entries of both lists.
 abbrev pub own_entries : List (List ℕ) → List (List ℕ) → List Data
 own_entries clients frontends = map (own_entry (codes "client")) clients ++ map (own_entry (codes "frontend")) frontends
 
--- the answer of a server that knows these texts
+-- The response of a token server that knows these tokens.
 unfoldable pub own_answer : List (List ℕ) → List (List ℕ) → Data
 own_answer clients frontends = object (
     with field.Tokens (array (items_of (own_entries clients frontends)))
     no_members)
 
--- the tokens that were read, if they were
+-- The tokens that were read, or none if reading failed.
 abbrev pub tokens_read : Result (List Token) BadBook → List Token
 tokens_read (Ok tokens) = tokens
 tokens_read (Err fault) = []
 
--- The book of both lists. Where the words are in their ranges the answer is read whole.
+-- The token book of both lists. If the arguments are in their ranges, every token of the response is read.
 unfoldable pub own_book : List (List ℕ) → List (List ℕ) → List Token
 own_book clients frontends = tokens_read (book_of (own_answer clients frontends))

@@ -1,4 +1,4 @@
--- What is known of the values of words that were read.
+-- The ranges of the values of arguments that were read.
 use Rattle.std.specs.Prelude.{◌≡◌, ◌≤◌, ℕ, true, ⊤}
 use Rattle.unl_words.specs.declared.words.EdgeWords.{EdgeWords}
 use Rattle.unl_words.specs.declared.words.FollowWords.{FollowWords}
@@ -10,11 +10,11 @@ use Rattle.unl_words.specs.declared.words.Words.TheVariants.{Replay, Check, Edge
 use Rattle.unl_words.specs.Lists.{are_environments, are_own_tokens, are_tokens, are_upstream_tokens, fit_one_book, is_token}
 use Rattle.unl_words.specs.Values.{is_address, is_line, is_secret}
 
--- the number lies between these
+-- The number is within the bounds.
 abbrev pub IsWithin : ℕ → ℕ → ℕ → Type 0
 IsWithin least most number = (least ≤ number) × (number ≤ most)
 
--- the values of `edge` are in their ranges
+-- The values of the options of `edge` are in their ranges.
 pub record IsEdge (words : EdgeWords) : Type 0 where
   pub listens : IsWithin 1 65535 words.port
   pub asks : is_address words.upstream ≡ true
@@ -24,7 +24,7 @@ pub record IsEdge (words : EdgeWords) : Type 0 where
   pub threads : IsWithin 1 16 words.workers
   pub seconds : IsWithin 1 3600 words.interval
 
--- the values of `upstream` are in their ranges
+-- The values of the options of `upstream` are in their ranges.
 pub record IsUpstream (words : UpstreamWords) : Type 0 where
   pub listens : IsWithin 1 65535 words.port
   pub hides : is_secret words.secret ≡ true
@@ -33,7 +33,7 @@ pub record IsUpstream (words : UpstreamWords) : Type 0 where
   pub frontends : are_own_tokens words.frontend_tokens ≡ true
   pub one_book : fit_one_book words.client_tokens words.frontend_tokens ≡ true
 
--- the values of `follow` are in their ranges
+-- The values of the options of `follow` are in their ranges.
 pub record IsFollow (words : FollowWords) : Type 0 where
   pub asks : is_address words.upstream ≡ true
   pub shows : is_token true words.token ≡ true
@@ -42,11 +42,11 @@ pub record IsFollow (words : FollowWords) : Type 0 where
   pub ends : IsWithin 1 1000000 words.turns
   pub seconds : IsWithin 1 3600 words.interval
 
--- the values of `load` are in their ranges
+-- The values of the options of `load` are in their ranges.
 abbrev pub IsLoad : ℕ → Type 0
 IsLoad count = IsWithin 1 1000000 count
 
--- the values are in their ranges
+-- The values of the command's options are in their ranges.
 abbrev pub IsInRange : Words → Type 0
 IsInRange Replay = ⊤
 IsInRange (Check now word) = now ≤ 100000000000000

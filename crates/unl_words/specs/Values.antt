@@ -1,4 +1,4 @@
--- What the values of options are read as: numbers, texts and a context.
+-- How the values of options are read: numbers, texts and a context.
 use Rattle.std.specs.Prelude.{◌&&◌, ◌==◌, not, is_ok, ℕ, Bool, true, false, length, nat_le, nat_lt, codes}
 use Rattle.std.specs.Prelude.{if◌then◌else◌, Option, Some, Result}
 use Rattle.std.specs.Prelude.{Ok, Err, unwrap_or}
@@ -17,105 +17,105 @@ use Rattle.unl_words.specs.Refusals.{refusal_by}
 use Rattle.unl_words.specs.declared.refusal.WordsRefusal.{WordsRefusal}
 use Rattle.unl_words.specs.declared.refusal.WordsRefusal.TheVariants.{Bad}
 
--- a value, or that what is given is outside its range
+-- A value, or the refusal of an argument outside its range.
 abbrev pub Value : Type 0 → Type 0
 Value T = Result T WordsRefusal
 
--- the value, where it passes
+-- The value, if it passes the test.
 abbrev pub passed : {T : Type 0} → Bool → T → Value T
 passed passes value = if passes then Ok value else Err Bad
 
--- an option that must be given
+-- The value of a required option.
 abbrev pub required : {T : Type 0} → (Text → Value T) → Option Text → Value T
 required reads given = option_map_or reads given (Err Bad)
 
--- an option that is empty where it isn't given
+-- The value of an option that defaults to the empty text.
 abbrev pub or_empty : {T : Type 0} → (Text → Value T) → Option Text → Value T
 or_empty reads given = reads (unwrap_or given (codes ""))
 
 -- ---- numbers
 
--- the text is a number: one or more ASCII digits
+-- The text consists of one or more ASCII digits.
 abbrev pub is_number : Text → Bool
 is_number text = nat_lt 0 (length text) && list_all is_ascii_digit text
 
--- a number of at least `least` and at most `most`
+-- The number, if it is at least `least` and at most `most`.
 abbrev pub within : ℕ → ℕ → ℕ → Value ℕ
 within least most number = passed (nat_le least number && nat_le number most) number
 
--- the number that a text writes, within these bounds
+-- The number that a text spells, if it is within the bounds.
 unfoldable pub number_within : ℕ → ℕ → Text → Value ℕ
 number_within least most text = if is_number text then within least most (digits_value 10 text) else Err Bad
 
--- the number of an option, or its default where it isn't given
+-- The number of an option, or its default if the option is absent.
 abbrev pub number_or : ℕ → ℕ → ℕ → Option Text → Value ℕ
 number_or default least most given = option_map_or (number_within least most) given (Ok default)
 
--- a port is 1 to 65535
+-- The text is a port: 1 to 65535.
 abbrev pub is_port : Text → Bool
 is_port text = is_ok (number_within 1 65535 text)
 
 -- ---- texts
 
--- a byte that doesn't end a line or a text: no carriage return, line feed or NUL
+-- The byte is not a carriage return, line feed or NUL.
 abbrev pub goes_on : ℕ → Bool
 goes_on byte = not (byte == 13) && (not (byte == 10) && not (byte == 0))
 
--- the text may stand in a line
+-- The text contains no carriage return, line feed or NUL.
 abbrev pub is_line : Text → Bool
 is_line text = list_all goes_on text
 
--- a text that may stand in a line
+-- The text, if it contains no carriage return, line feed or NUL.
 abbrev pub line_of : Text → Value Text
 line_of text = passed (is_line text) text
 
--- a secret has bytes
+-- The text is a secret: it isn't empty and contains no carriage return, line feed or NUL.
 abbrev pub is_secret : Text → Bool
 is_secret text = has_bytes text && is_line text
 
--- a text that is a secret
+-- The text, if it is a secret.
 abbrev pub secret_of : Text → Value Text
 secret_of text = passed (is_secret text) text
 
--- the text is HOST:PORT, split at its last colon
+-- The text is HOST:PORT, split at its last colon.
 unfoldable pub is_address : Text → Bool
 is_address text = option_map_or (λ sides. is_secret sides.0 && is_port sides.1) (rsplit_once 58 text) false
 
--- a text that is HOST:PORT
+-- The text, if it is HOST:PORT.
 abbrev pub address_of : Text → Value Text
 address_of text = passed (is_address text) text
 
--- whether changes alone are asked for, or whole feeds
+-- The mode: true for `delta`, false for `feed`.
 abbrev pub mode_of : Text → Value Bool
 mode_of text = if bytes_eq text (codes "delta") then Ok true else passed (bytes_eq text (codes "feed")) false
 
--- changes are asked for where nothing else is given
+-- The mode of an option, `delta` by default.
 abbrev pub mode_or_delta : Option Text → Value Bool
 mode_or_delta given = option_map_or mode_of given (Ok true)
 
--- whether commands are kept in a database, or in memory
+-- The storage: true for `sqlite`, false for `memory`.
 abbrev pub sqlite_of : Text → Value Bool
 sqlite_of text = if bytes_eq text (codes "sqlite") then Ok true else passed (bytes_eq text (codes "memory")) false
 
--- they are kept in memory where nothing else is given
+-- The storage of an option, `memory` by default.
 abbrev pub sqlite_or_memory : Option Text → Value Bool
 sqlite_or_memory given = option_map_or sqlite_of given (Ok false)
 
--- a text that is a name
+-- The text, if it is a name.
 abbrev pub name_of : Text → Value Text
 name_of text = passed (is_name text) text
 
 -- ---- contexts
 
--- the context that was read, or that it is outside its limits
+-- A context that was read, with its fault as a refusal.
 abbrev pub context_in : Reading Fields → Value Fields
 context_in (Ok context) = Ok context
 context_in (Err fault) = Err (refusal_by fault)
 
--- the context that a query sets
+-- The context that a query spells.
 abbrev pub context_by : Text → Value Fields
 context_by query = context_in (query_context query)
 
--- the context in an environment, whatever it says itself
+-- The context with its environment replaced.
 abbrev pub placed : Text → Fields → Fields
 placed environment context = record context { environment = Some environment }

@@ -1,4 +1,4 @@
--- What the words of a command line ask of the program, by clap's definition of a simple command.
+-- How the arguments of a command line are read, by clap's definition of a simple command.
 use Rattle.std.specs.Prelude.{◌≡◌, true, ◌-◌, ◌^◌, ℕ, List, [], ◌∷◌, codes, if◌then◌else◌, Option, Some, None, Result, Ok, Err, ok_or}
 use Rattle.std.specs.List.{fold}
 use Rattle.std.specs.Str.{bytes_eq}
@@ -14,82 +14,82 @@ use Rattle.unl_words.specs.declared.refusal.WordsRefusal.TheVariants.{Bad, Memor
 use Rattle.unl_words.specs.declared.words.Words.{Words}
 use Rattle.unl_words.specs.declared.words.Words.TheVariants.{Replay, Check, Edge, Upstream, Follow, Explain, Load}
 
--- what the words ask for, or why they can't be taken
+-- The command that the arguments name, or why they are refused.
 abbrev pub WordsReading : Type 0
 WordsReading = Result Words WordsRefusal
 
 -- ---- commands
 
--- A command: what clap sees of it, and what it is to do by the rows of values that clap finds.
+-- A command: its definition for clap, and how it is read from the rows of values that clap finds.
 pub record Command : Type 0 where
   pub app : App
   pub asks : List Row → WordsReading
 
--- an option that takes one value behind its long name
+-- An option that takes one value after its long name.
 abbrev pub option_named : Text → Rule
 option_named name = record (new_rule name) { long = Some name; action = Some Set }
 
--- such an option, which must be given
+-- The same as a required option.
 abbrev pub required_named : Text → Rule
 required_named name = record (option_named name) { required = true }
 
--- the command with one more option
+-- The command with one more option.
 abbrev pub with_option : App → Text → App
 with_option app name = with_rule app (option_named name)
 
--- the command with one more option, which must be given
+-- The command with one more required option.
 abbrev pub with_required : App → Text → App
 with_required app name = with_rule app (required_named name)
 
--- a command with these options
+-- A command with these options.
 abbrev pub with_options : Text → List Rule → App
 with_options name rules = fold with_rule (new_app name) rules
 
 -- ---- replay
 
--- `replay` has no options
+-- `replay` has no options.
 unfoldable pub replay_app : App
 replay_app = new_app (codes "replay")
 
--- reads lines and prints one line for each
+-- The command `replay`, which reads lines and prints one line for each.
 abbrev pub replay : Command
 replay = record { app = replay_app; asks = λ rows. Ok Replay }
 
 -- ---- check
 
--- `check` has a moment in milliseconds and a random word
+-- `check` has options for a moment in milliseconds and a random word.
 unfoldable pub check_app : App
 check_app = with_options (codes "check") (option_named (codes "now") ∷ option_named (codes "word") ∷ [])
 
--- the latest moment, in milliseconds since the epoch
+-- The latest moment, in milliseconds since the epoch.
 abbrev pub last_moment : ℕ
 last_moment = 100000000000000
 
--- the greatest unsigned number of 64 bits
+-- The greatest unsigned 64-bit number.
 abbrev pub last_number : ℕ
 last_number = 2 ^ 64 - 1
 
--- what `check` is to do
+-- How `check` is read from its rows of values.
 unfoldable pub asks_check : List Row → WordsReading
 asks_check rows = do
   now ← number_or 0 0 last_moment (first_of (codes "now") rows)
   word ← number_or 0 0 last_number (first_of (codes "word") rows)
   Ok (Check now word)
 
--- runs a test file
+-- The command `check`, which runs a test file.
 abbrev pub check : Command
 check = record { app = check_app; asks = asks_check }
 
 -- ---- edge
 
--- `edge` must be told its upstream and the tokens
+-- `edge` requires its upstream and the tokens.
 unfoldable pub edge_app : App
 edge_app = with_options (codes "edge") (option_named (codes "port")
     ∷ required_named (codes "upstream") ∷ required_named (codes "upstream-tokens") ∷ required_named (codes "tokens")
     ∷ option_named (codes "host") ∷ option_named (codes "workers") ∷ option_named (codes "interval")
     ∷ option_named (codes "connections") ∷ option_named (codes "mode") ∷ [])
 
--- what `edge` is to do
+-- How `edge` is read from its rows of values.
 unfoldable pub asks_edge : List Row → WordsReading
 asks_edge rows = do
   port ← number_or 3063 1 65535 (first_of (codes "port") rows)
@@ -113,20 +113,20 @@ asks_edge rows = do
     delta = delta;
   }))
 
--- serves, and asks its upstream again and again
+-- The command `edge`, which serves evaluations and polls its upstream.
 abbrev pub edge : Command
 edge = record { app = edge_app; asks = asks_edge }
 
 -- ---- upstream
 
--- `upstream` must be told its secret and its environments
+-- `upstream` requires its secret and its environments.
 unfoldable pub upstream_app : App
 upstream_app = with_options (codes "upstream") (option_named (codes "port")
     ∷ required_named (codes "secret") ∷ required_named (codes "environments")
     ∷ option_named (codes "client-tokens") ∷ option_named (codes "frontend-tokens")
     ∷ option_named (codes "connections") ∷ option_named (codes "epoch") ∷ option_named (codes "keep") ∷ [])
 
--- what `upstream` is to do
+-- How `upstream` is read from its rows of values.
 unfoldable pub asks_upstream : List Row → WordsReading
 asks_upstream rows = do
   port ← number_or 4242 1 65535 (first_of (codes "port") rows)
@@ -149,19 +149,19 @@ asks_upstream rows = do
         sqlite = sqlite;
       }))
 
--- takes commands and serves what they make
+-- The command `upstream`, which accepts commands and serves the resulting state.
 abbrev pub upstream : Command
 upstream = record { app = upstream_app; asks = asks_upstream }
 
 -- ---- follow
 
--- `follow` must be told its upstream, its token and its feature
+-- `follow` requires its upstream, its token and its feature.
 unfoldable pub follow_app : App
 follow_app = with_options (codes "follow") (required_named (codes "upstream") ∷ required_named (codes "token")
     ∷ required_named (codes "feature") ∷ option_named (codes "context") ∷ option_named (codes "mode")
     ∷ option_named (codes "turns") ∷ option_named (codes "interval") ∷ [])
 
--- what `follow` is to do; its context is in the environment of its token
+-- How `follow` is read from its rows of values. The context's environment is that of the token.
 unfoldable pub asks_follow : List Row → WordsReading
 asks_follow rows = do
   upstream ← required address_of (first_of (codes "upstream") rows)
@@ -181,40 +181,40 @@ asks_follow rows = do
     interval = interval;
   }))
 
--- follows an upstream, and tells at each turn whether one feature is on
+-- The command `follow`, which follows an upstream and prints at each turn whether one feature is on.
 abbrev pub follow : Command
 follow = record { app = follow_app; asks = asks_follow }
 
 -- ---- explain
 
--- `explain` has no options
+-- `explain` has no options.
 unfoldable pub explain_app : App
 explain_app = new_app (codes "explain")
 
--- tells why a feature is on or off
+-- The command `explain`, which explains why a feature is on or off.
 abbrev pub explain : Command
 explain = record { app = explain_app; asks = λ rows. Ok Explain }
 
 -- ---- load
 
--- `load` must be told both of its numbers
+-- `load` requires both of its numbers.
 unfoldable pub load_app : App
 load_app = with_options (codes "load") (required_named (codes "seed") ∷ required_named (codes "count") ∷ [])
 
--- what `load` is to do
+-- How `load` is read from its rows of values.
 unfoldable pub asks_load : List Row → WordsReading
 asks_load rows = do
   seed ← required (number_within 0 last_number) (first_of (codes "seed") rows)
   count ← required (number_within 1 1000000) (first_of (codes "count") rows)
   Ok (Load seed count)
 
--- asks a large input that it makes from a number
+-- The command `load`, which evaluates features of a large generated input.
 abbrev pub load : Command
 load = record { app = load_app; asks = asks_load }
 
 -- ---- the first word
 
--- the command that the first word names
+-- The command that the first argument names.
 unfoldable pub command_of : List Text → Option Command
 command_of [] = None
 command_of (name ∷ words) =
@@ -226,29 +226,29 @@ command_of (name ∷ words) =
     else (if bytes_eq name (codes "explain") then Some explain
     else (if bytes_eq name (codes "load") then Some load else None))))))
 
--- ---- readings
+-- ---- reading
 
--- the rows, where no kind of fault is found
+-- The rows, if no kind of fault was found.
 abbrev pub faultless : Kinds → List Row → Result (List Row) WordsRefusal
 faultless [] rows = Ok rows
 faultless (kind ∷ kinds) rows = Err Bad
 
--- the rows of values that clap finds in the words after the first, where it finds no fault
+-- The rows of values that clap finds in the arguments after the first, if it finds no fault.
 unfoldable pub matched : App → List Text → Result (List Row) WordsRefusal
 matched app words = faultless (fault_of app words) (matches_of app words)
 
--- what a command is to do by the words after the first
+-- A command as read from the arguments after the first.
 abbrev pub asked_of : Command → List Text → WordsReading
 asked_of command words = do
   rows ← matched command.app words
   command.asks rows
 
--- what the words ask for
+-- The command that the arguments name, with its values.
 unfoldable pub words_of : List Text → WordsReading
 words_of words = do
   command ← ok_or (command_of words) Bad
   asked_of command words
 
--- A command that takes the words, by clap's definition, is answered by its values alone, unless memory ran out.
+-- If clap's definition of the command accepts the arguments, the result depends only on the values, unless memory ran out.
 abbrev pub AnswersTaken : Command → List Text → WordsReading → Type 0
 AnswersTaken command words result = takes command.app words ≡ true → Gives Memory result (command.asks (matches_of command.app words))

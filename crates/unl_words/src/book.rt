@@ -1,4 +1,4 @@
-//! The book of the tokens that an upstream's words give.
+//! The token book of an upstream, built from the arguments of its command line.
 ghost use Rattle.std.specs.Prelude.{◌≡◌, ◌++◌, true, Ok, IfOk, map};
 ghost use Rattle.serde_json.specs.View.{view};
 ghost use Rattle.unl_words.specs.OwnBook.{own_answer, own_book, own_entry, tokens_read};
@@ -11,16 +11,17 @@ use unl_documents::written::{put, put_value};
 use unl_documents::{Field, List, Memory, Text};
 use unl_tokens::{BadBook, Book};
 
-/// The book of the tokens of clients and of frontends that the words of `upstream` give: each has the projects that its text
-/// names. It is what a server would tell of these texts. A text that no word may have leaves the book empty.
+/// Builds the token book from the client and frontend tokens in the arguments of `upstream`. Each token has the projects
+/// that its text names. The book is the one that a token server would return for these texts. If the book can't be read,
+/// because of a text that the arguments don't allow, it is empty.
 ///
 /// # Errors
-/// Want of memory alone.
+/// The only error is out of memory.
 #[tactic(auto, unfolding(crate::specs::OwnBook::own_book))]
 pub fn own_book(alloc: Global, clients: &List<Text>, frontends: &List<Text>) -> Result<Book, Memory>
     ensures book { IfOk result (λ book. book ≡ own_book clients.now frontends.now) }
 
-    // The texts of words in their ranges are all read.
+    // If the arguments are in their ranges, every text is read.
     ensures whole { are_own_tokens clients.now ≡ true → are_own_tokens frontends.now ≡ true → fit_one_book clients.now frontends.now ≡ true
         → book_of (own_answer clients.now frontends.now) ≡ Ok (own_book clients.now frontends.now) }
 {
@@ -28,7 +29,7 @@ pub fn own_book(alloc: Global, clients: &List<Text>, frontends: &List<Text>) -> 
     read_answer(alloc, &answer)
 }
 
-/// The book of an answer, or none where it can't be read.
+/// Reads the book of a token server's response. It is empty if the response can't be read.
 fn read_answer(alloc: Global, answer: &Value) -> Result<Book, Memory>
     ensures { IfOk result (λ book. book ≡ tokens_read (book_of (view answer.now))) }
 {
@@ -39,7 +40,7 @@ fn read_answer(alloc: Global, answer: &Value) -> Result<Book, Memory>
     }
 }
 
-/// The answer of a server that knows these texts.
+/// Returns the response of a token server that knows these tokens.
 #[tactic(auto, unfolding(crate::specs::OwnBook::own_answer))]
 fn own_answer(alloc: Global, clients: &[Text], frontends: &[Text]) -> Result<Value, Memory>
     ensures { IfOk result (λ value. view value ≡ own_answer clients.now frontends.now) }
@@ -52,7 +53,7 @@ fn own_answer(alloc: Global, clients: &[Text], frontends: &[Text]) -> Result<Val
     Ok(Value::Object(members))
 }
 
-/// An entry of this kind for each text.
+/// Returns an entry of the given kind for each text.
 fn entries_of(alloc: Global, kind: &str, texts: &[Text]) -> Result<Vec<Value>, Memory>
     ensures { IfOk result (λ entries. map view entries.items ≡ map (own_entry kind.now) texts.now) }
 {
@@ -63,7 +64,7 @@ fn entries_of(alloc: Global, kind: &str, texts: &[Text]) -> Result<Vec<Value>, M
     Ok(entries)
 }
 
-/// A text as an entry of this kind.
+/// Returns a token's text as an entry of the given kind.
 #[tactic(auto, unfolding(crate::specs::OwnBook::own_entry))]
 fn own_entry(alloc: Global, kind: &str, text: &Text) -> Result<Value, Memory>
     ensures { IfOk result (λ value. view value ≡ own_entry kind.now text.now) }

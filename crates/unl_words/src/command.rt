@@ -1,4 +1,4 @@
-//! The commands, as clap takes them: one table of options a command.
+//! The commands as defined for clap, each with its table of options.
 ghost use Rattle.std.specs.Prelude.{◌≡◌, ◌≢◌, true, false, map, IfOk, IfErr, Ok, Err, string_bytes};
 ghost use Rattle.std.specs.List.{fold};
 ghost use Rattle.clap.specs.Words.{app_of, found_of, is_simple_and_free, matches_of, rows_of, rule_of, takes, with_rule};
@@ -18,7 +18,7 @@ pub(crate) fn replay<'a>(alloc: Global) -> Command<'a>
     Command::new(alloc, "replay")
 }
 
-/// `check` takes a moment and a random word.
+/// `check` has options for a moment and a random word.
 #[tactic(auto, unfolding(crate::specs::Words::check_app))]
 pub(crate) fn check<'a>(alloc: Global) -> Result<Command<'a>, AllocError>
     ensures { IfOk result (λ command. app_of command ≡ check_app) }
@@ -26,7 +26,7 @@ pub(crate) fn check<'a>(alloc: Global) -> Result<Command<'a>, AllocError>
     with_options(alloc, Command::new(alloc, "check"), &["now", "word"], false)
 }
 
-/// `edge` must be told its upstream and the tokens.
+/// `edge` requires its upstream and the tokens.
 #[tactic(auto, unfolding(crate::specs::Words::edge_app))]
 pub(crate) fn edge<'a>(alloc: Global) -> Result<Command<'a>, AllocError>
     ensures { IfOk result (λ command. app_of command ≡ edge_app) }
@@ -38,7 +38,7 @@ pub(crate) fn edge<'a>(alloc: Global) -> Result<Command<'a>, AllocError>
     with_options(alloc, command, &others, false)
 }
 
-/// `upstream` must be told its secret and its environments.
+/// `upstream` requires its secret and its environments.
 #[tactic(auto, unfolding(crate::specs::Words::upstream_app))]
 pub(crate) fn upstream<'a>(alloc: Global) -> Result<Command<'a>, AllocError>
     ensures { IfOk result (λ command. app_of command ≡ upstream_app) }
@@ -56,7 +56,7 @@ pub(crate) fn upstream<'a>(alloc: Global) -> Result<Command<'a>, AllocError>
     with_options(alloc, command, &others, false)
 }
 
-/// `follow` must be told its upstream, its token and its feature.
+/// `follow` requires its upstream, its token and its feature.
 #[tactic(auto, unfolding(crate::specs::Words::follow_app))]
 pub(crate) fn follow<'a>(alloc: Global) -> Result<Command<'a>, AllocError>
     ensures { IfOk result (λ command. app_of command ≡ follow_app) }
@@ -75,7 +75,7 @@ pub(crate) fn explain<'a>(alloc: Global) -> Command<'a>
     Command::new(alloc, "explain")
 }
 
-/// `load` must be told both of its numbers.
+/// `load` requires both of its numbers.
 #[tactic(auto, unfolding(crate::specs::Words::load_app))]
 pub(crate) fn load<'a>(alloc: Global) -> Result<Command<'a>, AllocError>
     ensures { IfOk result (λ command. app_of command ≡ load_app) }
@@ -83,7 +83,7 @@ pub(crate) fn load<'a>(alloc: Global) -> Result<Command<'a>, AllocError>
     with_options(alloc, Command::new(alloc, "load"), &["seed", "count"], true)
 }
 
-/// The command with one more option for each name.
+/// Adds an option for each name.
 fn with_options<'a>(
     alloc: Global,
     command: Command<'a>,
@@ -100,7 +100,7 @@ fn with_options<'a>(
     Ok(command)
 }
 
-/// The command with one more option, which takes one value behind its long name.
+/// Adds an option that takes one value after its long name.
 fn with_option<'a>(
     alloc: Global,
     command: Command<'a>,
@@ -112,7 +112,7 @@ fn with_option<'a>(
     command.arg(option_named(alloc, name, required))
 }
 
-/// An option that takes one value behind its long name.
+/// Returns an option that takes one value after its long name.
 fn option_named<'a>(alloc: Global, name: &'a str, required: bool) -> Arg<'a>
     ensures rule { rule_of result ≡ record (option_named name.entry.now) { required = required } }
     ensures local { result.global ≡ false }
@@ -123,7 +123,7 @@ fn option_named<'a>(alloc: Global, name: &'a str, required: bool) -> Arg<'a>
         .required(required)
 }
 
-/// What clap finds in the words behind the first.
+/// Returns what clap finds in the arguments after the first.
 pub(crate) fn matched<'a>(
     command: Command<'a>,
     words: &'a [String],

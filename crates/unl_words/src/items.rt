@@ -1,4 +1,4 @@
-//! Comma lists among the values of options.
+//! Comma-separated lists in the values of options.
 ghost use Rattle.std.specs.Prelude.{◌≡◌, ◌++◌, true, IfOk, option_copied};
 ghost use Rattle.std.specs.List.{list_any};
 ghost use Rattle.std.specs.Str.{bytes_eq};
@@ -14,7 +14,7 @@ use std::alloc::Global;
 use unl_documents::texts::comma_items;
 use unl_documents::{List, Memory, Text};
 
-/// The environments of an upstream: 1 to 8 different names.
+/// Reads the environments of an upstream: 1 to 8 distinct names.
 pub(crate) fn environments(alloc: Global, given: Option<&str>) -> Result<List<Text>, WordsRefusal>
     ensures gives { Gives memory result (required (items_of are_environments) (option_copied given.entry)) }
     ensures valid { IfOk result (λ items. are_environments items ≡ true) }
@@ -27,7 +27,7 @@ pub(crate) fn environments(alloc: Global, given: Option<&str>) -> Result<List<Te
     accepted(items, pass)
 }
 
-/// The tokens that are shown to an upstream: 1 to 8, of different environments.
+/// Reads the tokens that are presented to an upstream: 1 to 8, with distinct environments.
 pub(crate) fn upstream_tokens(
     alloc: Global,
     given: Option<&str>,
@@ -43,7 +43,7 @@ pub(crate) fn upstream_tokens(
     accepted(items, pass)
 }
 
-/// The tokens that may be known: 1 to 1,024.
+/// Reads the tokens that may be known: 1 to 1,024.
 pub(crate) fn tokens(alloc: Global, given: Option<&str>) -> Result<List<Text>, WordsRefusal>
     ensures gives { Gives memory result (required (items_of are_tokens) (option_copied given.entry)) }
     ensures valid { IfOk result (λ items. are_tokens items ≡ true) }
@@ -56,7 +56,8 @@ pub(crate) fn tokens(alloc: Global, given: Option<&str>) -> Result<List<Text>, W
     accepted(items, pass)
 }
 
-/// The tokens of one kind that an upstream knows, each of which has one project or all; none where they aren't given.
+/// Reads the tokens of one kind that an upstream knows, each with one project or all projects. Returns an empty list if the
+/// option is absent.
 pub(crate) fn own_tokens(alloc: Global, given: Option<&str>) -> Result<List<Text>, WordsRefusal>
     ensures gives { Gives memory result (or_empty (items_of are_own_tokens) (option_copied given.entry)) }
     ensures valid { IfOk result (λ items. are_own_tokens items ≡ true) }
@@ -66,7 +67,7 @@ pub(crate) fn own_tokens(alloc: Global, given: Option<&str>) -> Result<List<Text
     accepted(items, pass)
 }
 
-/// The items, where they pass.
+/// Returns the items if they pass the test.
 fn accepted(items: List<Text>, pass: bool) -> Result<List<Text>, WordsRefusal>
     ensures { result ≡ passed pass items }
 {
@@ -108,7 +109,7 @@ fn has_count(items: &List<Text>, least: usize, most: usize) -> bool
     least <= items.len() && items.len() <= most
 }
 
-/// Whether the tokens of both kinds are in all at most 1,024, of different texts.
+/// Whether there are at most 1,024 tokens of both kinds together, all with distinct texts.
 pub(crate) fn fit_one_book(client: &List<Text>, frontend: &List<Text>) -> bool
     ensures { result ≡ fit_one_book client.now frontend.now }
 {
@@ -117,7 +118,7 @@ pub(crate) fn fit_one_book(client: &List<Text>, frontend: &List<Text>) -> bool
         && are_different_together(client.as_slice(), frontend.as_slice())
 }
 
-/// Whether no text stands twice in two lists together.
+/// Whether the texts of both lists together are distinct.
 #[tactic(auto, using(crate::proofs::Differences::different_together))]
 fn are_different_together(texts: &[Text], others: &[Text]) -> bool
     ensures { result ≡ are_different (texts.now ++ others.now) }
@@ -125,14 +126,14 @@ fn are_different_together(texts: &[Text], others: &[Text]) -> bool
     are_different(texts) && are_different(others) && are_apart(texts, others)
 }
 
-/// Whether no text of the first list stands in the second.
+/// Whether no text of the first list is in the second.
 fn are_apart(texts: &[Text], others: &[Text]) -> bool
     ensures { result ≡ are_apart texts.now others.now }
 {
     texts.iter().all(|text| !stands_in(text.as_str(), others))
 }
 
-/// Whether no text stands twice.
+/// Whether the texts are distinct.
 #[tactic(auto, unfolding(crate::specs::Lists::are_different))]
 fn are_different(texts: &[Text]) -> bool
     ensures { result ≡ are_different texts.now }
@@ -147,7 +148,7 @@ fn are_different(texts: &[Text]) -> bool
     true
 }
 
-/// Whether a text stands in a list.
+/// Whether a text is in a list.
 fn stands_in(text: &str, texts: &[Text]) -> bool
     ensures { result ≡ list_any (λ other. bytes_eq other text.now) texts.now }
 {

@@ -1,4 +1,4 @@
-//! The words of the command line: which command they name, and the values of its options.
+//! The arguments of the command line: which command they name, and the values of its options.
 #![tactic(auto)]
 
 mod book;

@@ -1,4 +1,4 @@
-//! Numbers among the values of options.
+//! Numbers in the values of options.
 ghost use Rattle.std.specs.Prelude.{◌≡◌, ◌≤◌, IfOk, option_copied};
 ghost use Rattle.std.specs.List.{list_all};
 ghost use Rattle.std.specs.Char.{is_ascii_digit};
@@ -7,7 +7,7 @@ ghost use Rattle.unl_words.specs.Values.{is_number, is_port, number_or, number_w
 
 use crate::WordsRefusal;
 
-/// The number of an option between two bounds, or its default where it isn't given.
+/// Reads the number of an option, within two bounds. Returns the default if the option is absent.
 pub(crate) fn number_or(
     given: Option<&str>,
     default: u64,
@@ -24,7 +24,7 @@ pub(crate) fn number_or(
     }
 }
 
-/// The number of an option that must be given, between two bounds.
+/// Reads the number of a required option, within two bounds.
 pub(crate) fn required_number(
     given: Option<&str>,
     least: u64,
@@ -46,7 +46,7 @@ pub(crate) fn is_port(text: &str) -> bool
     number_within(text, 1, 65_535).is_ok()
 }
 
-/// The number that a text writes: one or more ASCII digits, leading zeros among them, within these bounds.
+/// Parses a number within the given bounds. It consists of one or more ASCII digits; leading zeros are allowed.
 #[tactic(auto, unfolding(crate::specs::Values::number_within))]
 fn number_within(text: &str, least: u64, most: u64) -> Result<u64, WordsRefusal>
     ensures gives { result ≡ number_within least most text.now }
@@ -61,7 +61,7 @@ fn number_within(text: &str, least: u64, most: u64) -> Result<u64, WordsRefusal>
     }
 }
 
-/// A number, where it lies within these bounds.
+/// Returns the number if it is within the bounds.
 fn within(number: u64, least: u64, most: u64) -> Result<u64, WordsRefusal>
     ensures gives { result ≡ within least most number }
     ensures range { IfOk result (IsWithin least most) }
@@ -73,7 +73,7 @@ fn within(number: u64, least: u64, most: u64) -> Result<u64, WordsRefusal>
     }
 }
 
-/// Whether a text is one or more ASCII digits.
+/// Whether a text consists of one or more ASCII digits.
 fn is_number(text: &str) -> bool
     ensures { result ≡ is_number text.now }
 {

@@ -1,4 +1,4 @@
-//! The reading of the words.
+//! Reads the arguments of the command line.
 ghost use Rattle.std.specs.Prelude.{◌≡◌, Some, IfOk, map, string_bytes};
 ghost use Rattle.clap.specs.Words.{found_of, rows_of};
 ghost use Rattle.unl_documents.specs.Results.{Gives};
@@ -15,43 +15,43 @@ use crate::{EdgeWords, FollowWords, UpstreamWords, Words, WordsRefusal, command,
 use clap::ArgMatches;
 use std::alloc::Global;
 
-/// The latest moment that `--now` takes, in milliseconds since the epoch (chosen by this project).
+/// The latest moment that `--now` accepts, in milliseconds since the epoch (chosen by this project).
 const LAST_MOMENT: u64 = 100_000_000_000_000;
 
-/// Reads the words of a command line, without the program's own name. The first word names the command; those behind
-/// it are read by clap as one simple command of its own, each option with one value behind its long name. A number is
-/// one or more ASCII digits; a list has commas between its items, which are trimmed, and empty items are dropped.
+/// Reads the arguments of a command line, without the name of the program. The first argument names the command. Clap parses
+/// the others as a simple command of their own, in which each option has one value after its long name. A number consists of
+/// one or more ASCII digits. A list has commas between its items; the items are trimmed, and empty ones are dropped.
 ///
-/// - `replay` takes no options.
-/// - `check` takes `--now`, a moment of at most 100,000,000,000,000 milliseconds, and `--word`, an unsigned number of 64
-///   bits; each is 0 where it isn't given.
-/// - `edge` takes `--port` (3063), `--upstream` `HOST:PORT`, which is split at its last colon, `--upstream-tokens`, 1 to
-///   8 of different environments, `--tokens`, 1 to 1,024, `--host` (empty), `--workers`, 1 to 16 (4), `--interval`, 1 to
-///   3,600 (15), `--connections`, an unsigned number of 64 bits (0), and `--mode`, `feed` or `delta` (`delta`). The
-///   upstream and both lists must be given.
-/// - `upstream` takes `--port` (4242), `--secret`, which isn't empty, `--environments`, 1 to 8 different names,
-///   `--client-tokens` and `--frontend-tokens` (empty), in all at most 1,024 of different texts, each with one project or
-///   all, `--connections` (0), `--epoch`, an unsigned number of 64 bits (0), and `--keep`, `memory` or `sqlite`
-///   (`memory`). The secret and the environments must be given.
-/// - `follow` takes `--upstream` `HOST:PORT`, `--token`, `--feature`, a name, `--context`, a query that
-///   `Context::read_query` takes (empty), `--mode` as `edge`, `--turns`, 1 to 1,000,000 (1), and `--interval` as `edge`.
-///   The first three must be given. The context is put into the environment of the token.
-/// - `explain` takes no options.
-/// - `load` takes `--seed`, an unsigned number of 64 bits, and `--count`, 1 to 1,000,000. Both must be given.
+/// - `replay` has no options.
+/// - `check` has `--now`, a moment of at most 100,000,000,000,000 milliseconds, and `--word`, an unsigned 64-bit number.
+///   Each defaults to 0.
+/// - `edge` has `--port` (default 3063), `--upstream` `HOST:PORT`, which is split at its last colon, `--upstream-tokens`, 1
+///   to 8 with distinct environments, `--tokens`, 1 to 1,024, `--host` (default empty), `--workers`, 1 to 16 (default 4),
+///   `--interval`, 1 to 3,600 (default 15), `--connections`, an unsigned 64-bit number (default 0), and `--mode`, `feed` or
+///   `delta` (default `delta`). The upstream and both lists are required.
+/// - `upstream` has `--port` (default 4242), `--secret`, which isn't empty, `--environments`, 1 to 8 distinct names,
+///   `--client-tokens` and `--frontend-tokens` (default empty), together at most 1,024 distinct texts, each with one project
+///   or all projects, `--connections` (default 0), `--epoch`, an unsigned 64-bit number (default 0), and `--keep`, `memory`
+///   or `sqlite` (default `memory`). The secret and the environments are required.
+/// - `follow` has `--upstream` `HOST:PORT`, `--token`, `--feature`, a name, `--context`, a query that `Context::read_query`
+///   accepts (default empty), `--mode` as for `edge`, `--turns`, 1 to 1,000,000 (default 1), and `--interval` as for `edge`.
+///   The first three are required. The context's environment is set to that of the token.
+/// - `explain` has no options.
+/// - `load` has `--seed`, an unsigned 64-bit number, and `--count`, 1 to 1,000,000. Both are required.
 ///
-/// A port is 1 to 65535. A token's text has at most 512 bytes, is read by `Scope::read`, and its environment and project
-/// are names. No carriage return, line feed or NUL stands in a host, a secret or a token.
+/// A port is 1 to 65535. A token's text has at most 512 bytes and is accepted by `Scope::read`, and its environment and
+/// projects are names. Hosts, secrets and tokens contain no carriage return, line feed or NUL.
 ///
 /// # Errors
 ///
-/// - `Bad`: there are no words, the first names no command, clap refuses the others (`--help` among them), or a value
-///   is outside its range.
-/// - `Memory`: memory ran out.
+/// - `Bad`: there are no arguments, the first names no command, clap rejects the others (including `--help`), or a value is
+///   outside its range.
+/// - `Memory`: out of memory.
 #[tactic(auto, unfolding(crate::specs::Words::words_of, crate::specs::Words::command_of))]
 pub fn read_words(alloc: Global, words: &[String]) -> Result<Words, WordsRefusal>
-    // What clap finds in the words decides, and the ranges of the values.
+    // The result depends only on what clap finds in the arguments and on the ranges of the values.
     ensures exact { Gives Memory result (words_of (map string_bytes words.now)) }
-    // Where clap's definition takes the words, the ranges alone decide.
+    // If clap's definition accepts the arguments, the result depends only on the ranges of the values.
     ensures taken { (command : Command) → command_of (map string_bytes words.now) ≡ Some command
         → AnswersTaken command (map string_bytes words.now) result }
     // The values are in their ranges.
@@ -72,7 +72,7 @@ pub fn read_words(alloc: Global, words: &[String]) -> Result<Words, WordsRefusal
     }
 }
 
-/// Reads the words of `replay`.
+/// Reads the arguments of `replay`.
 fn read_replay(alloc: Global, words: &[String]) -> Result<Words, WordsRefusal>
     ensures exact { Gives Memory result (asked_of replay_command (map string_bytes words.now)) }
     ensures taken { AnswersTaken replay_command (map string_bytes words.now) result }
@@ -82,7 +82,7 @@ fn read_replay(alloc: Global, words: &[String]) -> Result<Words, WordsRefusal>
     Ok(Words::Replay)
 }
 
-/// Reads the words of `check`.
+/// Reads the arguments of `check`.
 fn read_check(alloc: Global, words: &[String]) -> Result<Words, WordsRefusal>
     ensures exact { Gives Memory result (asked_of check_command (map string_bytes words.now)) }
     ensures taken { AnswersTaken check_command (map string_bytes words.now) result }
@@ -92,7 +92,7 @@ fn read_check(alloc: Global, words: &[String]) -> Result<Words, WordsRefusal>
     asked_check(&matches)
 }
 
-/// Reads the words of `edge`.
+/// Reads the arguments of `edge`.
 fn read_edge(alloc: Global, words: &[String]) -> Result<Words, WordsRefusal>
     ensures exact { Gives Memory result (asked_of edge_command (map string_bytes words.now)) }
     ensures taken { AnswersTaken edge_command (map string_bytes words.now) result }
@@ -102,7 +102,7 @@ fn read_edge(alloc: Global, words: &[String]) -> Result<Words, WordsRefusal>
     asked_edge(alloc, &matches)
 }
 
-/// Reads the words of `upstream`.
+/// Reads the arguments of `upstream`.
 fn read_upstream(alloc: Global, words: &[String]) -> Result<Words, WordsRefusal>
     ensures exact { Gives Memory result (asked_of upstream_command (map string_bytes words.now)) }
     ensures taken { AnswersTaken upstream_command (map string_bytes words.now) result }
@@ -112,7 +112,7 @@ fn read_upstream(alloc: Global, words: &[String]) -> Result<Words, WordsRefusal>
     asked_upstream(alloc, &matches)
 }
 
-/// Reads the words of `follow`.
+/// Reads the arguments of `follow`.
 fn read_follow(alloc: Global, words: &[String]) -> Result<Words, WordsRefusal>
     ensures exact { Gives Memory result (asked_of follow_command (map string_bytes words.now)) }
     ensures taken { AnswersTaken follow_command (map string_bytes words.now) result }
@@ -122,7 +122,7 @@ fn read_follow(alloc: Global, words: &[String]) -> Result<Words, WordsRefusal>
     asked_follow(alloc, &matches)
 }
 
-/// Reads the words of `explain`.
+/// Reads the arguments of `explain`.
 fn read_explain(alloc: Global, words: &[String]) -> Result<Words, WordsRefusal>
     ensures exact { Gives Memory result (asked_of explain_command (map string_bytes words.now)) }
     ensures taken { AnswersTaken explain_command (map string_bytes words.now) result }
@@ -132,7 +132,7 @@ fn read_explain(alloc: Global, words: &[String]) -> Result<Words, WordsRefusal>
     Ok(Words::Explain)
 }
 
-/// Reads the words of `load`.
+/// Reads the arguments of `load`.
 fn read_load(alloc: Global, words: &[String]) -> Result<Words, WordsRefusal>
     ensures exact { Gives Memory result (asked_of load_command (map string_bytes words.now)) }
     ensures taken { AnswersTaken load_command (map string_bytes words.now) result }
@@ -142,7 +142,7 @@ fn read_load(alloc: Global, words: &[String]) -> Result<Words, WordsRefusal>
     asked_load(&matches)
 }
 
-/// What `check` is to do, by the values that were found.
+/// Returns the `check` command with the values that clap found.
 #[tactic(auto, unfolding(crate::specs::Words::asks_check))]
 fn asked_check(matches: &ArgMatches<'_>) -> Result<Words, WordsRefusal>
     ensures gives { result ≡ asks_check (rows_of (found_of matches.now)) }
@@ -153,7 +153,7 @@ fn asked_check(matches: &ArgMatches<'_>) -> Result<Words, WordsRefusal>
     Ok(Words::Check { now, word })
 }
 
-/// What `edge` is to do, by the values that were found.
+/// Returns the `edge` command with the values that clap found.
 #[tactic(auto, unfolding(crate::specs::Words::asks_edge))]
 fn asked_edge(alloc: Global, matches: &ArgMatches<'_>) -> Result<Words, WordsRefusal>
     ensures gives { Gives Memory result (asks_edge (rows_of (found_of matches.now))) }
@@ -181,7 +181,7 @@ fn asked_edge(alloc: Global, matches: &ArgMatches<'_>) -> Result<Words, WordsRef
     }))
 }
 
-/// What `upstream` is to do, by the values that were found.
+/// Returns the `upstream` command with the values that clap found.
 #[tactic(auto, unfolding(crate::specs::Words::asks_upstream))]
 fn asked_upstream(alloc: Global, matches: &ArgMatches<'_>) -> Result<Words, WordsRefusal>
     ensures gives { Gives Memory result (asks_upstream (rows_of (found_of matches.now))) }
@@ -210,7 +210,7 @@ fn asked_upstream(alloc: Global, matches: &ArgMatches<'_>) -> Result<Words, Word
     }))
 }
 
-/// What `follow` is to do, by the values that were found.
+/// Returns the `follow` command with the values that clap found.
 #[tactic(auto, unfolding(crate::specs::Words::asks_follow))]
 fn asked_follow(alloc: Global, matches: &ArgMatches<'_>) -> Result<Words, WordsRefusal>
     ensures gives { Gives Memory result (asks_follow (rows_of (found_of matches.now))) }
@@ -235,7 +235,7 @@ fn asked_follow(alloc: Global, matches: &ArgMatches<'_>) -> Result<Words, WordsR
     }))
 }
 
-/// What `load` is to do, by the values that were found.
+/// Returns the `load` command with the values that clap found.
 #[tactic(auto, unfolding(crate::specs::Words::asks_load))]
 fn asked_load(matches: &ArgMatches<'_>) -> Result<Words, WordsRefusal>
     ensures gives { result ≡ asks_load (rows_of (found_of matches.now)) }

@@ -1,4 +1,4 @@
-//! Why words are refused.
+//! Why arguments are refused.
 ghost use Rattle.std.specs.Prelude.{◌≡◌};
 ghost use Rattle.clap.specs.Words.{kind_of};
 ghost use Rattle.unl_words.specs.Refusals.{refusal_of, refusal_by};
@@ -10,12 +10,12 @@ use std::alloc::AllocError;
 use unl_context::BadContext;
 use unl_documents as documents;
 
-/// Why words name no command with values that it takes.
+/// Why the arguments of a command line are refused.
 #[derive(Clone, Copy, Debug, PartialEq, Eq)]
 pub enum WordsRefusal {
-    /// No word names a command, clap refuses the words behind the name, or a value is outside its range.
+    /// No argument names a command, clap rejects the arguments after the name, or a value is outside its range.
     Bad,
-    /// Memory ran out.
+    /// Out of memory.
     Memory,
 }
 

@@ -1,4 +1,4 @@
-//! Tokens among the values of options.
+//! Tokens in the values of options.
 ghost use Rattle.std.specs.Prelude.{◌≡◌, Ok, IfOk, map};
 ghost use Rattle.std.specs.List.{list_all};
 ghost use Rattle.unl_documents.specs.Texts.{is_name};
@@ -11,7 +11,8 @@ use unl_documents::texts::is_name;
 use unl_documents::{List, Memory, Text};
 use unl_tokens::{BadToken, Projects, Scope};
 
-/// The environments of tokens, in their order: no bytes for a text that is no token's.
+/// Returns the environments of tokens, in their order. The environment is empty if a text is not a token. The only error is
+/// out of memory.
 pub fn token_environments(alloc: Global, tokens: &List<Text>) -> Result<List<Text>, Memory>
     ensures { IfOk result (λ environments. environments ≡ map environment_of tokens.now) }
 {
@@ -28,7 +29,7 @@ fn environments(alloc: Global, tokens: &[Text]) -> Result<List<Text>, Memory>
     Ok(environments)
 }
 
-/// The environment of a token: no bytes for a text that is no token's.
+/// Returns the environment of a token, or an empty text if the argument is not a token. The only error is out of memory.
 pub fn token_environment(alloc: Global, token: &str) -> Result<Text, Memory>
     ensures { IfOk result (λ environment. environment ≡ environment_of token.now) }
 {
@@ -39,7 +40,7 @@ pub fn token_environment(alloc: Global, token: &str) -> Result<Text, Memory>
     }
 }
 
-/// Whether each text is a token's. Where they may be open, they may leave their projects to the server.
+/// Whether each text is a token, as by [`is_token`].
 pub(crate) fn all_tokens(alloc: Global, texts: &[Text], may_be_open: bool) -> Result<bool, Memory>
     ensures { IfOk result (λ all. all ≡ list_all (is_token may_be_open) texts.now) }
 {
@@ -51,7 +52,8 @@ pub(crate) fn all_tokens(alloc: Global, texts: &[Text], may_be_open: bool) -> Re
     Ok(true)
 }
 
-/// Whether a text of at most 512 bytes may stand in a line and has a project and an environment with names.
+/// Whether a text is a token: it has at most 512 bytes, none of which is a carriage return, line feed or NUL, and its
+/// environment and projects are names. Only if `may_be_open` is true may the token leave its projects to the token server.
 pub(crate) fn is_token(alloc: Global, text: &str, may_be_open: bool) -> Result<bool, Memory>
     ensures { IfOk result (λ is. is ≡ is_token may_be_open text.now) }
 {

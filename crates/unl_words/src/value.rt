@@ -1,4 +1,4 @@
-//! Texts among the values of options.
+//! Single texts in the values of options.
 ghost use Rattle.std.specs.Prelude.{◌≡◌, ◌<◌, true, Ok, IfOk, option_copied, option_map};
 ghost use Rattle.std.specs.List.{list_all};
 ghost use Rattle.std.specs.Path.{rsplit_once};
@@ -20,14 +20,14 @@ use unl_context::Context;
 use unl_documents::Text;
 use unl_documents::texts::is_name;
 
-/// The value of an option, where it is given.
+/// Returns the value of an option, if it is present.
 pub(crate) fn given<'a>(matches: &ArgMatches<'a>, name: &str) -> Option<&'a str>
     ensures { option_copied result ≡ first_of name.now (rows_of (found_of matches.now)) }
 {
     matches.get_str(name)
 }
 
-/// A text that may stand in a line; empty where it isn't given.
+/// Reads a text without carriage return, line feed or NUL. Returns an empty text if the option is absent.
 pub(crate) fn line_or_empty(alloc: Global, given: Option<&str>) -> Result<Text, WordsRefusal>
     ensures gives { Gives Memory result (or_empty line_of (option_copied given.entry)) }
     ensures valid { IfOk result (λ text. is_line text ≡ true) }
@@ -36,7 +36,7 @@ pub(crate) fn line_or_empty(alloc: Global, given: Option<&str>) -> Result<Text, 
     accepted(alloc, text, is_line(text))
 }
 
-/// The context that a query sets; one that says nothing where it isn't given.
+/// Reads a context from a query. Returns an empty context if the option is absent.
 pub(crate) fn context_or_none(alloc: Global, given: Option<&str>) -> Result<Context, WordsRefusal>
     ensures gives { Gives Memory result (or_empty context_by (option_copied given.entry)) }
     ensures valid { IfOk result (λ context. is_within_limits context ≡ true) }
@@ -44,7 +44,7 @@ pub(crate) fn context_or_none(alloc: Global, given: Option<&str>) -> Result<Cont
     Ok(Context::read_query(alloc, given.unwrap_or("").as_bytes())?)
 }
 
-/// The context in the environment of a token, whatever the context says itself.
+/// Sets the context's environment to that of a token, replacing any environment in the context.
 pub(crate) fn placed(
     alloc: Global,
     mut context: Context,
@@ -60,7 +60,7 @@ pub(crate) fn placed(
     Ok(context)
 }
 
-/// The name of a feature.
+/// Reads the name of a feature.
 pub(crate) fn name(alloc: Global, given: Option<&str>) -> Result<Text, WordsRefusal>
     ensures gives { Gives Memory result (required name_of (option_copied given.entry)) }
     ensures valid { IfOk result (λ text. is_name text ≡ true) }
@@ -71,7 +71,7 @@ pub(crate) fn name(alloc: Global, given: Option<&str>) -> Result<Text, WordsRefu
     }
 }
 
-/// A token that is shown to an upstream.
+/// Reads a token that is presented to an upstream.
 pub(crate) fn token(alloc: Global, given: Option<&str>) -> Result<Text, WordsRefusal>
     ensures gives { Gives Memory result (required token_of (option_copied given.entry)) }
     ensures valid { IfOk result (λ text. is_token true text ≡ true) }
@@ -83,7 +83,7 @@ pub(crate) fn token(alloc: Global, given: Option<&str>) -> Result<Text, WordsRef
     accepted(alloc, text, passes)
 }
 
-/// A secret: a text that may stand in a line and isn't empty.
+/// Reads a secret: a nonempty text without carriage return, line feed or NUL.
 pub(crate) fn secret(alloc: Global, given: Option<&str>) -> Result<Text, WordsRefusal>
     ensures gives { Gives Memory result (required secret_of (option_copied given.entry)) }
     ensures valid { IfOk result (λ text. is_secret text ≡ true) }
@@ -94,7 +94,8 @@ pub(crate) fn secret(alloc: Global, given: Option<&str>) -> Result<Text, WordsRe
     }
 }
 
-/// An address `HOST:PORT`, split at its last colon: a host that may stand in a line and isn't empty, and a port.
+/// Reads an address `HOST:PORT`, split at its last colon. The host is a nonempty text without carriage return, line feed or
+/// NUL.
 pub(crate) fn address(alloc: Global, given: Option<&str>) -> Result<Text, WordsRefusal>
     ensures gives { Gives Memory result (required address_of (option_copied given.entry)) }
     ensures valid { IfOk result (λ text. is_address text ≡ true) }
@@ -105,7 +106,7 @@ pub(crate) fn address(alloc: Global, given: Option<&str>) -> Result<Text, WordsR
     }
 }
 
-/// Whether changes are asked for, as they are where nothing is given, or whole feeds.
+/// Reads the mode: true for `delta` (only changes are requested), which is the default, and false for `feed` (whole feeds).
 pub(crate) fn mode_or_delta(given: Option<&str>) -> Result<bool, WordsRefusal>
     ensures { result ≡ mode_or_delta (option_copied given.entry) }
 {
@@ -116,7 +117,7 @@ pub(crate) fn mode_or_delta(given: Option<&str>) -> Result<bool, WordsRefusal>
     }
 }
 
-/// Whether commands are kept in a database, or in memory, as they are where nothing is given.
+/// Reads the storage: true for `sqlite` (commands are kept in a database), and false for `memory`, which is the default.
 pub(crate) fn sqlite_or_memory(given: Option<&str>) -> Result<bool, WordsRefusal>
     ensures { result ≡ sqlite_or_memory (option_copied given.entry) }
 {
@@ -127,7 +128,7 @@ pub(crate) fn sqlite_or_memory(given: Option<&str>) -> Result<bool, WordsRefusal
     }
 }
 
-/// A copy of a text, where it passes.
+/// Returns a copy of the text if it passes the test.
 fn accepted(alloc: Global, text: &str, passes: bool) -> Result<Text, WordsRefusal>
     ensures gives { Gives Memory result (passed passes text.now) }
     ensures passes { IfOk result (λ copy. (copy ≡ text.now) × (passes ≡ true)) }
@@ -149,7 +150,7 @@ fn is_address(text: &str) -> bool
     }
 }
 
-/// The texts before and after the last such character, which is of ASCII.
+/// Splits a text at the last occurrence of an ASCII character.
 fn cut_last(text: &str, mark: char) -> Option<(&str, &str)>
     requires { mark < 128 }
     ensures { option_map (λ sides. (sides.0.now, sides.1.now)) result ≡ rsplit_once mark text.now }
@@ -163,7 +164,7 @@ fn is_secret(text: &str) -> bool
     !text.is_empty() && is_line(text)
 }
 
-/// Whether no carriage return, line feed or NUL stands in a text.
+/// Whether a text contains no carriage return, line feed or NUL.
 pub(crate) fn is_line(text: &str) -> bool
     ensures { result ≡ is_line text.now }
 {

@@ -1,4 +1,4 @@
-//! What the words ask for.
+//! The commands that the arguments of the command line can name.
 use unl_context::Context;
 use unl_documents::{List, Text};
 
@@ -14,82 +14,82 @@ pub enum Words {
         /// The random word of the evaluations.
         word: u64,
     },
-    /// Serves, and asks its upstream again and again.
+    /// Serves evaluations, and polls its upstream.
     Edge(EdgeWords),
-    /// Takes commands and serves what they make.
+    /// Accepts commands, and serves the resulting state.
     Upstream(UpstreamWords),
-    /// Follows an upstream, and tells at each turn whether one feature is on.
+    /// Follows an upstream, and prints at each turn whether one feature is on.
     Follow(FollowWords),
-    /// Tells why a feature is on or off.
+    /// Explains why a feature is on or off.
     Explain,
-    /// Asks a large input that it makes from a number.
+    /// Evaluates features of a large generated input.
     Load {
-        /// The number that the input is made from.
+        /// The seed from which the input is generated.
         seed: u64,
-        /// How often a feature is asked for: 1 to 1,000,000.
+        /// The number of evaluations: 1 to 1,000,000.
         count: u64,
     },
 }
 
-/// The values of `edge`.
+/// The values of the options of `edge`.
 #[derive(Debug, Drop)]
 pub struct EdgeWords {
-    /// The port to listen at, which isn't 0.
+    /// The port to listen on, which isn't 0.
     pub port: u16,
     /// The upstream's `HOST:PORT`.
     pub upstream: Text,
-    /// 1 to 8 tokens of different environments, for the upstream: one for each slot, in this order.
+    /// 1 to 8 tokens for the upstream, with distinct environments: one for each slot, in this order.
     pub upstream_tokens: List<Text>,
-    /// 1 to 1,024 texts of tokens that may be known.
+    /// The texts of the tokens that may be known: 1 to 1,024.
     pub tokens: List<Text>,
     /// The name of the host.
     pub host: Text,
-    /// How many threads serve: 1 to 16.
+    /// The number of threads that serve: 1 to 16.
     pub workers: u32,
-    /// How many seconds stand between two turns: 1 to 3,600.
+    /// The number of seconds between two turns: 1 to 3,600.
     pub interval: u32,
-    /// After how many links the door closes: never, where it is 0.
+    /// The number of connections after which the port is closed, or 0 for never.
     pub connections: u64,
-    /// Whether the upstream is asked for changes, or for whole feeds.
+    /// Whether only changes are requested from the upstream, instead of whole feeds.
     pub delta: bool,
 }
 
-/// The values of `upstream`.
+/// The values of the options of `upstream`.
 #[derive(Debug, Drop)]
 pub struct UpstreamWords {
-    /// The port to listen at, which isn't 0.
+    /// The port to listen on, which isn't 0.
     pub port: u16,
-    /// What a command must show, which isn't empty.
+    /// The secret that a command must present, which isn't empty.
     pub secret: Text,
-    /// 1 to 8 different names.
+    /// 1 to 8 distinct names.
     pub environments: List<Text>,
-    /// The tokens of clients: with those of frontends at most 1,024, of different texts.
+    /// The tokens of clients. Together with those of frontends there are at most 1,024, with distinct texts.
     pub client_tokens: List<Text>,
     /// The tokens of frontends.
     pub frontend_tokens: List<Text>,
-    /// After how many links the door closes: never, where it is 0.
+    /// The number of connections after which the port is closed, or 0 for never.
     pub connections: u64,
     /// The epoch in which each environment begins.
     pub epoch: u64,
-    /// Whether commands are kept in a database, or in memory.
+    /// Whether commands are kept in a database instead of in memory.
     pub sqlite: bool,
 }
 
-/// The values of `follow`.
+/// The values of the options of `follow`.
 #[derive(Debug, Drop)]
 pub struct FollowWords {
     /// The upstream's `HOST:PORT`.
     pub upstream: Text,
-    /// The token that is shown to it.
+    /// The token that is presented to the upstream.
     pub token: Text,
     /// The name of the feature.
     pub feature: Text,
-    /// The context that the feature is evaluated in: what the query says, in the environment of the token.
+    /// The context that the feature is evaluated for: the one in the query, with the environment of the token.
     pub context: Context,
-    /// Whether the upstream is asked for changes, or for whole feeds.
+    /// Whether only changes are requested from the upstream, instead of whole feeds.
     pub delta: bool,
-    /// How many turns there are: 1 to 1,000,000.
+    /// The number of turns: 1 to 1,000,000.
     pub turns: u32,
-    /// How many seconds stand between two turns: 1 to 3,600.
+    /// The number of seconds between two turns: 1 to 3,600.
     pub interval: u32,
 }

@@ -1,4 +1,4 @@
--- The posts of jobs that were done.
+-- The slots of finished jobs.
 use Rattle.std.proofs.Common.{◌≡◌, List, [], ◌∷◌, ◌++◌, Option, Some, None, refl, sym, ap, ◌∙◌, append_assoc}
 use Rattle.std.specs.Prelude.{filter_map, option_to_list}
 use Rattle.std.specs.List.{AllZip, cons_option}
@@ -7,7 +7,7 @@ use Rattle.unl_workers.specs.declared.jobs.BesideJob.TheVariants.{Worker, Other}
 use Rattle.unl_workers.specs.declared.worker.Post.{Post}
 use Rattle.unl_workers.specs.Beside.{BesideWorked, post_of}
 
--- each worker attended to its post
+-- each worker served its slot
 pub posts_attended : {S R L W B : Type 0} (Attends : Post S R → Post S R → Type 0) (Worked : B → B → Type 0)
     (jobs done : List (BesideJob S R L W B)) → AllZip (BesideWorked Attends Worked) jobs done
     → AllZip Attends (filter_map post_of jobs) (filter_map post_of done)
@@ -23,7 +23,7 @@ joined : {Y : Type 0} (one : Option Y) (rest : List Y) → option_to_list one ++
 joined None rest = refl
 joined (Some y) rest = refl
 
--- one post more was kept, or none
+-- one more slot was appended, or none
 pub kept_one : {X Y : Type 0} (h : X → Option Y) (posts new : List Y) (job : X) (before rest : List X) (all : List Y)
     → posts ++ filter_map h before ≡ all → before ≡ job ∷ rest → new ≡ posts ++ option_to_list (h job) → new ++ filter_map h rest ≡ all
 kept_one {X} {Y} h posts new job before rest all stood steps kept =

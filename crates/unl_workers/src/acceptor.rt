@@ -1,4 +1,4 @@
-//! What accepts links.
+//! Accepts links.
 ghost use Rattle.std.specs.Prelude.{◌≡◌};
 ghost use Rattle.unl_base.specs.Doors.{Accepts, DoorState, IsListening};
 ghost use Rattle.unl_base.specs.Faults.{HasCause};
@@ -9,18 +9,18 @@ use std::sync::Wait;
 use unl_base::{Door, Failed, Job};
 use unl_links::LinkQueue;
 
-/// Accepts the links of a door that listens, and puts them where workers take them.
+/// Accepts the links of a listening door and queues them for the workers.
 pub(crate) struct Acceptor<'a, D: Door, W> {
     pub door: &'a mut D,
     pub queue: &'a LinkQueue<D::L>,
     pub rt: &'a W,
-    /// How many links were put there, or that the door failed.
+    /// The number of links queued, or that the door failed.
     pub outcome: Result<u64, Failed>,
     ghost listens: { IsListening (D.state door.now) },
 }
 
 impl<'a, D: Door, W> Acceptor<'a, D, W> {
-    /// What has accepted no link yet.
+    /// An acceptor that has not accepted a link yet.
     pub fn new(rt: &'a W, queue: &'a LinkQueue<D::L>, door: &'a mut D) -> Self
         requires { IsListening (D.state door.old) }
         ensures same { result.door.ghost_name ≡ door.entry.ghost_name }
@@ -52,10 +52,10 @@ impl<'a, D: Door, W: Wait> Job for Acceptor<'a, D, W> {
     }
 }
 
-/// Accepts links until the door is closed, and answers how many these were.
+/// Accepts links until the door is closed. Returns how many were accepted.
 ///
 /// # Errors
-/// `Failed`: the door could hand out no link, which it counted.
+/// `Failed`: the door could not hand out a link. The door increments its fault count.
 fn accept_all<D: Door, W: Wait>(
     rt: &W,
     queue: &LinkQueue<D::L>,

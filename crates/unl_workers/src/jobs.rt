@@ -1,4 +1,4 @@
-//! What is done in threads beside the one that accepts links.
+//! Jobs that run concurrently with the thread that accepts links.
 ghost use Rattle.std.specs.Prelude.{◌≡◌, ◌<◌, ◌≤◌, ◌+◌, ◌++◌, [], IfOk, OnErr, OnOk};
 ghost use Rattle.std.specs.Prelude.{filter_map, length, option_to_list, vec_capacity, vec_len};
 ghost use Rattle.std.specs.List.{AllZip};
@@ -13,7 +13,7 @@ use std::sync::Wait;
 use unl_base::{Draws, Failed, Job, Link, Spawner};
 use unl_links::LinkQueue;
 
-/// A job in a thread of its own: a worker, or another.
+/// A job with a thread of its own: a worker, or another job.
 #[derive(Drop)]
 pub(crate) enum BesideJob<'a, S, R, L, W, B> {
     Worker(Worker<'a, S, R, L, W>),
@@ -36,7 +36,10 @@ impl<'a, S: Attendant, R: Draws, L: Link + Drop, W: Wait, B: Job> Job
     fn cancel(&mut self) {}
 }
 
-/// A worker for each post, with room for one more job; and room for as many posts.
+/// A worker for each slot, with capacity for one more job; and an empty vector with capacity for all slots.
+///
+/// # Errors
+/// Out of memory.
 pub(crate) fn workers_of<'a, S, R, L, W, B>(
     alloc: Global,
     rt: &'a W,
@@ -66,11 +69,11 @@ where
     Ok((jobs, room))
 }
 
-/// Runs workers and another job beside one another and `here` on this thread, and hands back the posts, in the room given, and
-/// that job.
+/// Runs workers and another job concurrently, and `here` on this thread. Returns `here`, the slots, in the vector `room`,
+/// and the other job.
 ///
 /// # Errors
-/// `Failed`: a job couldn't be started, which the spawner counted.
+/// `Failed`: a job couldn't be started. The spawner increments its fault count.
 pub(crate) fn work_beside<S, R, L, W, P: Spawner, B: Job, M: Job>(
     spawner: &mut P,
     workers: Vec<BesideJob<'_, S, R, L, W, B>>,
@@ -104,7 +107,7 @@ where
     }
 }
 
-/// The posts of workers, in the room given.
+/// The slots of the workers, in the vector `room`.
 fn posts_of<S: Drop, R: Drop, L, W, B: Drop>(
     jobs: Vec<BesideJob<'_, S, R, L, W, B>>,
     room: Vec<Post<S, R>>,
@@ -120,7 +123,7 @@ fn posts_of<S: Drop, R: Drop, L, W, B: Drop>(
     posts
 }
 
-/// Puts the post of a worker behind the others, for which there is room.
+/// Appends the slot of a worker. There is capacity for it.
 fn keep<S: Drop, R: Drop, L, W, B: Drop>(
     posts: &mut Vec<Post<S, R>>,
     job: BesideJob<'_, S, R, L, W, B>,

@@ -1,4 +1,4 @@
-//! The links of a door, served side by side.
+//! Serves the links of a door concurrently.
 ghost use Rattle.std.specs.Prelude.{◌≡◌, IfOk, IsErrOf};
 ghost use Rattle.std.specs.List.{AllZip};
 ghost use Rattle.unl_base.specs.Doors.{IsListening};
@@ -16,37 +16,37 @@ use thiserror::Error;
 use unl_base::{Door, Draws, Pace, Spawner};
 use unl_links::LinkQueue;
 
-/// What was done beside one another until the door was closed.
+/// The result of a run, after the door was closed.
 #[derive(Drop)]
 pub struct Beside<S, R> {
-    /// How many links the door handed out.
+    /// The number of links that the door handed out.
     pub links: u64,
-    /// How many turns were made.
+    /// The number of turns made.
     pub turns: u64,
-    /// The posts, in their order, each with the count of the links that were served there.
+    /// The slots in their order, each with the number of links served there.
     pub posts: Vec<Post<S, R>>,
 }
 
 /// Why serving ended before the door was closed.
 #[derive(Clone, Copy, Debug, Error, PartialEq, Eq)]
 pub enum BesideFault {
-    /// The door could hand out no link, which it counted.
+    /// The door could not hand out a link. It incremented its fault count.
     #[error("the door failed")]
     Door,
-    /// A thread couldn't be started, which the spawner counted.
+    /// A thread couldn't be started. The spawner incremented its fault count.
     #[error("a thread could not be started")]
     Spawner,
-    /// Memory ran out, before any link was accepted.
+    /// Out of memory, before any link was accepted.
     #[error("out of memory")]
     Memory,
 }
 
-/// Accepts the links of a door on this thread until it is closed. Beside it, each in a thread of its own, a worker for each
-/// post serves them, and turns are made at a pace until there is none any more or the door is closed. It may wait.
+/// Accepts the links of a door on this thread until it is closed. Concurrently, each in a thread of its own, one worker for
+/// each slot serves them, and `turn` runs at a pace until the pace ends or the door is closed. It may block.
 ///
 /// # Errors
-/// `Door` where the door failed, `Spawner` where a job couldn't be started, `Memory` where memory for the queue or the jobs ran
-/// out. The posts are then dropped.
+/// `Door` if the door failed, `Spawner` if a job couldn't be started, and `Memory` if memory for the queue or the jobs runs
+/// out. The slots are then dropped.
 pub fn serve_beside<S, R, D: Door, N, T, P: Spawner, W: Wait + Sync>(
     alloc: Global,
     rt: &W,
@@ -107,7 +107,7 @@ where
     }
 }
 
-/// Does nothing. It ties a reference, for the borrow checker, to the variable that it was lent from.
+/// Does nothing. It ties a reference, for the borrow checker, to the variable that it was borrowed from.
 fn take_back<T>(x: &mut T)
     ensures { x.new ≡ x.old }
 {}

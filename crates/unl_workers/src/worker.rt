@@ -1,4 +1,4 @@
-//! What serves links.
+//! Workers, which serve links.
 ghost use Rattle.std.specs.Prelude.{◌≡◌};
 ghost use Rattle.unl_workers.specs.Serving.{Attends, ServesMany, ServesOne, serving};
 
@@ -9,25 +9,25 @@ use unl_base::{Draws, Link};
 use unl_exchange::Server;
 use unl_links::LinkQueue;
 
-/// A server that may be asked at any time.
+/// A server that is always ready for a link.
 pub trait Attendant: Server {
-    /// It always has what a server asks before a link.
+    /// The precondition of `serve_link` always holds.
     ghost always: { (server : Self) → Self.Server.fits server };
 }
 
-/// What a worker serves links by: a server and draws of its own.
+/// The slot of a worker: a server and a source of draws of its own.
 #[derive(Drop)]
 pub struct Post<S, R> {
     /// Serves each link.
     pub server: S,
-    /// Of the requests of its links.
+    /// Draws for the requests of its links.
     pub draws: R,
-    /// How many links it served when it last worked.
+    /// The number of links served in the last run.
     pub links: u64,
 }
 
 impl<S, R> Post<S, R> {
-    /// A post that has served no link.
+    /// Creates a slot that has served no link.
     pub fn new(server: S, draws: R) -> Self
         ensures { result ≡ record { server = server; draws = draws; links = 0 } }
     {
@@ -39,7 +39,7 @@ impl<S, R> Post<S, R> {
     }
 }
 
-/// Serves links of a queue.
+/// Serves the links of a queue.
 #[derive(Drop)]
 pub(crate) struct Worker<'a, S, R, L, W> {
     pub post: Post<S, R>,
@@ -48,7 +48,7 @@ pub(crate) struct Worker<'a, S, R, L, W> {
     pub alloc: Global,
 }
 
-/// Takes links and serves each, until no more come. It may wait.
+/// Takes links from the queue and serves each, until the queue is closed and empty. It may block.
 pub(crate) fn serve_all<S: Attendant, R: Draws, L: Link + Drop, W: Wait>(
     worker: &mut Worker<'_, S, R, L, W>,
 )
@@ -63,7 +63,7 @@ pub(crate) fn serve_all<S: Attendant, R: Draws, L: Link + Drop, W: Wait>(
     );
 }
 
-/// Takes links from a queue and serves each, until no more come, and answers how many these were.
+/// Takes links from a queue and serves each, until the queue is closed and empty. Returns how many were served.
 fn serve_links<S: Attendant, R: Draws, L: Link + Drop, W: Wait>(
     alloc: Global,
     rt: &W,
@@ -83,7 +83,7 @@ fn serve_links<S: Attendant, R: Draws, L: Link + Drop, W: Wait>(
     wait_for_ever(rt)
 }
 
-/// Serves a link, and lets it go.
+/// Serves a link, and drops it.
 fn serve_one<S: Attendant, R: Draws, L: Link + Drop>(
     alloc: Global,
     mut link: L,

@@ -3,7 +3,7 @@ use Rattle.unl_core.specs.Standing.{place_at}
 use Rattle.unl_delta.specs.Valid.{IsValidPlace}
 use Rattle.unl_core.proofs.one_desk.places_at.Given as goal
 
--- the places of the slots so far
+-- The places of the slots so far.
 abbrev pub invariant-loop-slot : goal.invariant-loop-slot
 invariant-loop-slot l = record {
   places : l.places.items ≡ map place_at (take l.slot-index l.slots);

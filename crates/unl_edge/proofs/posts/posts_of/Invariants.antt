@@ -3,7 +3,7 @@ use Rattle.std.specs.Prelude.{All}
 use Rattle.unl_edge.specs.Attending.{HasLearned, IsOfOrigin}
 use Rattle.unl_edge.proofs.posts.posts_of.Given as goal
 
--- each post has learned, and the readers to come are of the writer's origin
+-- each slot so far has learned, and the readers to come are of the writer's origin
 abbrev pub invariant-loop-reader : goal.invariant-loop-reader
 invariant-loop-reader g l = record {
   same : l.writer ≡ l.initial.writer;

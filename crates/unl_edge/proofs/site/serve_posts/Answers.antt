@@ -13,7 +13,7 @@ serve_beside-requires-send-S g c κs within =
     let notes = c.attendants_cross.ensures.notes in
     search (attendant_send, sendable, crosses) depth 20
 
--- the references are those that were passed
+-- the task holds the references that it was given
 pub returns-in-Ok-clause-connects : goal.returns-in-Ok-clause-connects
 returns-in-Ok-clause-connects g c =
     let after = c.serve_beside.new.turn in

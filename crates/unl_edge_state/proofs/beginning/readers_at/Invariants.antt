@@ -5,7 +5,7 @@ use Rattle.unl_published.specs.Rule.{told_by}
 use Rattle.unl_published.specs.Seen.{is_closed, written}
 use Rattle.unl_edge_state.proofs.beginning.readers_at.Given as goal
 
--- so many readers began
+-- The readers made so far.
 abbrev pub invariant-made : goal.invariant-made
 invariant-made l =
     (written l.writer ≡ written l.initial.writer)

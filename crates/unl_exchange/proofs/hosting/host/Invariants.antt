@@ -3,7 +3,7 @@ use Rattle.unl_base.specs.Doors.{IsListening}
 use Rattle.unl_exchange.specs.Hosting.{Hosts, hosting}
 use Rattle.unl_exchange.proofs.hosting.host.Given as goal
 
--- so many links were served
+-- this many links were served
 abbrev pub invariant-loop-served : goal.invariant-loop-served
 invariant-loop-served g l = record {
   listens : IsListening (g.D.Door.state l.door);

@@ -2,7 +2,7 @@ use Rattle.std.proofs.Common.{◌≡◌, ◌-◌, ◌≤◌, length}
 use Rattle.unl_exchange.proofs.ReceiveLemmas.{Taking}
 use Rattle.unl_exchange.proofs.receive.receive.Given as goal
 
--- what was taken so far is held
+-- all bytes read so far are held
 abbrev pub invariant-loop-received : goal.invariant-loop-received
 invariant-loop-received g l = record {
   taking : Taking l.initial.reader (g.L.Source.left l.initial.link) l.reader (g.L.Source.left l.link);
@@ -10,6 +10,6 @@ invariant-loop-received g l = record {
   later : g.L.Source.faults l.initial.link ≤ g.L.Source.faults l.link;
 }
 
--- each turn takes a byte, and an unfinished request holds less than this
+-- each turn reads at least one byte, and an unfinished request holds fewer than this
 abbrev pub decreases-loop-received : goal.decreases-loop-received
 decreases-loop-received g l = 1056769 - length l.reader

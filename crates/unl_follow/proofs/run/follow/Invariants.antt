@@ -6,7 +6,7 @@ use Rattle.unl_follow.specs.Replica.{installed_by}
 use Rattle.unl_follow.proofs.Turning.{Paced, Reached}
 use Rattle.unl_follow.proofs.run.follow.Given as goal
 
--- so many turns were made
+-- `made` turns were made
 abbrev pub invariant-loop-made : goal.invariant-loop-made
 invariant-loop-made g l = record {
   reached : Reached l.initial.ask l.subject

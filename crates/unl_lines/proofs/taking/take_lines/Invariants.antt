@@ -2,7 +2,7 @@ use Rattle.std.proofs.Common.{◌≤◌}
 use Rattle.unl_lines.proofs.Whole.{Sofar}
 use Rattle.unl_lines.proofs.taking.take_lines.Given as goal
 
--- the lines before were taken, and there is room for this one
+-- the earlier lines were processed, and the state has room for this one
 abbrev pub invariant-loop-number : goal.invariant-loop-number
 invariant-loop-number g l = record {
   sofar : Sofar g.A.LineTaking.taken l.initial.desk (g.S.Source.left l.initial.source) (g.K.Sink.sent l.initial.sink) l.number

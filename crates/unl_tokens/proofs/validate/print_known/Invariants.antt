@@ -3,7 +3,7 @@ use Rattle.unl_tokens.specs.Requests.{known, known_after, token_tokens}
 use Rattle.unl_tokens.proofs.Marks.{Marked}
 use Rattle.unl_tokens.proofs.validate.print_known.Given as goal
 
--- what is printed with what is left to print, and which tokens are marked
+-- what is printed so far, followed by what is left to print, is the whole; the marks are those of the texts so far
 abbrev pub invariant-loop-text : goal.invariant-loop-text
 invariant-loop-text l = record {
   before : l.out.before ≡ l.initial.out.before;

@@ -5,7 +5,7 @@ use Rattle.unl_upkeep.specs.Feeding.{feeding_of}
 use Rattle.unl_upkeep.specs.Turns.{FeedsFrom, Upkept, upkept}
 use Rattle.unl_upkeep.proofs.asking.feed_slots.Given as goal
 
--- so many slots were fed, and what feeds the others feeds all
+-- the slots before this one were fed; feeding the rest feeds all
 abbrev pub invariant-loop-slot : goal.invariant-loop-slot
 invariant-loop-slot g l = record {
   places : length (g.I.Installer.installed l.to).places ≡ length (g.I.Installer.installed l.initial.to).places;

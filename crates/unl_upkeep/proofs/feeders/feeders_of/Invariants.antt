@@ -2,7 +2,7 @@ use Rattle.std.proofs.Common.{◌≡◌, ◌++◌, drop, length, map}
 use Rattle.unl_upkeep.specs.Feeding.{feeding_of, feedings}
 use Rattle.unl_upkeep.proofs.feeders.feeders_of.Given as goal
 
--- so many tokens have their feeder, and those of the others are to follow
+-- the tokens before this one have their feeder; those of the rest follow
 abbrev pub invariant-loop-place : goal.invariant-loop-place
 invariant-loop-place l = record {
   count : length l.feeders.items ≡ l.place;

@@ -8,7 +8,8 @@ use Rattle.unl_upstream.specs.KeptServing.{KeepsOn, Lacks, Step, serving}
 use Rattle.unl_upstream.proofs.KeptServed.{keeps_on, shows}
 use Rattle.unl_upstream.proofs.keeping_server.serve_kept.Goals as goal
 
--- Each fact speaks of what the references lead to behind the conversation, which are those that were passed.
+-- The facts after the conversation are about the values behind the references in its final state. These references are the
+-- ones that were passed in.
 pub returns-clause-converses : goal.returns-clause-converses
 returns-clause-converses g c =
     let after = c.converse-conversed.new.state in

@@ -4,7 +4,7 @@ use Rattle.clap.specs.Words.{app_of, with_rule}
 use Rattle.unl_words.specs.Words.{option_named}
 use Rattle.unl_words.proofs.command.with_options.Given as goal
 
--- the options of the names so far
+-- The options for the names so far have been added.
 abbrev pub invariant-loop-name : goal.invariant-loop-name
 invariant-loop-name l =
     app_of l.command

@@ -3,7 +3,7 @@ use Rattle.std.specs.Prelude.{filter_map, length, vec_capacity}
 use Rattle.unl_workers.specs.Beside.{post_of}
 use Rattle.unl_workers.proofs.jobs.posts_of.Given as goal
 
--- the posts so far and those to come are all, for which there is room
+-- the slots so far and the remaining ones are all slots, and the vector has capacity for them
 abbrev pub invariant-loop-job : goal.invariant-loop-job
 invariant-loop-job g l = record {
   all : l.posts.items ++ filter_map post_of l.job-iterator.rest.items ≡ filter_map post_of l.initial.job-iterator.rest.items;

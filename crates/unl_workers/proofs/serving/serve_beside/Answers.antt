@@ -4,7 +4,7 @@ use Rattle.unl_workers.specs.Accepting.{HandsOut}
 use Rattle.unl_workers.specs.Turning.{MakesTurns}
 use Rattle.unl_workers.proofs.serving.serve_beside.Goals as goal
 
--- Each fact speaks of what the references lead to once the jobs were done, which are those that were passed.
+-- Each fact is about the values behind the references after the jobs, which are the references that were passed.
 pub returns-in-Ok-outcome-clause-turns : goal.returns-in-Ok-outcome-clause-turns
 returns-in-Ok-outcome-clause-turns g c =
     let refreshed =

@@ -1,7 +1,7 @@
 use Rattle.unl_workers.specs.Serving.{ServesMany, serving}
 use Rattle.unl_workers.proofs.worker.serve_links.Given as goal
 
--- so many links were served
+-- this many links were served
 abbrev pub invariant-loop-served : goal.invariant-loop-served
 invariant-loop-served g l = record {
   served : ServesMany g.S.Server.serves l.served (serving l.initial.server (g.R.Draws.coming l.initial.draws))

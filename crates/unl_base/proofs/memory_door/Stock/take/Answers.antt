@@ -4,21 +4,21 @@ use Rattle.unl_base.specs.Memory.{IsNext, Stock, Wire}
 use Rattle.unl_base.proofs.Stocks.{gone, gone_view, new_there, next_is, next_new, some_to_come}
 use Rattle.unl_base.proofs.memory_door.Stock.take.Goals as goal
 
--- there is a next link
+-- There is a next link.
 more : (c : goal.After-self-2-1) → c.self.inside.given < length c.self.inside.links.items
 more c = omega (arith, c.self.invariant.0, c.if-self-len.false, c.len.ensures, c.self.inside.links.ok.0)
 
--- it is the one that the door takes out
+-- It is the one that the door removes.
 next : (c : goal.After-self-2-1) → c.take-link.result ≡ slice_index_or c.self.inside.links.items c.self.inside.given c.index_mut.result.now
 next c = c.take-link.ensures.value ∙ c.index_mut.ensures.value
 
--- and it is there
+-- It is present.
 there : (c : goal.After-self-2-1) → is_some c.take-link.result ≡ true
 there c =
     let stock = c.self.inside in
     ap is_some (next c) ∙ new_there _ (next_new stock.links.items stock.given stock.back _ (more c) c.self.invariant.1)
 
--- one link is counted where there is one
+-- A result that holds a link counts as 1.
 counted : {X : Type 0} (o : Option X) → is_some o ≡ true → 1 ≡ count_of o
 counted None is = absurd (true≢false (sym is))
 counted (Some x) is = refl

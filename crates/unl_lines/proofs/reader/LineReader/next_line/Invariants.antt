@@ -3,7 +3,7 @@ use Rattle.unl_lines.specs.Lines.{has_end}
 use Rattle.unl_lines.specs.Reading.{Gets}
 use Rattle.unl_lines.proofs.reader.LineReader.next_line.Given as goal
 
--- the line so far was taken, and has no end in it
+-- the part of the line so far was consumed, and has no line feed
 abbrev pub invariant-pieces : goal.invariant-pieces
 invariant-pieces g l = record {
   got : Gets l.initial.self (g.S.Source.left l.initial.source) l.line.items l.self (g.S.Source.left l.source);
