@@ -1,7 +1,8 @@
-"""The lines of a replay over many features, all a function of how many: what bench/measure.py measures.
+"""The lines of a replay over many features, which bench/measure.py measures. They depend only on the number of features.
 
-A feature has two strategies, the first of which has two constraints (5 values in a list, some 20, few 1,000) and names a
-segment; three of ten features have two variants. The documents stay below the limit of 16,777,216 bytes.
+A feature has two strategies. The first one has two constraints and names a segment. One of these constraints has a list of values:
+5 for most features, 20 for some, 1,000 for few. Three of ten features have two variants. The documents stay below the limit of
+16,777,216 bytes.
 """
 import json
 import random
@@ -75,7 +76,7 @@ def batch(events, **more):
 
 
 def changes(count, size, segments, after, step):
-    """A batch that changes so many features."""
+    """A batch that changes `count` features."""
     return batch(
         [
             {"type": "feature-updated", "eventId": after + 1 + item, "feature": feature(item * 37 % size, segments, step)}
@@ -86,7 +87,7 @@ def changes(count, size, segments, after, step):
 
 
 def kinds(size):
-    """The lines of a replay over so many features, with what each kind is called, in order."""
+    """The lines of a replay over `size` features, by the name of their kind, in order."""
     segments = max(5, size // 100)
     features = [feature(place, segments) for place in range(size)]
     hydration = {"type": "hydration", "eventId": 1, "features": features, "segments": [segment(1 + it) for it in range(segments)]}

@@ -1,8 +1,8 @@
 """Measures the program, and prints the tables of docs/PERFORMANCE.md: python3 bench/measure.py [PROGRAM]
 
-Instructions are those that a line of a replay takes, counted by callgrind, the median of a kind's lines; growth is the
-exponent from 1,000 to 10,000 features, so 1 is in step with their number. Counts are repeatable to one in a hundred on any
-machine of the same instructions. Seconds are the least of five runs, and memory the most. Two minutes.
+Instructions are those of one line of a replay, counted by callgrind: the median over the lines of a kind. Growth is the exponent
+from 1,000 to 10,000 features, so 1 means linear. Counts are repeatable within one percent on any machine with the same instruction
+set. Seconds are the minimum of five runs, and memory is the maximum. Needs valgrind. Takes two minutes.
 """
 import glob
 import math
@@ -18,12 +18,12 @@ import generate
 PROGRAM = os.path.abspath(sys.argv[1] if len(sys.argv) > 1 else "crates/unl_edge/out/unl_edge")
 SIZES = [100, 1000, 10000]
 RUNS = 5
-# else valgrind counts each byte of a large copy as an instruction
+# without this, valgrind counts each byte of a large copy as an instruction
 PLAIN = {"GLIBC_TUNABLES": "glibc.cpu.x86_rep_stosb_threshold=1000000000:glibc.cpu.x86_rep_movsb_threshold=1000000000"}
 
 
 def counts_of(lines):
-    """The instructions of each line: callgrind writes what it counted so far before each write of an answer."""
+    """The instructions of each line: callgrind dumps its counts before each write of an answer."""
     with tempfile.TemporaryDirectory() as folder:
         callgrind = ["valgrind", "--tool=callgrind", "--dump-before=write", f"--callgrind-out-file={folder}/out"]
         subprocess.run([*callgrind, PROGRAM, "replay"], stdin=lines, stdout=subprocess.DEVNULL, stderr=subprocess.DEVNULL,
@@ -33,7 +33,7 @@ def counts_of(lines):
 
 
 def spelled(kinds):
-    """A file of the lines of all kinds."""
+    """A temporary file with the lines of all kinds."""
     lines = tempfile.TemporaryFile("w+")
     lines.writelines(generate.text_of(line) for each in kinds.values() for line in each)
     lines.seek(0)
@@ -41,7 +41,7 @@ def spelled(kinds):
 
 
 def medians(size):
-    """The instructions of a line of each kind."""
+    """The median number of instructions of a line, for each kind."""
     kinds = generate.kinds(size)
     counts = counts_of(spelled(kinds))
     if len(counts) < sum(map(len, kinds.values())):

@@ -1,8 +1,9 @@
-"""Measures what an edge and its upstream take, and prints the tables of docs/OPERATING.md: python3 bench/sizing.py [PROGRAM]
+"""Measures the memory and processor time of an edge and its upstream, and prints the tables of docs/OPERATING.md:
+python3 bench/sizing.py [PROGRAM]
 
-Memory is what stays resident after the first turn and a hundred answers of each kind, and the most that it was once a later epoch
-was taken; processor time is that of user and system, a mean of many. The features are those of bench/generate.py. Both programs
-listen on loopback, at ports that EDGE_PORT and UPSTREAM_PORT name. Two minutes on a machine that does nothing else.
+Memory is the resident size after the first turn and a hundred answers of each kind, and the peak after a later epoch was installed.
+Processor time is user plus system time, averaged over many requests. The features are those of bench/generate.py. Both programs
+listen on loopback, at the ports in EDGE_PORT and UPSTREAM_PORT. Takes two minutes on an idle machine.
 """
 import http.client
 import json
@@ -21,13 +22,13 @@ TICKS = os.sysconf("SC_CLK_TCK")
 
 
 def resident(process, key="VmRSS"):
-    """MiB that a program has in memory, or the most that it had."""
+    """The resident memory of a process in MiB, or its peak with the key VmHWM."""
     with open(f"/proc/{process.pid}/status") as file:
         return next(int(line.split()[1]) for line in file if line.startswith(key)) / 1024
 
 
 def used(process):
-    """Milliseconds of processor time that a program took."""
+    """The processor time of a process so far, in milliseconds."""
     with open(f"/proc/{process.pid}/stat") as file:
         fields = file.read().rsplit(")", 1)[1].split()
     return (int(fields[11]) + int(fields[12])) * 1000 / TICKS
@@ -90,7 +91,7 @@ def end(*processes):
 
 
 def cost(process, count, token, path, tag=None):
-    """Milliseconds of processor time of one answer."""
+    """The mean processor time of one answer, in milliseconds."""
     before = used(process)
     for _ in range(count):
         ask(EDGE, token, path, tag)

@@ -1,11 +1,11 @@
 #!/bin/sh
-# Compares the table of crates in docs/ARCHITECTURE.md with the crates: what each is for, and what it depends on.
+# Checks the table of crates in docs/ARCHITECTURE.md against the crates: the purpose and the dependencies of each.
 #
 #     scripts/architecture.sh [--write]
 #
-# Dependencies come from crates.txt. What a crate is for is its line in docs/purposes.txt (CRATE: PURPOSE), and without one the first
-# sentence of the `//!` comment of its src/lib.rt or src/main.rt. A crate follows those that it depends on. With `--write` the
-# table is replaced in place; without it a difference is printed, and the status is 1.
+# Dependencies come from crates.txt. The purpose of a crate is its line in docs/purposes.txt (CRATE: PURPOSE). A crate without such a
+# line takes the first sentence of the `//!` comment in its src/lib.rt or src/main.rt. A crate is listed after its dependencies. With
+# `--write` the script replaces the table in place. Without it, the script prints any difference and then exits with status 1.
 set -u
 LC_ALL=C
 export LC_ALL
@@ -22,7 +22,8 @@ fail() {
     exit 1
 }
 
-# The first sentence of a file's `//!` comment, without links to names of the code, and without a bar, which ends a cell.
+# Prints the first sentence of a file's `//!` comment. Links to code names are removed, and a bar, which would end a table cell, is
+# replaced.
 sentence() {
     awk '
         /^\/\/!/ { sub(/^\/\/! ?/, ""); text = text (text == "" ? "" : " ") $0; next }
@@ -55,7 +56,7 @@ while read -r crate; do
     printf '%s\t%s\n' "$crate" "$purpose"
 done < "$copy/there" > "$copy/purposes"
 
-# The level of a crate is the length of the longest chain of this repository's crates that ends at it.
+# The level of a crate is the length of the longest dependency chain of this repository's crates that ends at it.
 awk -v purposes="$copy/purposes" '
     BEGIN {
         FS = "\t"

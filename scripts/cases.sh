@@ -1,6 +1,7 @@
 #!/bin/sh
-# Runs each case of examples/cases through the program and compares what it prints, and its status, with what stands there. Run
-# after `rt ci` or `rt run`, which build the program; PROGRAM names another one. replay.cases says what a case looks like.
+# Runs each case in examples/cases through the program, and compares its output and exit status with those of the case. The comment
+# at the top of replay.cases describes the format of a case. Run after `rt ci` or `rt run`, which build the program; PROGRAM names
+# another one.
 set -uf
 cd "$(dirname "$0")/.."
 
@@ -9,7 +10,7 @@ test -x "$program" || (cd crates/unl_edge && rt run -- replay </dev/null >/dev/n
 split=$(mktemp -d)
 trap 'rm -rf "$split"' EXIT
 
-# Writes N.words, N.in, N.status and N.out for each case of a file.
+# Writes N.words (the arguments), N.in, N.status and N.out for the N-th case.
 set +f
 cat examples/cases/*.cases | awk -v to="$split" '
     function ended(text) {

@@ -1,12 +1,12 @@
 #!/bin/sh
-# What is sent of one history, lost, doubled and out of order, comes to revisions of it alone: some thousand batches as lines of a
-# replay, each with its verdict, the whole state and what is new to two tokens, against a model in Python. A few seconds. Run after
-# `rt ci` or `rt run`. Skipped where python3 is not there.
+# Shows that a replica holds only revisions of its upstream's history, although batches are lost, duplicated or out of order. A replay
+# reads several thousand batches as its lines. After each batch, its verdict, the whole state and the changes that are new to two
+# tokens are compared with a model in Python. Takes a few seconds. Run after `rt ci` or `rt run`. Skipped if python3 is missing.
 set -u
 cd "$(dirname "$0")/.."
 
 . scripts/servers.sh
 need python3
 
-verdicts=$(python3 scripts/python/delivery.py "$program") || fail "the deliveries went otherwise"
+verdicts=$(python3 scripts/python/delivery.py "$program") || fail "the replica differs from the model"
 echo "delivery: passed ($verdicts)"

@@ -1,33 +1,33 @@
 #!/bin/sh
-# A test of the files under deploy/. systemd is asked whether it takes the units, and how far these are closed. The command of each
-# unit is run with the arguments that its head shows, out of a file, and an edge gets what its upstream has. An image is built where
-# docker has a daemon, and ends at `docker stop` at once. scripts/nginx.sh tries the configuration of nginx. Run after `rt ci` or
-# `rt run`. Skipped where curl is not there.
+# Tests the files under deploy/. systemd-analyze verifies the units and their sandboxing; this part is skipped without it. The command
+# of each unit runs with the arguments shown at the top of the unit, read from a file, and the edge serves its upstream's features. If
+# a docker daemon runs, the image is built and stops promptly at `docker stop`. scripts/nginx.sh tests nginx.conf. Run after `rt ci`
+# or `rt run`. Skipped if curl is missing.
 set -u
 cd "$(dirname "$0")/.."
 
 . scripts/servers.sh
 need curl
 
-keeping=${KEEPING:-crates/unl_keeping/out/unl_keeping}
-test -x "$keeping" || (cd crates/unl_keeping && rt run </dev/null >/dev/null 2>&1)
-test -x "$keeping" || fail "the program of unl_keeping isn't built"
+keeping=${KEEPING:-crates/unl_durable_upstream/out/unl_durable_upstream}
+test -x "$keeping" || (cd crates/unl_durable_upstream && rt run </dev/null >/dev/null 2>&1)
+test -x "$keeping" || fail "the program of unl_durable_upstream isn't built"
 
 upstream_port=${UPSTREAM_PORT:-15042}
 edge_port=${EDGE_PORT:-13863}
 mkdir "$work/bin" "$work/units"
 cp "$program" "$work/bin/unl_edge"
-cp "$keeping" "$work/bin/unl_keeping"
+cp "$keeping" "$work/bin/unl_durable_upstream"
 
-# a unit with the programs, files and ports of this script
+# prints a unit with the programs, files and ports of this script
 unit() {
     sed -e "s#/usr/local/bin#$work/bin#; s#/etc/unl/#$work/#; s#127.0.0.1:4242#127.0.0.1:$upstream_port#" "deploy/$1.service"
 }
 
-# ---- what systemd says of the units
+# ---- the units, as systemd-analyze judges them
 systemd() {
     systemd-analyze verify "$work"/units/*.service >"$work/verified" 2>&1 || fail "systemd refuses a unit: $(cat "$work/verified")"
-    same "what systemd says of the units" "" "$(grep 'units/unl-' "$work/verified")"
+    same "what systemd-analyze prints about the units" "" "$(grep 'units/unl-' "$work/verified")"
     for file in "$work"/units/*.service; do
         systemd-analyze security --offline=true --threshold=20 "$file" >"$work/exposure" 2>&1 ||
             fail "a unit is too open: $(tail -n 1 "$work/exposure")"

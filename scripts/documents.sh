@@ -1,7 +1,7 @@
 #!/bin/sh
-# Runs the lines behind a `$` of README and OPERATING, and compares what they print with what stands there; and looks whether each
-# input under examples/ has its output or names the command that takes it. Run after `rt ci` or `rt run`. Skipped where python3 or
-# curl is not there, or where no network of its own can be had and something listens at the ports of the documents.
+# Runs the lines after a `$` in README and OPERATING, and compares what they print with the output shown there. Also checks that each
+# input under examples/ has an output file, or a name that begins with the command that reads it. Run after `rt ci` or `rt run`.
+# Skipped if python3 or curl is missing, or if the script can't get a network namespace and a port of the documents is taken.
 set -u
 cd "$(dirname "$0")/.."
 
@@ -9,9 +9,9 @@ cd "$(dirname "$0")/.."
 need curl
 need python3
 
-keeping=${KEEPING:-crates/unl_keeping/out/unl_keeping}
-test -x "$keeping" || (cd crates/unl_keeping && rt run </dev/null >/dev/null 2>&1)
-test -x "$keeping" || fail "the program of unl_keeping isn't built"
+keeping=${KEEPING:-crates/unl_durable_upstream/out/unl_durable_upstream}
+test -x "$keeping" || (cd crates/unl_durable_upstream && rt run </dev/null >/dev/null 2>&1)
+test -x "$keeping" || fail "the program of unl_durable_upstream isn't built"
 
 for file in examples/*.json examples/*.jsonl; do
     name=$(basename "$file")
@@ -32,6 +32,6 @@ if ! $alone true 2>/dev/null; then
     done
 fi
 for document in README.md docs/OPERATING.md; do
-    $alone python3 scripts/python/documents.py "$document" "$program" "$keeping" || fail "$document isn't as it says"
+    $alone python3 scripts/python/documents.py "$document" "$program" "$keeping" || fail "$document shows other output"
 done
 echo "${0##*/}: passed"

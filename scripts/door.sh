@@ -1,9 +1,9 @@
 #!/bin/sh
-# A test of what slow clients do to others, at an upstream and at an edge with 4 workers: slow heads, slow bodies, slow readers, many
-# idle connections, requests cut at each byte, sessions at 40 ms, an upstream that trickles, a server that is stopped for a moment,
-# and a log that nobody reads. A client that asks and reads as it should waits at most 2 seconds, in one of three plays of a row at
-# the least, since a busy machine makes anybody late; and no request of a session fails.
-# It takes about a minute. Run after `rt ci` or `rt run`. Skipped where python3 or curl is not there.
+# Shows that slow clients don't delay others, at an upstream and at an edge with 4 workers. Covers slow heads, slow bodies, slow
+# readers, many idle connections, requests split at each byte, sessions with a round trip of 40 ms, an upstream that trickles, a server
+# that is stopped for a moment, and a log that nobody reads. A well-behaved client waits at most 2 seconds, and no request of a session
+# fails. A test with a late answer is repeated, since a busy machine delays any server; it fails if all three runs have late answers.
+# Takes about a minute. Run after `rt ci` or `rt run`. Skipped if python3 or curl is missing.
 set -u
 cd "$(dirname "$0")/.."
 

@@ -1,8 +1,8 @@
 #!/bin/sh
-# How the commands end where what stands outside fails: each read and each write of a replay, a check, an explanation, a load and an
-# upstream's lines, a port that is taken, an upstream that is away or gives what it shouldn't, the hosts of an edge and polls of a
-# state that has not changed; and links of an edge that wait for one another, for its upstream and for its turns. It takes a minute at
-# most. Run after `rt ci` or `rt run`. Skipped where python3 is not there.
+# Shows how each command ends when its environment fails. Covers each read and write of a replay, a check, an explanation, a load and
+# an upstream's input lines; a port that is taken; and an upstream that is unreachable or sends bad replies. Also covers the host names
+# of an edge, polls of an unchanged state, and connections of an edge that wait for each other, for its upstream and for its turns.
+# Takes at most a minute. Run after `rt ci` or `rt run`. Skipped if python3 is missing.
 set -u
 cd "$(dirname "$0")/.."
 

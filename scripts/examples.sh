@@ -1,6 +1,6 @@
 #!/bin/sh
-# Runs each example through the program and compares what it prints with the output that stands beside it. Run after `rt ci` or
-# `rt run`, which build the program; PROGRAM names another one.
+# Runs each example through the program and compares its output with the .out file next to it. Run after `rt ci` or `rt run`, which
+# build the program; PROGRAM names another one.
 set -u
 cd "$(dirname "$0")/.."
 

@@ -1,8 +1,8 @@
 #!/bin/sh
-# Refuses each allocation of the program in turn, and fails each read and write: in a replay, in a check, on one connection with two
-# requests, and in one turn of an edge; and fails accepts and starts of threads. Prints how many were tried and what came of them;
-# fails at any other outcome than those that docs/FORMATS.md states. Run after `rt ci` or `rt run`; it takes half a minute. Skipped
-# where gcc or python3 is not there.
+# Makes each allocation, read and write of the program fail in turn: in a replay, in a check, on one connection with two requests, and
+# in one turn of an edge. Also makes accepts and thread starts fail. Prints how many failures it tried and their outcomes; an outcome
+# that docs/FORMATS.md doesn't state is an error. Takes half a minute. Run after `rt ci` or `rt run`. Skipped if gcc or python3 is
+# missing.
 set -u
 cd "$(dirname "$0")/.."
 
@@ -10,6 +10,6 @@ cd "$(dirname "$0")/.."
 need gcc
 need python3
 
-gcc -shared -fPIC -O2 -o "$work/failing_calls.so" scripts/c/failing_calls.c -ldl || fail "the calls to refuse aren't built"
+gcc -shared -fPIC -O2 -o "$work/failing_calls.so" scripts/c/failing_calls.c -ldl || fail "failing_calls.c doesn't build"
 python3 scripts/python/faults.py "$program" "$work/failing_calls.so" "${UPSTREAM_PORT:-14742}" "${EDGE_PORT:-13563}" || fail "another outcome"
 echo "${0##*/}: passed"

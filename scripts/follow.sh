@@ -1,7 +1,8 @@
 #!/bin/sh
-# A test over real sockets: `follow` behind an edge behind an upstream, of a feature that is turned off between two of its turns,
-# and of one that moves away from the project that is seen; and a turn behind an upstream, and behind none. Run after `rt ci` or `rt run`, which build the program. Skipped where curl is
-# not there. It ends what it started, and takes a minute at most.
+# Tests `follow` over real sockets. It follows an edge that is behind an upstream: one feature is turned off between two turns, and
+# another one moves out of the project that the token sees. Then `follow` makes one turn directly behind the upstream, and one with no
+# upstream. Stops the servers that it started, and takes at most a minute. Run after `rt ci` or `rt run`, which build the program.
+# Skipped if curl is missing.
 set -u
 cd "$(dirname "$0")/.."
 
@@ -18,7 +19,7 @@ start "$program" edge --port "$edge_port" --upstream "127.0.0.1:$upstream_port" 
     --tokens '*:dev.client,a:dev.client' --interval 1 >/dev/null
 wait_for "$edge_port" "the edge"
 
-# follows a feature behind the edge by a token, for so many turns
+# starts following a feature behind the edge: the token, the feature, and the number of turns
 begin() {
     : >"$work/turns"
     start "$program" follow --upstream "127.0.0.1:$edge_port" --token "$1" --feature "$2" --turns "$3" --interval 2 >"$work/turns"
@@ -26,7 +27,7 @@ begin() {
     tries=0
     until test -s "$work/turns"; do
         tries=$((tries + 1))
-        test "$tries" -lt 50 || fail "no turn is told"
+        test "$tries" -lt 50 || fail "no turn is printed"
         sleep 0.1
     done
 }
@@ -35,7 +36,7 @@ put() {
     ask "$upstream_port" s /commands --data "{\"command\":\"put-feature\",\"environment\":\"dev\",\"feature\":$1}"
 }
 
-# the feature is turned off once the first turn is told; the edge asks for that within a second, before the second turn
+# the feature is turned off once the first turn is printed; the edge fetches the change within a second, before the second turn
 begin '*:dev.client' a 3
 same "a command" '{"number":2}' "$(put '{"name":"a","enabled":false}')"
 wait "$follower"
@@ -44,12 +45,12 @@ same "the turns" 'turn 1 published number 1 on true
 turn 2 published number 2 on false
 turn 3 unchanged number 2 on false' "$(cat "$work/turns")"
 
-# what the edge answers one who sees the project `a` alone
+# asks the edge for the delta with a token that sees only the project `a`
 seen() {
     ask "$edge_port" a:dev.client /api/client/delta --dump-header "$work/head" "$@"
 }
 
-# a feature of the project `a` moves to `b`, again between two turns
+# a feature moves from the project `a` to `b`, again between two turns
 same "a feature of a project" '{"number":3}' "$(put '{"name":"m","project":"a","enabled":true}')"
 tries=0
 until seen | grep -q '"name":"m"'; do
@@ -63,11 +64,11 @@ same "the same feature in another project" '{"number":4}' "$(put '{"name":"m","p
 wait "$follower"
 same "the turns of a feature that moves away" 'turn 1 published number 3 on true
 turn 2 published number 4 on -' "$(cat "$work/turns")"
-same "what the edge tells of it" '{"after":3,"events":[{"eventId":4,"featureName":"m","project":"a","type":"feature-removed"}]}' \
+same "the edge's delta for the move" '{"after":3,"events":[{"eventId":4,"featureName":"m","project":"a","type":"feature-removed"}]}' \
     "$(seen --header "If-None-Match: $tag")"
-same "what isn't seen" '{"events":[{"eventId":4,"features":[],"segments":[],"type":"hydration"}]}' "$(seen)"
+same "the edge's hydration without the feature" '{"events":[{"eventId":4,"features":[],"segments":[],"type":"hydration"}]}' "$(seen)"
 
-# one turn at a port, of a feature: what it prints, and the status behind it
+# follows a feature for one turn at a port, and prints the program's output and then its status
 one_turn() {
     "$program" follow --upstream "127.0.0.1:$1" --token '*:dev.client' --feature "$2" --mode "$3" </dev/null 2>"$work/told"
     echo "status $?"
@@ -79,7 +80,7 @@ same "a feature that isn't there" 'turn 1 published number 4 on -
 status 0' "$(one_turn "$upstream_port" z delta)"
 same "a server that isn't there" 'turn 1 fault number - on -
 status 0' "$(one_turn 1 a delta)"
-same "what is told of it" 'upstream 127.0.0.1:1: unreachable: Connection refused (os error 111)' "$(cat "$work/told")"
+same "the error stream" 'upstream 127.0.0.1:1: unreachable: Connection refused (os error 111)' "$(cat "$work/told")"
 same "bad words" 'unl_edge: bad words
 status 2' "$(one_turn "$upstream_port" a other)"
 echo "follow: passed"

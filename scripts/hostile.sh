@@ -1,7 +1,7 @@
 #!/bin/sh
-# A test with hostile bytes: deep documents, long numbers, heads in many pieces, many requests at once, links that are reset,
-# half closed, or left open for the 30 seconds that a server waits. Each gets its status, memory stays where it was, and the next
-# link is served. It takes half a minute. Run after `rt ci` or `rt run`. Skipped where python3 or curl is not there.
+# Tests hostile input: deeply nested documents, long numbers, heads in many pieces, many requests at once, and connections that are
+# reset, half closed, or left open for the 30 seconds that a server waits. Each input gets its stated status, memory doesn't grow, and
+# the next connection is served. Takes half a minute. Run after `rt ci` or `rt run`. Skipped if python3 or curl is missing.
 set -u
 cd "$(dirname "$0")/.."
 
@@ -24,7 +24,7 @@ wait_for "$edge_port" "the edge"
 
 same "hostile bytes" "" "$(python3 scripts/python/hostile.py "$upstream_port" "$upstream" "$edge_port" "$edge" 2>&1)"
 
-# lines and test files, over the input
+# hostile lines, test files and questions on the standard input
 deep() {
     head -c 100000 /dev/zero | tr '\0' '['
     head -c 100000 /dev/zero | tr '\0' ']'
@@ -33,13 +33,13 @@ digits() {
     head -c "$1" /dev/zero | tr '\0' 1
 }
 
-# what a command prints, and its status
+# prints a command's output and its status
 ending() {
     printed=$(timeout 60 "$program" "$@")
     echo "$printed $?"
 }
 
-# the same of an upstream that takes lines of commands
+# the same for an upstream that reads commands as lines
 obeying() {
     ending upstream --port "$((upstream_port + 1))" --secret s --environments dev --client-tokens '*:dev.c' --frontend-tokens '*:dev.f'
 }

@@ -1,19 +1,19 @@
 #!/bin/sh
-# A test over real sockets: commands to an upstream that keeps them in a database file, which is killed ten times at a random moment
-# and started again. Each command that was answered 200 is there with its number, the numbers are unbroken, and no more is there
-# than what was under way as it was killed. Files that others made are opened, or their rows are refused, and a file that may grow no
-# more keeps what was acknowledged. Run after `rt ci`, or after `rt run` in crates/unl_keeping. Skipped where curl is not there; what
-# needs another reader or writer of such files is skipped where neither sqlite3 nor python3's module of that name is. It ends what it
-# started, and takes a minute at most.
+# Tests the durable upstream, which keeps its commands in a database file, over real sockets. It is killed ten times at random moments
+# and restarted. Each acknowledged command (status 200) is in the file with its number, the numbers have no gaps, and the file has no
+# other command except those in flight at a kill. Database files that other programs made are opened, or their bad rows are refused. A
+# file that can't grow any more keeps all acknowledged commands. Takes at most a minute, and stops the servers that it started. Run
+# after `rt ci`, or after `rt run` in crates/unl_durable_upstream. Skipped if curl is missing. The parts that need another reader or
+# writer of database files are skipped if neither sqlite3 nor python3's sqlite3 module is installed.
 set -u
 cd "$(dirname "$0")/.."
 
 . scripts/servers.sh
 need curl
 
-keeping=${KEEPING:-crates/unl_keeping/out/unl_keeping}
-test -x "$keeping" || (cd crates/unl_keeping && rt run </dev/null >/dev/null 2>&1)
-test -x "$keeping" || fail "the program of unl_keeping isn't built"
+keeping=${KEEPING:-crates/unl_durable_upstream/out/unl_durable_upstream}
+test -x "$keeping" || (cd crates/unl_durable_upstream && rt run </dev/null >/dev/null 2>&1)
+test -x "$keeping" || fail "the program of unl_durable_upstream isn't built"
 
 port=${UPSTREAM_PORT:-14272}
 file=$work/kept.db
@@ -22,14 +22,14 @@ sent=0
 : >"$work/acknowledged"
 : >"$work/unanswered"
 
-# starts the upstream by itself, so that a kill ends it and nothing else
+# starts the upstream directly, without `timeout` around it, so that a kill hits the upstream itself
 begin() {
     "$keeping" "$file" --port "$port" --secret s --environments dev --client-tokens '*:dev.client' "$@" </dev/null >"$work/printed" 2>>"$work/log" &
     server=$!
     started=$server
 }
 
-# kills it within a quarter of a second
+# kills the upstream after a random delay of at most 255 ms
 kill_soon() {
     moment=$(($(od -An -N1 -tu1 /dev/urandom)))
     (
@@ -60,16 +60,16 @@ until test "$sent" -ge 200 && test "$kills" -ge 10; do
     wait_for "$port" "the upstream that was killed"
     test "$kills" -ge 10 || kill_soon
 done
-same "how often it was killed" 10 "$(wc -l <"$work/unanswered" | tr -d ' ')"
+same "the number of kills" 10 "$(wc -l <"$work/unanswered" | tr -d ' ')"
 
-# what was acknowledged is shown
+# every acknowledged command is in the feed, and the feed has nothing that was never sent
 ask "$port" '*:dev.client' /api/client/features | grep -o '"name":"f[0-9]*"' | sed 's/"name":"\(.*\)"/\1/' | sort >"$work/shown"
 sed 's/.* //' "$work/acknowledged" | sort | comm -23 - "$work/shown" >"$work/lost"
 same "what was lost" "" "$(cat "$work/lost")"
 sed 's/.* //' "$work/acknowledged" | cat - "$work/unanswered" | sort | comm -13 - "$work/shown" >"$work/other"
 same "what nobody put" "" "$(cat "$work/other")"
 
-# an orderly end, after one link
+# a clean exit after one connection
 kill -KILL "$server"
 wait "$server" 2>/dev/null
 begin --connections 1
@@ -78,7 +78,7 @@ wait "$server"
 same "the status" 0 "$?"
 same "what is printed" "connections 1" "$(cat "$work/printed")"
 
-# the rows of the file, by a reader that is none of this repository's
+# the rows of the file, read by an independent reader
 query="SELECT place, json_extract(text, '\$.feature.name') FROM kept ORDER BY place"
 if command -v sqlite3 >/dev/null 2>&1; then
     sql() {
@@ -97,12 +97,13 @@ else
     exit 0
 fi
 sql "$file" "$query" >"$work/rows" || fail "the file can't be read"
-same "a place that is missing" "" "$(awk '$1 != NR' "$work/rows")"
-same "what isn't in its place" "" "$(grep -vxF -f "$work/rows" "$work/acknowledged")"
+same "a gap in the places" "" "$(awk '$1 != NR' "$work/rows")"
+same "acknowledged commands that aren't at their number" "" "$(grep -vxF -f "$work/rows" "$work/acknowledged")"
 more=$(($(wc -l <"$work/rows") - $(wc -l <"$work/acknowledged")))
 test "$more" -le 10 || fail "$more rows more than were acknowledged"
 
-# what comes of the upstream on a file that others made by statements: what it prints, and its status
+# `opened` makes a database file with SQL statements and passes it to `over`, which runs the upstream on a file and prints the
+# upstream's output and status
 opened() {
     rm -f "$work"/made.db*
     sql "$work/made.db" "$1" || fail "the file can't be made"
@@ -116,23 +117,23 @@ over() {
 table='CREATE TABLE kept (place INTEGER PRIMARY KEY, text TEXT NOT NULL)'
 put='{"command":"put-feature","environment":"dev","feature":{"name":"a","enabled":true}}'
 remove='{"command":"remove-segment","environment":"dev","id":4}'
-failed='unl_keeping: the keeper failed
+failed='unl_durable_upstream: the keeper failed
 status 8'
-# the refusal of the row in a place
+# the expected refusal of the row at a place
 refused() { printf 'refused: row %s\nstatus 3' "$1"; }
 same "no first row" "$(refused 1)" "$(opened "$table; INSERT INTO kept VALUES (2, '$put')")"
 same "a row that is no command" "$(refused 1)" "$(opened "$table; INSERT INTO kept VALUES (1, '{}')")"
 same "a command that is refused" "$(refused 1)" "$(opened "$table; INSERT INTO kept VALUES (1, '$remove')")"
 same "a row that is missing" "$(refused 2)" "$(opened "$table; INSERT INTO kept VALUES (1, '$put'), (3, '$put')")"
 same "a second row that is none" "$(refused 2)" "$(opened "$table; INSERT INTO kept VALUES (1, '$put'), (2, '{}')")"
-same "a place below all" "$failed" "$(opened "$table; INSERT INTO kept VALUES (0, '$put')")"
-same "a row of bytes" "$failed" "$(opened "$table; INSERT INTO kept VALUES (1, x'61')")"
+same "a place below 1" "$failed" "$(opened "$table; INSERT INTO kept VALUES (0, '$put')")"
+same "a row that holds a blob" "$failed" "$(opened "$table; INSERT INTO kept VALUES (1, x'61')")"
 same "another table" "$failed" "$(opened "CREATE TABLE kept (text TEXT)")"
 echo "no database" >"$work/text.db"
 over "$work/text.db" >"$work/printed"
 same "a file that is no database" "status 8" "$(tail -n 1 "$work/printed")"
 
-# a file that others made of a good row, and the rows of commands behind it
+# a file with a good row that another program made, and the rows of further commands after it
 file=$work/good.db
 sql "$file" "$table; INSERT INTO kept VALUES (1, '$put')" || fail "the file can't be made"
 begin --connections 5
@@ -142,12 +143,12 @@ for command in '{"command":"remove-feature","environment":"dev","name":"a"}' \
     '{"command":"put-segment","environment":"dev","segment":{"constraints":[],"id":4}}' "$remove"; do
     put="$put
 $command"
-    ask "$port" s /commands --data "$command" | grep -q number || fail "it takes no command behind a good row"
+    ask "$port" s /commands --data "$command" | grep -q number || fail "a command after a good row is refused"
 done
 wait "$server"
 same "the rows of commands" "$put" "$(sql "$file" "SELECT text FROM kept ORDER BY place")"
 
-# a file that may grow no more: a command is refused, and what was acknowledged is there again
+# a file that can't grow any more: the next command is refused, and acknowledged commands are there after a restart
 file=$work/full.db
 (
     trap '' XFSZ

@@ -1,7 +1,7 @@
 #!/bin/sh
-# Limits that only long inputs reach: features and segments of an environment, the events that it keeps, keys of a book of metrics and
-# of a bulk report, the bytes and the lines of an input. Run after `rt ci` or `rt run`, which build the program; PROGRAM names another
-# one.
+# Tests limits that only long inputs reach: the features and segments of an environment, the events that it keeps, the keys of a
+# metrics book and of a bulk report, and the bytes and lines of an input. Run after `rt ci` or `rt run`, which build the program;
+# PROGRAM names another one.
 set -u
 cd "$(dirname "$0")/.."
 
@@ -17,7 +17,7 @@ same() {
     }
 }
 
-# Features numbered from 0 by commands, the 10,001st of which is one of the first again, and one more.
+# Puts 10,000 different features. The 10,001st command puts one of them again, and the 10,002nd puts one feature too many.
 put() {
     awk 'BEGIN {
         for (number = 0; number < 10002; number++) {
@@ -30,7 +30,7 @@ put() {
 same "features" 'refused: line 10002: TooMany
 status 3' "$(put)"
 
-# A thousand segments, one of them again, and one more.
+# Puts 1,000 different segments, then one of them again, then one segment too many.
 segments() {
     awk 'BEGIN {
         for (id = 0; id < 1002; id++) {
@@ -42,9 +42,9 @@ segments() {
 same "segments" 'refused: line 1002: TooMany
 status 3' "$(segments)"
 
-# Batches of more events than are kept, and what is answered to one who has the number 0, and the number 1: how many events, and how
-# many of them are hydrations. In the second environment two events have the number 1, and both are dropped; in the third one as many
-# come as are kept.
+# Sends batches to three environments, and then asks each for its delta since the number 0 and since the number 1. Prints the status,
+# the number of events and the number of hydrations of each answer. The first environment gets one event more than it keeps. So does
+# the second one, in which two events have the number 1: both are dropped. The third one gets as many events as it keeps.
 window() {
     awk '
         function batch(environment, count, twice) {
@@ -75,8 +75,9 @@ same "events that are kept" '200 1 1
 200 1000 0
 200 999 0' "$(window)"
 
-# Reports of 10,000 features, of another one, of one of the first again, of the other one again, and of a feature too many. Then what
-# is sent: as many keys as 1,048,576 bytes have room for, which leave room for the other feature, and the rest.
+# Reports 10,000 features, then another one, one of the first again, the other one again, and then 10,001 features, one too many for a
+# report. Then the metrics are sent: first as many keys as fit into 1,048,576 bytes, which makes room for the other feature, then the
+# rest.
 report() {
     awk '
         function report(letter, count) {
@@ -103,7 +104,7 @@ same "keys" '1: tokens generation 1 front 1
 9: sent 1606
 10: metrics -' "$(report)"
 
-# A document of so many bytes, none of which stands in JSON.
+# Runs a command on an input of a given number of bytes, none of which is valid in JSON.
 long() {
     head -c "$2" /dev/zero | tr '\0' '\377' | "$program" "$1"
     echo "status $?"
@@ -115,7 +116,7 @@ status 3' "$(long "$command" 16777216)"
 status 3' "$(long "$command" 16777217)"
 done
 
-# A line more than there may be.
+# Runs a replay with one line more than the limit.
 lines() {
     yes '{"op":"ask","target":"/"}' | head -n 1000001 | "$program" replay | tail -n 2
 }

@@ -1,7 +1,7 @@
 #!/bin/sh
-# A test over real sockets: starts `upstream` and `edge` on loopback ports, puts features with curl, and compares what both
-# serve. Run after `rt ci` or `rt run`, which build the program. Skipped where curl is not there. It ends what it started, and
-# takes a minute at most.
+# Tests `upstream` and `edge` over real sockets: starts both on loopback ports, puts features with curl, and compares what both serve.
+# Takes at most a minute, and stops the servers that it started. Run after `rt ci` or `rt run`, which build the program. Skipped if
+# curl is missing.
 set -u
 cd "$(dirname "$0")/.."
 
@@ -19,7 +19,7 @@ toggle() {
     printf '{"enabled":true,"impressionData":false,"name":"%s","variant":{"enabled":false,"feature_enabled":true,"name":"disabled"}}' "$1"
 }
 
-# ---- an upstream alone, whose door closes after nine links; one command is taken from the input
+# ---- an upstream alone, which ends after nine connections; it reads one command from its input
 start "$program" upstream --port "$upstream_port" --secret s --environments dev \
     --client-tokens '*:dev.client' --frontend-tokens '*:dev.front' --connections 9 <examples/upstream-commands.jsonl >"$work/printed"
 upstream=$last
@@ -30,12 +30,12 @@ same "a command without the secret" '{"error":"UnknownToken"}' "$(ask "$upstream
 same "a refused command" '{"error":"NoSuchFeature"}' "$(ask "$upstream_port" s /commands --data '{"command":"remove-feature","environment":"dev","name":"c"}')"
 same toggles "{\"toggles\":[$(toggle a),$(toggle b)]}" "$(ask "$upstream_port" '*:dev.front' /api/frontend)"
 
-# what stands under its tag is not sent again
+# a feed that the client already has, by its tag, is not sent again
 tag=$(ask "$upstream_port" '*:dev.client' /api/client/features --dump-header - --output /dev/null | tr -d '\r' | sed -n 's/^ETag: //p')
 test -n "$tag" || fail "the feed has no tag"
 same "a feed that is known" 304 "$(ask "$upstream_port" '*:dev.client' /api/client/features --header "If-None-Match: $tag" --output /dev/null --write-out '%{http_code}')"
 
-# its feed and its hydration give a replay the same toggles
+# a replay of the upstream's feed and one of its hydration have the same toggles
 replayed() {
     printf '{"op":"tokens","tokens":[{"token":"*:dev.front","type":"frontend"}]}\n{"op":"%s","environment":"dev","%s":%s}\n%s\n' "$1" "$1" \
         "$(ask "$upstream_port" '*:dev.client' "$2")" '{"op":"ask","token":"*:dev.front","target":"/api/frontend"}' | "$program" replay
@@ -50,7 +50,7 @@ wait "$upstream"
 same "the status" 0 "$?"
 same "what is printed" "connections 9" "$(cat "$work/printed")"
 
-# ---- an upstream that keeps its commands in a database, and an edge
+# ---- an upstream that keeps its commands in a database (`--keep sqlite`), and an edge
 start "$program" upstream --port "$upstream_port" --secret s --environments dev --keep sqlite \
     --client-tokens '*:dev.client' --frontend-tokens '*:dev.front' <examples/upstream-commands.jsonl >/dev/null
 upstream=$last
@@ -69,7 +69,7 @@ until test "$(ask "$edge_port" '*:dev.front' /api/frontend)" = "{\"toggles\":[$(
     sleep 0.1
 done
 
-# compares what both answer: status and body, but for the tag in a feed, which names the server's start
+# compares the status and body of both servers' answers; ignores the tag in a feed, which depends on the server's start
 alike() {
     path=$1
     token=$2
@@ -96,13 +96,13 @@ alike /api/frontend/client/register '*:dev.front' --data '{}'
 alike /api/frontend '*:dev.client'
 alike /api/nothing '*:dev.front'
 
-# the door is told of, and takes IPv6 too where the machine has it
-grep -q "^listening at .*:$edge_port\$" "$work/log" || fail "it isn't told where the edge listens"
+# the log names the address where the edge listens; the edge also accepts IPv6 if the machine has it
+grep -q "^listening at .*:$edge_port\$" "$work/log" || fail "the log doesn't name where the edge listens"
 if grep -q '^0\{31\}1 ' /proc/net/if_inet6 2>/dev/null; then
     same "health over IPv6" '{"status":"OK"}' "$(curl --silent --max-time 5 "http://[::1]:$edge_port/internal-backstage/health")"
 fi
 
-# ---- an upstream that lost what it had, of which only the command of the input is left, numbered from 1 again
+# ---- an upstream that lost its state: only the command of its input is left, and numbers start at 1 again
 begin_again() {
     kill "$upstream"
     wait "$upstream" 2>/dev/null
@@ -112,14 +112,14 @@ begin_again() {
     wait_for "$upstream_port" "the upstream that began again"
 }
 
-# in the epoch of what it lost it is behind the edge, which keeps what it has
+# in the epoch of the lost state the upstream is behind the edge, so the edge keeps its own state
 begin_again
 for turn in 1 2 3; do
     sleep 1
     same "what an edge keeps, turn $turn" "{\"toggles\":[$(toggle a),$(toggle b)]}" "$(ask "$edge_port" '*:dev.front' /api/frontend)"
 done
 
-# in a later epoch it is followed
+# in a later epoch the edge follows the upstream
 begin_again --epoch 1
 tries=0
 until test "$(ask "$edge_port" '*:dev.front' /api/frontend)" = "{\"toggles\":[$(toggle a)]}"; do

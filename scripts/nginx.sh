@@ -1,6 +1,7 @@
 #!/bin/sh
-# A test with nginx before two edges, by deploy/nginx.conf at other ports: over TLS a browser is told what it may send, gets its
-# features, and isn't sent again what it knows, since each token stays with one edge. Run after `rt ci` or `rt run`. Skipped where nginx, openssl or curl is not there.
+# Tests nginx in front of two edges, with deploy/nginx.conf at other ports. Over TLS a browser gets the CORS headers and its features.
+# A feed that the client already has is not sent again, since nginx sends each token to the same edge. Run after `rt ci` or `rt run`.
+# Skipped if nginx, openssl or curl is missing, or if nginx can't run here.
 set -u
 cd "$(dirname "$0")/.."
 
@@ -34,7 +35,7 @@ openssl req -x509 -newkey rsa:2048 -nodes -days 1 -subj /CN=localhost -addext su
 sed -e "s/3443/127.0.0.1:$tls_port/" -e "s/3063/$edge_port/" -e "s/# server 127.0.0.1:3064/server 127.0.0.1:$second_port/" deploy/nginx.conf >"$work/nginx.conf"
 start nginx -p "$work" -c "$work/nginx.conf" -e "$work/errors" -g "daemon off; pid $work/nginx.pid;" </dev/null
 
-# asks through nginx: the token, the path, and then what else curl takes
+# sends a request through nginx: the token, the path, and then further arguments for curl
 through() {
     token=$1
     path=$2
@@ -50,14 +51,14 @@ until through - /internal-backstage/health >"$work/health" 2>/dev/null; do
 done
 same "the health" '{"status":"OK"}' "$(cat "$work/health")"
 
-# what a reply's head says at a name
+# prints the value of a header of the last reply
 header() {
     tr -d '\r' <"$work/head" | sed -n "s/^$1: //Ip"
 }
 
-same "what a browser asks first" 204 "$(through - /api/frontend --request OPTIONS --header 'Origin: https://shop.example' \
+same "a CORS preflight request" 204 "$(through - /api/frontend --request OPTIONS --header 'Origin: https://shop.example' \
     --header 'Access-Control-Request-Method: GET' --dump-header "$work/head" --output /dev/null --write-out '%{http_code}')"
-same "who may ask" '*' "$(header Access-Control-Allow-Origin)"
+same "the allowed origin" '*' "$(header Access-Control-Allow-Origin)"
 for name in authorization content-type if-none-match unleash-appname unleash-sdk unleash-connection-id; do
     header Access-Control-Allow-Headers | grep -q "$name" || fail "a browser may not send $name"
 done
@@ -66,9 +67,9 @@ for query in userId=7 userId=9 ''; do
     same "the features for $query" "$(ask "$edge_port" '*:dev.front' "/api/frontend?$query")" "$(through '*:dev.front' "/api/frontend?$query")"
 done
 same "a wrong token" '{"error":"UnknownToken"} 403' "$(through '*:dev.other' /api/frontend --write-out ' %{http_code}' --dump-header "$work/head")"
-same "who may read a refusal" '*' "$(header Access-Control-Allow-Origin)"
+same "the allowed origin of a refusal" '*' "$(header Access-Control-Allow-Origin)"
 
-# many connections side by side: nginx opens a link for each request, so none waits for another to end
+# many concurrent connections: nginx opens a connection to an edge for each request, so no request waits for another one to end
 for number in 1 2 3 4 5 6 7 8; do
     through '*:dev.front' /api/frontend >"$work/side-$number" &
     sides="${sides-} $!"

@@ -1,7 +1,7 @@
 #!/bin/sh
-# A test with the Unleash client for Ruby, an older one that knows no segments: over a feed of the upstream and of the edge it
-# decides on features as they decide for a browser, it isn't sent again what it knows, and what it counted comes to the upstream.
-# Run after `rt ci` or `rt run`. Skipped where ruby, its package `unleash` or curl is not there.
+# Tests the Unleash client for Ruby, an older client without support for segments, against the upstream and against the edge. The
+# client evaluates the features of their feeds as the servers do for a browser. A feed that the client already has is not sent again.
+# The client's counts reach the upstream. Run after `rt ci` or `rt run`. Skipped if ruby, its package `unleash` or curl is missing.
 set -u
 cd "$(dirname "$0")/.."
 
@@ -31,8 +31,8 @@ for port in "$upstream_port" "$edge_port"; do
     same "the application at $port" 'a feed that is known: 304' "$(cat "$work/printed")"
 done
 
-# the edge sends what was counted in its next turn
+# the edge sends the counts in its next turn
 sleep 2
-grep -q '"featureName":"open","no":0,"timestamp":"[^"]*","variants":{},"yes":20}' "$work/relayed" || fail "the upstream wasn't told what was counted"
-grep -q '"featureName":"closed","no":20,"timestamp":"[^"]*","variants":{},"yes":0}' "$work/relayed" || fail "the upstream wasn't told what was off"
+grep -q '"featureName":"open","no":0,"timestamp":"[^"]*","variants":{},"yes":20}' "$work/relayed" || fail "no count of the feature open"
+grep -q '"featureName":"closed","no":20,"timestamp":"[^"]*","variants":{},"yes":0}' "$work/relayed" || fail "no count of the feature closed"
 echo "${0##*/}: passed"

@@ -1,5 +1,5 @@
-# What the tests over real sockets share: sourced by them at the top of the repository. Each starts its servers on loopback
-# ports by `start`, which are ended with the script.
+# Helpers shared by the tests over real sockets. The tests source this file at the top of the repository. They start their servers on
+# loopback ports with `start`; the servers are stopped when the script ends.
 
 work=$(mktemp -d)
 started=
@@ -10,7 +10,7 @@ fail() {
     exit 1
 }
 
-# leaves the script where a tool isn't there
+# skips the whole script if a tool is missing
 need() {
     command -v "$1" >/dev/null 2>&1 || {
         echo "${0##*/}: skipped, since $1 is not there"
@@ -18,19 +18,19 @@ need() {
     }
 }
 
-# compares what a step gave with what it is to give
+# compares the result of a step with the expected one: the label, the expected text, the result
 same() {
     test "$2" = "$3" || fail "$1: expected $2, got $3"
 }
 
-# `rt ci` and `rt run` leave the program here
+# where `rt ci` and `rt run` leave the program; PROGRAM names another one
 program=${PROGRAM:-crates/unl_edge/out/unl_edge}
 test -x "$program" || (cd crates/unl_edge && rt run -- replay </dev/null >/dev/null 2>&1)
 test -x "$program" || fail "the program isn't built"
 
-# starts a command beside the script, for a minute at most or as many seconds as `lifetime` says, over the input that it is given,
-# which a shell takes from what runs beside it unless it has a number of its own; the command's number is then in `last`, and what
-# it tells on the error stream comes to the file `log`
+# Starts a command in the background, for at most `lifetime` seconds (60 by default). The command reads the standard input of this
+# function, passed on as descriptor 3, since a shell gives a background command an empty standard input. Sets `last` to the process id.
+# The error stream is appended to the file `log`.
 start() {
     exec 3<&0
     timeout "${lifetime:-60}" "$@" <&3 3<&- 2>>"$work/log" &
@@ -39,7 +39,7 @@ start() {
     started="$started $last"
 }
 
-# asks at a port: the port, the token, the path, and then what else curl takes
+# sends a request: the port, the token, the path, and then further arguments for curl
 ask() {
     port=$1
     token=$2
@@ -48,7 +48,7 @@ ask() {
     curl --silent --max-time 5 --header "Authorization: $token" "$@" "http://127.0.0.1:$port$path"
 }
 
-# waits until a server listens at a port
+# waits until the server at a port answers its health check: the port, and the server's name in error messages
 wait_for() {
     tries=0
     until ask "$1" - /internal-backstage/health >"$work/health" 2>/dev/null; do

@@ -1,6 +1,6 @@
 #!/bin/sh
-# A test of an edge behind a server with the shape of an Unleash, by whole feeds and by changes: its toggles, a change, and what it
-# counted. Run after `rt ci` or `rt run`. Skipped where python3 or curl is not there.
+# Tests an edge behind a server that imitates Unleash (scripts/python/unleash.py), in feed mode and in delta mode: the first toggles, a
+# change, and the counts that the edge reports. Run after `rt ci` or `rt run`. Skipped if python3 or curl is missing.
 set -u
 cd "$(dirname "$0")/.."
 
@@ -13,17 +13,18 @@ edge_port=${EDGE_PORT:-14063}
 client='*:development.client'
 front='*:development.front'
 
-# what is on, by the edge
+# prints the names of the features that are on at the edge
 on() {
     ask "$edge_port" "$front" /api/frontend | grep -o '"name":"[a-z]*","variant":{"enabled":true,"feature_enabled":true,"name":"blue"' |
         sed 's/"name":"\([a-z]*\)".*/\1/' | tr '\n' ' '
 }
 
+# waits until exactly these features are on: the names, and a description for error messages
 comes() {
     tries=0
     until test "$(on)" = "$1"; do
         tries=$((tries + 1))
-        test "$tries" -lt 60 || fail "$2 by $mode: $(on), told $(cat "$work/log")"
+        test "$tries" -lt 60 || fail "$2 by $mode: $(on), log: $(cat "$work/log")"
         sleep 0.1
     done
 }
@@ -44,7 +45,7 @@ for mode in feed delta; do
     tries=0
     until test "$(curl --silent "http://127.0.0.1:$server_port/reports")" = 1; do
         tries=$((tries + 1))
-        test "$tries" -lt 60 || fail "the counts don't come by $mode"
+        test "$tries" -lt 60 || fail "the counts don't reach the server by $mode"
         sleep 0.1
     done
     kill "$server" "$edge"

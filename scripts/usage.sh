@@ -1,17 +1,18 @@
 #!/bin/sh
-# What both programs write on the error stream of arguments that they refuse, by a table of first lines and arguments. Whatever is at
-# fault, the output is `bad words` and the status 2. Then arguments out of a file, and the version. Run after `rt ci` or `rt run`.
+# Tests what both programs write to the error stream for arguments that they refuse, by a table of expected first lines and arguments.
+# Whatever the fault, the output is `bad words` and the status is 2. Also tests `--version`, arguments from a file, and what the
+# durable upstream writes about its database file. Run after `rt ci` or `rt run`.
 set -uf
 cd "$(dirname "$0")/.."
 
 . scripts/servers.sh
 
-keeping=${KEEPING:-crates/unl_keeping/out/unl_keeping}
-test -x "$keeping" || (cd crates/unl_keeping && rt run </dev/null >/dev/null 2>&1)
-test -x "$keeping" || fail "the program of unl_keeping isn't built"
+keeping=${KEEPING:-crates/unl_durable_upstream/out/unl_durable_upstream}
+test -x "$keeping" || (cd crates/unl_durable_upstream && rt run </dev/null >/dev/null 2>&1)
+test -x "$keeping" || fail "the program of unl_durable_upstream isn't built"
 count=0
 
-# the first line that is written there for these arguments
+# checks the first line on the error stream for these arguments: the expected line, then the arguments
 writes() {
     line=$1
     shift
@@ -53,13 +54,13 @@ kit=$(sed -n 's/.*(`rt version` said `\(rattle-kit-[^ ]*\) logic \([0-9a-f]*\)`.
 writes "unl_edge 1.0.0, proved with $kit" --version
 
 runs=$keeping
-writes "unl_keeping: the first argument is to be the path of the database"
-writes "usage: unl_keeping FILE --secret TEXT --environments LIST" --help
-writes "unl_keeping: --secret is missing" "$work/kept.db"
-writes "unl_keeping: --environments has too many items, or two alike: 1 to 8 different names of at most 255 bytes" \
+writes "unl_durable_upstream: the first argument is to be the path of the database"
+writes "usage: unl_durable_upstream FILE --secret TEXT --environments LIST" --help
+writes "unl_durable_upstream: --secret is missing" "$work/kept.db"
+writes "unl_durable_upstream: --environments has too many items, or two alike: 1 to 8 different names of at most 255 bytes" \
     "$work/kept.db" --secret s --environments e,e
 
-# arguments out of a file stand behind those of the command line
+# arguments from a file come after those of the command line
 printf '%s\n' 'load' '' '--seed=1' '--count' '10000' >"$work/words"
 export UNL_EDGE_WORDS_FILE="$work/words"
 same "arguments out of a file" "features 1000 asks 10000 on 5097 off 4903" "$("$program")"
@@ -72,7 +73,7 @@ runs=$keeping
 writes "UNL_EDGE_WORDS_FILE: $work/none: No such file or directory (os error 2)" "$work/kept.db"
 unset UNL_EDGE_WORDS_FILE
 
-# the database: what can't be opened is named, and a file that is newer than the epoch
+# the database: the error names a file that can't be opened, and a warning names a file that is newer than the epoch
 runs=$keeping
 "$keeping" "$work/none/kept.db" --secret s --environments dev >"$work/printed" 2>"$work/errors" </dev/null
 same "the status of a file that can't be opened" 8 "$?"

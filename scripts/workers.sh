@@ -1,7 +1,7 @@
 #!/bin/sh
-# A test of an edge with 16 workers under load: a link that is slow or stays delays no other one while a worker is free, one that
-# is reset ends itself alone, and 2,000 links one after the other and 64 at once leave nothing in memory. Run after `rt ci` or
-# `rt run`. Skipped where python3 or curl is not there.
+# Tests an edge with 16 workers under load. A slow or lingering connection delays no other one while a worker is free. A reset ends
+# only its own connection. 2,000 connections in sequence and 64 at once leave nothing in memory. Run after `rt ci` or `rt run`. Skipped
+# if python3 or curl is missing.
 set -u
 cd "$(dirname "$0")/.."
 
@@ -20,5 +20,5 @@ start "$program" edge --port "$edge_port" --upstream "127.0.0.1:$upstream_port" 
 edge=$last
 wait_for "$edge_port" "the edge"
 
-same "links side by side" "" "$(python3 scripts/python/workers.py "$edge_port" "$edge" 16 2>&1)"
+same "concurrent connections" "" "$(python3 scripts/python/workers.py "$edge_port" "$edge" 16 2>&1)"
 echo "${0##*/}: passed"

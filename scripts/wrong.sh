@@ -1,11 +1,11 @@
 #!/bin/sh
-# Tries the wrong bodies under wrong/: each is a small change of a crate's code that its contracts must refuse.
+# Tries the wrong bodies under wrong/. Each is a small change of a crate's code that the crate's contracts must refuse.
 #
 #     scripts/wrong.sh [CRATE..]
 #
-# With no crate it tries all of them, which takes an hour or more; the gate does not run it. The crates are copied, the edits of
-# each are put where `rt must-fail` looks for them, and the copy is removed. One line for each edit says whether it was refused;
-# the status is 0 where all were.
+# With no argument it tries all crates, which takes an hour or more; the gate does not run it. The script copies the crates, puts the
+# edits of each where `rt must-fail` looks for them, and removes the copy at the end. One line per edit says whether it was refused.
+# The status is 0 if all were. Skipped if rt is missing.
 set -u
 cd "$(dirname "$0")/.."
 command -v rt >/dev/null 2>&1 || { echo "wrong: rt is not installed"; exit 0; }

@@ -1,8 +1,9 @@
-"""delivery.py PROGRAM: batches of an upstream's history come to a replica lost, doubled and out of order.
+"""delivery.py PROGRAM: delivers the batches of an upstream's history to a replica, lost, duplicated and out of order.
 
-A replay takes them as its lines, and prints after each one its verdict and where the replica is; two tokens then ask for the whole
-state and for what is new. What is to be printed is worked out here, by a model of its own: the replica's state is that of the
-history at its number, as it is seen. Prints the first line that goes otherwise, and at the end how many batches were delivered.
+A replay reads the batches as its lines. After each batch it prints the verdict and the replica's number, and two tokens ask for the
+whole state and for the changes. An independent model in this file computes the expected output: the replica's state is the history's
+state at the replica's number, as far as the replica's tokens see it. Prints the first line that differs. If none does, prints how many
+batches got each verdict.
 """
 import collections
 import itertools
@@ -12,11 +13,11 @@ import subprocess
 import sys
 
 DELIVERIES = 4_000
-# how many commands the upstream takes in each of its epochs
+# the number of commands in each epoch of the upstream
 COMMANDS = {0: 1_500, 1: 400, 7: 100}
 NAMES = [f"f{number}" for number in range(10)]
 ALL, SEEN = ["A", "B", "C"], ["A", "B"]
-# the tokens of the replica's book, and what they see
+# the tokens of the replica's token book, and the projects that they see
 TOKENS = [("A:dev.two", SEEN), ("B:dev.one", ["B"])]
 
 draw = random.Random(7)
@@ -26,7 +27,7 @@ def text(value):
     return json.dumps(value, sort_keys=True, separators=(",", ":"))
 
 
-# ---- a state: features by their names, each with its project and whether it is on, and the ids of segments
+# ---- a state: features by name, each with its project and whether it is on, and the ids of segments
 
 
 class State:
@@ -34,7 +35,7 @@ class State:
         self.features, self.segments = dict(features), set(segments)
 
     def project(self, event):
-        """The project of the feature that an event names; none where there is none."""
+        """The project of the feature that an event names, or None if there is no such feature."""
         return self.features.get(event.get("name"), (None, None))[0]
 
     def after(self, event):
@@ -62,14 +63,14 @@ def feature(name, project, on):
             "strategies": [], "type": "release", "variants": []}
 
 
-# ---- batches: a hydration has a state, changes have events and the number before them
+# ---- batches: a hydration has a state; a batch of changes has events and the number before them
 
 Batch = collections.namedtuple("Batch", "epoch after number state events")
 Entry = collections.namedtuple("Entry", "number event was")
 
 
 def shown(entry, projects):
-    """An event as someone sees it who sees these projects; none where it isn't shown."""
+    """The event as seen by a token for these projects, or None if the token doesn't see it."""
     number, event, was = entry
     if "id" in event or event.get("project") in projects and event["kind"] == "feature":
         return number, event
@@ -92,13 +93,13 @@ def document(batch):
 
 
 class Version:
-    """What one server has: a state at a number, and the entries above the base."""
+    """The version that a server has: a state at a number, and the entries above the base."""
 
     def __init__(self, epoch, number, state):
         self.epoch, self.number, self.base, self.state, self.entries = epoch, number, number, state, []
 
     def after(self, events):
-        """The version after these numbered events, of which those that it has are skipped."""
+        """The version after these numbered events. Events that it already has are skipped."""
         new = Version(self.epoch, self.number, self.state)
         new.base, new.entries = self.base, list(self.entries)
         for number, event in events:
@@ -108,7 +109,7 @@ class Version:
         return new
 
     def answer(self, since, projects):
-        """The batch for one who has what is numbered up to `since`; none where nothing is new."""
+        """The batch for a client that is at the number `since`, or None if nothing is new."""
         if since == self.number:
             return None
         if since is None or not self.base <= since <= self.number:
@@ -118,7 +119,7 @@ class Version:
 
 
 def history(epoch, commands):
-    """The upstream's versions in one epoch, from the empty one on."""
+    """The upstream's versions in one epoch, starting with the empty one."""
     last = Version(epoch, 0, State())
     yield last
     for number in range(1, commands + 1):
@@ -137,7 +138,7 @@ def history(epoch, commands):
 
 
 def verdict(version, held, batch):
-    """What the table of verdicts says."""
+    """The verdict on a batch, by the table of verdicts."""
     if batch.state:
         if version is None:
             return "apply"
@@ -159,7 +160,7 @@ def tag(place, epoch, number):
 
 
 class Replica:
-    """The lines that are given to a replay, and those that it is to print."""
+    """A model of the replica: the input lines of the replay, and the lines that the replay must print."""
 
     def __init__(self):
         self.version, self.held, self.front = None, False, 1
@@ -172,13 +173,13 @@ class Replica:
         self.printed.append(f"{len(self.lines)}: {prints}")
 
     def take(self, batch, is_as):
-        """Takes a batch; `is_as` gives the history's version of an epoch at a number."""
+        """Takes a batch. `is_as` returns the history's version at an epoch and number."""
         does = verdict(self.version, self.held, batch)
         self.verdicts[does] += 1
         if does == "apply":
             number = batch.number
             self.version = Version(batch.epoch, number, batch.state) if batch.state else self.version.after(batch.events)
-            # whatever came before, the state is the history's as it is seen
+            # whatever was delivered before, the state is the history's, as far as the replica sees it
             self.version.state = is_as(batch.epoch, number).state.seen(SEEN)
             self.held, self.front = False, self.front + 1
         self.held |= does == "gap"
@@ -209,7 +210,7 @@ class Replica:
 
 
 def sent(versions, current, replica):
-    """What an upstream, or one that is behind it by a few commands, answers to the replica, or to another one; or nothing."""
+    """A batch from the upstream, or from a server a few commands behind it, for this replica or another one. None if nothing is new."""
     version = versions[max(0, current - draw.choice([0, 0, 0, 0, 0, 1, 5]))]
     has = replica.version.number if replica.version and replica.version.epoch == version.epoch else None
     since = draw.choices([has, None, max(0, version.number - draw.randrange(3))], [8, 2, 4])[0]
@@ -217,7 +218,7 @@ def sent(versions, current, replica):
 
 
 def delivered():
-    """A replica to which all batches came, some of them late, twice or not at all."""
+    """The replica after all deliveries. Some batches arrive late, some twice, some not at all."""
     lines = {epoch: list(history(epoch, count)) for epoch, count in COMMANDS.items()}
     is_as = lambda epoch, number: lines[epoch][number]
     moments = list(itertools.chain.from_iterable(lines.values()))
@@ -240,7 +241,7 @@ run = subprocess.run([sys.argv[1], "replay"], input="".join(line + "\n" for line
 if run.returncode != 0 or run.stdout.splitlines() != replica.printed:
     for line, expected, found in itertools.zip_longest(replica.lines, replica.printed, run.stdout.splitlines()):
         if expected != found:
-            sys.exit(f"{line}\nis to print\n{expected}\nand printed\n{found}")
+            sys.exit(f"{line}\nmust print\n{expected}\nbut printed\n{found}")
     sys.exit(f"the replay ended with {run.returncode}")
 if set(replica.verdicts) != {"apply", "repeat", "old", "gap", "held"}:
     sys.exit(f"a verdict never came: {replica.verdicts}")

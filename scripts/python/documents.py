@@ -1,9 +1,9 @@
-"""Runs the commands of a document, one after another in one shell, and compares what each prints: documents.py DOCUMENT PROGRAM..
+"""Runs the commands of a document in sequence in one shell, and compares the output of each: documents.py DOCUMENT PROGRAM..
 
-A command is an indented line that begins with `$ `; a line that ends with a backslash goes on in the next one. The indented lines
-behind it are what it prints on its output. In them `..` stands for anything in that line, and in a line of its own for any lines.
-Each program is offered where `rt run` leaves it. Files that commands write lie in a folder that is removed. Servers listen at the
-ports of the document, so scripts/documents.sh runs this where nothing else listens.
+A command is an indented line that begins with `$ `. A line that ends with a backslash continues in the next line. The indented lines
+after a command are its expected standard output. There `..` matches any text within a line, and a line with only `..` matches any
+lines. Each program is linked to the path where `rt run` leaves it. Commands run in a temporary folder, which is removed at the end.
+Servers listen at the ports that the document names, so scripts/documents.sh makes sure that these ports are free.
 """
 import fcntl
 import os
@@ -20,7 +20,7 @@ MARK = "--- the command in this place has ended:"
 
 
 def commands_of(text):
-    """Pairs of a command and the lines that it prints, which end where other text begins."""
+    """Pairs of a command and its expected lines, which end where other text begins."""
     found, goes_on, lines = [], False, iter(text.splitlines())
     for line in lines:
         text = line.strip()
@@ -37,7 +37,7 @@ def commands_of(text):
 
 
 def pattern_of(lines):
-    """What the lines of a document let a command print."""
+    """A pattern for the output that the lines of a document allow."""
     parts = []
     for line in lines:
         if line == "..":
@@ -48,7 +48,7 @@ def pattern_of(lines):
 
 
 def run(folder, commands):
-    """What each command prints."""
+    """Runs the commands. Returns the standard output of each one, and the error stream of all."""
     text = "".join(f"{command}\necho; echo '{MARK}'\n" for command, _ in commands)
     environment = {**os.environ, "TMPDIR": folder}
     shell = subprocess.Popen(["sh"], cwd=folder, stdin=subprocess.PIPE, stdout=subprocess.PIPE, stderr=subprocess.PIPE, text=True,
@@ -69,7 +69,7 @@ def run(folder, commands):
 
 
 def offer(folder, top, programs):
-    """The repository's folders, and the programs where `rt run` leaves them."""
+    """Links the repository's folders into `folder`, and the programs to the paths where `rt run` leaves them."""
     for name in ("examples", "deploy", "docs", "scripts", "bench"):
         os.symlink(os.path.join(top, name), os.path.join(folder, name))
     for program in programs:
@@ -80,7 +80,7 @@ def offer(folder, top, programs):
 
 
 def loopback():
-    """Makes loopback work in a network of one's own."""
+    """Brings up the loopback interface, which is down in a new network namespace."""
     with socket.socket() as end:
         wanted = struct.pack("16sH14x", b"lo", 1)
         try:
@@ -102,7 +102,7 @@ def main():
     for (command, lines), text in zip(commands, printed):
         text = text.rstrip("\n") + "\n" if text.strip() else ""
         if not pattern_of(lines).match(text):
-            sys.exit(f"{document}: {command}\nis to print\n" + "\n".join(lines) + f"\nand printed\n{text}\nbeside\n{told}")
+            sys.exit(f"{document}: {command}\nmust print\n" + "\n".join(lines) + f"\nbut printed\n{text}\nand on the error stream\n{told}")
     if len(printed) <= len(commands):
         sys.exit(f"{document}: the shell ended at command {len(printed)}: {told}")
     print(f"{document}: {len(commands)} commands")

@@ -1,8 +1,8 @@
-"""What slow clients do to others: a client that asks and reads as it should waits at most 2 seconds, whatever else is connected.
-A row in which an answer is late is played again: it fails where answers are late in each of three plays.
+"""Shows that slow clients don't delay others: a well-behaved client waits at most 2 seconds, whatever else is connected.
+A test with a late answer is repeated. It fails if all three runs have late answers.
 
-Its words: the port of an upstream and the process that started it, those of an edge behind it with 4 workers, and the program. It
-prints what goes wrong, and on its last line how long the slowest answer took. The tokens are `*:dev.client` and `*:dev.front`.
+Arguments: the port of an upstream and the id of the process that started it, the same for an edge behind it with 4 workers, and the
+program. Prints each fault, and in the last line the time of the slowest answer. The tokens are `*:dev.client` and `*:dev.front`.
 """
 import asyncio
 import http.client
@@ -16,9 +16,9 @@ import time
 
 from wire import HEALTH, answered, connect, reply_of, request, started_by, within
 
-# how long an answer may take, in seconds
+# the limit for an answer, in seconds
 SOON = 2.0
-# how long each kind of slow client is there, in seconds
+# how long each kind of slow client stays connected, in seconds
 EACH = 5.0
 IDLE = 2_000
 SESSIONS, REQUESTS, ONE_WAY = 25, 200, 0.02
@@ -28,7 +28,7 @@ notes, waits = [], [0.0]
 
 
 def poll(port, until, late):
-    """Asks on links of their own, and again and again on one that is kept, and notes each answer that is late or isn't there."""
+    """Sends each request twice: on a connection that it keeps, and on a new one. Notes each answer that is late or missing."""
     kept = connect(port)
     while time.monotonic() < until:
         begun = time.monotonic()
@@ -47,7 +47,7 @@ def poll(port, until, late):
 
 
 def polled(port, links, step):
-    """What is late while each of the links takes its steps, all in turn."""
+    """Polls the port while each of the connections repeatedly takes its step. Returns notes on the late answers."""
     late = []
     until = time.monotonic() + EACH
     polling = threading.Thread(target=poll, args=(port, until, late))
@@ -67,7 +67,7 @@ def polled(port, links, step):
 
 
 def always_polled(name, port, links, step):
-    """The same again where something is late, three times at most: a machine that was busy for a moment is no fault of the server."""
+    """Repeats `polled` while answers are late, at most three times in all: a busy machine is no fault of the server."""
     for _ in range(3):
         late = polled(port, links(), step)
         if not late:
@@ -95,7 +95,7 @@ def slow_reader(port, text):
 
 
 def silent(link):
-    """Nothing is sent."""
+    """A step that sends nothing."""
 
 
 def slow_clients(port):
@@ -109,7 +109,7 @@ def slow_clients(port):
 
 
 def cut_at(port, at, text):
-    """The requests in two pieces, far enough apart that the connection goes back to the door in between."""
+    """Sends the requests in two pieces, far enough apart that the worker returns the connection to the door in between."""
     try:
         found = answered(port, text[:at], text[at:], pause=0.04)
     except OSError as fault:
@@ -129,7 +129,7 @@ def cut_everywhere(port):
 
 
 class Delay:
-    """A proxy to a port, through which each byte takes its time."""
+    """A proxy to a port that delays each byte by ONE_WAY seconds."""
 
     def __init__(self, port):
         self.port = port
@@ -153,7 +153,7 @@ class Delay:
 
 
 def session(port, method, path, body, headers):
-    """Requests of one kept connection, which is opened once."""
+    """Sends all requests on one kept connection, which is never reopened."""
     link = http.client.HTTPConnection("127.0.0.1", port, timeout=10)
     link.connect()
     link.auto_open = 0
@@ -171,7 +171,7 @@ def session(port, method, path, body, headers):
 
 
 def sessions(port, method, path, body, headers):
-    """Sessions at 40 ms, many more than there are workers: no request fails."""
+    """Runs sessions with a round trip of 40 ms, many more than there are workers. No request fails."""
     proxy = Delay(port)
     running = [threading.Thread(target=session, args=(proxy.here, method, path, body, headers)) for _ in range(SESSIONS)]
     for one in running:
@@ -181,7 +181,7 @@ def sessions(port, method, path, body, headers):
 
 
 def serves(port):
-    """Whether a server answers soon. It is given ten seconds to start, and asked again where an answer is late, three times at most."""
+    """Whether a server answers in time. Gives it ten seconds to start, and repeats a late request, up to three tries in all."""
     until, tries = time.monotonic() + 10, 0
     while time.monotonic() < until and tries < 3:
         try:
@@ -196,7 +196,7 @@ def serves(port):
 
 
 def full_log(program, port):
-    """An edge whose error stream is a full pipe that nobody reads."""
+    """Checks that an edge answers although its error stream is a full pipe that nobody reads."""
     reading, writing = os.pipe()
     os.set_blocking(writing, False)
     try:
@@ -215,7 +215,7 @@ def full_log(program, port):
 
 
 class Trickling(threading.Thread):
-    """An upstream that gives each request a byte each second, without an end; it notes how long it was waited for."""
+    """An upstream that answers each request with an endless trickle, a byte every half second. Notes how long the client waits."""
 
     def __init__(self):
         super().__init__(daemon=True)
@@ -240,7 +240,7 @@ class Trickling(threading.Thread):
 
 
 def trickled(program, port):
-    """An edge behind such an upstream: it gives up after 30 seconds, asks nothing more at once, and then serves."""
+    """Checks an edge behind such an upstream: it gives up after 30 seconds, sends no further request at once, and then serves."""
     upstream = Trickling()
     upstream.start()
     words = ["edge", "--port", str(port), "--upstream", f"127.0.0.1:{upstream.port}", "--upstream-tokens", "*:dev.c,*:prod.c", "--tokens", "*:dev.c"]
@@ -255,16 +255,17 @@ def trickled(program, port):
 
 
 def stopped(port, process):
-    """A server that was stopped for a moment and goes on."""
+    """Stops a server for a moment, and checks that it answers afterwards."""
     os.kill(process, signal.SIGSTOP)
     time.sleep(0.2)
     os.kill(process, signal.SIGCONT)
     if not serves(port):
-        notes.append(f"port {port}: no answer behind a stop")
+        notes.append(f"port {port}: no answer after a stop")
 
 
 def pipelined(port):
-    """More requests at once than a session has, while other clients do the same: each is answered."""
+    """Sends more requests at once than a session allows, while other clients do the same. Each client gets at least the
+    1,000 answers of one session."""
     def play():
         try:
             found = answered(port, HEALTH * 1_001)

@@ -1,7 +1,7 @@
-"""How commands end where what stands outside fails, what they print, and what they ask an upstream.
+"""Shows how commands end when their environment fails, what they print, and what they request from an upstream.
 
-Its words: the program, a port for it to listen at, and one for the upstream that it asks. It prints what goes otherwise. An input
-fails behind a front of its bytes, an output past its room, and a link or an upstream does what a row says.
+Arguments: the program, a port for it to listen at, and a port for its upstream. Prints each difference from the expected result. An
+input fails after a prefix of its bytes, an output fails past a size limit, and connections and upstreams follow the tables below.
 """
 import json
 import re
@@ -29,7 +29,7 @@ def check(name, is_as, found):
 
 
 def failing_after(front):
-    """An input that gives these bytes and then fails: of a pair of sockets the other one is closed with bytes unread."""
+    """An input that yields these bytes and then fails: one end of a socket pair, whose other end is closed with bytes unread."""
     given, other = socket.socketpair()
     given.send(b"unread")
     other.sendall(front)
@@ -38,7 +38,7 @@ def failing_after(front):
 
 
 def in_pieces(text, most):
-    """An input that gives at most so many bytes a read, and then its end."""
+    """An input that yields at most `most` bytes per read, and then its end."""
     given, other = socket.socketpair(socket.AF_UNIX, socket.SOCK_SEQPACKET)
 
     def send():
@@ -58,7 +58,7 @@ def whole(text):
 
 
 class Run:
-    """The program over an input and an output with so much room, past which each write fails."""
+    """The program with an input, and an output that holds at most `room` bytes. Writes past that limit fail."""
 
     def __init__(self, words, source, room=1_000_000):
         self.printed = tempfile.TemporaryFile()
@@ -68,7 +68,7 @@ class Run:
                 preexec_fn=lambda: resource.setrlimit(resource.RLIMIT_FSIZE, (room, room)))
 
     def ended(self):
-        """What was printed, and the status."""
+        """Waits for the end. Returns the output and the status."""
         status = self.process.wait(timeout=60)
         self.printed.seek(0)
         return self.printed.read(), status
@@ -87,17 +87,17 @@ def each_cutting(words, text, printed, status):
 
 
 def each_failing_read(words, text, printed_of):
-    """Each front of a text is an input that fails behind it."""
+    """Runs the program once for each prefix of a text, on an input that fails after that prefix."""
     def one(count):
         return ran(words, failing_after(text[:count]))
 
     with ThreadPoolExecutor(4) as runs:
         for count, found in enumerate(runs.map(one, range(len(text) + 1))):
-            check(f"{words}, a read that fails behind {count} bytes", (printed_of(text[:count]), READ_FAULT), found)
+            check(f"{words}, a read that fails after {count} bytes", (printed_of(text[:count]), READ_FAULT), found)
 
 
 def each_failing_write(words, text, printed, status):
-    """Each front of what is printed fills an output."""
+    """Runs the program once for each proper prefix of its output, with room for just that prefix, and once with room for all."""
     def one(room):
         return ran(words, whole(text), room)
 
@@ -121,7 +121,7 @@ ABSENT = b'{"state":{},"feature":"z"}'
 
 
 def answered_of(front):
-    """The answers to the lines that are whole in a front of them."""
+    """The answers to the complete lines in a prefix of LINES."""
     return b"".join(ANSWERS.splitlines(keepends=True)[: front.count(b"\n")])
 
 
@@ -144,10 +144,11 @@ def play_inputs():
     each_failing_write(load, b"", ran(load, whole(b""))[0], DONE)
 
 
-# ---- segments that are written out for an older client
+# ---- segments that are inlined for an older client
 
-# of two strategies how many constraints they have of their own, and the ids of their segments; how many the segment 7 has; and
-# whether no strategy has more than 100 then: an id counts each time that it is named, and an unknown one for one
+# for each of two strategies, the number of its own constraints and the ids of its segments; the number of constraints of the segment
+# 7; and whether each strategy has at most 100 constraints after inlining. An id counts each time that it is named, and an unknown
+# segment counts as one constraint
 WRITTEN_OUT = [
     ((59, [7]), (0, []), 41, True),
     ((60, [7]), (0, []), 41, False),
@@ -191,7 +192,7 @@ TWO = b"connections 2\n"
 
 
 def asked(run, pieces):
-    """The reply to pieces on a link of their own, once the program listens."""
+    """Sends the pieces on a new connection, once the program listens. Returns the reply."""
     link = within(lambda: connect(PORT), run.lives)
     with link:
         link.sendall(pieces)
@@ -200,7 +201,7 @@ def asked(run, pieces):
 
 
 def served(words, source, room=1_000_000):
-    """What two links are sent that ask for toggles, what is printed, and the status."""
+    """Requests the toggles on two connections. Returns both reply bodies, the program's output and its status."""
     run = Run([*words, "--connections", "2"], source, room)
     replies = [asked(run, TOGGLES)[1] for _ in range(2)]
     return replies, *run.ended()
@@ -221,7 +222,7 @@ def play_upstreams():
         check("an upstream at a taken port", (b"", DOOR_FAULT), ran(OF_UPSTREAM, whole(PUT_A)))
 
 
-# ---- commands and questions on one link, one after the other
+# ---- commands and other requests on one connection, in sequence
 
 CLIENT, FRONT = b"*:dev.c", b"*:dev.f"
 PUT_IN_A = b'{"command":"put-feature","environment":"dev","feature":{"name":"a","project":"A","enabled":true}}'
@@ -246,7 +247,7 @@ def number(count):
 
 
 def feed(count, segments):
-    """A feed of no features, whose tag begins with a random number, which isn't looked at."""
+    """A feed without features. Its tag begins with a random number, which is left out and not compared."""
     return (b'{"features":[],"meta":{"etag":"\\"-1-0-%d\\"","revisionId":%d},"query":{"environment":"dev","projects":["*"]},'
             b'"segments":[%s],"version":2}' % (count, count, segments))
 
@@ -255,7 +256,7 @@ def command(text, token=b"s"):
     return request(b"/commands", token, text)
 
 
-# requests, and the status and the body of the reply
+# requests, with the status and the body of the reply
 ASKED = [
     (request(b"/commands"), 405, error(b"BadMethod")),
     (request(b"/commands?x", body=b"{}"), 401, error(b"NoToken")),
@@ -288,7 +289,7 @@ def play_commands():
             link.sendall(asked_for)
             head, found = message_of(link)
             check(f"{asked_for}", (status, body), (int(head[9:12] or 0), re.sub(rb'\\"[0-9a-f]{16}-', rb'\\"-', found)))
-            check(f"{asked_for}, what is allowed", status == 405, b"\r\nAllow: POST\r\n" in head)
+            check(f"{asked_for}, the Allow header", status == 405, b"\r\nAllow: POST\r\n" in head)
     check("an upstream of one link", (b"connections 1\n", DONE), run.ended())
     run = Run([*OF_UPSTREAM, "--connections", "1"], whole(b""))
     with within(lambda: connect(PORT), run.lives) as link:
@@ -299,7 +300,7 @@ def play_commands():
 
 
 def play_most_segments():
-    """An environment with as many segments as it may have takes no more, and one of them again."""
+    """Checks that an environment with the maximum number of segments refuses another one, and accepts one of them again."""
     run = Run([*OF_UPSTREAM, "--connections", "1"], whole(b"".join(put_segment(of) + b"\n" for of in range(1_000))))
     with within(lambda: connect(PORT), run.lives) as link:
         for of, status, body in [(1_000, 409, error(b"TooMany")), (999, 200, number(1_001))]:
@@ -308,7 +309,7 @@ def play_most_segments():
     check("an upstream of a thousand segments", (b"connections 1\n", DONE), run.ended())
 
 
-# ---- an edge, behind an upstream that gives replies
+# ---- an edge behind an upstream with scripted replies
 
 
 def reply(body, status=b"200 OK", fields=b""):
@@ -336,8 +337,8 @@ BUSY = reply(b"", b"503 Service Unavailable")
 
 
 def replies_by_path(states, books=(), bulks=()):
-    """An upstream's replies: the books and the states one after the other, of which the last state stays, and that what was counted
-    is taken, once the replies to that are used up."""
+    """An upstream's replies, by the path of the request. Token books, states and replies to metrics are sent in sequence. After the
+    last one, the book is BOOK, the last state is repeated, and metrics are accepted."""
     coming, of_books, of_bulks = iter(states), iter(books), iter(bulks)
     last = None
 
@@ -366,7 +367,7 @@ def play_edges():
         for room in [0, len(TWO) - 1]:
             found = served(of_edge(), whole(b""), room)
             check("an edge whose output fails", ([A_IS_ON, A_IS_ON], TWO[:room], WRITE_FAULT), found)
-    # a state that isn't there yet
+    # an upstream that has no state yet
     with Upstream(UPSTREAM_PORT, replies_by_path([BUSY])):
         found = served(of_edge(), whole(b""))
         check("an edge behind an upstream that has nothing", ([b'{"error":"NotReady"}'] * 2, TWO, DONE), found)
@@ -374,7 +375,7 @@ def play_edges():
         check("an edge at a taken port", (b"", DOOR_FAULT), ran(of_edge(), whole(b"")))
 
 
-# the hosts that features are on for, as their strategies name them; the third one's names none
+# features by name, with the host names in their strategy; the strategy of the third one has no such parameter
 HOSTS = {b"a": "db.local, WEB.LOCAL", b"b": "db.local,web.local.org", b"c": None, b"d": "", b"e": "db.local,, Web.Local"}
 ON_HOSTS = [("Web.local", [b"a", b"e"]), ("wEB.local", [b"a", b"e"]), ("web.local.org", [b"b"]), ("web.loca", []), (None, [])]
 
@@ -392,13 +393,13 @@ def play_hosts():
         check(f"the host {host}", [on] * 2, [re.findall(rb'"name":"([a-e])"', reply) for reply in replies])
 
 
-# what an SDK sends beside its token and its tag
+# the headers that an SDK sends besides its token and its tag
 OF_SDK = (b"User-Agent: shop\r\nUNLEASH-APPNAME: shop\r\nUNLEASH-INSTANCEID: i-1\r\nUnleash-Client-Spec: 5.1.0\r\n"
           b"Accept-Encoding: gzip, deflate\r\nConnection: keep-alive\r\n")
 
 
 def play_polls():
-    """Polls of a state that has not changed, in pieces."""
+    """Sends polls of an unchanged state, split into pieces."""
     with Upstream(UPSTREAM_PORT, replies_by_path([hydration(5, ON)], [CLIENT_BOOK])):
         run = Run(of_edge("--connections", "1", tokens="*:dev.c"), whole(b""))
         with within(lambda: connect(PORT), run.lives) as link:
@@ -415,13 +416,13 @@ def play_polls():
 
 
 def play_waiting():
-    """Links that wait for one another, for the upstream and for turns."""
+    """Checks connections of an edge whose upstream is unreachable: two that wait for each other, and more than there are workers."""
     run = Run(of_edge("--connections", "2", "--workers", "2"), whole(b""))
     with within(lambda: connect(PORT), run.lives) as first:
         first.sendall(HEALTH[:20])
-        check("a link beside one that waits", 200, asked(run, HEALTH)[0])
+        check("a connection while another one waits", 200, asked(run, HEALTH)[0])
         first.sendall(HEALTH[20:])
-        check("a link that waited for the other", 200, reply_of(first)[0])
+        check("the connection that waited", 200, reply_of(first)[0])
     check("an edge of two links", (TWO, DONE), run.ended())
 
     run = Run(of_edge("--connections", "100", "--workers", "4"), whole(b""))
@@ -435,8 +436,9 @@ REPORT_OF_A = (b'{"appName":"shop","bucket":{"start":"2024-01-01T10:05:00Z","tog
 
 
 def play_turns():
-    """A link is kept over turns, of which the second one gets no book and turns the feature on, and the third one gets a book that
-    can't be read. Another link reports, of which the upstream is told in a turn, and again in the next one, since it refuses first."""
+    """Keeps a connection open over several turns. The second turn gets no token book, and turns the feature on. The third turn gets an
+    unreadable token book. Another connection sends metrics. A turn sends them to the upstream, which refuses them once, so the next
+    turn sends them again."""
     replies = replies_by_path([hydration(5, OFF), hydration(6, ON)], [BOOK, BUSY, reply(b"[]")], [BUSY])
     with Upstream(UPSTREAM_PORT, replies) as upstream:
         run = Run(of_edge("--connections", "3", "--workers", "2"), whole(b""))
@@ -447,28 +449,28 @@ def play_turns():
             report = request(b"/api/frontend/client/metrics", b"*:dev.f", REPORT_OF_A, b"Content-Type: application/json\r\n")
             check("a report", 202, asked(run, report)[0])
             told = within(lambda: told_of(upstream, 2), run.lives) or [b""]
-            check("what the upstream is told", True, b'"featureName":"a","no":1,' in told[0] and b'"yes":2' in told[0])
-            check("what it is told again", [told[0]] * 2, told)
+            check("the metrics sent to the upstream", True, b'"featureName":"a","no":1,' in told[0] and b'"yes":2' in told[0])
+            check("the metrics sent again", [told[0]] * 2, told)
         check("a link after the turns", 200, asked(run, HEALTH)[0])
-        # the kept connection is a link more each time that it was without a request for a moment
+        # the kept connection counts again each time it continues after a moment without a request
         printed, status = run.ended()
         check("an edge over turns", (True, DONE), (int(printed.removeprefix(b"connections ")) >= 3, status))
-        check("what it isn't told again", None, told_of(upstream, 3))
+        check("metrics sent a third time", None, told_of(upstream, 3))
 
 
 def shows(link, toggles):
-    """Whether a link is answered so now; none where it isn't."""
+    """Requests the toggles on a connection. True if the reply has these toggles, else None."""
     link.sendall(TOGGLES)
     return reply_of(link) == (200, toggles) or None
 
 
 def told_of(upstream, count):
-    """The reports that an upstream was sent, none where they aren't so many."""
+    """The metrics requests that an upstream received, or None if there are fewer than `count`."""
     told = [text for text in upstream.asked if text.startswith(b"POST /api/client/metrics/bulk ")]
     return told if len(told) >= count else None
 
 
-# ---- a follower, behind an upstream that gives replies
+# ---- `follow` behind an upstream with scripted replies
 
 TAG = b'ETag: "t"\r\n'
 FOR_7 = b'{"name":"a","enabled":true,"strategies":[{"name":"userWithId","parameters":{"userIds":"7"}}]}'
@@ -481,7 +483,7 @@ EPOCH_2 = reply(b'{"epoch":2,"events":[{"type":"hydration","eventId":1,"features
 BAD = reply(b"{}")
 SHORT = reply(b'{"events":[', fields=b"Content-Length: 46\r\n")
 
-# more words, the replies (none is a link that is cut off), and what is printed
+# further arguments, the replies (None resets the connection), and the expected output
 TURNS = [
     (["--context", "userId=7"], [FOR_7_AT_5, SAME, OFF_AT_6],
      b"turn 1 published number 5 on true\nturn 2 unchanged number 5 on true\nturn 3 published number 6 on false\n"),
@@ -512,29 +514,29 @@ def play_turns_of_follow():
     for more, replies, printed in TURNS:
         found, _ = followed(of_follow(len(replies), *more), replies)
         check(f"{more}, {len(replies)} turns", (printed, DONE), found)
-    # it asks with the tag of what it has, and only then
+    # a request has a tag only if the follower has a state and the turn before didn't fail
     _, texts = followed(of_follow(3), [ON_AT_5, SAME, SAME])
     first = head_of(b"GET", b"/api/client/delta") + b"Authorization: *:dev.c\r\n"
     second = first + b'If-None-Match: "t"\r\n'
     close = b"Connection: close\r\n\r\n"
-    check("what a follower asks", [first + close, second + close, second + close], texts)
+    check("the requests of a follower", [first + close, second + close, second + close], texts)
     for reply_to_second in [None, SHORT]:
         _, texts = followed(of_follow(3), [ON_AT_5, reply_to_second, SAME])
-        check("what it asks after a fault", [first + close, second + close, first + close], texts)
+        check("the requests after a fault", [first + close, second + close, first + close], texts)
     printed = b"turn 1 published number 5 on true\n"
     for room in [0, len(printed) - 1]:
         found, _ = followed(of_follow(1), [ON_AT_5], room)
         check(f"a follower with room for {room} bytes", (printed[:room], WRITE_FAULT), found)
 
 
-# ---- words that only a caller without a shell can give, and long ones
+# ---- arguments that are hard to pass from a shell, and long ones
 
 OF_EDGE = ["edge", "--port", str(PORT), "--upstream", UPSTREAM, "--upstream-tokens", "*:dev.s", "--tokens"]
 OF_FOLLOW = ["follow", "--upstream", UPSTREAM, "--token", "*:dev.s", "--feature", "f"]
 OF_UPSTREAM_AT = ["upstream", "--port", str(PORT), "--secret", "s", "--environments"]
 AWAY = b"turn 1 fault number - on -\n"
 
-# words, and the status: those that are taken end at a taken port, or with no upstream there
+# arguments, and the status: accepted arguments fail at a port that is taken, or at an upstream that isn't there
 WORDS = [
     ([*OF_EDGE, "a:dev.s\ns"], BAD_WORDS),
     ([*OF_EDGE, "a:dev.s", "--host", "a\nb"], BAD_WORDS),
@@ -566,7 +568,7 @@ OK = b"HTTP/1.1 200 OK\r\n"
 FIELD = b"HTTP/1.1 200 OK\r\na: "
 MOST = 16_777_216
 
-# replies, and what a turn tells of them: the last ones have no head that is read
+# replies, and what a turn prints for them; the last four rows are at the limits of a head, and just past them
 REPLIES_READ = [
     (OK + LENGTH + b"\r\n" + BATCH, PUBLISHED),
     (OK + LENGTH + b"\r\n" + BATCH + b"more", PUBLISHED),
@@ -594,7 +596,7 @@ REPLIES_READ = [
     (FIELD + b"b" * 8_169 + b"\r\n\r\n" + BATCH, NOT_READ),
 ]
 
-# replies with long bodies, which come at once
+# replies with long bodies, each sent in one piece
 LONG_REPLIES = [
     (OK + b"\r\n" + BATCH.ljust(MOST), PUBLISHED),
     (OK + b"Content-Length: %d\r\n\r\n" % MOST + BATCH.ljust(MOST) + b"a", PUBLISHED),
@@ -604,7 +606,7 @@ LONG_REPLIES = [
 
 
 def turn_of(text, most):
-    """What one turn tells of a reply that comes in pieces of at most so many bytes."""
+    """Runs one turn with a reply that arrives in pieces of at most `most` bytes. Returns the output and the status."""
     pieces = [text[at : at + most] for at in range(0, len(text), most)]
     with Upstream(UPSTREAM_PORT, lambda _: pieces):
         return ran(of_follow(1), whole(b""))
@@ -614,7 +616,7 @@ def play_replies():
     for text, told in REPLIES_READ:
         for most in [7, 100_000] if len(text) < 300 else [100_000]:
             check(f"{text[:99]}, {most} at once", (b"turn 1 %s\n" % told, DONE), turn_of(text, most))
-    # each front of a reply
+    # each proper prefix of a reply
     text = OK + LENGTH + b"\r\n" + BATCH
     for count in range(1, len(text)):
         check(f"{count} bytes of a reply", (b"turn 1 %s\n" % NOT_READ, DONE), turn_of(text[:count], count))

@@ -1,9 +1,9 @@
-"""faults.py PROGRAM SHIM UPSTREAM_PORT EDGE_PORT: runs the program with one call refused, for each call in turn.
+"""faults.py PROGRAM SHIM UPSTREAM_PORT EDGE_PORT: runs the program with one failing call, for each call in turn.
 
-SHIM is scripts/c/failing_calls.c, built to be preloaded. Each allocation is refused once, and each read and write fails once, in a
-replay, in a check, on one connection of an upstream with two requests, and in one turn of an edge before one connection. The second
-accept of an upstream and of an edge fails once, and each thread of an edge can't be started once. Prints how many were tried and
-what came of them, and ends with 1 at any other outcome than those that are stated.
+SHIM is scripts/c/failing_calls.c, built as a library for LD_PRELOAD. Each allocation, read and write fails once: in a replay, in a
+check, on one connection of an upstream with two requests, and in one turn of an edge before one connection. The second accept of an
+upstream and of an edge fails once, and so does the start of each thread of an edge. Prints how many failures it tried and their
+outcomes. Exits with status 1 if an outcome is not one of the stated ones.
 """
 import collections
 import concurrent.futures
@@ -18,27 +18,27 @@ import time
 
 PROGRAM, SHIM, UPSTREAM_PORT, EDGE_PORT = sys.argv[1], sys.argv[2], int(sys.argv[3]), int(sys.argv[4])
 DONE, READ_FAULT, WRITE_FAULT, OUT_OF_MEMORY, DOOR_FAULT = 0, 4, 5, 6, 7
-# how many runs of an edge are made at once: each waits for a turn of a second
+# the number of concurrent runs of an edge: each run waits for a turn of one second
 AT_ONCE = 8
 INTERNAL = b'HTTP/1.1 500 Internal Server Error\r\nContent-Length: 0\r\nConnection: close\r\n\r\n'
 failures = []
 
 
 def started(words, source, **calls):
-    """The program over an input, with these calls refused."""
+    """Starts the program with an input, and with settings of SHIM that make calls fail."""
     settings = dict(os.environ, LD_PRELOAD=SHIM, **{name: str(value) for name, value in calls.items()})
     return subprocess.Popen([PROGRAM, *words], stdin=source, stdout=subprocess.PIPE, stderr=subprocess.DEVNULL, env=settings)
 
 
 def ran(words, path, **calls):
-    """What the program prints over a file, and its status."""
+    """Runs the program on a file. Returns its output and status."""
     with open(path, 'rb') as source:
         process = started(words, source, **calls)
         return process.communicate(timeout=20)[0], process.returncode
 
 
 def counted(run):
-    """How many allocations a run makes, and how many reads and writes; and what the run gives."""
+    """The number of allocations of a run, the number of its reads and writes, and its result."""
     with tempfile.NamedTemporaryFile() as counts:
         given = run(COUNT_CALLS=counts.name)
         allocations, moves = open(counts.name).read().split()
@@ -46,7 +46,8 @@ def counted(run):
 
 
 def swept(name, run, allowed, at_once=1):
-    """Refuses each call of a run in turn. `allowed` says whether what came is one of what may come."""
+    """Makes each call of a run fail in turn. `allowed` says whether an outcome is allowed. Then makes a run in which each read and write
+    moves one byte, which must give the same result as a normal run."""
     allocations, moves, whole = counted(run)
     for kind, count in (('FAIL_MEMORY', allocations), ('FAIL_IO', moves)):
         came = collections.Counter()
@@ -62,7 +63,8 @@ def swept(name, run, allowed, at_once=1):
 
 
 def of_input(kind, given, whole):
-    """What may come of a command over an input: what it prints is a front, and the status is its own or that of the fault."""
+    """Whether an outcome of a command over an input is allowed: its output is a prefix of the normal output, and its status is the
+    normal one or that of the fault. With the normal status, the output is complete."""
     statuses = {whole[1], OUT_OF_MEMORY} if kind == 'FAIL_MEMORY' else {whole[1], READ_FAULT, WRITE_FAULT}
     return given[1] in statuses and whole[0].startswith(given[0]) and (given[1] != whole[1] or given[0] == whole[0])
 
@@ -72,7 +74,7 @@ TOGGLES = b'GET /api/frontend HTTP/1.1\r\nHost: x\r\nAuthorization: *:dev.front\
 
 
 def exchanged(process, port):
-    """What a server answers to two requests on one link, or none where it ended before it took one."""
+    """A server's answers to two requests on one connection, or None if the server ends before it accepts one."""
     for _ in range(2000):
         if process.poll() is not None:
             return None
@@ -91,7 +93,8 @@ def exchanged(process, port):
 
 
 def served(words, ports, path='/dev/null'):
-    """A run of a server for one link, at one of these ports: what the link got, what was printed, and the status."""
+    """A function that runs a server for one connection at one of these ports. It returns what the connection received, the server's
+    output and its status."""
     free = queue.Queue()
     for port in ports:
         free.put(port)
@@ -123,8 +126,9 @@ REFUSALS = (b'{"error":"UnknownToken"}', b'{"error":"NotReady"}')
 
 
 def is_answer(kind, answer, whole):
-    """Whether a link may have got this: whole answers and then perhaps the refusal's text, or where a write failed a front of it.
-    Where an edge's own upstream could not be asked, its second answer says so."""
+    """Whether a connection may receive this answer. If an allocation fails: complete answers, perhaps followed by the text of the
+    internal error. If a read or write fails: a prefix of the normal answers. Or, if an edge's request to its upstream failed, a second
+    answer that says so."""
     if kind == 'FAIL_IO':
         unasked = answer.startswith(HEALTHY) and answer.endswith(REFUSALS)
         return whole.startswith(answer) or unasked
@@ -132,8 +136,8 @@ def is_answer(kind, answer, whole):
 
 
 def of_server(kind, given, whole):
-    """What may come of a server over one link: it served it, or memory ran out before or after, for a thread or for the only
-    connection that its door may accept; or its input or output failed."""
+    """Whether an outcome of a server with one connection is allowed: it serves the connection; or it runs out of memory before or
+    after that, for a thread, or for the only connection that its door may accept; or its input or output fails."""
     answers, printed, status = given
     statuses = {DONE, OUT_OF_MEMORY, DOOR_FAULT} if kind == 'FAIL_MEMORY' else {DONE, READ_FAULT, WRITE_FAULT}
     served_it = all(is_answer(kind, answer or b'', whole[0][0]) for answer in answers)
@@ -141,7 +145,7 @@ def of_server(kind, given, whole):
 
 
 def without_link(words, path='/dev/null'):
-    """A server whose second accept fails: what its first link got, what was printed, and the status."""
+    """Runs a server whose second accept fails. Returns what its first connection received, its output and its status."""
     with open(path, 'rb') as source:
         process = started([*words, '--connections', '2'], source, FAIL_ACCEPT=2)
         answer = exchanged(process, UPSTREAM_PORT)
@@ -149,7 +153,7 @@ def without_link(words, path='/dev/null'):
 
 
 def without_thread(words, number):
-    """A server that can't start its thread of this number: what was printed, and the status."""
+    """Runs a server that can't start the thread with this number. Returns its output and its status."""
     with open('/dev/null', 'rb') as source:
         process = started(words, source, FAIL_THREAD=number)
         return process.communicate(timeout=20)[0], process.returncode
@@ -162,7 +166,8 @@ def tried(name, expected, given):
 
 
 def cut_or(whole):
-    """What a link gets whose server's next accept fails for good: its answers, or nothing where it was not served yet."""
+    """The allowed outcomes of a server whose next accept fails for good: the connection before it receives its answers, or nothing if it
+    was not served yet."""
     return [(answer, b'', DOOR_FAULT) for answer in (whole, b'')]
 
 
@@ -172,7 +177,7 @@ STATE = (b'{"events":[{"eventId":3,"features":[{"enabled":true,"name":"a","strat
 
 
 def is_whole(request):
-    """Whether these bytes are a head and the body that its Content-Length tells of, if it has one."""
+    """Whether these bytes are a complete request: a head, and a body of its Content-Length if it has one."""
     head, end, body = request.partition(b'\r\n\r\n')
     if not end:
         return False
@@ -181,11 +186,11 @@ def is_whole(request):
 
 
 def upstream_of(port):
-    """A server that answers what an edge asks, in a thread of its own."""
+    """Starts a server that answers the requests of an edge, in its own thread."""
     def answer(link):
         with link:
             request = b''
-            # It reads a body too: one who is still sending would lose the answer as the link is closed.
+            # Read the body too: a client that is still sending would lose the answer when the connection is closed.
             while not is_whole(request):
                 piece = link.recv(65536)
                 if not piece:

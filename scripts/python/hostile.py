@@ -1,7 +1,7 @@
-"""Hostile bytes over sockets: each gets the status that docs/FORMATS.md says, and the server then serves the next link.
+"""Sends hostile bytes over sockets. Each input gets the status that docs/FORMATS.md states, and the server serves the next connection.
 
-Its words: the port of an upstream and the process that started it, and those of an edge. It prints what is answered
-otherwise, and whether a server's memory grew. The tokens are `*:dev.client` and `*:dev.front`, the secret is `s`.
+Arguments: the port of an upstream and the id of the process that started it, and the same for an edge. Prints each unexpected answer,
+and a line if a server's memory grew. The tokens are `*:dev.client` and `*:dev.front`, the secret is `s`.
 """
 import sys
 
@@ -10,16 +10,16 @@ from wire import HEALTH, answered, connect, memory_of, replies, request, reset, 
 DEEP = b"[" * 100_000 + b"]" * 100_000
 LONG = b"1" * 1_000
 ROUNDS = 5
-# what an allocator may keep for itself between rounds, in KiB
+# the memory that an allocator may retain between rounds, in KiB
 SLACK = 4_096
-# how many seconds an answer may take behind a link that a server leaves after 30 seconds
+# the limit for an answer after a connection that the server drops after 30 seconds, in seconds
 LATER = 50
 
 CLIENT, FRONT, SECRET = b"*:dev.client", b"*:dev.front", b"s"
 REPORT = b'{"appName":"a","bucket":{"start":"2024-01-01T10:05:00Z","toggles":{"a":{"yes":%s}}}}'
 FIELDS = [b"X-%d: y\r\n" % number for number in range(50)]
 
-# a name, the statuses, and the pieces that are sent
+# a name, the expected statuses, and the pieces to send
 ROWS = [
     ("a context of 100,000 brackets", [400], [request(b"/api/frontend", FRONT, DEEP)]),
     ("a context with such a property", [400], [request(b"/api/frontend", FRONT, b'{"properties":{"a":%s}}' % DEEP)]),
@@ -50,7 +50,7 @@ ROWS = [
 # 30 bytes before the value of a field
 LONG_FIELD = b"GET /no HTTP/1.1\r\nHost: x\r\na: "
 
-# heads that are refused, and the status: one that breaks two rules has that of the first
+# heads that are refused, and the status. A head that breaks two rules gets the status of the first one
 HEADS = [
     (b"GET / HTTP/2.0\r\n", 400),
     (b"GET  / HTTP/1.1\r\n", 400),
@@ -84,7 +84,7 @@ HEADS = [
     (LONG_FIELD + b"b" * 8_159 + b"\r\n\r\n", 431),
 ]
 
-# bytes that end a link without a refusal, and how many requests are answered
+# bytes that end a connection without a refusal, and the number of answered requests
 ENDS = [
     (b"GET", 0),
     (b"GET /no HTTP/1.1\r\nHost: x\r\n", 0),
@@ -103,7 +103,7 @@ JSON = b"Content-Type: application/json\r\nContent-Length: "
 HEALTHY = b'HTTP/1.1 200 OK\r\n' + JSON + b'15\r\n\r\n{"status":"OK"}'
 NO_ROUTE = b'HTTP/1.1 404 Not Found\r\n' + JSON + b'23\r\n\r\n{"error":"NoSuchRoute"}'
 
-# requests, and the whole text of the replies: in the last row the first one's body spells a request
+# requests, and the whole text of the replies. In the last row, the body of the first request is itself the text of a request
 REPLIES = [
     (b"GET /api/nothing HTTP/1.0\r\n\r\n",
      b'HTTP/1.1 404 Not Found\r\n' + JSON + b'23\r\nConnection: close\r\n\r\n{"error":"NoSuchRoute"}'),
@@ -134,28 +134,28 @@ def play(server, port):
         check(f"{server}, {pieces[:99]}", [404] * count, answered(port, pieces))
     for asked, text in REPLIES:
         check(f"{server}, {asked}", [text], [replies(port, asked)])
-    # a field a packet, and a byte a packet
+    # one field per packet, and one byte per packet
     head = b"GET /internal-backstage/health HTTP/1.1\r\nHost: h\r\n"
     check(f"{server}, a field a packet", [200], answered(port, head, *FIELDS, b"\r\n", pause=0.001))
     check(f"{server}, a byte a packet", [200], answered(port, *[HEALTH[at : at + 1] for at in range(len(HEALTH))], pause=0.001))
-    # links that are reset: at once, within a head, within a body, and while replies are on their way
+    # connections that are reset: at once, within a head, within a body, and while replies are in transit
     for pieces in [[], [HEALTH[:20]], [request(b"/edge/validate", body=b"{}")[:-1]], [request(b"/api/frontend", FRONT) * 900]]:
         reset(port, *pieces)
         check(f"{server}, after a reset", [200], answered(port, HEALTH))
 
 
 def leave_open(port):
-    """A link on which a head begins, and then nothing comes, nor does it end."""
+    """A connection that sends part of a head, and then neither sends more nor closes."""
     link = connect(port, LATER)
     link.sendall(HEALTH[:20])
     return link
 
 
 def play_half_open(servers):
-    """Of each server a link stays open, and the next one is served; then the open one was ended without an answer."""
+    """Leaves a connection to each server open. The server serves the next connection, and ends the open one without an answer."""
     links = [leave_open(port) for _, port, _ in servers]
     for (server, port, _), link in zip(servers, links):
-        check(f"{server}, behind a link that stays open", [200], answered(port, HEALTH, timeout=LATER))
+        check(f"{server}, after a connection that stays open", [200], answered(port, HEALTH, timeout=LATER))
         with link:
             check(f"{server}, a link that stays open", [], statuses(rest_of(link)))
 

@@ -1,7 +1,7 @@
-"""Clients of an edge that keep their links, more than it has workers: each that polls is answered soon, whatever others do.
+"""Runs more clients with kept connections than an edge has workers. Each poll is answered in time, whatever the other clients do.
 
-Its words: the port of the edge, and for how many seconds they poll. It prints what goes wrong, and on its last line how many polls
-were answered and how long the slowest one took.
+Arguments: the port of the edge, and the number of seconds to poll. Prints each fault, and in the last line the number of polls and of
+their connections, and the slowest and the median time of a poll.
 """
 import socket
 import sys
@@ -12,21 +12,21 @@ from wire import connect, request, statuses
 
 TOGGLES = request(b"/api/frontend", b"*:dev.front")
 POLLING, SILENT, IDLE, SLOW = 28, 4, 4, 4
-# how many seconds lie between two polls, and between two bytes of a slow client
+# the interval between two polls, and between two bytes of a slow client, in seconds
 EACH = 1.0
-# how long a poll may take, in seconds
+# the limit for a poll, in seconds
 SOON = 3.0
 
 
 def whole(reply):
-    """Whether a reply is there to its end: its head says how long its body is."""
+    """Whether a reply is complete, by the Content-Length in its head."""
     head, end, body = reply.partition(b"\r\n\r\n")
     lengths = [line for line in head.split(b"\r\n") if line.lower().startswith(b"content-length:")]
     return bool(end) and len(body) >= int(lengths[0].split(b":")[1])
 
 
 def asked(link):
-    """The reply to a request on a link, none where the server has ended the link instead."""
+    """The reply to a request on a connection, or None if the server closes the connection instead."""
     try:
         link.sendall(TOGGLES)
         reply = b""
@@ -41,7 +41,7 @@ def asked(link):
 
 
 class Client:
-    """A client that keeps its link, and opens another where the server has ended it."""
+    """A client that keeps its connection, and opens a new one if the server closes it."""
 
     def __init__(self, port, until, notes):
         self.port, self.until, self.notes = port, until, notes
@@ -59,7 +59,7 @@ class Client:
         self.link = None
 
     def ask(self):
-        """Asks on the kept link, and on a new one where that was ended: it tries again as long as a poll may take."""
+        """Sends a request on the kept connection, or on a new one if that was closed. Retries until the limit for a poll."""
         begun = time.monotonic()
         while time.monotonic() < begun + SOON:
             if self.link is None:
@@ -71,7 +71,7 @@ class Client:
         return []
 
     def rest(self, until):
-        """Waits until a moment, or until the server ends the link."""
+        """Waits until the time `until`, or until the server closes the connection."""
         while self.link is not None and (left := until - time.monotonic()) > 0:
             self.link.settimeout(left)
             try:
@@ -105,7 +105,7 @@ class Polling(Client):
 
 
 class Silent(Client):
-    """Opens a link and says nothing, again and again."""
+    """Repeatedly opens a connection and sends nothing."""
 
     def run(self):
         while time.monotonic() < self.until:
@@ -114,7 +114,7 @@ class Silent(Client):
 
 
 class Idle(Client):
-    """Asks once and then keeps its link, again and again."""
+    """Repeatedly sends one request and then keeps its connection idle."""
 
     def run(self):
         while time.monotonic() < self.until:
@@ -124,7 +124,7 @@ class Idle(Client):
 
 
 class Slow(Client):
-    """Sends a request a byte a second, and begins again where its link is ended."""
+    """Sends a request at one byte per second, and starts again when the server closes the connection."""
 
     def run(self):
         while time.monotonic() < self.until:

@@ -1,8 +1,8 @@
-"""A server with the shape of an Unleash: unleash.py PORT
+"""A server that imitates Unleash: unleash.py PORT
 
-It knows one client token and one frontend token, answers their validation, the whole feed and the delta feed with the keys and the
-headers that Unleash's own server writes, so far as its documents show them, and takes metrics. A POST to /next makes the next
-state. It is no Unleash: it tests what an edge makes of that shape.
+It knows one client token and one frontend token. It answers token validation, the whole feed and the delta feed with the keys and
+headers that Unleash's own server writes, as far as Unleash's documentation shows them. It accepts metrics. A POST to /next makes the
+next state. It is not Unleash: it only tests how an edge handles that format.
 """
 import json
 import sys

@@ -1,11 +1,11 @@
-"""What the tests over sockets share: requests, links, and what a process holds in memory."""
+"""Helpers shared by the tests over sockets: requests, connections, and the memory of a process."""
 import os
 import socket
 import struct
 import threading
 import time
 
-# how many seconds an answer may take
+# the limit for an answer, in seconds
 SOON = 10
 
 
@@ -16,7 +16,7 @@ def connect(port, timeout=SOON):
 
 
 def rest_of(link):
-    """All that comes until the server ends the link, which resets it where it left bytes unread."""
+    """All bytes until the server closes the connection. A server that leaves bytes unread resets it, which counts as a close."""
     parts = []
     try:
         while part := link.recv(65_536):
@@ -27,12 +27,12 @@ def rest_of(link):
 
 
 def statuses(replies):
-    """The statuses of replies of which only those of 304 and refusals have no JSON body."""
+    """The statuses of replies whose bodies don't contain the text `HTTP/1.1`."""
     return [int(part[1:4]) for part in replies.split(b"HTTP/1.1")[1:]]
 
 
 def replies(port, *pieces, pause=0.0, timeout=SOON):
-    """What comes for these pieces, of which the last ends with the link's direction."""
+    """Sends the pieces on a new connection, and then closes its sending side. Returns all bytes that the server sends."""
     with connect(port, timeout) as link:
         for piece in pieces:
             link.sendall(piece)
@@ -42,7 +42,7 @@ def replies(port, *pieces, pause=0.0, timeout=SOON):
 
 
 def answered(port, *pieces, pause=0.0, timeout=SOON):
-    """The statuses of what comes for these pieces."""
+    """Sends the pieces on a new connection. Returns the statuses of the replies."""
     return statuses(replies(port, *pieces, pause=pause, timeout=timeout))
 
 
@@ -56,13 +56,13 @@ def request(path, token=b"", body=None, fields=b""):
 
 
 def cut_off(link):
-    """Resets a link."""
+    """Resets a connection."""
     link.setsockopt(socket.SOL_SOCKET, socket.SO_LINGER, struct.pack("ii", 1, 0))
     link.close()
 
 
 def reset(port, *pieces):
-    """Sends these and resets the link, without a look at what comes."""
+    """Sends the pieces and resets the connection, without reading any reply."""
     link = connect(port)
     for piece in pieces:
         link.sendall(piece)
@@ -70,7 +70,8 @@ def reset(port, *pieces):
 
 
 def within(try_it, lives=lambda: True, seconds=SOON):
-    """What a try gives, made again until it gives something; none once too much time went by, or what it tries has ended."""
+    """Retries until a try returns a true value, and returns that. None after `seconds` seconds, or once `lives` is false. A refused
+    connection counts as a failed try."""
     until = time.monotonic() + seconds
     while time.monotonic() < until and lives():
         try:
@@ -83,7 +84,8 @@ def within(try_it, lives=lambda: True, seconds=SOON):
 
 
 def message_of(link):
-    """The head of a request or a reply that comes on a link, and its body, by its length; fewer bytes where the link ends."""
+    """Reads a request or reply from a connection, with a body of its Content-Length. Returns its head and its body, which are shorter if
+    the connection ends early."""
     text = b""
     length = None
     while length is None or len(text) < length:
@@ -100,14 +102,14 @@ def message_of(link):
 
 
 def reply_of(link):
-    """The status and the body of a reply with a length."""
+    """Reads a reply with a Content-Length. Returns its status and its body."""
     head, body = message_of(link)
     return int(head[9:12] or 0), body
 
 
 class Upstream:
-    """A server at a port that gives each link what `reply_to` says of its request, in pieces where that is a list, and cuts it off
-    where that is nothing. It keeps the requests."""
+    """A server at a port that answers each connection's request with the result of `reply_to`: a list is sent in pieces, and None
+    resets the connection. Keeps the requests in `asked`."""
 
     def __init__(self, port, reply_to):
         self.listener = socket.create_server(("127.0.0.1", port))
@@ -140,7 +142,7 @@ class Upstream:
             else:
                 cut_off(link)
         except ConnectionError:
-            # it has read enough
+            # the client closed the connection before the end of the reply
             pass
 
     def __enter__(self):
@@ -156,13 +158,13 @@ HEALTH = request(b"/internal-backstage/health")
 
 
 def status_of(process, field):
-    """The number of a field of what the system tells of a process."""
+    """The number in a field of /proc/PROCESS/status."""
     with open(f"/proc/{process}/status") as lines:
         return next(int(line.split()[1]) for line in lines if line.startswith(f"{field}:"))
 
 
 def parent_of(process):
-    """The process that started this one, none where it has ended meanwhile."""
+    """The parent of a process, or None if the process has ended meanwhile."""
     try:
         return status_of(process, "PPid")
     except OSError:
@@ -170,11 +172,11 @@ def parent_of(process):
 
 
 def started_by(process):
-    """The first process that this one started."""
+    """The first child that is found of a process."""
     others = (int(name) for name in os.listdir("/proc") if name.isdigit())
     return next(other for other in others if parent_of(other) == process)
 
 
 def memory_of(process):
-    """What a process holds in memory, in KiB."""
+    """The resident memory of a process, in KiB."""
     return status_of(process, "VmRSS")

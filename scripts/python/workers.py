@@ -1,7 +1,7 @@
-"""An edge with many workers under load, over sockets: a link that is slow, that stays or that is reset delays no other one, and
-links leave nothing in memory.
+"""Tests an edge with many workers under load, over sockets. A slow, lingering or reset connection delays no other one, and connections
+leave nothing in memory.
 
-Its words: the port of the edge, the process that started it, and how many workers it has. It prints what goes wrong.
+Arguments: the port of the edge, the id of the process that started it, and the number of its workers. Prints each fault.
 """
 import sys
 import threading
@@ -13,9 +13,9 @@ FRONT = b"*:dev.front"
 TOGGLES = request(b"/api/frontend", FRONT)
 CLOSING = request(b"/api/frontend", FRONT, fields=b"Connection: close\r\n")
 AT_ONCE = 64
-# how long any answer may take beside others, in seconds
+# the limit for an answer while other connections are open, in seconds
 SOON = 1.0
-# what an allocator may keep for itself, in KiB
+# the memory that an allocator may retain, in KiB
 SLACK = 4_096
 
 
@@ -25,7 +25,7 @@ def check(name, is_as, found):
 
 
 def soon(port, name):
-    """An answer comes at once."""
+    """Checks that an answer arrives within the limit."""
     begun = time.monotonic()
     check(name, [200], answered(port, CLOSING))
     took = time.monotonic() - begun
@@ -34,7 +34,7 @@ def soon(port, name):
 
 
 def drip(link, ended):
-    """Sends one byte a second."""
+    """Sends a request at one byte per second."""
     for at in range(len(TOGGLES)):
         if ended.wait(1.0):
             return
@@ -42,7 +42,7 @@ def drip(link, ended):
 
 
 def beside_slow_links(port, workers):
-    """All workers but one have a link that is slow, silent, or that has asked and stays."""
+    """Occupies all workers but one with connections that are slow, silent, or idle after a request. Others are served in time."""
     links = [connect(port) for _ in range(workers - 1)]
     ended = threading.Event()
     slow = threading.Thread(target=drip, args=(links[0], ended))
@@ -64,7 +64,7 @@ def one_after_the_other(port, count):
 
 
 def at_once(port):
-    """As many links as may wait ask at once."""
+    """Sends requests on as many connections at once as the edge lets wait."""
     given = [None] * AT_ONCE
 
     def ask(place):
@@ -79,13 +79,13 @@ def at_once(port):
 
 
 def in_mid_reply(port):
-    """A link that is reset while its replies are on their way ends itself alone."""
+    """Resets a connection while its replies are in transit. Only that connection ends."""
     with connect(port) as other:
         other.sendall(HEALTH)
-        check("a link beside one that is reset", [200], statuses(other.recv(65_536)))
+        check("another connection before a reset", [200], statuses(other.recv(65_536)))
         reset(port, TOGGLES * 900)
         other.sendall(HEALTH)
-        check("the same link afterwards", [200], statuses(other.recv(65_536)))
+        check("the same connection after the reset", [200], statuses(other.recv(65_536)))
     soon(port, "after a reset")
 
 
@@ -103,7 +103,7 @@ def main(words):
         in_mid_reply(port)
     after = memory_of(process)
     if after > before + SLACK:
-        print(f"{after} KiB are held after all links, and {before} were before them")
+        print(f"{after} KiB resident after all connections, and {before} before them")
 
 
 main(sys.argv[1:])

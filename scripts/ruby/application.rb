@@ -1,5 +1,6 @@
-# An application with the Unleash client for Ruby. What the client decides from its feed is to be what the server decides for a
-# browser, at each feature and for each of twenty users. Its words: the address, a client token, a frontend token.
+# An application with the Unleash client for Ruby. For each feature and each of 20 users, it compares the client's evaluation of its
+# feed with the server's evaluation for a browser, and prints each difference. Then it prints the status of a request for a feed that
+# the client already has. Arguments: the server's address, a client token, a frontend token.
 require 'json'
 require 'net/http'
 require 'tmpdir'

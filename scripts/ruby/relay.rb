@@ -1,4 +1,5 @@
-# Passes each connection on to a port of this machine, and prints what came on it. Its words: its own port, the other one.
+# Forwards each connection to another port of this machine, and prints the bytes that the client sends. Arguments: its own port, the
+# other port.
 require 'socket'
 
 own_port, other_port = ARGV.map(&:to_i)

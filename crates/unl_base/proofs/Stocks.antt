@@ -2,14 +2,14 @@
 use Rattle.std.proofs.Common.{◌≡◌, ◌≤◌, ◌<◌, ◌+◌, ◌-◌, ℕ, List, [], ◌∷◌, take, drop, map, length, slice_set, slice_index_or, Option, Some, None, true, All, IfSome, arith, ap, is_some, refl, subst}
 use Rattle.std.proofs.lemmas.List.{drop-set-lt, take-set-le, take_more_set, drop_more}
 use Rattle.std.proofs.lemmas.List.Elements.{All-tail, All-push, All-head}
-use Rattle.unl_base.specs.Memory.{IsNew, IsNext, IsStocked, IsThere, Stock, Wire, brought, to_come}
+use Rattle.unl_base.specs.Memory.{IsNew, IsNext, IsStocked, IsThere, Stock, MemoryLinkState, sent_and_faults, to_come}
 
 -- The observable part of a door's links.
-abbrev seen : List (Option Wire) → ℕ → ℕ → Stock
-seen links given back = record { links = map to_come (drop given links); out = given - back; returned = map brought (take back links) }
+abbrev seen : List (Option MemoryLinkState) → ℕ → ℕ → Stock
+seen links given back = record { links = map to_come (drop given links); out = given - back; returned = map sent_and_faults (take back links) }
 
 -- `IsStocked` holds after the next link is handed out.
-pub gone : (links : List (Option Wire)) (given back : ℕ) (left : Option Wire) → given < length links → IsStocked links given back
+pub gone : (links : List (Option MemoryLinkState)) (given back : ℕ) (left : Option MemoryLinkState) → given < length links → IsStocked links given back
     → IsStocked (slice_set links given left) (given + 1) back
 gone links given back left more stocked = record {
   within = omega (arith, stocked.within);
@@ -19,7 +19,7 @@ gone links given back left more stocked = record {
 }
 
 -- `IsStocked` holds after a link is taken back.
-pub came : (links : List (Option Wire)) (given back : ℕ) (wire : Wire) → back < given → given ≤ length links → IsStocked links given back
+pub came : (links : List (Option MemoryLinkState)) (given back : ℕ) (wire : MemoryLinkState) → back < given → given ≤ length links → IsStocked links given back
     → IsStocked (slice_set links back (Some wire)) given (back + 1)
 came links given back wire out held stocked = record {
   within = omega (arith, out);
@@ -29,30 +29,30 @@ came links given back wire out held stocked = record {
 }
 
 -- A new link is present.
-pub new_there : (link : Option Wire) → IsNew link → is_some link ≡ true
+pub new_there : (link : Option MemoryLinkState) → IsNew link → is_some link ≡ true
 new_there None new = absurd new
 new_there (Some wire) new = refl
 
 -- A new link is the next link of the list that begins with its bytes.
-pub new_is : (link : Option Wire) (more : List (List ℕ)) → IsNew link → IfSome link (λ wire. IsNext (to_come link ∷ more) wire)
+pub new_is : (link : Option MemoryLinkState) (more : List (List ℕ)) → IsNew link → IfSome link (λ wire. IsNext (to_come link ∷ more) wire)
 new_is None more new = absurd new
 new_is (Some wire) more new = record { gives = refl; silent = new.0; faultless = new.1 }
 
 -- The next link to come is new.
-pub next_new : (links : List (Option Wire)) (given back : ℕ) (default : Option Wire) → given < length links → IsStocked links given back
+pub next_new : (links : List (Option MemoryLinkState)) (given back : ℕ) (default : Option MemoryLinkState) → given < length links → IsStocked links given back
     → IsNew (slice_index_or links given default)
 next_new links given back default more stocked =
     All-head IsNew (slice_index_or links given default) (drop (given + 1) links) (subst (All IsNew) (drop_more links given default more) stocked.new)
 
 -- The next link to come gives the first of the texts to come.
-pub next_is : (links : List (Option Wire)) (given back : ℕ) (default : Option Wire) → given < length links → IsStocked links given back
+pub next_is : (links : List (Option MemoryLinkState)) (given back : ℕ) (default : Option MemoryLinkState) → given < length links → IsStocked links given back
     → IfSome (slice_index_or links given default) (λ wire. IsNext (map to_come (drop given links)) wire)
 next_is links given back default more stocked =
     rw (drop_more links given default more)
     (new_is (slice_index_or links given default) (map to_come (drop (given + 1) links)) (next_new links given back default more stocked))
 
 -- The observable part after the next link was handed out.
-pub gone_view : (links : List (Option Wire)) (given back : ℕ) (left : Option Wire) → given < length links → IsStocked links given back
+pub gone_view : (links : List (Option MemoryLinkState)) (given back : ℕ) (left : Option MemoryLinkState) → given < length links → IsStocked links given back
     → seen (slice_set links given left) (given + 1) back
     ≡ record (seen links given back) { links = drop 1 (map to_come (drop given links)); out = given - back + 1 }
 gone_view links given back left more stocked =
@@ -60,7 +60,7 @@ gone_view links given back left more stocked =
     rw (drop-set-lt (given + 1) links given left (omega arith), take-set-le back links given left stocked.within, out, drop_more links given None more) refl
 
 -- If an index is left, the list of links to come isn't empty.
-pub some_to_come : (links : List (Option Wire)) (given : ℕ) → given < length links → map to_come (drop given links) ≡ [] → ⊥
+pub some_to_come : (links : List (Option MemoryLinkState)) (given : ℕ) → given < length links → map to_come (drop given links) ≡ [] → ⊥
 some_to_come links given more none =
     let empty : length (map to_come (slice_index_or links given None ∷ drop (given + 1) links)) ≡ 0 = ap length (rw (drop_more links given None more) at none) in
     omega (arith, empty)

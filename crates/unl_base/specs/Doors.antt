@@ -42,8 +42,8 @@ pub record IsClosedAt (port : ℕ) (door : DoorState) : Type 0 where
   pub at : door.port ≡ Some port
 
 -- No link was handed out, or the door listens at this port.
-abbrev pub CameAt : ℕ → ℕ → DoorState → Type 0
-CameAt port served door = (served ≡ 0) ⊎ (door.port ≡ Some port)
+abbrev pub ServedOnlyAt : ℕ → ℕ → DoorState → Type 0
+ServedOnlyAt port served door = (served ≡ 0) ⊎ (door.port ≡ Some port)
 
 -- The door is open: it has another link to hand out.
 pub record IsOpen (door : DoorState) : Type 0 where
@@ -68,9 +68,9 @@ pub record IsFresh (door : DoorState) (left sent : Option (List ℕ)) (faults : 
   pub faultless : faults ≡ 0
 
 -- The links taken back, with one more, which had sent these bytes and had this fault count.
-abbrev pub and_one : Option (List ℕ) → ℕ → Option (List (List ℕ × ℕ)) → Option (List (List ℕ × ℕ))
-and_one sent faults returned = option_and_then (λ list. option_map (λ bytes. list ++ (bytes, faults) ∷ []) sent) returned
+abbrev pub with_returned : Option (List ℕ) → ℕ → Option (List (List ℕ × ℕ)) → Option (List (List ℕ × ℕ))
+with_returned sent faults returned = option_and_then (λ list. option_map (λ bytes. list ++ (bytes, faults) ∷ []) sent) returned
 
 -- The state after the door took back a link that had sent these bytes and had this fault count.
 abbrev pub taking_back : Option (List ℕ) → ℕ → DoorState → DoorState
-taking_back sent faults door = record door { back = door.back + 1; returned = and_one sent faults door.returned }
+taking_back sent faults door = record door { back = door.back + 1; returned = with_returned sent faults door.returned }

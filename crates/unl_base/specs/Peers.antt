@@ -16,8 +16,8 @@ abbrev pub nothing_beside : PeerState
 nothing_beside = record { connected = false; left = None; sent = None; replies = None }
 
 -- The state after a successful connect: the next reply is to be read, and nothing was sent.
-abbrev pub connecting : PeerState → PeerState
-connecting peer = record {
+abbrev pub after_connect : PeerState → PeerState
+after_connect peer = record {
   connected = true;
   left = option_map next_of peer.replies;
   sent = option_map (λ _. []) peer.sent;
@@ -25,18 +25,18 @@ connecting peer = record {
 }
 
 -- The state after a failed connect: there is no connection, and nothing to read.
-abbrev pub parting : PeerState → PeerState
-parting peer = record peer { connected = false; left = option_map (λ _. []) peer.left }
+abbrev pub after_failed_connect : PeerState → PeerState
+after_failed_connect peer = record peer { connected = false; left = option_map (λ _. []) peer.left }
 
 -- A read goes to the stream of the connection if there is one. Without a connection it returns 0.
 pub record ReadsConnection {S E : Type 0} (remaining : S → Option (List ℕ))
     (old new : Option S) (result : Result ℕ E) (room : List ℕ) : Type 0 where
-  pub hands_on : IfSome old (λ was. IfSome new (λ now. ReadConsumes (remaining was) (remaining now) result room))
+  pub forwards : IfSome old (λ was. IfSome new (λ now. ReadConsumes (remaining was) (remaining now) result room))
   pub alone : IfNone old (result ≡ Ok 0)
 
 -- A write goes to the stream of the connection if there is one, and appends to what was sent as far as that is
 -- observable. Without a connection all of the piece is dropped, and the write succeeds.
 pub record WritesConnection {S E : Type 0} (contents : S → Option (List ℕ))
     (old new : Option S) (result : Result ℕ E) (piece : List ℕ) : Type 0 where
-  pub hands_on : IfSome old (λ was. IfSome new (λ now. WriteAppends (contents was) (contents now) result piece))
+  pub forwards : IfSome old (λ was. IfSome new (λ now. WriteAppends (contents was) (contents now) result piece))
   pub alone : IfNone old (result ≡ Ok (length piece))

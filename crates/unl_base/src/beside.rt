@@ -27,7 +27,7 @@ pub fn run_beside<R: Threads + Wait, J: Job + Send + Drop, M: Job>(
 
 /// Work for `run_around`. The contract of a scope says nothing about a `&mut` that its closure captures, so the closure
 /// captures a value of a type parameter instead.
-trait Errand {
+trait ScopedWork {
     type Done;
 
     ghost works: { Self → Self.Done → Type 0 };
@@ -37,7 +37,7 @@ trait Errand {
     fn run(self) -> Self::Done
         ensures { works self result };
 
-    fn call_off(self) -> Self::Done
+    fn cancel_job(self) -> Self::Done
         ensures { cancels self result };
 }
 
@@ -47,7 +47,7 @@ struct Lent<'a, M> {
     job: &'a mut M,
 }
 
-impl<'a, M: Job> Errand for Lent<'a, M> {
+impl<'a, M: Job> ScopedWork for Lent<'a, M> {
     type Done = &'a mut M;
 
     ghost works = { λ lent done. (done.ghost_name ≡ lent.job.ghost_name) × M.worked lent.job.now done.now };
@@ -60,7 +60,7 @@ impl<'a, M: Job> Errand for Lent<'a, M> {
         job
     }
 
-    fn call_off(self) -> &'a mut M {
+    fn cancel_job(self) -> &'a mut M {
         let Lent { job } = self;
         job.cancel();
         job
@@ -86,7 +86,7 @@ impl<J: Job> Promise<J> for Worked<J> {
 type Running<J> = PromisedHandle<J, Worked<J>>;
 
 /// Runs each job on its own thread and the errand on this one.
-fn run_around<R: Threads + Wait, J: Job + Send + Drop, E: Errand + Drop>(
+fn run_around<R: Threads + Wait, J: Job + Send + Drop, E: ScopedWork + Drop>(
     rt: &R,
     jobs: Vec<J>,
     errand: E,
@@ -96,7 +96,7 @@ fn run_around<R: Threads + Wait, J: Job + Send + Drop, E: Errand + Drop>(
     ensures cancelled { OnErr result.1 (E.cancels errand result.0) }
 {
     let Ok(room) = Vec::with_capacity(*jobs.allocator(), jobs.len()) else {
-        return (errand.call_off(), Err(Failed));
+        return (errand.cancel_job(), Err(Failed));
     };
     thread::scope(
         thread::scope_env(),
@@ -114,7 +114,7 @@ fn run_around<R: Threads + Wait, J: Job + Send + Drop, E: Errand + Drop>(
                     (here, Ok(join_all(rt, started, room)))
                 }
                 Err(started) => {
-                    let here = errand.call_off();
+                    let here = errand.cancel_job();
                     end_all(rt, started);
                     (here, Err(Failed))
                 }

@@ -2,7 +2,7 @@
 ghost use Rattle.std.specs.Prelude.{◌≡◌, ◌<◌, ◌+◌, ◌-◌, ◌∷◌, ◌++◌, ◌↔◌, [], Some, None, All, drop, length, map, if◌then◌else◌};
 ghost use Rattle.std.specs.Prelude.{is_ok, is_some, option_map, slice_get, true, IfOk, IfSome, IsNone, OnErr};
 ghost use Rattle.unl_base.specs.Doors.{Accepts, count_of};
-ghost use Rattle.unl_base.specs.Memory.{Answers, IsNew, IsNext, brought, calls_of, door_of, to_come};
+ghost use Rattle.unl_base.specs.Memory.{FailsAsListed, IsNew, IsNext, sent_and_faults, calls_of, door_of, to_come};
 
 use crate::Failed;
 use crate::door::Door;
@@ -20,14 +20,14 @@ struct Stock {
 
 impl Model for Stock {
     ghost use Rattle.std.specs.Prelude.{◌≤◌, ◌-◌, All, drop, take, map, vec_len};
-    ghost use Rattle.unl_base.specs.Memory.{IsStocked, Stock, brought, to_come};
+    ghost use Rattle.unl_base.specs.Memory.{IsStocked, Stock, sent_and_faults, to_come};
 
     ghost Value = { Stock };
 
     ghost view = { λ stock. record {
       links = map to_come (drop stock.given stock.links.items);
       out = stock.given - stock.back;
-      returned = map brought (take stock.back stock.links.items);
+      returned = map sent_and_faults (take stock.back stock.links.items);
     } };
 
     ghost invariant = { λ stock. (stock.given ≤ vec_len stock.links) × IsStocked stock.links.items stock.given stock.back };
@@ -67,7 +67,7 @@ impl Stock {
           links = self.old.links;
           out = self.old.out - 1;
           returned = self.old.returned
-              ++ brought (Some link) ∷ [];
+              ++ sent_and_faults (Some link) ∷ [];
         } }
     {
         self.links[self.back] = Some(link);
@@ -94,9 +94,9 @@ pub struct MemoryDoor {
 }
 
 impl Model for MemoryDoor {
-    ghost use Rattle.unl_base.specs.Memory.{Gate};
+    ghost use Rattle.unl_base.specs.Memory.{MemoryDoorState};
 
-    ghost Value = { Gate };
+    ghost Value = { MemoryDoorState };
 
     ghost view = { λ door. record { port = door.port; stock = door.stock; calls = door.calls } };
 }
@@ -143,7 +143,7 @@ impl Door for MemoryDoor {
     fn listen(&mut self, port: u16) -> Result<(), Failed>
         ensures listens { self.new.port ≡ (if is_ok result then Some port else self.old.port) }
         ensures stock { self.new.stock ≡ self.old.stock }
-        ensures answers { Answers result self.old.calls self.new.calls }
+        ensures fails_as_listed { FailsAsListed result self.old.calls self.new.calls }
     {
         if self.calls.fails() {
             return Err(Failed);
@@ -159,7 +159,7 @@ impl Door for MemoryDoor {
         ensures comes { IfOk result (λ link. IfSome link (λ wire. IsNext self.old.stock.links wire)) }
         ensures kept { OnErr result (self.new.stock ≡ self.old.stock) }
         ensures same { self.new.port ≡ self.old.port }
-        ensures answers { Answers result self.old.calls self.new.calls }
+        ensures fails_as_listed { FailsAsListed result self.old.calls self.new.calls }
     {
         if self.calls.fails() {
             return Err(Failed);

@@ -1,8 +1,8 @@
 //! A peer whose replies are in memory.
 ghost use Rattle.std.specs.Prelude.{◌≡◌, ◌<◌, ◌≤◌, ◌++◌, [], None, drop, take, length, map, IfOk, OnErr, OnOk};
 ghost use Rattle.unl_base.specs.Doors.{next_of};
-ghost use Rattle.unl_base.specs.Memory.{Answers, ReadsLine, Writes, calls_of, on_line, peer_of};
-ghost use Rattle.unl_base.specs.Peers.{connecting, parting};
+ghost use Rattle.unl_base.specs.Memory.{FailsAsListed, ReadsLine, Writes, calls_of, on_line, peer_of};
+ghost use Rattle.unl_base.specs.Peers.{after_connect, after_failed_connect};
 
 use crate::link::{Link, Sink, Source};
 use crate::memory::{Calls, Incoming, Outgoing};
@@ -55,9 +55,9 @@ pub struct MemoryPeer {
 }
 
 impl Model for MemoryPeer {
-    ghost use Rattle.unl_base.specs.Memory.{Call};
+    ghost use Rattle.unl_base.specs.Memory.{MemoryPeerState};
 
-    ghost Value = { Call };
+    ghost Value = { MemoryPeerState };
 
     ghost view = { λ peer. record { line = peer.line; replies = peer.replies; store = peer.going; calls = peer.calls } };
 }
@@ -116,7 +116,7 @@ impl Source for MemoryPeer {
         ensures taken { IfOk result (λ n. on_line self.old.line ≡ take n room.new ++ on_line self.new.line) }
         ensures end { IfOk result (λ n. n ≡ 0 → on_line self.old.line ≡ []) }
         ensures reads { ReadsLine result (length room.old) self.old self.new }
-        ensures answers { Answers result self.old.calls self.new.calls }
+        ensures fails_as_listed { FailsAsListed result self.old.calls self.new.calls }
     {
         if self.calls.fails() {
             return Err(Failed);
@@ -176,10 +176,10 @@ impl Peer for MemoryPeer {
 
     /// Fails exactly on the calls listed in `failing`.
     fn connect(&mut self) -> Result<(), Failed>
-        ensures connects { OnOk result (peer_of self.new ≡ connecting (peer_of self.old)) }
-        ensures parts { OnErr result (peer_of self.new ≡ parting (peer_of self.old)) }
+        ensures connects { OnOk result (peer_of self.new ≡ after_connect (peer_of self.old)) }
+        ensures parts { OnErr result (peer_of self.new ≡ after_failed_connect (peer_of self.old)) }
         ensures room { self.new.store.room ≡ self.old.store.room }
-        ensures answers { Answers result self.old.calls self.new.calls }
+        ensures fails_as_listed { FailsAsListed result self.old.calls self.new.calls }
     {
         self.line = None;
         if self.calls.fails() {

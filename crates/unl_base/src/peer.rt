@@ -1,7 +1,7 @@
 //! A peer, which is reconnected for each exchange.
 ghost use Rattle.std.specs.Prelude.{◌≡◌, false, OnErr, OnOk};
 ghost use Rattle.unl_base.specs.Faults.{HasCause};
-ghost use Rattle.unl_base.specs.Peers.{PeerState, connecting, parting};
+ghost use Rattle.unl_base.specs.Peers.{PeerState, after_connect, after_failed_connect};
 ghost use Rattle.unl_base.specs.Streams.{HasEnded};
 
 use crate::Failed;
@@ -19,8 +19,8 @@ pub trait Peer: Link {
     ///
     /// `Failed`: it couldn't connect. The fault is counted, and there is no connection.
     fn connect(&mut self) -> Result<(), Failed>
-        ensures connects { OnOk result (state self.new ≡ connecting (state self.old)) }
-        ensures parts { OnErr result (state self.new ≡ parting (state self.old)) }
+        ensures connects { OnOk result (state self.new ≡ after_connect (state self.old)) }
+        ensures parts { OnErr result (state self.new ≡ after_failed_connect (state self.old)) }
         ensures cause { HasCause (Self.Source.faults self.old) (Self.Source.faults self.new) result }
         ensures still { OnOk result (Self.Source.faults self.new ≡ Self.Source.faults self.old) };
 

@@ -11,13 +11,26 @@ use std::sync::Wait;
 use std::thread::Threads;
 
 /// Where a spawner runs its jobs.
-pub enum Place<'a, R> {
+pub enum Placement<'a, R> {
     /// All on the caller's thread, one after the other.
     Here,
     /// Each on its own thread.
     Threads(&'a R),
     /// Nowhere: no job can be started.
     Nowhere,
+}
+
+/// A job that could not be started. Only this crate creates one, so nothing else can make a spawner count a fault.
+#[derive(Debug, Drop)]
+pub struct NotStarted {
+    made_here: (),
+}
+
+impl NotStarted {
+    /// A job that could not be started just now.
+    fn now() -> Self {
+        NotStarted { made_here: () }
+    }
 }
 
 /// Runs jobs concurrently.
@@ -29,10 +42,10 @@ pub trait Spawner {
     ghost faults: { Self → ℕ };
 
     /// Returns where it runs jobs.
-    fn place(&self) -> Place<'_, Self::Rt>;
+    fn place(&self) -> Placement<'_, Self::Rt>;
 
     /// Counts a failure to start a job.
-    fn count_fault(&mut self)
+    fn count_fault(&mut self, failure: NotStarted)
         ensures later { faults self.old ≤ faults self.new }
         ensures rose { Rose (faults self.old) (faults self.new) };
 
@@ -55,17 +68,17 @@ pub trait Spawner {
         ensures still { OnOk result.1 (faults self.new ≡ faults self.old) }
     {
         match self.place() {
-            Place::Here => run_in_turn(jobs, here),
-            Place::Threads(rt) => {
+            Placement::Here => run_in_turn(jobs, here),
+            Placement::Threads(rt) => {
                 let (here, done) = run_beside(rt, jobs, here);
                 if done.is_err() {
-                    self.count_fault();
+                    self.count_fault(NotStarted::now());
                 }
                 (here, done)
             }
-            Place::Nowhere => {
-                self.count_fault();
-                (call_off(here), Err(Failed))
+            Placement::Nowhere => {
+                self.count_fault(NotStarted::now());
+                (cancel_job(here), Err(Failed))
             }
         }
     }
@@ -86,7 +99,7 @@ fn run_in_turn<J: Job, M: Job>(jobs: Vec<J>, here: M) -> (M, Result<Vec<J>, Fail
 }
 
 /// Cancels a job.
-fn call_off<M: Job>(here: M) -> M
+fn cancel_job<M: Job>(here: M) -> M
     ensures { M.cancelled here result }
 {
     let mut here = here;

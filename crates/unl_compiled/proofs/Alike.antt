@@ -15,7 +15,7 @@ use Rattle.unl_delta.specs.declared.event.Event.TheVariants.{Hydration, FeatureU
 use Rattle.unl_delta.specs.Keyed.{is_before, put}
 use Rattle.unl_delta.specs.State.{IsInOrder, fold_events, is_change, later, number_of, project_of, step}
 use Rattle.unl_delta.proofs.Every.{every_filter}
-use Rattle.unl_delta.proofs.InPlace.{Parts, parts_at, replaced_is, stands}
+use Rattle.unl_delta.proofs.InPlace.{Parts, parts_at, replaced_is, represents}
 use Rattle.unl_delta.proofs.Order.{less_apart, less_from_test, rises_from_rising, rising_again, without_none}
 use Rattle.unl_delta.proofs.Steps.{InOrder, in_order, project_found, step_in_order}
 use Rattle.unl_documents.specs.declared.feature.Feature.{Feature}
@@ -86,7 +86,7 @@ put_at f g fs place is rising at named within =
       | inl less ↦ let apart : bytes_eq g.name f.name ≡ false = less_apart f.name g.name (less_from_test _ less) in absurd cc
       | inr other ↦ other
     ] in
-    let stood : stands name_key f.name fs place ≡ true = rw (at, before) refl in
+    let stood : represents name_key f.name fs place ≡ true = rw (at, before) refl in
     let parts : Parts name_key f.name fs place true = subst (λ (t : Bool). Parts name_key f.name fs place t) stood (parts_at name_key f.name fs place (rises_from_rising name_key fs rising) is) in
     sym (ap sides (replaced_is name_key f fs place parts))
     ∙ set_alike fs place f g at (sym ((bytes_eq-Decides g.name f.name).0 named)) (sym ((bytes_eq-Decides g.project f.project).0 within))

@@ -14,7 +14,7 @@ use Rattle.unl_delta.proofs.Order.{cmp, less_back, rises_from_rising}
 use Rattle.unl_delta.proofs.Runs.{Around, Held, around}
 use Rattle.unl_documents.specs.declared.feature.Feature.{Feature}
 use Rattle.unl_documents.specs.Parameters.{AreRising}
-use Rattle.unl_documents.specs.Series.{joined, NoneIsEmpty}
+use Rattle.unl_documents.specs.Chunks.{joined, NoneIsEmpty}
 
 -- The items of the chunks from an index on: those of the chunk there, and those after it.
 pub run_at : {T : Type 0} (runs : List (List T)) (i : ℕ) (run : List T) → i < length runs → run ≡ get_or runs i run → joined (drop i runs) ≡ run ++ joined (drop (i + 1) runs)
@@ -47,9 +47,9 @@ none_past (x ∷ xs) zero is lt = cc
 none_past (x ∷ xs) (suc place) is lt = none_past xs place is (omega (arith, lt))
 
 -- A lookup at an index within the list finds an item.
-pub stands : {T U : Type 0} (seen : T → U) (found : Option T) (xs : List U) (place : ℕ) → option_map seen found ≡ slice_get xs place → place < length xs → IsSome found
-stands seen None xs place is lt = absurd (none_past xs place is lt)
-stands seen (Some x) xs place is lt = refl
+pub represents : {T U : Type 0} (seen : T → U) (found : Option T) (xs : List U) (place : ℕ) → option_map seen found ≡ slice_get xs place → place < length xs → IsSome found
+represents seen None xs place is lt = absurd (none_past xs place is lt)
+represents seen (Some x) xs place is lt = refl
 
 -- ---- the positions of a project's features
 
@@ -67,10 +67,10 @@ places_join p place (f ∷ fs) gs =
 pub places_more : (p : List ℕ) (runs : List (List Feature)) (i : ℕ) (run : List Feature) (front new whole : List ℕ) (place next : ℕ) → i < length runs → run ≡ get_or runs i run
     → new ≡ front ++ places_from place p run → next ≡ place + length run → front ++ places_from place p (joined (drop i runs)) ≡ whole
     → new ++ places_from next p (joined (drop (i + 1) runs)) ≡ whole
-places_more p runs i run front new whole place next lt is goes behind so_far =
+places_more p runs i run front new whole place next lt is goes next_place so_far =
     let rest : List Feature = joined (drop (i + 1) runs) in
     ap (λ (ns : List ℕ). ns ++ places_from next p rest) goes ∙ append_assoc front (places_from place p run) (places_from next p rest)
-    ∙ ap (λ (n : ℕ). front ++ (places_from place p run ++ places_from n p rest)) behind
+    ∙ ap (λ (n : ℕ). front ++ (places_from place p run ++ places_from n p rest)) next_place
     ∙ sym (ap (λ (ns : List ℕ). front ++ ns) (ap (places_from place p) (run_at runs i run lt is) ∙ places_join p place run rest)) ∙ so_far
 
 -- ---- the position of a key, or where it would be inserted

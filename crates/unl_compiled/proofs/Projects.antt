@@ -27,8 +27,8 @@ apart_from a b p apart same =
     ]
 
 -- An entry for another project may be put in front.
-behind : (e : ProjectPlaces) (project p : List ℕ) (place : ℕ) (es new : List ProjectPlaces) → bytes_eq e.project project ≡ false → listed p new ≡ listed p es ++ more project p place → listed p (e ∷ new) ≡ listed p (e ∷ es) ++ more project p place
-behind e project p place es new apart is =
+next_place : (e : ProjectPlaces) (project p : List ℕ) (place : ℕ) (es new : List ProjectPlaces) → bytes_eq e.project project ≡ false → listed p new ≡ listed p es ++ more project p place → listed p (e ∷ new) ≡ listed p (e ∷ es) ++ more project p place
+next_place e project p place es new apart is =
     elim (cases_Bool (bytes_eq e.project p)) [
       | inl same ↦ let none = apart_from e.project project p apart same in rw (same, none) (sym (append-nil e.places))
       | inr other ↦ rw other is
@@ -45,7 +45,7 @@ new_project project p place (e ∷ es) all =
       | inl same ↦ let none : prefix_len (differs project) (e ∷ es) ≡ 0 = rw same refl in absurd (omega arith)
       | inr apart ↦
           let count : prefix_len (differs project) (e ∷ es) ≡ 1 + prefix_len (differs project) es = rw apart refl in
-          behind e project p place es (es ++ record { project = project; places = place ∷ [] } ∷ []) apart (new_project project p place es (omega arith))
+          next_place e project p place es (es ++ record { project = project; places = place ∷ [] } ∷ []) apart (new_project project p place es (omega arith))
     ]
 
 here : (e : ProjectPlaces) (project p : List ℕ) (place : ℕ) (es : List ProjectPlaces) → bytes_eq e.project project ≡ true → listed p (record { project = e.project; places = e.places ++ place ∷ [] } ∷ es) ≡ listed p (e ∷ es) ++ more project p place
@@ -69,7 +69,7 @@ old_project project p place (e ∷ es) d (suc slot) is lt =
       | inl same ↦ let none : prefix_len (differs project) (e ∷ es) ≡ 0 = rw same refl in absurd (omega arith)
       | inr apart ↦
           let count : prefix_len (differs project) (e ∷ es) ≡ 1 + prefix_len (differs project) es = rw apart refl in
-          behind e project p place es (slice_set es slot (record { project = (get_or es slot d).project; places = (get_or es slot d).places ++ place ∷ [] })) apart (old_project project p place es d slot (omega arith) (omega arith))
+          next_place e project p place es (slice_set es slot (record { project = (get_or es slot d).project; places = (get_or es slot d).places ++ place ∷ [] })) apart (old_project project p place es d slot (omega arith) (omega arith))
     ]
 
 -- The same, for an entry that is known to be there.

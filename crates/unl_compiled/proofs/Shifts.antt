@@ -22,7 +22,7 @@ use Rattle.unl_delta.specs.State.{fold_events, later, number_of, project_of}
 use Rattle.unl_delta.specs.declared.event.Event.{Event}
 use Rattle.unl_delta.specs.declared.event.Event.TheVariants.{FeatureRemoved, FeatureUpdated}
 use Rattle.unl_delta.proofs.Every.{filter_in}
-use Rattle.unl_delta.proofs.InPlace.{Parts, parts_at, stands}
+use Rattle.unl_delta.proofs.InPlace.{Parts, parts_at, represents}
 use Rattle.unl_delta.proofs.Order.{less_apart, less_from_test, rises_from_rising, without_none}
 use Rattle.unl_delta.proofs.Steps.{project_found}
 use Rattle.unl_documents.specs.declared.feature.Feature.{Feature}
@@ -36,7 +36,7 @@ none_left : (so : Bool) (f : ℕ → ℕ) → map f (drop (count_if so) []) ≡ 
 none_left true f = refl
 none_left false f = refl
 
-unlisted_is : (come : Option (List ℕ)) (place : ℕ) (p : List ℕ) (index : List ProjectPlaces) → length index ≡ prefix_len (differs p) index → listed p (unlisted come place index) ≡ place_if (is_of p come) place
+unlisted_is : (inserted : Option (List ℕ)) (place : ℕ) (p : List ℕ) (index : List ProjectPlaces) → length index ≡ prefix_len (differs p) index → listed p (unlisted inserted place index) ≡ place_if (is_of p inserted) place
 unlisted_is None place p index none = refl
 unlisted_is (Some project) place p index none =
     elim (cases_Bool (bytes_eq project p)) [
@@ -70,11 +70,11 @@ moved_behind c p (e ∷ es) (new ∷ news) tail all parted h =
     ]
 
 -- The new entries list each project's positions after the change.
-pub moved_listed : (c : Change) (index news : List ProjectPlaces) (p : List ℕ) → AllMoved c index news → IsParted c.place (listed p index) → listed p (news ++ unlisted c.come c.place index) ≡ moved c p (listed p index)
+pub moved_listed : (c : Change) (index news : List ProjectPlaces) (p : List ℕ) → AllMoved c index news → IsParted c.place (listed p index) → listed p (news ++ unlisted c.inserted c.place index) ≡ moved c p (listed p index)
 moved_listed c index news p all parted =
-    moved_behind c p index news (unlisted c.come c.place index) all parted (λ none.
-    unlisted_is c.come c.place p index none
-    ∙ sym (ap (λ (ns : List ℕ). place_if (is_of p c.come) c.place ++ ns) (none_left (is_of p c.gone) (shifted (count_of c.gone) (count_of c.come))) ∙ append-nil (place_if (is_of p c.come) c.place)))
+    moved_behind c p index news (unlisted c.inserted c.place index) all parted (λ none.
+    unlisted_is c.inserted c.place p index none
+    ∙ sym (ap (λ (ns : List ℕ). place_if (is_of p c.inserted) c.place ++ ns) (none_left (is_of p c.removed) (shifted (count_of c.removed) (count_of c.inserted))) ∙ append-nil (place_if (is_of p c.inserted) c.place)))
 
 moved_and : (c : Change) (es news : List ProjectPlaces) (e new : ProjectPlaces) → AllMoved c es news → IsMoved c e new → AllMoved c (es ++ e ∷ []) (news ++ new ∷ [])
 moved_and c [] [] e new all is = (is, tt)
@@ -164,15 +164,15 @@ length_if true place = refl
 length_if false place = refl
 
 -- The positions before the change, the removed one, and those after it.
-moved_parts : (c : Change) (p ns low high : List ℕ) → ns ≡ low ++ (place_if (is_of p c.gone) c.place ++ high) → cut c.place ns ≡ length low
-    → moved c p ns ≡ low ++ (place_if (is_of p c.come) c.place ++ map (shifted (count_of c.gone) (count_of c.come)) high)
+moved_parts : (c : Change) (p ns low high : List ℕ) → ns ≡ low ++ (place_if (is_of p c.removed) c.place ++ high) → cut c.place ns ≡ length low
+    → moved c p ns ≡ low ++ (place_if (is_of p c.inserted) c.place ++ map (shifted (count_of c.removed) (count_of c.inserted)) high)
 moved_parts c p ns low high is at =
-    let gone : List ℕ = place_if (is_of p c.gone) c.place in
-    let front : take (cut c.place ns) ns ≡ low = ap (λ (n : ℕ). take n ns) at ∙ ap (take (length low)) is ∙ take-append_seam low (gone ++ high) in
-    let back : drop (cut c.place ns) ns ≡ gone ++ high = ap (λ (n : ℕ). drop n ns) at ∙ ap (drop (length low)) is ∙ drop-append_seam low (gone ++ high) in
-    let rest : drop (count_if (is_of p c.gone)) (drop (cut c.place ns) ns) ≡ high =
-    ap (drop (count_if (is_of p c.gone))) back ∙ ap (λ (n : ℕ). drop n (gone ++ high)) (length_if (is_of p c.gone) c.place) ∙ drop-append_seam gone high in
-    λ i. front i ++ (place_if (is_of p c.come) c.place ++ map (shifted (count_of c.gone) (count_of c.come)) (rest i))
+    let removed : List ℕ = place_if (is_of p c.removed) c.place in
+    let front : take (cut c.place ns) ns ≡ low = ap (λ (n : ℕ). take n ns) at ∙ ap (take (length low)) is ∙ take-append_seam low (removed ++ high) in
+    let back : drop (cut c.place ns) ns ≡ removed ++ high = ap (λ (n : ℕ). drop n ns) at ∙ ap (drop (length low)) is ∙ drop-append_seam low (removed ++ high) in
+    let rest : drop (count_if (is_of p c.removed)) (drop (cut c.place ns) ns) ≡ high =
+    ap (drop (count_if (is_of p c.removed))) back ∙ ap (λ (n : ℕ). drop n (removed ++ high)) (length_if (is_of p c.removed) c.place) ∙ drop-append_seam removed high in
+    λ i. front i ++ (place_if (is_of p c.inserted) c.place ++ map (shifted (count_of c.removed) (count_of c.inserted)) (rest i))
 
 -- At most one feature at `place`, of the optional project.
 pub record Stand (place : ℕ) (project : Option (List ℕ)) (fs : List Feature) : Type 0 where
@@ -195,14 +195,14 @@ three_parts p place there front here back at stand =
     ∙ (λ i. stand.places p i ++ places_from (place + stand.count i) p back)
     )
 
-moved_places : (c : Change) (p : List ℕ) (front old new back : List Feature) → length front ≡ c.place → Stand c.place c.gone old → Stand c.place c.come new
+moved_places : (c : Change) (p : List ℕ) (front old new back : List Feature) → length front ≡ c.place → Stand c.place c.removed old → Stand c.place c.inserted new
     → moved c p (places_of p (front ++ (old ++ back))) ≡ places_of p (front ++ (new ++ back))
-moved_places c p front old new back at gone come =
+moved_places c p front old new back at removed inserted =
     let low : List ℕ = places_from 0 p front in
     let first : 0 + length front ≡ c.place = omega (arith, at) in
-    moved_parts c p (places_of p (front ++ (old ++ back))) low (places_from (c.place + count_of c.gone) p back) (three_parts p c.place c.gone front old back at gone) (cut_is p c.place 0 front (old ++ back) first)
-    ∙ ap (λ (ns : List ℕ). low ++ (place_if (is_of p c.come) c.place ++ ns)) (shift_is p (count_of c.gone) (count_of c.come) c.place back)
-    ∙ sym (three_parts p c.place c.come front new back at come)
+    moved_parts c p (places_of p (front ++ (old ++ back))) low (places_from (c.place + count_of c.removed) p back) (three_parts p c.place c.removed front old back at removed) (cut_is p c.place 0 front (old ++ back) first)
+    ∙ ap (λ (ns : List ℕ). low ++ (place_if (is_of p c.inserted) c.place ++ ns)) (shift_is p (count_of c.removed) (count_of c.inserted) c.place back)
+    ∙ sym (three_parts p c.place c.inserted front new back at inserted)
 
 -- ---- the features split by a name
 
@@ -220,7 +220,7 @@ at_place (x ∷ xs) (suc place) g at = ap (λ (ys : List Feature). x ∷ ys) (at
 by_name : (name : List ℕ) (fs : List Feature) (place : ℕ) → place ≡ prefix_len (λ y. is_before (name_key y) name) fs → AreRising (map name_key fs) → (old : List Feature) × Named name fs place (project_of name fs) old
 by_name name fs place is rising = decided (project_of name fs) refl
   where
-    parted : Parts name_key name fs place (stands name_key name fs place)
+    parted : Parts name_key name fs place (represents name_key name fs place)
     parted = parts_at name_key name fs place (rises_from_rising name_key fs rising) is
 
     low : length (below name_key name fs) ≡ place
@@ -241,7 +241,7 @@ by_name name fs place is rising = decided (project_of name fs) refl
           | inl less ↦ let apart : bytes_eq g.name name ≡ false = less_apart name g.name (less_from_test _ less) in absurd cc
           | inr other ↦ other
         ] in
-        let stood : stands name_key name fs place ≡ true = rw (at, before) refl in
+        let stood : represents name_key name fs place ≡ true = rw (at, before) refl in
         let whole : Parts name_key name fs place true = subst (λ (t : Bool). Parts name_key name fs place t) stood parted in
         record {
           parts = at_place fs place g at ∙ ap (λ (ys : List Feature). ys ++ g ∷ drop (suc place) fs) whole.low ∙ ap (λ (ys : List Feature). below name_key name fs ++ g ∷ ys) whole.high;
@@ -271,25 +271,25 @@ by_name name fs place is rising = decided (project_of name fs) refl
 
 -- The index after other features replace the one of a name.
 replaced : (name : List ℕ) (fs others : List Feature) (c : Change) (index new : List ProjectPlaces) → AreRising (map name_key fs) → c.place ≡ prefix_len (λ y. is_before (name_key y) name) fs
-    → c.gone ≡ project_of name fs → Stand c.place c.come others → IsIndex fs index → ((p : List ℕ) → IsParted c.place (listed p index) → listed p new ≡ moved c p (listed p index))
+    → c.removed ≡ project_of name fs → Stand c.place c.inserted others → IsIndex fs index → ((p : List ℕ) → IsParted c.place (listed p index) → listed p new ≡ moved c p (listed p index))
     → IsIndex (below name_key name fs ++ (others ++ above name_key name fs)) new
-replaced name fs others c index new rising at gone come is goes p =
+replaced name fs others c index new rising at removed inserted is goes p =
     let s = by_name name fs c.place at rising in
-    let stand : Stand c.place c.gone s.0 = subst (λ (o : Option (List ℕ)). Stand c.place o s.0) (sym gone) s.1.stand in
+    let stand : Stand c.place c.removed s.0 = subst (λ (o : Option (List ℕ)). Stand c.place o s.0) (sym removed) s.1.stand in
     let parted : IsParted c.place (listed p index) = subst (λ (ns : List ℕ). IsParted c.place ns) (sym (is p)) (parted_places c.place p 0 fs) in
-    goes p parted ∙ ap (moved c p) (is p ∙ ap (places_of p) s.1.parts) ∙ moved_places c p (below name_key name fs) s.0 others (above name_key name fs) s.1.low stand come
+    goes p parted ∙ ap (moved c p) (is p ∙ ap (places_of p) s.1.parts) ∙ moved_places c p (below name_key name fs) s.0 others (above name_key name fs) s.1.low stand inserted
 
 -- The index after a feature is added or replaced.
 pub index_with : (f : Feature) (fs : List Feature) (c : Change) (index new : List ProjectPlaces) → AreRising (map name_key fs) → c.place ≡ prefix_len (λ y. is_before (name_key y) f.name) fs
-    → c.gone ≡ project_of f.name fs → c.come ≡ Some f.project → IsIndex fs index → ((p : List ℕ) → IsParted c.place (listed p index) → listed p new ≡ moved c p (listed p index)) → IsIndex (put name_key f fs) new
-index_with f fs c index new rising at gone come is goes =
-    replaced f.name fs (f ∷ []) c index new rising at gone (subst (λ (o : Option (List ℕ)). Stand c.place o (f ∷ [])) (sym come) (one_stands c.place f)) is goes
+    → c.removed ≡ project_of f.name fs → c.inserted ≡ Some f.project → IsIndex fs index → ((p : List ℕ) → IsParted c.place (listed p index) → listed p new ≡ moved c p (listed p index)) → IsIndex (put name_key f fs) new
+index_with f fs c index new rising at removed inserted is goes =
+    replaced f.name fs (f ∷ []) c index new rising at removed (subst (λ (o : Option (List ℕ)). Stand c.place o (f ∷ [])) (sym inserted) (one_stands c.place f)) is goes
 
 -- The index after the feature of a name is removed.
 pub index_without : (name : List ℕ) (fs : List Feature) (c : Change) (index new : List ProjectPlaces) → AreRising (map name_key fs) → c.place ≡ prefix_len (λ y. is_before (name_key y) name) fs
-    → c.gone ≡ project_of name fs → c.come ≡ None → IsIndex fs index → ((p : List ℕ) → IsParted c.place (listed p index) → listed p new ≡ moved c p (listed p index)) → IsIndex (without name_key name fs) new
-index_without name fs c index new rising at gone come is goes =
-    replaced name fs [] c index new rising at gone (subst (λ (o : Option (List ℕ)). Stand c.place o []) (sym come) (nothing_stands c.place)) is goes
+    → c.removed ≡ project_of name fs → c.inserted ≡ None → IsIndex fs index → ((p : List ℕ) → IsParted c.place (listed p index) → listed p new ≡ moved c p (listed p index)) → IsIndex (without name_key name fs) new
+index_without name fs c index new rising at removed inserted is goes =
+    replaced name fs [] c index new rising at removed (subst (λ (o : Option (List ℕ)). Stand c.place o []) (sym inserted) (nothing_stands c.place)) is goes
 
 -- ---- one event
 

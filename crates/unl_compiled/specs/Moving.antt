@@ -7,12 +7,12 @@ use Rattle.std.specs.Option.{option_map_or}
 use Rattle.std.specs.Str.{bytes_eq}
 use Rattle.unl_compiled.specs.declared.index.ProjectPlaces.{ProjectPlaces}
 
--- A change at one position: a feature of project `gone` is removed there, and then one of project `come` is inserted.
+-- A change at one position: a feature of project `removed` is removed there, and then one of project `inserted` is inserted.
 -- Each is optional.
 pub record Change : Type 0 where
   pub place : ℕ
-  pub gone : Option (List ℕ)
-  pub come : Option (List ℕ)
+  pub removed : Option (List ℕ)
+  pub inserted : Option (List ℕ)
 
 -- How many features an optional project stands for: 1 or 0.
 abbrev pub count_of : Option (List ℕ) → ℕ
@@ -48,8 +48,8 @@ cut place places = prefix_len (λ n. nat_lt n place) places
 abbrev pub moved : Change → List ℕ → List ℕ → List ℕ
 moved c project places =
     take (cut c.place places) places
-    ++ (place_if (is_of project c.come) c.place
-    ++ map (shifted (count_of c.gone) (count_of c.come)) (drop (count_if (is_of project c.gone)) (drop (cut c.place places) places)))
+    ++ (place_if (is_of project c.inserted) c.place
+    ++ map (shifted (count_of c.removed) (count_of c.inserted)) (drop (count_if (is_of project c.removed)) (drop (cut c.place places) places)))
 
 -- The entry `new` has the project of `e`, and its positions after a change.
 pub record IsMoved (c : Change) (e new : ProjectPlaces) : Type 0 where

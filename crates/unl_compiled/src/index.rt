@@ -3,11 +3,11 @@ ghost use Rattle.std.specs.Prelude.{◌≡◌, ◌∷◌, [], ◌++◌, ◌+◌,
 ghost use Rattle.std.specs.List.{prefix_len};
 ghost use Rattle.std.specs.Str.{bytes_eq};
 ghost use Rattle.unl_compiled.specs.Places.{IsIndex, listed, places_from};
-ghost use Rattle.unl_documents.specs.Series.{joined};
+ghost use Rattle.unl_documents.specs.Chunks.{joined};
 
 use crate::feature::CompiledFeature;
 use std::alloc::Global;
-use unl_documents::{Copied, List, Memory, Run, Shared, Text};
+use unl_documents::{Chunk, List, Memory, Shared, Text, TryClone};
 
 /// A project, and the positions of its features in ascending order.
 #[derive(Drop)]
@@ -19,7 +19,7 @@ pub(crate) struct ProjectPlaces {
 /// Builds the index of the features of these chunks. Only projects that have features are listed.
 pub(crate) fn index_of(
     alloc: Global,
-    runs: &[Run<CompiledFeature>],
+    runs: &[Chunk<CompiledFeature>],
 ) -> Result<List<ProjectPlaces>, Memory>
     ensures { IfOk result (IsIndex (joined runs.now)) }
 {
@@ -45,13 +45,13 @@ fn add_run(
     let mut place = first;
     for feature in run.as_slice() {
         add(index, alloc, &feature.get().document().project, place)?;
-        place = behind(place)?;
+        place = next_place(place)?;
     }
     Ok(place)
 }
 
 /// The next position. An overflow is reported as out of memory.
-fn behind(place: usize) -> Result<usize, Memory>
+fn next_place(place: usize) -> Result<usize, Memory>
     ensures { IfOk result (λ next. next ≡ place + 1) }
 {
     place.checked_add(1).ok_or(Memory)

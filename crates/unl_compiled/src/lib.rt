@@ -3,12 +3,12 @@
 
 mod feature;
 mod index;
-mod moving;
+mod index_after;
+mod index_change;
 mod parts;
 mod seen;
 mod segment;
 mod snapshot;
-mod staying;
 mod toggles;
 mod toggles_text;
 

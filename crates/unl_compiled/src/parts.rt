@@ -5,7 +5,7 @@ ghost use Rattle.unl_compiled.specs.Next.{state_after};
 ghost use Rattle.unl_compiled.specs.Places.{strategy_at};
 ghost use Rattle.unl_delta.specs.State as told;
 ghost use Rattle.unl_delta.specs.Valid.{IsValidEvent};
-ghost use Rattle.unl_documents.specs.Series.{joined, NoneIsEmpty};
+ghost use Rattle.unl_documents.specs.Chunks.{joined, NoneIsEmpty};
 
 use crate::feature::CompiledFeature;
 use crate::segment::CompiledSegment;
@@ -13,15 +13,15 @@ use std::alloc::Global;
 use std::marker::Model;
 use unl_constraints::Compiled;
 use unl_delta::Event;
-use unl_delta::keyed::{put_in_place, put_in_series, without_in_place, without_in_series};
-use unl_documents::{Copied, Feature, List, Memory, Run, Segment, Series, Shared, State};
+use unl_delta::keyed::{put_in_chunks, put_in_place, without_in_chunks, without_in_place};
+use unl_documents::{Chunk, ChunkedList, Feature, List, Memory, Segment, Shared, State, TryClone};
 
 /// The features in ascending order of their names, and the segments in ascending order of their ids. In contracts the
 /// value is the state that they were compiled from.
 #[derive(Drop)]
 pub(crate) struct Parts {
     /// In ascending order of names.
-    pub features: Series<CompiledFeature>,
+    pub features: ChunkedList<CompiledFeature>,
     /// In ascending order of ids.
     pub segments: List<Shared<CompiledSegment>>,
 }
@@ -34,7 +34,7 @@ impl Model for Parts {
     ghost view = { λ p. record { features = p.features; segments = p.segments } };
 }
 
-impl Copied for Parts {
+impl TryClone for Parts {
     fn copy(&self, alloc: Global) -> Result<Parts, Memory> {
         Ok(Parts {
             features: self.features.copy(alloc)?,
@@ -55,7 +55,7 @@ impl Parts {
     }
 
     /// The chunks of the feature list. None is empty.
-    pub(crate) fn runs(&self) -> &[Run<CompiledFeature>]
+    pub(crate) fn runs(&self) -> &[Chunk<CompiledFeature>]
         ensures features { joined result.now ≡ self.now.features }
         ensures full { NoneIsEmpty result.now }
     {
@@ -90,7 +90,7 @@ impl Parts {
 }
 
 /// The feature at an index.
-fn feature_at(features: &Series<CompiledFeature>, place: usize) -> &CompiledFeature
+fn feature_at(features: &ChunkedList<CompiledFeature>, place: usize) -> &CompiledFeature
     requires { place < length features.now }
     ensures { Some result.now ≡ slice_get features.now place }
 {
@@ -100,14 +100,17 @@ fn feature_at(features: &Series<CompiledFeature>, place: usize) -> &CompiledFeat
 /// Compiles the features, in chunks of the same lengths.
 fn compiled_features(
     alloc: Global,
-    features: &Series<Feature>,
-) -> Result<Series<CompiledFeature>, Memory>
+    features: &ChunkedList<Feature>,
+) -> Result<ChunkedList<CompiledFeature>, Memory>
     ensures { IfOk result (λ all. all ≡ features.now) }
 {
-    Ok(Series::of_runs(compiled_runs(alloc, features.runs())?))
+    Ok(ChunkedList::of_runs(compiled_runs(alloc, features.runs())?))
 }
 
-fn compiled_runs(alloc: Global, runs: &[Run<Feature>]) -> Result<List<Run<CompiledFeature>>, Memory>
+fn compiled_runs(
+    alloc: Global,
+    runs: &[Chunk<Feature>],
+) -> Result<List<Chunk<CompiledFeature>>, Memory>
     requires { NoneIsEmpty runs.now }
     ensures same { IfOk result (λ all. all ≡ runs.now) }
     ensures full { IfOk result NoneIsEmpty }
@@ -193,12 +196,12 @@ fn step(alloc: Global, parts: Parts, event: &Event) -> Result<Parts, Memory>
         Event::FeatureUpdated { feature, .. } => {
             let compiled = Shared::new(alloc, CompiledFeature::new(alloc, feature)?)?;
             Ok(Parts {
-                features: put_in_series(alloc, compiled, &parts.features)?,
+                features: put_in_chunks(alloc, compiled, &parts.features)?,
                 segments: parts.segments,
             })
         }
         Event::FeatureRemoved { name, .. } => Ok(Parts {
-            features: without_in_series(alloc, name, &parts.features)?,
+            features: without_in_chunks(alloc, name, &parts.features)?,
             segments: parts.segments,
         }),
         Event::SegmentUpdated { segment, .. } => {

@@ -9,7 +9,7 @@ ghost use Rattle.unl_delta.specs.View.{view_of};
 ghost use Rattle.unl_dependencies.specs.Evaluation.{feature_named as feature_with};
 ghost use Rattle.unl_dependencies.specs.Laws.{if_seen as if_project_seen};
 ghost use Rattle.unl_documents.specs.Parameters.{AreRising};
-ghost use Rattle.unl_documents.specs.Series.{joined, NoneIsEmpty};
+ghost use Rattle.unl_documents.specs.Chunks.{joined, NoneIsEmpty};
 ghost use Rattle.unl_documents.specs.States.{IsValidState, name_key};
 ghost use Rattle.unl_tokens.specs.Names.{sees};
 
@@ -19,7 +19,7 @@ use std::alloc::Global;
 use std::marker::Model;
 use unl_context::Context;
 use unl_dependencies::Features;
-use unl_documents::{Feature, List, Memory, Run, Shared};
+use unl_documents::{Chunk, Feature, List, Memory, Shared};
 use unl_strategies::Moment;
 use unl_tokens::Projects;
 
@@ -150,7 +150,7 @@ pub(crate) fn place_named(parts: &Parts, name: &str) -> Result<usize, Memory>
 }
 
 /// As `place_named`, over the chunks of the features.
-fn place_among(runs: &[Run<CompiledFeature>], name: &str) -> Result<usize, Memory>
+fn place_among(runs: &[Chunk<CompiledFeature>], name: &str) -> Result<usize, Memory>
     requires rising { AreRising (map name_key (joined runs.now)) }
     requires full { NoneIsEmpty runs.now }
     ensures { IfOk result (λ place. place
@@ -165,7 +165,7 @@ fn place_among(runs: &[Run<CompiledFeature>], name: &str) -> Result<usize, Memor
 }
 
 /// The first `place` chunks.
-fn first(runs: &[Run<CompiledFeature>], place: usize) -> &[Run<CompiledFeature>]
+fn first(runs: &[Chunk<CompiledFeature>], place: usize) -> &[Chunk<CompiledFeature>]
     requires { place ≤ length runs.now }
     ensures { result.now ≡ take place runs.now }
 {
@@ -173,7 +173,7 @@ fn first(runs: &[Run<CompiledFeature>], place: usize) -> &[Run<CompiledFeature>]
 }
 
 /// How many features the chunks have together. An overflow is reported as out of memory.
-fn count_of(runs: &[Run<CompiledFeature>]) -> Result<usize, Memory>
+fn count_of(runs: &[Chunk<CompiledFeature>]) -> Result<usize, Memory>
     ensures { IfOk result (λ count. count ≡ length (joined runs.now)) }
 {
     let mut count = 0;
@@ -191,7 +191,7 @@ fn sum_of(count: usize, more: usize) -> Result<usize, Memory>
 
 /// Finds a feature by its name in chunks whose names ascend. It can only be in the first chunk that doesn't end before
 /// the name.
-fn feature_among<'a>(runs: &'a [Run<CompiledFeature>], name: &str) -> Option<&'a CompiledFeature>
+fn feature_among<'a>(runs: &'a [Chunk<CompiledFeature>], name: &str) -> Option<&'a CompiledFeature>
     requires rising { AreRising (map name_key (joined runs.now)) }
     requires full { NoneIsEmpty runs.now }
     ensures { option_map (λ f. f.now) result ≡ feature_with name.now (joined runs.now) }
@@ -203,7 +203,7 @@ fn feature_among<'a>(runs: &'a [Run<CompiledFeature>], name: &str) -> Option<&'a
 }
 
 /// The chunk at an index.
-fn run_at(runs: &[Run<CompiledFeature>], place: usize) -> Option<&List<Shared<CompiledFeature>>>
+fn run_at(runs: &[Chunk<CompiledFeature>], place: usize) -> Option<&List<Shared<CompiledFeature>>>
     ensures { option_map (λ run. run.now) result ≡ slice_get runs.now place }
 {
     Some(runs.get(place)?.get())
@@ -211,7 +211,7 @@ fn run_at(runs: &[Run<CompiledFeature>], place: usize) -> Option<&List<Shared<Co
 
 /// The index of the chunk that has the name, or that it would be inserted into, by binary search. It is the number of
 /// chunks if all end before the name.
-fn run_of(runs: &[Run<CompiledFeature>], name: &str) -> usize
+fn run_of(runs: &[Chunk<CompiledFeature>], name: &str) -> usize
     requires rising { AreRising (map name_key (joined runs.now)) }
     requires full { NoneIsEmpty runs.now }
     ensures { result ≡ prefix_len (ends_before name_key name.now) runs.now }

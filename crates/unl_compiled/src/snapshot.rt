@@ -13,9 +13,9 @@ ghost use Rattle.unl_documents.specs.Valid.{IsValidFeature};
 ghost use Rattle.unl_tokens.specs.Names.{sees};
 
 use crate::index::{ProjectPlaces, places_of};
+use crate::index_after::{all_places, places_after};
 use crate::parts::Parts;
 use crate::seen::{Seen, document_of, seen_named};
-use crate::staying::{all_places, places_after};
 use crate::toggles::toggles_of;
 use crate::toggles_text::toggles_text;
 use serde_json::Value;

@@ -4,7 +4,7 @@ ghost use Rattle.serde_json.specs.View.{view};
 ghost use Rattle.unl_compiled.specs.Toggles.{variant_data, toggle_data, toggle_if, toggle_if_seen, toggle_of};
 ghost use Rattle.unl_compiled.specs.Toggles.{toggles_data, written_toggles};
 ghost use Rattle.unl_delta.specs.View.{view_of};
-ghost use Rattle.unl_documents.specs.Series.{joined};
+ghost use Rattle.unl_documents.specs.Chunks.{joined};
 ghost use Rattle.unl_documents.specs.States.{IsValidState};
 ghost use Rattle.unl_documents.specs.Valid.{IsValidFeature};
 ghost use Rattle.unl_tokens.specs.Names.{sees};
@@ -16,8 +16,8 @@ use serde_json::{Map, Value};
 use std::alloc::Global;
 use unl_context::Context;
 use unl_dependencies::{Evaluation, VariantAnswer, evaluate_feature};
-use unl_documents::written::{put, put_some, put_value};
-use unl_documents::{Feature, Field, List, Memory, Run, Shared};
+use unl_documents::to_value::{put, put_some, put_value};
+use unl_documents::{Chunk, Feature, Field, List, Memory, Shared};
 use unl_strategies::Moment;
 use unl_tokens::Projects;
 
@@ -73,7 +73,7 @@ fn write_toggles(alloc: Global, toggles: Vec<Value>) -> Result<Value, Memory>
 fn each_toggle(
     alloc: Global,
     seen: &Seen,
-    runs: &[Run<CompiledFeature>],
+    runs: &[Chunk<CompiledFeature>],
     projects: &Projects,
     all: bool,
     context: &Context,

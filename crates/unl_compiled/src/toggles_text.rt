@@ -6,7 +6,7 @@ ghost use Rattle.std.specs.Prelude.{◌≡◌, All, IfOk, OnOk, filter_map};
 ghost use Rattle.serde_json.specs.Written.{compact_text};
 ghost use Rattle.unl_compiled.specs.Toggles.{variant_data, toggle_data, toggle_if, toggle_if_seen, toggle_of, toggles_data};
 ghost use Rattle.unl_delta.specs.View.{view_of};
-ghost use Rattle.unl_documents.specs.Series.{joined};
+ghost use Rattle.unl_documents.specs.Chunks.{joined};
 ghost use Rattle.unl_documents.specs.States.{IsValidState};
 ghost use Rattle.unl_documents.specs.Tokens.{Wrote, all_tokens, tokens_if, tokens_of};
 ghost use Rattle.unl_documents.specs.Valid.{IsValidFeature};
@@ -19,8 +19,8 @@ use json::Writer;
 use std::alloc::Global;
 use unl_context::Context;
 use unl_dependencies::{Evaluation, VariantAnswer, evaluate_feature};
-use unl_documents::printed::{print_at, print_key, print_some};
-use unl_documents::{Feature, Field, List, Memory, Run, Shared};
+use unl_documents::write_json::{print_at, print_key, print_some};
+use unl_documents::{Chunk, Feature, Field, List, Memory, Shared};
 use unl_strategies::Moment;
 use unl_tokens::Projects;
 
@@ -108,7 +108,7 @@ fn write_each(
     out: &mut Writer,
     alloc: Global,
     seen: &Seen,
-    runs: &[Run<CompiledFeature>],
+    runs: &[Chunk<CompiledFeature>],
     projects: &Projects,
     all: bool,
     context: &Context,

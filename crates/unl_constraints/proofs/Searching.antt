@@ -73,24 +73,24 @@ none_later key k low (y ∷ ys) after above =
     (rw not others.0, rw not others.1)
 
 -- The one item at the index determines which item has the key, and whether any has it.
-abbrev pub IsTold : {X : Type 0} → (X → List ℕ) → List ℕ → List X → Type 0
-IsTold key k xs = (option_and_then (if_key key k) (slice_get xs (prefix_len (is_below key k) xs)) ≡ find (has_key key k) xs)
+abbrev pub IsDecidedByItem : {X : Type 0} → (X → List ℕ) → List ℕ → List X → Type 0
+IsDecidedByItem key k xs = (option_and_then (if_key key k) (slice_get xs (prefix_len (is_below key k) xs)) ≡ find (has_key key k) xs)
     × (option_map_or (has_key key k) (slice_get xs (prefix_len (is_below key k) xs)) false ≡ list_any (has_key key k) xs)
 
-told_at : {X : Type 0} (key : X → List ℕ) (k : List ℕ) (x : X) (xs : List X) (o : Ordering) → slice_cmp nat_cmp (key x) k ≡ o → AllByRecursion (λ y. slice_cmp nat_cmp (key x) y ≡ Less) (map key xs) → IsTold key k xs → IsTold key k (x ∷ xs)
-told_at key k x xs Less is above others =
+decided_by_item_at : {X : Type 0} (key : X → List ℕ) (k : List ℕ) (x : X) (xs : List X) (o : Ordering) → slice_cmp nat_cmp (key x) k ≡ o → AllByRecursion (λ y. slice_cmp nat_cmp (key x) y ≡ Less) (map key xs) → IsDecidedByItem key k xs → IsDecidedByItem key k (x ∷ xs)
+decided_by_item_at key k x xs Less is above others =
     let not : has_key key k x ≡ false = apart key k x Less is in
     let next : 1 + prefix_len (is_below key k) xs ≡ suc (prefix_len (is_below key k) xs) = omega arith in
     (rw (is, not, next) others.0, rw (is, not, next) others.1)
-told_at key k x xs Equal is above others =
+decided_by_item_at key k x xs Equal is above others =
     let same : has_key key k x ≡ true = apart key k x Equal is in
     (rw (is, same) refl, rw (is, same) refl)
-told_at key k x xs Greater is above others =
+decided_by_item_at key k x xs Greater is above others =
     let not : has_key key k x ≡ false = apart key k x Greater is in
     let none = none_later key k (key x) xs is above in
     (rw (is, not, none.0) refl, rw (is, not, none.1) refl)
 
-pub told : {X : Type 0} (key : X → List ℕ) (k : List ℕ) (xs : List X) → IsStrictlySortedBy (slice_cmp nat_cmp) (map key xs) → IsTold key k xs
+pub told : {X : Type 0} (key : X → List ℕ) (k : List ℕ) (xs : List X) → IsStrictlySortedBy (slice_cmp nat_cmp) (map key xs) → IsDecidedByItem key k xs
 unfolding IsStrictlySortedBy
 told key k [] rising = (refl, refl)
-told key k (x ∷ xs) rising = told_at key k x xs (slice_cmp nat_cmp (key x) k) refl rising.0 (told key k xs rising.1)
+told key k (x ∷ xs) rising = decided_by_item_at key k x xs (slice_cmp nat_cmp (key x) k) refl rising.0 (told key k xs rising.1)

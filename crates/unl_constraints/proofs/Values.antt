@@ -8,9 +8,9 @@ use Rattle.std.proofs.lemmas.List.{map-id}
 use Rattle.std.proofs.lemmas.Map.Text.{is_eq-slice_cmp}
 use Rattle.std.proofs.lemmas.Slice.Eq.{bytes_eq-Decides}
 use Rattle.unl_documents.specs.declared.constraint.Constraint.{Constraint}
-use Rattle.unl_constraints.specs.Right.{kind_of, is_part, is_folded, compared_values}
+use Rattle.unl_constraints.specs.Operands.{kind_of, is_part, is_folded, compared_values}
 use Rattle.unl_constraints.specs.Texts.{compared}
-use Rattle.unl_constraints.specs.declared.right.Kind.TheVariants as kind
+use Rattle.unl_constraints.specs.declared.operand.Kind.TheVariants as kind
 
 same_text : (x y : List ℕ) → pointwise nat_eq x y ≡ true → x ≡ y
 same_text x y same = (bytes_eq-Decides x y).0 (sym (is_eq-slice_cmp x y) ∙ sym (texts_ties x y) ∙ same)

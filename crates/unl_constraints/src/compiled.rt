@@ -1,32 +1,32 @@
 //! Compiled constraints, whose right side is parsed once.
 ghost use Rattle.std.specs.Prelude.{◌≡◌, IfOk};
 ghost use Rattle.unl_constraints.specs.Constraint.{constraint_holds, all_hold as all_hold_spec};
-ghost use Rattle.unl_constraints.specs.Right.{AreValues};
+ghost use Rattle.unl_constraints.specs.Operands.{AreValues};
 
 use crate::constraint::compare;
-use crate::right::Right;
+use crate::operand::Operand;
 use std::alloc::Global;
 use std::marker::Model;
 use unl_context::Context;
-use unl_documents::{Constraint, Copied, List, Memory, Text};
+use unl_documents::{Constraint, List, Memory, Text, TryClone};
 
 /// A constraint with sorted values and a parsed value, for evaluation with many contexts. Contracts see it as the
 /// constraint.
 #[derive(Drop)]
 pub struct Compiled {
     constraint: Constraint,
-    right: Right,
+    right: Operand,
 }
 
 impl Model for Compiled {
-    ghost use Rattle.unl_constraints.specs.Right.{IsRight};
+    ghost use Rattle.unl_constraints.specs.Operands.{IsOperand};
     ghost use Rattle.unl_documents.specs.declared.constraint.Constraint.{Constraint};
 
     ghost Value = { Constraint };
 
     ghost view = { λ c. c.constraint };
 
-    ghost invariant = { λ c. IsRight c.constraint c.right };
+    ghost invariant = { λ c. IsOperand c.constraint c.right };
 }
 
 impl Compiled {
@@ -34,7 +34,7 @@ impl Compiled {
     pub fn new(alloc: Global, constraint: &Constraint) -> Result<Compiled, Memory>
         ensures { IfOk result (λ c. c ≡ constraint.now) }
     {
-        let right = Right::of(alloc, constraint)?;
+        let right = Operand::of(alloc, constraint)?;
         let constraint = constraint.copy(alloc)?;
         Ok(Compiled { constraint, right })
     }

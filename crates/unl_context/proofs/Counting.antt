@@ -11,7 +11,7 @@ use Rattle.unl_context.specs.declared.query.Settings.{Settings}
 use Rattle.unl_context.specs.Context.{Fields, nothing, with_known}
 use Rattle.unl_context.specs.Known.{known_by}
 use Rattle.unl_context.specs.Limits.{is_within_limits}
-use Rattle.unl_context.specs.Query.{put, inner_name, inner_of, set_plain, set_inner, set_by, set_other, taken, with_inner, with_property}
+use Rattle.unl_context.specs.Query.{put, inner_name, inner_of, set_plain, set_inner, set_by, set_other, with_pair, with_inner, with_property}
 
 abbrev Pair : Type 0
 Pair = List ℕ × List ℕ
@@ -21,28 +21,28 @@ named c p = with_property p.name p.value c
 
 -- ---- kept apart
 
-plain_is : (pairs : List Pair) (s : Settings) → (fold taken s pairs).plain ≡ fold set_plain s.plain pairs
+plain_is : (pairs : List Pair) (s : Settings) → (fold with_pair s pairs).plain ≡ fold set_plain s.plain pairs
 plain_is [] s = refl
-plain_is (p ∷ pairs) s = plain_is pairs (taken s p)
+plain_is (p ∷ pairs) s = plain_is pairs (with_pair s p)
 
 -- Applying the property that a key sets, if any, is `set_inner`.
 one_is : (c : Fields) (pair : Pair) → fold named c (option_to_list (inner_of pair)) ≡ set_inner c pair
 unfolding inner_of set_inner
 one_is c (key, value) = elim (inner_name key) as (λ found. fold named c (option_to_list (elim found as (λ _. Option Property) [ Some name ↦ Some (record { name = name; value = value }) | None ↦ None ])) ≡ (elim found as (λ _. Fields) [ Some name ↦ with_property name value c | None ↦ c ])) [ Some name ↦ refl | None ↦ refl ]
 
-inner_is : (pairs : List Pair) (s : Settings) (c : Fields) → fold named c (fold taken s pairs).inner ≡ fold set_inner (fold named c s.inner) pairs
+inner_is : (pairs : List Pair) (s : Settings) (c : Fields) → fold named c (fold with_pair s pairs).inner ≡ fold set_inner (fold named c s.inner) pairs
 inner_is [] s c = refl
 inner_is (p ∷ pairs) s c =
-    inner_is pairs (taken s p) c
+    inner_is pairs (with_pair s p) c
     ∙ ap (λ d. fold set_inner d pairs) (fold-append named c s.inner (option_to_list (inner_of p)) ∙ one_is (fold named c s.inner) p)
 
 abbrev pub none_yet : Settings
 none_yet = record { plain = nothing; inner = [] }
 
-pub set_apart : (pairs : List Pair) → with_inner (fold taken none_yet pairs) ≡ set_by pairs
+pub set_apart : (pairs : List Pair) → with_inner (fold with_pair none_yet pairs) ≡ set_by pairs
 unfolding set_by
 set_apart pairs =
-    inner_is pairs none_yet (fold taken none_yet pairs).plain ∙ ap (λ c. fold set_inner c pairs) (plain_is pairs none_yet)
+    inner_is pairs none_yet (fold with_pair none_yet pairs).plain ∙ ap (λ c. fold set_inner c pairs) (plain_is pairs none_yet)
 
 -- ---- no fewer
 
@@ -80,11 +80,11 @@ plain_grows c key value = by (known_by key)
     by None = skipping (is_some (inner_name key) || length key == 0)
     by (Some k) = known k
 
-pub taken_grows : (pairs : List Pair) (s : Settings) → Grows s.plain (fold taken s pairs).plain
+pub taken_grows : (pairs : List Pair) (s : Settings) → Grows s.plain (fold with_pair s pairs).plain
 taken_grows [] s = omega arith
 taken_grows ((key, value) ∷ pairs) s =
     let one = plain_grows s.plain key value in
-    let rest = taken_grows pairs (taken s (key, value)) in
+    let rest = taken_grows pairs (with_pair s (key, value)) in
     omega arith
 
 inner_grows : (ps : List Property) (c : Fields) → Grows c (fold named c ps)
@@ -100,13 +100,13 @@ unfolding is_within_limits
 over c many = search arith
 
 -- If there are more than 256 properties before the keys `properties[x]` are applied, the context exceeds the limits.
-pub too_many : (pairs : List Pair) → 256 < length (fold taken none_yet pairs).plain.properties → is_within_limits (set_by pairs) ≡ false
+pub too_many : (pairs : List Pair) → 256 < length (fold with_pair none_yet pairs).plain.properties → is_within_limits (set_by pairs) ≡ false
 too_many pairs many =
-    let more = inner_grows (fold taken none_yet pairs).inner (fold taken none_yet pairs).plain in
-    rw (← set_apart pairs) (over (with_inner (fold taken none_yet pairs)) (omega arith))
+    let more = inner_grows (fold with_pair none_yet pairs).inner (fold with_pair none_yet pairs).plain in
+    rw (← set_apart pairs) (over (with_inner (fold with_pair none_yet pairs)) (omega arith))
 
 -- Once there are more than 256 properties, there still are after all pairs.
-pub stays_over : (pairs : List Pair) (s total : Settings) → fold taken s pairs ≡ total → 256 < length s.plain.properties → 256 < length total.plain.properties
+pub stays_over : (pairs : List Pair) (s total : Settings) → fold with_pair s pairs ≡ total → 256 < length s.plain.properties → 256 < length total.plain.properties
 stays_over pairs s total is many =
     let more = taken_grows pairs s in
     rw (← is) (omega arith)

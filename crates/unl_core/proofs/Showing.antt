@@ -5,59 +5,59 @@ use Rattle.unl_delta.specs.declared.batch.Batch.{Batch}
 use Rattle.unl_delta.specs.declared.batch.DeltaAnswer.TheVariants.{Batch as Sent}
 use Rattle.unl_delta.specs.declared.version.EnvVersion.{EnvVersion}
 use Rattle.unl_delta.specs.Batch.{delta_answer}
-use Rattle.unl_delta.specs.History.{IsSent, StandsIn}
+use Rattle.unl_delta.specs.History.{IsSent, RepresentsLine}
 use Rattle.unl_delta.proofs.Asked.{answer_sent, seen_in}
 use Rattle.unl_http_api.specs.declared.request.Request.{Request}
 use Rattle.unl_tokens.specs.declared.kind.Kind.{Kind}
 use Rattle.unl_tokens.specs.Names.{sees}
 use Rattle.unl_core.specs.declared.board.Board.{Board}
 use Rattle.unl_core.specs.declared.board.Slot.{Slot}
-use Rattle.unl_core.specs.declared.shown.Unseen.{Unseen}
+use Rattle.unl_core.specs.declared.shown.TokenRefusal.{TokenRefusal}
 use Rattle.unl_core.specs.Board.{is_named, snapshot_in}
-use Rattle.unl_core.specs.Histories.{AllStand, Histories, ShowsRevision, ShowsWhereStands, both_see}
-use Rattle.unl_core.specs.Shown.{Ready, Shown, ready_by, ready_for, shown_by, where_ready}
+use Rattle.unl_core.specs.Histories.{AllRepresented, Histories, ShowsRevision, ShowsIfRepresented, both_see}
+use Rattle.unl_core.specs.Shown.{Ready, Shown, ready_by, ready_for, shown_by, with_its_version}
 use Rattle.unl_core.proofs.Same.{text_same}
 
 -- The version found for an environment is a revision of its line.
-pub found_stands : (told : Histories) (environment : List ℕ) (slots : List Slot) (v : EnvVersion) → AllStand told slots → snapshot_in environment slots ≡ Some v
-    → StandsIn (told.line environment) (told.sees environment) v
+pub found_stands : (told : Histories) (environment : List ℕ) (slots : List Slot) (v : EnvVersion) → AllRepresented told slots → snapshot_in environment slots ≡ Some v
+    → RepresentsLine (told.line environment) (told.sees environment) v
 found_stands told environment [] v stand is = absurd cc
 found_stands told environment (slot ∷ slots) v stand is = decided (is_named environment slot) refl is (found_stands told environment slots v stand.1)
   where
     decided : (t : Bool) → is_named environment slot ≡ t → option_and_then (λ (s : Slot). s.snapshot) (cond t (Some slot) (find (is_named environment) slots)) ≡ Some v
-        → (snapshot_in environment slots ≡ Some v → StandsIn (told.line environment) (told.sees environment) v) → StandsIn (told.line environment) (told.sees environment) v
+        → (snapshot_in environment slots ≡ Some v → RepresentsLine (told.line environment) (told.sees environment) v) → RepresentsLine (told.line environment) (told.sees environment) v
     decided true named so more =
         let same : slot.environment ≡ environment = text_same slot.environment environment named in
-        subst (λ (e : List ℕ). StandsIn (told.line e) (told.sees e) v) same
-        (subst (λ (o : Option EnvVersion). IfSome o (StandsIn (told.line slot.environment) (told.sees slot.environment))) so stand.0)
+        subst (λ (e : List ℕ). RepresentsLine (told.line e) (told.sees e) v) same
+        (subst (λ (o : Option EnvVersion). IfSome o (RepresentsLine (told.line slot.environment) (told.sees slot.environment))) so stand.0)
     decided false named so more = more so
 
 -- The version that a token sees is that of its environment.
-ready_stands : (board : Board) (shown : Result Shown Unseen) (ready : Ready) → ready_for board shown ≡ Ok ready
+ready_stands : (board : Board) (shown : Result Shown TokenRefusal) (ready : Ready) → ready_for board shown ≡ Ok ready
     → snapshot_in ready.token.environment board.slots ≡ Some ready.version
 ready_stands board (Err unseen) ready is = absurd cc
 ready_stands board (Ok shown) ready is = decided (snapshot_in shown.token.environment board.slots) refl is
   where
-    decided : (o : Option EnvVersion) → snapshot_in shown.token.environment board.slots ≡ o → where_ready shown o ≡ Ok ready
+    decided : (o : Option EnvVersion) → snapshot_in shown.token.environment board.slots ≡ o → with_its_version shown o ≡ Ok ready
         → snapshot_in ready.token.environment board.slots ≡ Some ready.version
     decided None here so = absurd cc
     decided (Some version) here so =
         let same : record { place = shown.place; token = shown.token; version = version } ≡ ready = cc in
         subst (λ (r : Ready). snapshot_in r.token.environment board.slots ≡ Some r.version) same here
 
-ready_is : (told : Histories) (board : Board) (q : Request) (kind : Kind) (ready : Ready) → AllStand told board.slots → ready_by board q kind ≡ Ok ready
-    → StandsIn (told.line ready.token.environment) (told.sees ready.token.environment) ready.version
+ready_is : (told : Histories) (board : Board) (q : Request) (kind : Kind) (ready : Ready) → AllRepresented told board.slots → ready_by board q kind ≡ Ok ready
+    → RepresentsLine (told.line ready.token.environment) (told.sees ready.token.environment) ready.version
 ready_is told board q kind ready stand is =
     found_stands told ready.token.environment board.slots ready.version stand (ready_stands board (shown_by board q kind) ready is)
 
 -- It is one revision.
-pub shows_revision : (told : Histories) (board : Board) (q : Request) (kind : Kind) (ready : Ready) → AllStand told board.slots → ready_by board q kind ≡ Ok ready
+pub shows_revision : (told : Histories) (board : Board) (q : Request) (kind : Kind) (ready : Ready) → AllRepresented told board.slots → ready_by board q kind ≡ Ok ready
     → ShowsRevision told ready
 shows_revision told board q kind ready stand is =
     seen_in (told.line ready.token.environment) (told.sees ready.token.environment) (sees ready.token.projects) ready.version (ready_is told board q kind ready stand is)
 
 -- The events that a token is sent are sent of its environment's line.
-pub tells_of_line : (told : Histories) (board : Board) (q : Request) (kind : Kind) (ready : Ready) (since : Option ℕ) (batch : Batch) → AllStand told board.slots
+pub tells_of_line : (told : Histories) (board : Board) (q : Request) (kind : Kind) (ready : Ready) (since : Option ℕ) (batch : Batch) → AllRepresented told board.slots
     → ready_by board q kind ≡ Ok ready → delta_answer ready.version since (sees ready.token.projects) ≡ Sent batch
     → IsSent (told.line ready.token.environment) (both_see told ready) batch
 tells_of_line told board q kind ready since batch stand is answer =
@@ -65,6 +65,6 @@ tells_of_line told board q kind ready since batch stand is answer =
     (ready_is told board q kind ready stand is) answer
 
 -- The same for a board that may be known.
-pub shows_where_stands : (told : Histories) (known : Option Board) → ShowsWhereStands told known
+pub shows_where_stands : (told : Histories) (known : Option Board) → ShowsIfRepresented told known
 shows_where_stands told None stand = tt
 shows_where_stands told (Some board) stand = λ q kind ready is. shows_revision told board q kind ready stand is

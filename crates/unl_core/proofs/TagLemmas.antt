@@ -22,7 +22,7 @@ use Rattle.serde_json.specs.Find.{as_number, as_u64}
 use Rattle.unl_documents.specs.Results.{json_of}
 use Rattle.unl_core.specs.declared.board.Board.{Board}
 use Rattle.unl_core.specs.Laws.{TagIsOfItsNumber, TagIsRead}
-use Rattle.unl_core.specs.Tag.{number_of_tag, if_spelled, tag_front, tag_text, whole_in, number_part}
+use Rattle.unl_core.specs.Tag.{number_of_tag, if_spelled, tag_prefix, tag_text, whole_in, number_part}
 
 -- The tag of a number in an epoch.
 abbrev tag : Board → ℕ → ℕ → ℕ → List ℕ
@@ -43,7 +43,7 @@ by_whole board place epoch text n (Some m) h = spelled board place epoch text m 
 
 pub tag_is : TagIsOfItsNumber
 unfolding number_of_tag
-tag_is board place epoch text n h = by_whole board place epoch text n (whole_in (number_part (length (tag_front board place epoch)) text)) h
+tag_is board place epoch text n h = by_whole board place epoch text n (whole_in (number_part (length (tag_prefix board place epoch)) text)) h
 
 -- ---- the number of a tag is read back from it
 
@@ -77,6 +77,6 @@ itself text = (bytes_eq-Decides text text).1 refl
 pub is_read : TagIsRead
 unfolding number_of_tag
 is_read board place epoch n small =
-    ap (λ digits. option_and_then (if_spelled board place epoch (tag board place epoch n)) (whole_in digits)) (part_is (tag_front board place epoch) (decimal n) 34)
+    ap (λ digits. option_and_then (if_spelled board place epoch (tag board place epoch n)) (whole_in digits)) (part_is (tag_prefix board place epoch) (decimal n) 34)
     ∙ ap (option_and_then (if_spelled board place epoch (tag board place epoch n))) (whole_is n small)
     ∙ ap (λ b. cond b (Some n) None) (itself (tag board place epoch n))

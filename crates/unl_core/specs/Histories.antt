@@ -2,7 +2,7 @@
 use Rattle.std.specs.Prelude.{◌≡◌, ℕ, List, Some, Ok, option_map, Option, IfSome}
 use Rattle.std.specs.List.{AllByRecursion}
 use Rattle.unl_delta.specs.declared.version.EnvVersion.{EnvVersion}
-use Rattle.unl_delta.specs.History.{Era, IsLine, StandsIn, revision_in}
+use Rattle.unl_delta.specs.History.{Era, IsLine, RepresentsLine, revision_in}
 use Rattle.unl_delta.specs.Revision.{revision_of}
 use Rattle.unl_delta.specs.View.{Sees, both, view_of}
 use Rattle.unl_http_api.specs.declared.request.Request.{Request}
@@ -23,12 +23,12 @@ abbrev pub AreLines : Histories → Type 0
 AreLines told = (environment : List ℕ) → IsLine (told.line environment)
 
 -- The version of an environment, if there is one, is a revision of its line, filtered by the projects that are seen.
-abbrev pub StandsAt : Histories → List ℕ → Option EnvVersion → Type 0
-StandsAt told environment version = IfSome version (StandsIn (told.line environment) (told.sees environment))
+abbrev pub RepresentedAt : Histories → List ℕ → Option EnvVersion → Type 0
+RepresentedAt told environment version = IfSome version (RepresentsLine (told.line environment) (told.sees environment))
 
 -- This holds for each slot.
-abbrev pub AllStand : Histories → List Slot → Type 0
-AllStand told slots = AllByRecursion (λ slot. StandsAt told slot.environment slot.snapshot) slots
+abbrev pub AllRepresented : Histories → List Slot → Type 0
+AllRepresented told slots = AllByRecursion (λ slot. RepresentedAt told slot.environment slot.snapshot) slots
 
 -- The projects that both the environment's copy and the token see.
 abbrev pub both_see : Histories → Ready → Sees
@@ -45,5 +45,5 @@ abbrev pub ShowsRevisions : Histories → Board → Type 0
 ShowsRevisions told board = (q : Request) (kind : Kind) (ready : Ready) → ready_by board q kind ≡ Ok ready → ShowsRevision told ready
 
 -- This holds for a board that may be known, if its slots are revisions of their lines.
-abbrev pub ShowsWhereStands : Histories → Option Board → Type 0
-ShowsWhereStands told known = IfSome known (λ board. AllStand told board.slots) → IfSome known (ShowsRevisions told)
+abbrev pub ShowsIfRepresented : Histories → Option Board → Type 0
+ShowsIfRepresented told known = IfSome known (λ board. AllRepresented told board.slots) → IfSome known (ShowsRevisions told)

@@ -8,8 +8,8 @@ use Rattle.unl_tokens.specs.declared.kind.Kind.TheVariants.{Client, Frontend}
 use Rattle.unl_tokens.specs.declared.token.Token.{Token}
 use Rattle.unl_tokens.specs.Books.{place_of}
 use Rattle.unl_core.specs.declared.board.Board.{Board}
-use Rattle.unl_core.specs.declared.shown.Unseen.{Unseen}
-use Rattle.unl_core.specs.declared.shown.Unseen.TheVariants.{NoToken, UnknownToken, WrongKind, NotReady}
+use Rattle.unl_core.specs.declared.shown.TokenRefusal.{TokenRefusal}
+use Rattle.unl_core.specs.declared.shown.TokenRefusal.TheVariants.{NoToken, UnknownToken, WrongKind, NotReady}
 use Rattle.unl_core.specs.Board.{snapshot_in}
 
 -- A token, and its position in the book.
@@ -36,29 +36,29 @@ entry_of text book =
     option_and_then (λ place. option_map (λ token. record { place = place; token = token }) (slice_get book place)) (place_of text book)
 
 -- A known token, if it is of this kind.
-abbrev pub of_kind : Kind → Option Shown → Result Shown Unseen
+abbrev pub of_kind : Kind → Option Shown → Result Shown TokenRefusal
 of_kind kind None = Err UnknownToken
 of_kind kind (Some shown) = if is_kind shown.token.kind kind then Ok shown else Err WrongKind
 
 -- The token of a text, if there is one, the book has it, and it is of this kind.
-abbrev pub shown_text : Board → Kind → Option (List ℕ) → Result Shown Unseen
+abbrev pub shown_text : Board → Kind → Option (List ℕ) → Result Shown TokenRefusal
 shown_text board kind None = Err NoToken
 shown_text board kind (Some text) = of_kind kind (entry_of text board.book)
 
 -- The token of a request, if the book has it and it is of this kind.
-abbrev pub shown_by : Board → Request → Kind → Result Shown Unseen
+abbrev pub shown_by : Board → Request → Kind → Result Shown TokenRefusal
 shown_by board q kind = shown_text board kind q.token
 
 -- The token with the version of its environment, if there is one.
-abbrev pub where_ready : Shown → Option EnvVersion → Result Ready Unseen
-where_ready shown None = Err NotReady
-where_ready shown (Some version) = Ok (record { place = shown.place; token = shown.token; version = version })
+abbrev pub with_its_version : Shown → Option EnvVersion → Result Ready TokenRefusal
+with_its_version shown None = Err NotReady
+with_its_version shown (Some version) = Ok (record { place = shown.place; token = shown.token; version = version })
 
 -- The same for a token that was accepted, or else its refusal.
-abbrev pub ready_for : Board → Result Shown Unseen → Result Ready Unseen
+abbrev pub ready_for : Board → Result Shown TokenRefusal → Result Ready TokenRefusal
 ready_for board (Err unseen) = Err unseen
-ready_for board (Ok shown) = where_ready shown (snapshot_in shown.token.environment board.slots)
+ready_for board (Ok shown) = with_its_version shown (snapshot_in shown.token.environment board.slots)
 
 -- The token of a request, with the version of its environment.
-abbrev pub ready_by : Board → Request → Kind → Result Ready Unseen
+abbrev pub ready_by : Board → Request → Kind → Result Ready TokenRefusal
 ready_by board q kind = ready_for board (shown_by board q kind)

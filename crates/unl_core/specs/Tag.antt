@@ -19,14 +19,14 @@ abbrev pub with_epoch : ℕ → List ℕ → List ℕ
 with_epoch epoch rest = if epoch == 0 then rest else decimal epoch ++ (codes "." ++ rest)
 
 -- The part of a tag before its number, for the token at `place` and an epoch.
-abbrev pub tag_front : Board → ℕ → ℕ → List ℕ
-tag_front board place epoch =
+abbrev pub tag_prefix : Board → ℕ → ℕ → List ℕ
+tag_prefix board place epoch =
     codes "\"" ++ (hex_16 board.boot ++ (codes "-" ++ (decimal board.generation ++
     (codes "-" ++ (decimal place ++ (codes "-" ++ with_epoch epoch []))))))
 
 -- The tag for the token at `place`, at a revision, with a mark after the number.
 abbrev pub marked_tag : List ℕ → Board → ℕ → Revision → List ℕ
-marked_tag mark board place at = tag_front board place at.epoch ++ (decimal at.number ++ (mark ++ codes "\""))
+marked_tag mark board place at = tag_prefix board place at.epoch ++ (decimal at.number ++ (mark ++ codes "\""))
 
 -- The tag for the token at `place`, at a revision.
 abbrev pub tag_text : Board → ℕ → Revision → List ℕ
@@ -51,7 +51,7 @@ if_spelled board place epoch tag n = if bytes_eq tag (tag_text board place (reco
 -- The number of a tag for this token and epoch. `None` if it isn't exactly the tag of some number.
 unfoldable pub number_of_tag : Board → ℕ → ℕ → List ℕ → Option ℕ
 number_of_tag board place epoch tag =
-    option_and_then (if_spelled board place epoch tag) (whole_in (number_part (length (tag_front board place epoch)) tag))
+    option_and_then (if_spelled board place epoch tag) (whole_in (number_part (length (tag_prefix board place epoch)) tag))
 
 -- The number of a request's tag, if it has one.
 abbrev pub since_of : Board → ℕ → ℕ → Option (List ℕ) → Option ℕ

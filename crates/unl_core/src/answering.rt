@@ -2,7 +2,7 @@
 ghost use Rattle.std.specs.Prelude.{◌≡◌, ◌≢◌, ◌∷◌, [], codes, IfOk, IfSome, Err, Ok, Some};
 ghost use Rattle.unl_core.specs.Answer.{answer_of, asked_context, at_route, delta_reply, document_reply, feature_reply, feed_for};
 ghost use Rattle.unl_core.specs.Answer.{feed_reply, feed_state, feed_tag, feed_with, has_tag, listed, news_since, one_text, plain};
-ghost use Rattle.unl_core.specs.Answer.{registered, reply, reported, reported_by, seen, still_at, tag_at, toggles_for, toggles_reply};
+ghost use Rattle.unl_core.specs.Answer.{registered, reply, reported, reported_by, seen, not_modified_at, tag_at, toggles_for, toggles_reply};
 ghost use Rattle.unl_core.specs.Answer.{validated};
 ghost use Rattle.unl_core.specs.Board.{AreSlots};
 ghost use Rattle.unl_core.specs.Shown.{ready_by, shown_by};
@@ -16,7 +16,9 @@ ghost use Rattle.unl_tokens.specs.Requests.{asked_in};
 use crate::board::Board;
 use crate::client::knows_no_segments;
 use crate::desk::Answer;
-use crate::reply::{bare, refuse, refuse_method, refuse_unseen, tagged_text, unchanged, with_text};
+use crate::reply::{
+    refuse, refuse_method, refuse_token, status_only, tagged_text, unchanged, with_text,
+};
 use crate::shown::{Ready, ready_by, shown_by};
 use crate::tag::{inlined_tag_of, since_of, tag_of};
 use http::StatusCode;
@@ -25,9 +27,9 @@ use unl_base::Draw;
 use unl_context::{BadContext, Context};
 use unl_delta::{DeltaAnswer, answer as delta_answer, view};
 use unl_documents::parsing::read_object;
-use unl_documents::printed::text_of;
+use unl_documents::write_json::text_of;
 use unl_documents::{
-    Copied, FeedHead, InlineRefusal, List, Memory, State, Text, feed_text, inline,
+    FeedHead, InlineRefusal, List, Memory, State, Text, TryClone, feed_text, inline,
 };
 use unl_http_api::{Reply, Request, Route, is_post, query_of};
 use unl_metrics::{BadReport, Report};
@@ -102,7 +104,7 @@ fn report(alloc: Global, board: &Board, request: &Request, kind: Kind) -> Result
     ensures report { IfOk result (λ a. IfSome a.report IsReport) }
 {
     match shown_by(board, request, kind) {
-        Err(unseen) => Ok(plain(refuse_unseen(alloc, unseen)?)),
+        Err(unseen) => Ok(plain(refuse_token(alloc, unseen)?)),
         Ok(shown) => {
             let reading = Report::read_single(alloc, request.body.as_slice());
             reported_by(alloc, shown.token, reading)
@@ -116,7 +118,7 @@ fn bulk_report(alloc: Global, board: &Board, request: &Request) -> Result<Answer
     ensures report { IfOk result (λ a. IfSome a.report IsReport) }
 {
     match shown_by(board, request, Kind::Client) {
-        Err(unseen) => Ok(plain(refuse_unseen(alloc, unseen)?)),
+        Err(unseen) => Ok(plain(refuse_token(alloc, unseen)?)),
         Ok(shown) => {
             let reading = Report::read_bulk(alloc, request.body.as_slice());
             reported_by(alloc, shown.token, reading)
@@ -138,7 +140,7 @@ fn reported_by(
         Err(BadReport::Memory) => Err(Memory),
         Err(_) => Ok(plain(refuse(alloc, StatusCode::BAD_REQUEST, "BadReport")?)),
         Ok(report) => Ok(Answer {
-            reply: bare(alloc, StatusCode::ACCEPTED)?,
+            reply: status_only(alloc, StatusCode::ACCEPTED)?,
             report: Some(report),
             environment: Some(token.environment.copy(alloc)?),
         }),
@@ -172,9 +174,9 @@ fn register(alloc: Global, board: &Board, request: &Request, kind: Kind) -> Resu
     ensures { IfOk result (λ r. r ≡ registered request.now (shown_by board.now request.now kind)) }
 {
     match shown_by(board, request, kind) {
-        Err(unseen) => refuse_unseen(alloc, unseen),
+        Err(unseen) => refuse_token(alloc, unseen),
         Ok(_) => match read_object(alloc, request.body.as_slice())? {
-            Some(_) => bare(alloc, StatusCode::ACCEPTED),
+            Some(_) => status_only(alloc, StatusCode::ACCEPTED),
             None => refuse(alloc, StatusCode::BAD_REQUEST, "BadReport"),
         },
     }
@@ -191,7 +193,7 @@ fn toggles(
     ensures { IfOk result (λ r. r ≡ toggles_reply board.now request.now draw.entry.now all (ready_by board.now request.now Kind.Frontend)) }
 {
     match ready_by(board, request, Kind::Frontend) {
-        Err(unseen) => refuse_unseen(alloc, unseen),
+        Err(unseen) => refuse_token(alloc, unseen),
         Ok(ready) => toggles_for(alloc, board, request, draw, all, &ready),
     }
 }
@@ -255,7 +257,7 @@ fn feature(
     ensures { IfOk result (λ r. r ≡ feature_reply name.now (ready_by board.now request.now Kind.Client)) }
 {
     match ready_by(board, request, Kind::Client) {
-        Err(unseen) => refuse_unseen(alloc, unseen),
+        Err(unseen) => refuse_token(alloc, unseen),
         Ok(ready) => match name {
             None => refuse(alloc, StatusCode::NOT_FOUND, "NoSuchFeature"),
             Some(name) => feature_of(alloc, &ready, name.as_str()),
@@ -281,7 +283,7 @@ fn feed(alloc: Global, board: &Board, request: &Request) -> Result<Reply, Memory
     ensures { IfOk result (λ r. r ≡ feed_reply board.now request.now (ready_by board.now request.now Kind.Client)) }
 {
     match ready_by(board, request, Kind::Client) {
-        Err(unseen) => refuse_unseen(alloc, unseen),
+        Err(unseen) => refuse_token(alloc, unseen),
         Ok(ready) => {
             let inlined = knows_no_segments(alloc, request)?;
             feed_for(alloc, board, request, inlined, &ready)
@@ -365,7 +367,7 @@ fn changes(alloc: Global, board: &Board, request: &Request) -> Result<Reply, Mem
     ensures { IfOk result (λ r. r ≡ delta_reply board.now request.now (ready_by board.now request.now Kind.Client)) }
 {
     match ready_by(board, request, Kind::Client) {
-        Err(unseen) => refuse_unseen(alloc, unseen),
+        Err(unseen) => refuse_token(alloc, unseen),
         Ok(ready) => changes_for(alloc, board, request, &ready),
     }
 }
@@ -398,7 +400,7 @@ fn news_since(
         since,
         &ready.token.projects,
     )? {
-        DeltaAnswer::Same => still_at(alloc, board, ready, since),
+        DeltaAnswer::Same => not_modified_at(alloc, board, ready, since),
         DeltaAnswer::Batch(batch) => {
             let number = batch.number().unwrap_or(0);
             let tag = tag_at(alloc, board, ready, number)?;
@@ -408,16 +410,16 @@ fn news_since(
     }
 }
 
-fn still_at(
+fn not_modified_at(
     alloc: Global,
     board: &Board,
     ready: &Ready,
     since: Option<u64>,
 ) -> Result<Reply, Memory>
-    ensures { IfOk result (λ r. r ≡ still_at board.now ready.now since) }
+    ensures { IfOk result (λ r. r ≡ not_modified_at board.now ready.now since) }
 {
     match since {
-        None => bare(alloc, StatusCode::NOT_MODIFIED),
+        None => status_only(alloc, StatusCode::NOT_MODIFIED),
         Some(number) => {
             let tag = tag_at(alloc, board, ready, number)?;
             unchanged(alloc, tag)

@@ -1,7 +1,7 @@
 //! Laws of the definitions of tags and of what a token sees.
 ghost use Rattle.std.specs.Prelude.{◌≡◌, ℕ, Ok, Option};
 ghost use Rattle.unl_core.specs.declared.board.Board.{Board};
-ghost use Rattle.unl_core.specs.Histories.{AllStand, Histories, ShowsRevisions, both_see};
+ghost use Rattle.unl_core.specs.Histories.{AllRepresented, Histories, ShowsRevisions, both_see};
 ghost use Rattle.unl_core.specs.Laws.{TagIsOfItsNumber, TagIsRead};
 ghost use Rattle.unl_core.specs.Shown.{Ready, ready_by};
 ghost use Rattle.unl_delta.specs.declared.batch.Batch.{Batch};
@@ -26,9 +26,9 @@ pub fn tag_is_read()
 /// revision of that line, and the events it is sent are sent of that line. Both are filtered by the projects that the
 /// slot and the token see.
 pub fn answers_show_one_revision()
-    ensures state { (told : Histories) (board : Board) → AllStand told board.slots → ShowsRevisions told board }
+    ensures state { (told : Histories) (board : Board) → AllRepresented told board.slots → ShowsRevisions told board }
     ensures events { (told : Histories) (board : Board) (q : Request) (kind : Kind) (ready : Ready) (since : Option ℕ) (batch : Batch)
-        → AllStand told board.slots → ready_by board q kind ≡ Ok ready
+        → AllRepresented told board.slots → ready_by board q kind ≡ Ok ready
         → delta_answer ready.version since (sees ready.token.projects) ≡ answer.Batch batch
         → IsSent (told.line ready.token.environment) (both_see told ready) batch }
 {}

@@ -1,24 +1,29 @@
 //! The token of a request, and the version of its environment.
 ghost use Rattle.std.specs.Prelude.{◌≡◌};
 ghost use Rattle.unl_core.specs.Board.{snapshot_in};
-ghost use Rattle.unl_core.specs.Shown.{entry_of, is_kind, ready_by, shown_by, where_ready};
+ghost use Rattle.unl_core.specs.Shown.{entry_of, is_kind, ready_by, shown_by, with_its_version};
 
 use crate::board::Board;
 use std::marker::Model;
+use thiserror::Error;
 use unl_compiled::Snapshot;
 use unl_http_api::Request;
 use unl_tokens::{Book, Kind, Token};
 
 /// Why a request's token is not accepted.
-#[derive(Clone, Copy, Debug, PartialEq, Eq)]
-pub enum Unseen {
+#[derive(Clone, Copy, Debug, PartialEq, Eq, Error)]
+pub enum TokenRefusal {
     /// The request has no token.
+    #[error("no token")]
     NoToken,
     /// The book has no such token.
+    #[error("the token is not known")]
     UnknownToken,
     /// The token is of the other kind.
+    #[error("the token is of another type")]
     WrongKind,
     /// The token's environment has no version yet.
+    #[error("the environment has no state yet")]
     NotReady,
 }
 
@@ -83,26 +88,26 @@ pub(crate) fn shown_by<'b>(
     board: &'b Board,
     request: &Request,
     kind: Kind,
-) -> Result<Shown<'b>, Unseen>
+) -> Result<Shown<'b>, TokenRefusal>
     ensures { result ≡ shown_by board.now request.now kind }
 {
     let Some(text) = &request.token else {
-        return Err(Unseen::NoToken);
+        return Err(TokenRefusal::NoToken);
     };
     let Some(shown) = entry_of(board.book.get(), text.as_slice()) else {
-        return Err(Unseen::UnknownToken);
+        return Err(TokenRefusal::UnknownToken);
     };
     if !is_kind(shown.token.kind, kind) {
-        return Err(Unseen::WrongKind);
+        return Err(TokenRefusal::WrongKind);
     }
     Ok(shown)
 }
 
-fn where_ready<'b>(board: &'b Board, shown: &Shown<'b>) -> Result<Ready<'b>, Unseen>
-    ensures { result ≡ where_ready shown.now (snapshot_in shown.now.token.environment board.now.slots) }
+fn with_its_version<'b>(board: &'b Board, shown: &Shown<'b>) -> Result<Ready<'b>, TokenRefusal>
+    ensures { result ≡ with_its_version shown.now (snapshot_in shown.now.token.environment board.now.slots) }
 {
     match board.snapshot(shown.token.environment.as_str()) {
-        None => Err(Unseen::NotReady),
+        None => Err(TokenRefusal::NotReady),
         Some(snapshot) => Ok(Ready {
             place: shown.place,
             token: shown.token,
@@ -116,11 +121,11 @@ pub(crate) fn ready_by<'b>(
     board: &'b Board,
     request: &Request,
     kind: Kind,
-) -> Result<Ready<'b>, Unseen>
+) -> Result<Ready<'b>, TokenRefusal>
     ensures { result ≡ ready_by board.now request.now kind }
 {
     match shown_by(board, request, kind) {
         Err(unseen) => Err(unseen),
-        Ok(shown) => where_ready(board, &shown),
+        Ok(shown) => with_its_version(board, &shown),
     }
 }

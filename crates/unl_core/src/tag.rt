@@ -1,6 +1,6 @@
 //! The entity tags of answers.
 ghost use Rattle.std.specs.Prelude.{◌≡◌, ◌++◌, codes, decimal, length, IfOk, string_bytes};
-ghost use Rattle.unl_core.specs.Tag.{hex_16, if_spelled, inlined_tag, number_of_tag, number_part, since_of, tag_front, tag_text, whole_in};
+ghost use Rattle.unl_core.specs.Tag.{hex_16, if_spelled, inlined_tag, number_of_tag, number_part, since_of, tag_prefix, tag_text, whole_in};
 
 use crate::board::Board;
 use serde_json::Value;
@@ -19,7 +19,7 @@ pub(crate) fn tag_of(
 ) -> Result<Text, Memory>
     ensures { IfOk result (λ tag. tag ≡ tag_text board.now place (record { epoch = epoch; number = number })) }
 {
-    let front = tag_front(alloc, board, place, epoch)?;
+    let front = tag_prefix(alloc, board, place, epoch)?;
     Ok(Text::from(format!(in alloc; "{front}{number}\"")?))
 }
 
@@ -33,13 +33,13 @@ pub(crate) fn inlined_tag_of(
 ) -> Result<Text, Memory>
     ensures { IfOk result (λ tag. tag ≡ inlined_tag board.now place (record { epoch = epoch; number = number })) }
 {
-    let front = tag_front(alloc, board, place, epoch)?;
+    let front = tag_prefix(alloc, board, place, epoch)?;
     Ok(Text::from(format!(in alloc; "{front}{number}i\"")?))
 }
 
 /// The part of a tag before its number, for the token at `place` and an epoch.
-fn tag_front(alloc: Global, board: &Board, place: u32, epoch: u64) -> Result<String, AllocError>
-    ensures { IfOk result (λ s. string_bytes s ≡ tag_front board.now place epoch) }
+fn tag_prefix(alloc: Global, board: &Board, place: u32, epoch: u64) -> Result<String, AllocError>
+    ensures { IfOk result (λ s. string_bytes s ≡ tag_prefix board.now place epoch) }
 {
     let boot = board.boot;
     let generation = board.generation;
@@ -76,7 +76,7 @@ fn number_of_tag(
 ) -> Result<Option<u64>, Memory>
     ensures { IfOk result (λ since. since ≡ number_of_tag board.now place epoch tag.now) }
 {
-    let front = front_length(alloc, board, place, epoch)?;
+    let front = tag_prefix_length(alloc, board, place, epoch)?;
     match whole_in(alloc, number_part(front, tag))? {
         None => Ok(None),
         Some(number) => if_spelled(alloc, board, place, epoch, tag, number),
@@ -103,10 +103,10 @@ fn if_spelled(
 }
 
 /// The length of the part before the number, in bytes.
-fn front_length(alloc: Global, board: &Board, place: u32, epoch: u64) -> Result<usize, Memory>
-    ensures { IfOk result (λ front. front ≡ length (tag_front board.now place epoch)) }
+fn tag_prefix_length(alloc: Global, board: &Board, place: u32, epoch: u64) -> Result<usize, Memory>
+    ensures { IfOk result (λ front. front ≡ length (tag_prefix board.now place epoch)) }
 {
-    let front = tag_front(alloc, board, place, epoch)?;
+    let front = tag_prefix(alloc, board, place, epoch)?;
     Ok(front.len())
 }
 

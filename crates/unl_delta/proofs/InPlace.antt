@@ -81,8 +81,8 @@ greater {T} key k y ys before h = decided (cmp (key y) k) refl before
         every_weaker (λ (z : T). cmp (key y) (key z) ≡ Less) (λ (z : T). cmp k (key z) ≡ Less) ys (λ z less. nat_list_cmp_total.trans k (key y) (key z) back less) h
 
 -- whether there is an item at the position whose key doesn't come after k
-abbrev pub stands : {T : Type 0} → (T → List ℕ) → List ℕ → List T → ℕ → Bool
-stands key k xs place = option_map_or (λ y. not (is_before k (key y))) (slice_get xs place) false
+abbrev pub represents : {T : Type 0} → (T → List ℕ) → List ℕ → List T → ℕ → Bool
+represents key k xs place = option_map_or (λ y. not (is_before k (key y))) (slice_get xs place) false
 
 -- the position splits the items into those below the key, the one with the key if there is one, and those above it
 pub record Parts {T : Type 0} (key : T → List ℕ) (k : List ℕ) (xs : List T) (place : ℕ) (there : Bool) : Type 0 where
@@ -123,7 +123,7 @@ parts_more {T} key k y ys place there before rest =
     over true is = is
     over false is = is
 
-pub parts_at : {T : Type 0} (key : T → List ℕ) (k : List ℕ) (xs : List T) (place : ℕ) → Rises key xs → place ≡ prefix_len (λ y. is_before (key y) k) xs → Parts key k xs place (stands key k xs place)
+pub parts_at : {T : Type 0} (key : T → List ℕ) (k : List ℕ) (xs : List T) (place : ℕ) → Rises key xs → place ≡ prefix_len (λ y. is_before (key y) k) xs → Parts key k xs place (represents key k xs place)
 unfolding Rises
 parts_at key k [] zero h is = record { low = sym (none_below key k [] tt); high = sym (all_above key k [] tt); inside = λ no. absurd cc }
 parts_at key k [] (suc place) h is = absurd (omega (arith, is))
@@ -138,7 +138,7 @@ parts_at {T} key k (y ∷ ys) (suc place) h is =
     elim (cases_Bool (is_before (key y) k)) [
       | inl before ↦
           let count : prefix_len (λ (z : T). is_before (key z) k) (y ∷ ys) ≡ 1 + prefix_len (λ (z : T). is_before (key z) k) ys = rw before refl in
-          parts_more key k y ys place (stands key k ys place) before (parts_at key k ys place h.1 (omega (arith, is, count)))
+          parts_more key k y ys place (represents key k ys place) before (parts_at key k ys place h.1 (omega (arith, is, count)))
       | inr not ↦
           let count : prefix_len (λ (z : T). is_before (key z) k) (y ∷ ys) ≡ 0 = rw not refl in
           absurd (omega (arith, is, count))
@@ -149,13 +149,13 @@ parts_at {T} key k (y ∷ ys) (suc place) h is =
 -- the same split, for equal lists and equal keys
 pub parts_seen : {T : Type 0} (key : T → List ℕ) (k : List ℕ) (xs shown again : List T) (j i : List ℕ) (place : ℕ) (there known : Bool)
     → AreRising (map key xs) → shown ≡ xs → again ≡ xs → j ≡ k → i ≡ k → place ≡ prefix_len (λ y. is_before (key y) j) shown
-    → there ≡ stands key i again place → there ≡ known → Parts key k xs place known
+    → there ≡ represents key i again place → there ≡ known → Parts key k xs place known
 parts_seen {T} key k xs shown again j i place there known rising lists also named named_again is found known_is =
     let at : place ≡ prefix_len (λ (y : T). is_before (key y) k) xs =
     is ∙ ap (λ (zs : List T). prefix_len (λ (y : T). is_before (key y) j) zs) lists
     ∙ ap (λ (h : List ℕ). prefix_len (λ (y : T). is_before (key y) h) xs) named in
-    let stood : stands key k xs place ≡ known =
-    sym (found ∙ ap (λ (zs : List T). stands key i zs place) also ∙ ap (λ (h : List ℕ). stands key h xs place) named_again) ∙ known_is in
+    let stood : represents key k xs place ≡ known =
+    sym (found ∙ ap (λ (zs : List T). represents key i zs place) also ∙ ap (λ (h : List ℕ). represents key h xs place) named_again) ∙ known_is in
     rw (← stood) (parts_at key k xs place (rises_from_rising key xs rising) at)
 
 pub replaced_is : {T : Type 0} (key : T → List ℕ) (x : T) (xs : List T) (place : ℕ) → Parts key (key x) xs place true → slice_set xs place x ≡ put key x xs

@@ -9,7 +9,7 @@ use Rattle.unl_delta.specs.declared.batch.Verdict.TheVariants.{Apply, Repeat, Ol
 use Rattle.unl_delta.specs.declared.version.EnvVersion.{EnvVersion}
 use Rattle.unl_delta.specs.declared.version.Place.{Place}
 use Rattle.unl_delta.specs.Batch.{empty_place, next_version, verdict_of, after_verdict}
-use Rattle.unl_delta.specs.History.{FollowsLines}
+use Rattle.unl_delta.specs.History.{PreservesLines}
 use Rattle.unl_delta.specs.Installing.{Installed, place_of, with_place, after_install, after_hold, after_batch}
 use Rattle.unl_delta.proofs.Delivery.{taken_follows, next_follows}
 
@@ -19,16 +19,16 @@ placed slot place now low = unwrap_or-slice_get (slice_set now.places slot place
 
 -- after an install, the slot's version follows the line
 pub installed_follows : (slot : ℕ) (batch : Batch) (old new : Installed) → slot < length old.places → verdict_of (place_of old slot) batch ≡ Apply
-    → new ≡ after_install slot batch old → FollowsLines (place_of old slot).version batch (place_of new slot).version
+    → new ≡ after_install slot batch old → PreservesLines (place_of old slot).version batch (place_of new slot).version
 installed_follows slot batch old new low applies is =
     let v : EnvVersion = next_version (place_of old slot) batch in
     let here : (place_of new slot).version ≡ Some v =
     ap (λ (now : Installed). (place_of now slot).version) is ∙ ap (λ (p : Place). p.version) (placed slot (record { version = Some v; held = false }) old low) in
-    subst (λ (o : Option EnvVersion). FollowsLines (place_of old slot).version batch o) (sym here) (next_follows (place_of old slot) batch v applies refl)
+    subst (λ (o : Option EnvVersion). PreservesLines (place_of old slot).version batch o) (sym here) (next_follows (place_of old slot) batch v applies refl)
 
 -- the same for an install that may fail
 pub install_follows : {E : Type 0} (r : Result ℕ E) (slot : ℕ) (batch : Batch) (old new : Installed) → slot < length old.places → verdict_of (place_of old slot) batch ≡ Apply
-    → OnOk r (new ≡ after_install slot batch old) → OnOk r (FollowsLines (place_of old slot).version batch (place_of new slot).version)
+    → OnOk r (new ≡ after_install slot batch old) → OnOk r (PreservesLines (place_of old slot).version batch (place_of new slot).version)
 install_follows (Err e) slot batch old new low applies is = tt
 install_follows (Ok front) slot batch old new low applies is = installed_follows slot batch old new low applies is
 
@@ -48,8 +48,8 @@ batch_placed Held slot batch now low = refl
 
 -- after a slot takes a batch, its version follows the line
 pub batch_follows : {E : Type 0} (r : Result Verdict E) (slot : ℕ) (batch : Batch) (old new : Installed) → slot < length old.places → IfOk r (λ v. v ≡ verdict_of (place_of old slot) batch)
-    → IfOk r (λ v. new ≡ after_batch v slot batch old) → OnOk r (FollowsLines (place_of old slot).version batch (place_of new slot).version)
+    → IfOk r (λ v. new ≡ after_batch v slot batch old) → OnOk r (PreservesLines (place_of old slot).version batch (place_of new slot).version)
 batch_follows (Err e) slot batch old new low does is = tt
 batch_follows (Ok verdict) slot batch old new low does is =
     let here : place_of new slot ≡ after_verdict verdict (place_of old slot) batch = ap (λ (now : Installed). place_of now slot) is ∙ batch_placed verdict slot batch old low in
-    subst (λ (p : Place). FollowsLines (place_of old slot).version batch p.version) (sym here) (taken_follows (place_of old slot) batch verdict does)
+    subst (λ (p : Place). PreservesLines (place_of old slot).version batch p.version) (sym here) (taken_follows (place_of old slot) batch verdict does)

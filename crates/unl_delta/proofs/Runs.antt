@@ -21,7 +21,7 @@ use Rattle.unl_delta.proofs.Numbers.{later_append}
 use Rattle.unl_delta.proofs.InPlace.{all_above, greater, none_below, none_found}
 use Rattle.unl_delta.proofs.Order.{cmp, Rises, less_apart, less_back, less_from_test, rises_from_rising, rising_again}
 use Rattle.unl_documents.specs.Parameters.{AreRising}
-use Rattle.unl_documents.specs.Series.{joined, NoneIsEmpty}
+use Rattle.unl_documents.specs.Chunks.{joined, NoneIsEmpty}
 
 -- ---- a list in two parts whose keys ascend
 

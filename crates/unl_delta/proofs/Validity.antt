@@ -25,7 +25,7 @@ use Rattle.unl_delta.specs.Batch.{empty_at, empty_version, verdict_of, last_numb
 use Rattle.unl_delta.specs.Keyed.{below, above, put, without}
 use Rattle.unl_delta.specs.State.{number_of, entry_number, later, step, fold_events, project_of, was_in, entries_on}
 use Rattle.unl_delta.specs.Valid.{IsVersion, IsValidEvent, IsValidEntry, IsValidBatch, IsValidVersion, IsValidPlace, IsValidAnswer}
-use Rattle.unl_delta.specs.View.{Sees, view_of, removed, shown, shown_to}
+use Rattle.unl_delta.specs.View.{Sees, view_of, removed, shown, visible_events}
 use Rattle.unl_delta.proofs.Every.{every_append}
 use Rattle.unl_delta.proofs.Formed.{next_is_version, answer_is_batch}
 use Rattle.unl_delta.proofs.Numbers.{each_later}
@@ -197,9 +197,9 @@ first_is_valid : (o : Option Event) (es : List Event) → IfSome o IsValidEvent 
 first_is_valid None es h more = more
 first_is_valid (Some e) es h more = (h, more)
 
-shown_are_valid : (sees : Sees) (entries : List Entry) → Every IsValidEntry entries → Every IsValidEvent (shown_to sees entries)
+shown_are_valid : (sees : Sees) (entries : List Entry) → Every IsValidEntry entries → Every IsValidEvent (visible_events sees entries)
 shown_are_valid sees [] h = tt
-shown_are_valid sees (entry ∷ entries) h = first_is_valid (shown sees entry.event entry.was) (shown_to sees entries) (shown_is_valid sees entry.event entry.was h.0.0 h.0.1) (shown_are_valid sees entries h.1)
+shown_are_valid sees (entry ∷ entries) h = first_is_valid (shown sees entry.event entry.was) (visible_events sees entries) (shown_is_valid sees entry.event entry.was h.0.0 h.0.1) (shown_are_valid sees entries h.1)
 
 -- the contents of an answer are valid
 AnswerHolds : DeltaAnswer → Type 0
@@ -216,7 +216,7 @@ unfolding AnswerHolds
 answer_holds v None projects h = (view_is_valid projects v.state h.state, tt)
 answer_holds v (Some since) projects h = decided (since == v.number) (ltb since v.base || ltb v.number since)
   where
-    decided : (s t : Bool) → AnswerHolds (cond s Same (cond t (hydrated v projects) (news v.epoch since (shown_to projects (later entry_number since v.entries)))))
+    decided : (s t : Bool) → AnswerHolds (cond s Same (cond t (hydrated v projects) (news v.epoch since (visible_events projects (later entry_number since v.entries)))))
     decided true t = tt
     decided false true = (view_is_valid projects v.state h.state, tt)
     decided false false = news_hold v.epoch since _ (shown_are_valid projects (later entry_number since v.entries) (each_later entry_number IsValidEntry since v.entries h.entries))

@@ -147,7 +147,7 @@ after_back value (Some a) here = optional_back any_whole field.After value (coun
 parts_back : (held : Option ℕ) (value : Data) (batch : Batch) → Stands value (unless_zero batch.epoch) batch.after batch.events → events_from 0 0 (items_of (map event_data batch.events)) ≡ Ok batch.events
     → batch_of held value ≡ Ok (record { epoch = batch.epoch; after = option_or batch.after held; events = batch.events })
 unfolding batch_of
-parts_back held value batch stands back = rw (stands.events, zero_back field.Epoch value batch.epoch stands.epoch, after_back value batch.after stands.after, back) refl
+parts_back held value batch represents back = rw (represents.events, zero_back field.Epoch value batch.epoch represents.epoch, after_back value batch.after represents.after, back) refl
 
 pub batch_back : (held : Option ℕ) (batch : Batch) → IsValidBatch batch → Every IsReadable batch.events → batch_of held (batch_data batch) ≡ Ok (record { epoch = batch.epoch; after = option_or batch.after held; events = batch.events })
 unfolding batch_data

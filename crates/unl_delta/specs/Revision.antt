@@ -16,5 +16,5 @@ abbrev pub is_older : Revision → Revision → Bool
 is_older these those = nat_lt these.epoch those.epoch || ((these.epoch == those.epoch) && nat_lt these.number those.number)
 
 -- the second revision is not older than the first
-abbrev pub IsUpTo : Revision → Revision → Type 0
-IsUpTo these those = (these.epoch < those.epoch) ⊎ ((these.epoch ≡ those.epoch) × (these.number ≤ those.number))
+abbrev pub IsNotOlder : Revision → Revision → Type 0
+IsNotOlder these those = (these.epoch < those.epoch) ⊎ ((these.epoch ≡ those.epoch) × (these.number ≤ those.number))

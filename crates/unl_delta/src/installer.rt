@@ -3,7 +3,7 @@ ghost use Rattle.std.specs.Prelude.{◌≡◌, ℕ, ◌<◌, ◌^◌, ◌-◌, I
 ghost use Rattle.unl_delta.specs.declared.batch.Batch.{Batch};
 ghost use Rattle.unl_delta.specs.declared.batch.Verdict.TheVariants.{Apply};
 ghost use Rattle.unl_delta.specs.Batch.{verdict_of};
-ghost use Rattle.unl_delta.specs.History.{FollowsLines};
+ghost use Rattle.unl_delta.specs.History.{PreservesLines};
 ghost use Rattle.unl_delta.specs.Installing.{Installed, place_of, after_install, after_hold, IsBookInstalled};
 ghost use Rattle.unl_delta.specs.Valid.{IsValidBatch, IsValidPlace};
 
@@ -51,7 +51,7 @@ pub trait Installer {
         requires batch { IsValidBatch batch.now }
         requires applies { verdict_of (place_of (installed self.old) slot) batch.now ≡ Apply }
         ensures published { OnOk result (installed self.new ≡ after_install slot batch.now (installed self.old)) }
-        ensures stands { OnOk result (FollowsLines (place_of (installed self.old) slot).version batch.now
+        ensures represents { OnOk result (PreservesLines (place_of (installed self.old) slot).version batch.now
             (place_of (installed self.new) slot).version) }
         ensures whole { OnOk result (installs slot batch.now self.old self.new) }
         ensures front { IfOk result (λ front. front ≡ (installed self.new).front) }

@@ -13,7 +13,7 @@ ghost use Rattle.unl_delta.specs.Writing.{event_data};
 use crate::batch::Batch;
 use crate::event::Event;
 use json::Writer;
-use unl_documents::printed::{Printed, print_at, print_some, print_unless_zero};
+use unl_documents::write_json::{WriteJson, print_at, print_some, print_unless_zero};
 use unl_documents::{Feature, Field, Memory, Segment, Shared, State, Text};
 
 /// Begins an event and prints its number.
@@ -91,7 +91,7 @@ fn print_segment_removed(out: &mut Writer, number: u64, id: u64) -> Result<(), M
     end_event(out, "segment-removed")
 }
 
-impl Printed for Event {
+impl WriteJson for Event {
     ghost use Rattle.unl_delta.specs.Valid.{IsValidEvent};
 
     ghost is_printable = { IsValidEvent };
@@ -115,7 +115,7 @@ impl Printed for Event {
     }
 }
 
-impl Printed for Batch {
+impl WriteJson for Batch {
     ghost use Rattle.unl_delta.specs.Valid.{IsValidBatch};
 
     ghost is_printable = { IsValidBatch };

@@ -1,7 +1,7 @@
 //! The one way for a slot to take a batch.
 ghost use Rattle.std.specs.Prelude.{◌≡◌, ◌<◌, ◌-◌, ◌^◌, IfOk, OnErr, OnOk, length};
 ghost use Rattle.unl_delta.specs.Batch.{verdict_of};
-ghost use Rattle.unl_delta.specs.History.{FollowsLines};
+ghost use Rattle.unl_delta.specs.History.{PreservesLines};
 ghost use Rattle.unl_delta.specs.Installing.{ByVerdict, after_batch, place_of};
 ghost use Rattle.unl_delta.specs.Valid.{IsValidBatch};
 
@@ -33,7 +33,7 @@ pub fn take_batch<I: Installer>(
     ensures taken { IfOk result (λ v. I.installed to.new ≡ after_batch v slot batch.now (I.installed to.old)) }
     ensures whole { IfOk result (λ v. ByVerdict v (I.installs slot batch.now to.old to.new) (I.holds slot to.old to.new) (to.new
         ≡ to.old)) }
-    ensures stands { OnOk result (FollowsLines (place_of (I.installed to.old) slot).version batch.now
+    ensures represents { OnOk result (PreservesLines (place_of (I.installed to.old) slot).version batch.now
         (place_of (I.installed to.new) slot).version) }
     ensures memory { OnErr result (I.installed to.new ≡ I.installed to.old) }
 {

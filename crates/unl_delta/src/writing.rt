@@ -16,7 +16,7 @@ use crate::batch::Batch;
 use crate::event::Event;
 use serde_json::{Map, Value};
 use std::alloc::Global;
-use unl_documents::written::{Written, put, put_some, put_unless_zero, put_value};
+use unl_documents::to_value::{ToValue, put, put_some, put_unless_zero, put_value};
 use unl_documents::{Feature, Field, List, Memory, Segment, Shared, State, Text};
 
 /// Adds an event's type and number to its members.
@@ -105,7 +105,7 @@ fn write_segment_removed(alloc: Global, number: u64, id: u64) -> Result<Value, M
     Ok(Value::Object(members))
 }
 
-impl Written for Event {
+impl ToValue for Event {
     ghost use Rattle.unl_delta.specs.Writing.{event_data};
 
     ghost written = { event_data };
@@ -129,7 +129,7 @@ impl Written for Event {
     }
 }
 
-impl Written for Batch {
+impl ToValue for Batch {
     ghost use Rattle.unl_delta.specs.Writing.{batch_data};
 
     ghost written = { batch_data };

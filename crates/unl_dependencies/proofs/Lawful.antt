@@ -43,9 +43,9 @@ mapped_none : {A B : Type 0} (g : A → B) (o : Option A) → option_map g o ≡
 mapped_none g None is = refl
 mapped_none g (Some x) is = absurd (cc)
 
-pub none_where_lacking : (state : State) (name : List ℕ) (context : Fields) (moment : Moment) → (evaluation_of state name context moment ≡ None) ↔ Lacks state name
+pub none_exactly_if_absent : (state : State) (name : List ℕ) (context : Fields) (moment : Moment) → (evaluation_of state name context moment ≡ None) ↔ Lacks state name
 unfolding evaluation_of
-none_where_lacking state name context moment = (
+none_exactly_if_absent state name context moment = (
   λ none. found_not name state.features (mapped_none (λ f. feature_evaluation state f context moment) (feature_named name state.features) none),
   λ lacks. ap (option_map (λ f. feature_evaluation state f context moment)) (lacking name state.features lacks),
 )
@@ -81,7 +81,7 @@ unfolding dependencies_met
 no_dependencies [] state context moment none = refl
 no_dependencies (d ∷ ds) state context moment none = absurd (cc)
 
-pub parent_stands_alone : (state : State) (parent : Feature) (context : Fields) (moment : Moment) → length parent.dependencies ≡ 0 → feature_evaluation state parent context moment ≡ evaluation_where true parent state.segments context moment
+pub parent_evaluates_alone : (state : State) (parent : Feature) (context : Fields) (moment : Moment) → length parent.dependencies ≡ 0 → feature_evaluation state parent context moment ≡ evaluation_where true parent state.segments context moment
 unfolding feature_evaluation
-parent_stands_alone state parent context moment none =
+parent_evaluates_alone state parent context moment none =
     ap (λ met. evaluation_where met parent state.segments context moment) (no_dependencies parent.dependencies state context moment none)

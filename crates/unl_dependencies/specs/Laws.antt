@@ -28,8 +28,8 @@ EachIsFound = (state : State) (place : ℕ) (f : Feature) (context : Fields) (mo
     ≡ Some (feature_evaluation state f context moment)
 
 -- A parent without dependencies has the same evaluation in the state and on its own, with nothing but the segments.
-abbrev pub ParentStandsAlone : Type 0
-ParentStandsAlone = (state : State) (parent : Feature) (context : Fields) (moment : Moment)
+abbrev pub ParentEvaluatesAlone : Type 0
+ParentEvaluatesAlone = (state : State) (parent : Feature) (context : Fields) (moment : Moment)
     → length parent.dependencies ≡ 0 → feature_evaluation state parent context moment
     ≡ evaluation_where true parent state.segments context moment
 

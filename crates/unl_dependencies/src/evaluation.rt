@@ -4,7 +4,7 @@ ghost use Rattle.unl_dependencies.specs.Evaluation.{off as off_evaluation, on_wi
 ghost use Rattle.unl_dependencies.specs.Decision.{evaluation_by};
 
 use std::alloc::Global;
-use unl_documents::{Copied, Memory, Payload, Text, Variant};
+use unl_documents::{Memory, Payload, Text, TryClone, Variant};
 
 /// The variant name of an evaluation without a variant.
 pub(crate) fn no_variant() -> &'static str
@@ -96,7 +96,7 @@ impl VariantAnswer {
     }
 }
 
-impl Copied for Evaluation {
+impl TryClone for Evaluation {
     fn copy(&self, alloc: Global) -> Result<Evaluation, Memory> {
         Ok(Evaluation {
             on: self.on,
@@ -105,7 +105,7 @@ impl Copied for Evaluation {
     }
 }
 
-impl Copied for VariantAnswer {
+impl TryClone for VariantAnswer {
     fn copy(&self, alloc: Global) -> Result<VariantAnswer, Memory> {
         Ok(VariantAnswer {
             name: self.name.copy(alloc)?,

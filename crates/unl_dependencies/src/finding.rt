@@ -1,20 +1,20 @@
 //! Finds a feature by its name.
 ghost use Rattle.std.specs.Prelude.{◌≡◌, All, IfSome, option_map};
-ghost use Rattle.unl_documents.specs.Series.{joined};
+ghost use Rattle.unl_documents.specs.Chunks.{joined};
 ghost use Rattle.unl_documents.specs.Valid.{IsValidFeature};
 ghost use Rattle.unl_dependencies.specs.Evaluation.{feature_named as feature_with};
 
-use unl_documents::{Feature, Run, Series, Shared};
+use unl_documents::{Chunk, ChunkedList, Feature, Shared};
 
 /// Returns the first feature with the given name, if the series has one. Does not allocate.
-pub fn feature_named<'a>(features: &'a Series<Feature>, name: &str) -> Option<&'a Feature>
+pub fn feature_named<'a>(features: &'a ChunkedList<Feature>, name: &str) -> Option<&'a Feature>
     ensures value { option_map (λ f. f.now) result ≡ feature_with name.now features.now }
     ensures valid { All IsValidFeature features.now → IfSome result (λ f. IsValidFeature f.now) }
 {
     first_in_runs(features.runs(), name)
 }
 
-fn first_in_runs<'a>(runs: &'a [Run<Feature>], name: &str) -> Option<&'a Feature>
+fn first_in_runs<'a>(runs: &'a [Chunk<Feature>], name: &str) -> Option<&'a Feature>
     ensures { option_map (λ f. f.now) result ≡ feature_with name.now (joined runs.now) }
 {
     for run in runs {

@@ -1,9 +1,9 @@
 //! Laws on the evaluations of a whole state. Each is the contract of an empty function.
-ghost use Rattle.unl_dependencies.specs.Laws.{NoneWhereLacking, EachIsFound, ParentStandsAlone, InliningChangesNothing, FirstIsLeast};
+ghost use Rattle.unl_dependencies.specs.Laws.{NoneWhereLacking, EachIsFound, ParentEvaluatesAlone, InliningChangesNothing, FirstIsLeast};
 ghost use Rattle.unl_dependencies.specs.Laws.{NoneIsActive, SeenAmongAll};
 
 /// An evaluation is absent exactly if no feature of the state has the name.
-pub fn none_where_lacking()
+pub fn none_exactly_if_absent()
     ensures { NoneWhereLacking }
 {}
 
@@ -14,8 +14,8 @@ pub fn each_is_found()
 
 /// A parent that can satisfy a dependency has the same evaluation as a feature of the state and on its own, with nothing but
 /// the segments.
-pub fn parent_stands_alone()
-    ensures { ParentStandsAlone }
+pub fn parent_evaluates_alone()
+    ensures { ParentEvaluatesAlone }
 {}
 
 /// In any state, features have the same evaluations after the segments that strategies refer to are inlined.

@@ -15,7 +15,7 @@ pub use evaluation::{Decision, Evaluation, VariantAnswer};
 pub use features::Features;
 pub use finding::feature_named;
 pub use laws::{
-    each_is_found, first_is_least, inlining_changes_nothing, none_where_lacking,
-    parent_stands_alone, seen_among_all,
+    each_is_found, first_is_least, inlining_changes_nothing, none_exactly_if_absent,
+    parent_evaluates_alone, seen_among_all,
 };
 pub use picking::{evaluate_where, first_active, own_variant, strategy_variant, variant_of};

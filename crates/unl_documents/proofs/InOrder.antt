@@ -12,7 +12,7 @@ use Rattle.unl_documents.specs.declared.fault.BadDocument.{BadDocument}
 use Rattle.unl_documents.specs.declared.fault.BadDocument.TheVariants.{Memory, DuplicateName}
 use Rattle.unl_documents.specs.Parameters.{AreRising}
 use Rattle.unl_documents.specs.Reading.{Reading, Gives}
-use Rattle.unl_documents.specs.Sorting.{IsLeastTwice, IsSorting, put_in, sorted, first_tie, unless_twice, in_order}
+use Rattle.unl_documents.specs.Sorting.{IsLeastDuplicate, IsSorting, put_in, sorted, first_tie, unless_twice, in_order}
 use Rattle.unl_documents.proofs.OneOrder.{one_sorting, not_twice, same_key_at}
 use Rattle.unl_documents.proofs.Ties.{IsAscending, least_in, sorting_in}
 
@@ -61,7 +61,7 @@ unfolding sorted
 sorted_moved key [] = IsPermutation-refl []
 sorted_moved key (x ∷ xs) = IsPermutation-trans (x ∷ xs) (x ∷ sorted key xs) (put_in key x (sorted key xs)) (IsPermutation-cons x xs (sorted key xs) (sorted_moved key xs)) (put_moved key x (sorted key xs))
 
-least : {T : Type 0} (key : T → List ℕ) (xs : List T) (t : T) → first_tie key (sorted key xs) ≡ Some t → IsLeastTwice (key t) (map key xs)
+least : {T : Type 0} (key : T → List ℕ) (xs : List T) (t : T) → first_tie key (sorted key xs) ≡ Some t → IsLeastDuplicate (key t) (map key xs)
 least key xs t found = least_in key xs (sorted key xs) t (sorted_moved key xs) (sorted_ascending key xs) found
 
 is_sorting : {T : Type 0} (key : T → List ℕ) (xs : List T) → first_tie key (sorted key xs) ≡ None → IsSorting key xs (sorted key xs)
@@ -78,7 +78,7 @@ order_from_sorting {T} key spelled field xs ys sorting =
       | None ↦ λ none. ap Ok (one_sorting key xs (sorted key xs) ys (is_sorting key xs none) sorting)
     ] refl
 
-pub order_from_twice : {T : Type 0} (key : T → List ℕ) (spelled : List ℕ → List ℕ) (field : Field) (xs : List T) (k : List ℕ) → IsLeastTwice k (map key xs) → in_order key spelled field xs ≡ Err (DuplicateName field (spelled k))
+pub order_from_twice : {T : Type 0} (key : T → List ℕ) (spelled : List ℕ → List ℕ) (field : Field) (xs : List T) (k : List ℕ) → IsLeastDuplicate k (map key xs) → in_order key spelled field xs ≡ Err (DuplicateName field (spelled k))
 unfolding in_order
 order_from_twice {T} key spelled field xs k twice =
     elim (first_tie key (sorted key xs)) as (λ (o : Option T). first_tie key (sorted key xs) ≡ o → found_as key spelled field xs o ≡ Err (DuplicateName field (spelled k))) [
@@ -94,17 +94,17 @@ sorting_from_order {T} key spelled field xs ys is =
       | None ↦ λ none same. let e : sorted key xs ≡ ys = cc same in subst (λ (zs : List T). IsSorting key xs zs) e (is_sorting key xs none)
     ] refl is
 
-pub twice_from_order : {T : Type 0} (key : T → List ℕ) (spelled : List ℕ → List ℕ) (field : Field) (xs : List T) (e : BadDocument) → in_order key spelled field xs ≡ Err e → (k : List ℕ) × IsLeastTwice k (map key xs) × (e ≡ DuplicateName field (spelled k))
+pub twice_from_order : {T : Type 0} (key : T → List ℕ) (spelled : List ℕ → List ℕ) (field : Field) (xs : List T) (e : BadDocument) → in_order key spelled field xs ≡ Err e → (k : List ℕ) × IsLeastDuplicate k (map key xs) × (e ≡ DuplicateName field (spelled k))
 unfolding in_order
 twice_from_order {T} key spelled field xs e is =
-    elim (first_tie key (sorted key xs)) as (λ (o : Option T). first_tie key (sorted key xs) ≡ o → found_as key spelled field xs o ≡ Err e → (k : List ℕ) × IsLeastTwice k (map key xs) × (e ≡ DuplicateName field (spelled k))) [
+    elim (first_tie key (sorted key xs)) as (λ (o : Option T). first_tie key (sorted key xs) ≡ o → found_as key spelled field xs o ≡ Err e → (k : List ℕ) × IsLeastDuplicate k (map key xs) × (e ≡ DuplicateName field (spelled k))) [
       | Some t ↦ λ found same. (key t, least key xs t found, cc)
       | None ↦ λ none other. absurd cc
     ] refl is
 
 -- A function that sorts the items, or names the least duplicate key, returns `in_order`.
 pub gives_order : {T : Type 0} (key : T → List ℕ) (spelled : List ℕ → List ℕ) (field : Field) (xs : List T) (result : Reading (List T)) → IfOk result (IsSorting key xs)
-    → IfErr result (λ e. e ≢ Memory → (k : List ℕ) × IsLeastTwice k (map key xs) × (e ≡ DuplicateName field (spelled k))) → Gives result (in_order key spelled field xs)
+    → IfErr result (λ e. e ≢ Memory → (k : List ℕ) × IsLeastDuplicate k (map key xs) × (e ≡ DuplicateName field (spelled k))) → Gives result (in_order key spelled field xs)
 gives_order key spelled field xs (Ok ys) sorting twice = order_from_sorting key spelled field xs ys sorting
 gives_order key spelled field xs (Err e) sorting twice = λ known. let t = twice known in order_from_twice key spelled field xs t.0 t.1 ∙ ap Err (sym t.2)
 

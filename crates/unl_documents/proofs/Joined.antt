@@ -6,7 +6,7 @@ use Rattle.std.proofs.lemmas.List.{drop_more, take_more, map-append, length-map}
 use Rattle.std.proofs.lemmas.List.Concat.{get_or-flat_map}
 use Rattle.std.proofs.lemmas.List.Elements.{All-get_or, All-push}
 use Rattle.std.proofs.lemmas.List.Folds.{length-flat_map-take}
-use Rattle.unl_documents.specs.Series.{joined, NoneIsEmpty}
+use Rattle.unl_documents.specs.Chunks.{joined, NoneIsEmpty}
 
 -- An index within the first list.
 slice_get_front : {T : Type 0} (xs ys : List T) (k : ℕ) → k < length xs → slice_get (xs ++ ys) k ≡ slice_get xs k
@@ -21,16 +21,16 @@ slice_get_behind (x ∷ xs) ys zero le = absurd (omega arith)
 slice_get_behind (x ∷ xs) ys (suc k) le = slice_get_behind xs ys k (omega arith) ∙ ap (slice_get ys) (omega arith)
 
 -- An index within the next list.
-pub stands_here : {T : Type 0} (lists : List (List T)) (i : ℕ) (here : List T) (k : ℕ) (total : Option T) → i < length lists → here ≡ get_or lists i here → k < length here
+pub in_current_list : {T : Type 0} (lists : List (List T)) (i : ℕ) (here : List T) (k : ℕ) (total : Option T) → i < length lists → here ≡ get_or lists i here → k < length here
     → slice_get (joined (drop i lists)) k ≡ total → slice_get here k ≡ total
-stands_here lists i here k total lt is inside so_far =
+in_current_list lists i here k total lt is inside so_far =
     let parts : drop i lists ≡ here ∷ drop (i + 1) lists = drop_more lists i here lt ∙ ap (λ list. list ∷ drop (i + 1) lists) (sym is) in
     sym (slice_get_front here (joined (drop (i + 1) lists)) k inside) ∙ ap (λ left. slice_get (joined left) k) (sym parts) ∙ so_far
 
 -- An index past the next list.
-pub stands_later : {T : Type 0} (lists : List (List T)) (i : ℕ) (here : List T) (k : ℕ) (total : Option T) → i < length lists → here ≡ get_or lists i here → length here ≤ k
+pub in_later_list : {T : Type 0} (lists : List (List T)) (i : ℕ) (here : List T) (k : ℕ) (total : Option T) → i < length lists → here ≡ get_or lists i here → length here ≤ k
     → slice_get (joined (drop i lists)) k ≡ total → slice_get (joined (drop (i + 1) lists)) (k - length here) ≡ total
-stands_later lists i here k total lt is past so_far =
+in_later_list lists i here k total lt is past so_far =
     let parts : drop i lists ≡ here ∷ drop (i + 1) lists = drop_more lists i here lt ∙ ap (λ list. list ∷ drop (i + 1) lists) (sym is) in
     sym (slice_get_behind here (joined (drop (i + 1) lists)) k past) ∙ ap (λ left. slice_get (joined left) k) (sym parts) ∙ so_far
 

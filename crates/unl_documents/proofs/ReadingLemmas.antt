@@ -24,8 +24,8 @@ pub exactly : {T : Type 0} (reads : Data → Reading T) (Reads : Data → T → 
 exactly reads Reads sound one value d fault same = (
   λ h. (sound value d (object_at (is_object value) (reads value) NotJson d h).1, sym same ∙ ap fault_of h),
   λ p. let a = faultless (document reads value) (same ∙ p.1) in
-      let stands = sound value a.0 (object_at (is_object value) (reads value) NotJson a.0 a.1).1 in
-      a.1 ∙ ap Ok (one value a.0 d stands p.0),
+      let represents = sound value a.0 (object_at (is_object value) (reads value) NotJson a.0 a.1).1 in
+      a.1 ∙ ap Ok (one value a.0 d represents p.0),
 )
 
 -- A reading fails with a fault if and only if that is the fault of the value.

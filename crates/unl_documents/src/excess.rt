@@ -2,14 +2,14 @@
 ghost use Rattle.std.specs.Prelude.{◌≡◌, ◌+◌, IfOk, flat_map, length, nat_lt};
 ghost use Rattle.std.specs.List.{find};
 ghost use Rattle.unl_documents.specs.Inline.{all_constraints, constraints_for, counts, first_excess as first_excess_of};
-ghost use Rattle.unl_documents.specs.Series.{joined};
+ghost use Rattle.unl_documents.specs.Chunks.{joined};
 
 use crate::feature::Feature;
 use crate::list::List;
 use crate::memory::Memory;
 use crate::segment::Segment;
 use crate::segments::segment_of;
-use crate::series::Run;
+use crate::series::Chunk;
 use crate::shared::Shared;
 use crate::state::State;
 use crate::strategy::Strategy;
@@ -24,7 +24,7 @@ pub(crate) fn first_excess(state: &State) -> Result<Option<u64>, Memory>
 }
 
 fn first_excess_in(
-    runs: &[Run<Feature>],
+    runs: &[Chunk<Feature>],
     segments: &List<Shared<Segment>>,
 ) -> Result<Option<u64>, Memory>
     ensures { IfOk result (λ found. found

@@ -5,12 +5,12 @@ ghost use Rattle.unl_documents.specs.Inline.{all_constraints as constraints_of, 
 ghost use Rattle.unl_documents.specs.Inline.{inlined as inlined_state, inlined_feature as feature_inlined};
 ghost use Rattle.unl_documents.specs.Inline.{inlined_strategy as strategy_inlined, inlining_of};
 ghost use Rattle.unl_documents.specs.Results.{Gives};
-ghost use Rattle.unl_documents.specs.Series.{joined, NoneIsEmpty};
+ghost use Rattle.unl_documents.specs.Chunks.{joined, NoneIsEmpty};
 ghost use Rattle.unl_documents.specs.States.{IsValidState};
 ghost use Rattle.unl_documents.specs.declared.inlining.InlineRefusal.TheVariants.{Memory as memory};
 
 use crate::constraint::Constraint;
-use crate::copied::Copied;
+use crate::copied::TryClone;
 use crate::excess::first_excess;
 use crate::feature::Feature;
 use crate::list::List;
@@ -18,19 +18,22 @@ use crate::memory::Memory;
 use crate::operator::Operator;
 use crate::segment::Segment;
 use crate::segments::segment_of;
-use crate::series::{Run, Series};
+use crate::series::{Chunk, ChunkedList};
 use crate::shared::Shared;
 use crate::state::State;
 use crate::strategy::Strategy;
 use crate::text::Text;
 use std::alloc::Global;
+use thiserror::Error;
 
 /// Why the segments of a state couldn't be inlined.
-#[derive(Clone, Copy, Debug, PartialEq, Eq)]
+#[derive(Clone, Copy, Debug, PartialEq, Eq, Error)]
 pub enum InlineRefusal {
     /// A strategy would have this many constraints, more than 100.
+    #[error("a strategy would have {0} constraints")]
     TooMany(u64),
     /// Out of memory.
+    #[error("out of memory")]
     Memory,
 }
 
@@ -67,7 +70,11 @@ fn inlined(alloc: Global, state: &State) -> Result<State, Memory>
     ensures { IfOk result (λ s. s ≡ inlined_state state.now) }
 {
     Ok(State {
-        features: Series::of_runs(inlined_runs(alloc, state.features.runs(), &state.segments)?),
+        features: ChunkedList::of_runs(inlined_runs(
+            alloc,
+            state.features.runs(),
+            &state.segments,
+        )?),
         segments: List::new(alloc),
     })
 }
@@ -75,9 +82,9 @@ fn inlined(alloc: Global, state: &State) -> Result<State, Memory>
 /// Inlines the segments into the features of each chunk. The new chunks have as many features as the old ones.
 fn inlined_runs(
     alloc: Global,
-    runs: &[Run<Feature>],
+    runs: &[Chunk<Feature>],
     segments: &List<Shared<Segment>>,
-) -> Result<List<Run<Feature>>, Memory>
+) -> Result<List<Chunk<Feature>>, Memory>
     requires { NoneIsEmpty runs.now }
     ensures features { IfOk result (λ rs. joined rs ≡ map (feature_inlined segments.now) (joined runs.now)) }
     ensures full { IfOk result NoneIsEmpty }

@@ -17,7 +17,7 @@ ghost use Rattle.unl_documents.specs.Faults.{fault_of, first, first_fault_of_fea
 ghost use Rattle.unl_documents.specs.Faults.{first_fault_of_feed, faults_of_override, faults_of_dependency, faults_of_payload};
 ghost use Rattle.unl_documents.specs.Faults.{faults_of_variant, faults_of_constraint, faults_of_strategy, faults_of_meta};
 ghost use Rattle.unl_documents.specs.Results.{json_of, IsJson};
-ghost use Rattle.unl_documents.specs.Sorting.{IsSorting, IsLeastTwice, in_order};
+ghost use Rattle.unl_documents.specs.Sorting.{IsSorting, IsLeastDuplicate, in_order};
 ghost use Rattle.unl_documents.specs.States.{state_of, meta_of, feed_of, IsValidState};
 ghost use Rattle.unl_documents.specs.Valid.{IsValidFeature, IsValidSegment};
 ghost use Rattle.unl_documents.specs.Writing.{feature_data, segment_data, feed_data};
@@ -77,7 +77,7 @@ pub fn order_is_the_sorting<T>()
     ensures sorting { (key : T → List ℕ) (spelled : List ℕ → List ℕ) (field : Field) (xs ys : List T)
         → (in_order key spelled field xs ≡ Ok ys) ↔ IsSorting key xs ys }
     ensures twice { (key : T → List ℕ) (spelled : List ℕ → List ℕ) (field : Field) (xs : List T) (e : BadDocument)
-        → (in_order key spelled field xs ≡ Err e) ↔ ((k : List ℕ) × IsLeastTwice k (map key xs) × (e ≡ DuplicateName field (spelled k))) }
+        → (in_order key spelled field xs ≡ Err e) ↔ ((k : List ℕ) × IsLeastDuplicate k (map key xs) × (e ≡ DuplicateName field (spelled k))) }
 {}
 
 /// The value parsed from bytes is the one whose JSON text they are.

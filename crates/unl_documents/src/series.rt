@@ -1,9 +1,9 @@
 //! Long lists that are cheap to copy: a copy shares all chunks of items with its original.
 ghost use Rattle.std.specs.Prelude.{◌≡◌, ◌==◌, ◌+◌, ◌-◌, ◌<◌, ◌≤◌, [], ◌++◌, IfOk, IfSome, OnOk, All};
 ghost use Rattle.std.specs.Prelude.{length, option_map, slice_get, take, drop};
-ghost use Rattle.unl_documents.specs.Series.{joined, NoneIsEmpty};
+ghost use Rattle.unl_documents.specs.Chunks.{joined, NoneIsEmpty};
 
-use crate::copied::Copied;
+use crate::copied::TryClone;
 use crate::list::List;
 use crate::memory::Memory;
 use crate::shared::Shared;
@@ -14,19 +14,19 @@ use std::marker::Model;
 const MOST: usize = 128;
 
 /// A chunk: a list of items. The chunk and each of its items are reference-counted.
-pub type Run<T> = Shared<List<Shared<T>>>;
+pub type Chunk<T> = Shared<List<Shared<T>>>;
 
 /// A list of reference-counted items, stored in reference-counted chunks. Contracts see it as the list of the items.
 ///
 /// Chunks built in this module have 1 to 128 items.
 #[derive(Drop)]
-pub struct Series<T> {
-    runs: List<Run<T>>,
+pub struct ChunkedList<T> {
+    runs: List<Chunk<T>>,
 }
 
-impl<T> Model for Series<T> {
+impl<T> Model for ChunkedList<T> {
     ghost use Rattle.std.specs.Prelude.{List};
-    ghost use Rattle.unl_documents.specs.Series.{joined, NoneIsEmpty};
+    ghost use Rattle.unl_documents.specs.Chunks.{joined, NoneIsEmpty};
 
     ghost Value = { List T };
 
@@ -35,35 +35,35 @@ impl<T> Model for Series<T> {
     ghost invariant = { λ s. NoneIsEmpty s.runs };
 }
 
-impl<T: Drop> Series<T> {
+impl<T: Drop> ChunkedList<T> {
     /// An empty list, without allocating.
-    pub fn new(alloc: Global) -> Series<T>
+    pub fn new(alloc: Global) -> ChunkedList<T>
         ensures { result ≡ [] }
     {
-        Series {
+        ChunkedList {
             runs: List::new(alloc),
         }
     }
 
     /// A list of `items`, split into chunks.
-    pub fn of_list(alloc: Global, items: &List<Shared<T>>) -> Result<Series<T>, Memory>
+    pub fn of_list(alloc: Global, items: &List<Shared<T>>) -> Result<ChunkedList<T>, Memory>
         ensures { IfOk result (λ s. s ≡ items.now) }
     {
-        Ok(Series {
+        Ok(ChunkedList {
             runs: cut(alloc, items.as_slice())?,
         })
     }
 
     /// A list with these chunks, none of which may be empty.
-    pub fn of_runs(runs: List<Run<T>>) -> Series<T>
+    pub fn of_runs(runs: List<Chunk<T>>) -> ChunkedList<T>
         requires { NoneIsEmpty runs }
         ensures { result ≡ joined runs }
     {
-        Series { runs }
+        ChunkedList { runs }
     }
 
     /// Returns the chunks that hold the items.
-    pub fn runs(&self) -> &[Run<T>]
+    pub fn runs(&self) -> &[Chunk<T>]
         ensures items { joined result.now ≡ self.now }
         ensures full { NoneIsEmpty result.now }
     {
@@ -97,16 +97,16 @@ impl<T: Drop> Series<T> {
 
     /// Returns a list of these items followed by `items`. It shares all chunks, except that the last one is rebuilt if
     /// it has room for `items`.
-    pub fn append(&self, alloc: Global, items: &[Shared<T>]) -> Result<Series<T>, Memory>
+    pub fn append(&self, alloc: Global, items: &[Shared<T>]) -> Result<ChunkedList<T>, Memory>
         ensures { IfOk result (λ s. s ≡ self.now ++ items.now) }
     {
         appended(alloc, self.runs.as_slice(), items)
     }
 }
 
-impl<T: Drop> Copied for Series<T> {
-    fn copy(&self, alloc: Global) -> Result<Series<T>, Memory> {
-        Ok(Series {
+impl<T: Drop> TryClone for ChunkedList<T> {
+    fn copy(&self, alloc: Global) -> Result<ChunkedList<T>, Memory> {
+        Ok(ChunkedList {
             runs: self.runs.copy(alloc)?,
         })
     }
@@ -116,10 +116,10 @@ impl<T: Drop> Copied for Series<T> {
 /// items and left out if it is empty.
 pub fn with_run<T: Drop>(
     alloc: Global,
-    runs: &[Run<T>],
+    runs: &[Chunk<T>],
     place: usize,
     run: List<Shared<T>>,
-) -> Result<Series<T>, Memory>
+) -> Result<ChunkedList<T>, Memory>
     requires inside { place < length runs.now }
     requires full { NoneIsEmpty runs.now }
     ensures { IfOk result (λ s. s ≡ joined (take place runs.now) ++ run ++ joined (drop (place + 1) runs.now)) }
@@ -128,7 +128,7 @@ pub fn with_run<T: Drop>(
     push_owners(&mut changed, before(runs, place))?;
     push_run(alloc, &mut changed, run)?;
     push_owners(&mut changed, behind(runs, place))?;
-    Ok(Series { runs: changed })
+    Ok(ChunkedList { runs: changed })
 }
 
 fn before<T>(runs: &[T], place: usize) -> &[T]
@@ -158,7 +158,7 @@ fn push_owners<T: Drop>(list: &mut List<Shared<T>>, more: &[Shared<T>]) -> Resul
 /// Appends a chunk, which may be empty or too long: an empty one is left out, a long one split.
 fn push_run<T: Drop>(
     alloc: Global,
-    runs: &mut List<Run<T>>,
+    runs: &mut List<Chunk<T>>,
     run: List<Shared<T>>,
 ) -> Result<(), Memory>
     requires { NoneIsEmpty runs.old }
@@ -174,7 +174,7 @@ fn push_run<T: Drop>(
 /// Appends `items` as new chunks.
 fn push_cut<T: Drop>(
     alloc: Global,
-    runs: &mut List<Run<T>>,
+    runs: &mut List<Chunk<T>>,
     items: &[Shared<T>],
 ) -> Result<(), Memory>
     requires { NoneIsEmpty runs.old }
@@ -205,7 +205,7 @@ fn owners<T: Drop>(alloc: Global, values: &[Shared<T>]) -> Result<List<Shared<T>
 }
 
 /// Splits items into chunks.
-fn cut<T: Drop>(alloc: Global, items: &[Shared<T>]) -> Result<List<Run<T>>, Memory>
+fn cut<T: Drop>(alloc: Global, items: &[Shared<T>]) -> Result<List<Chunk<T>>, Memory>
     ensures items { IfOk result (λ runs. joined runs ≡ items.now) }
     ensures full { IfOk result NoneIsEmpty }
 {
@@ -216,9 +216,9 @@ fn cut<T: Drop>(alloc: Global, items: &[Shared<T>]) -> Result<List<Run<T>>, Memo
 
 fn appended<T: Drop>(
     alloc: Global,
-    runs: &[Run<T>],
+    runs: &[Chunk<T>],
     items: &[Shared<T>],
-) -> Result<Series<T>, Memory>
+) -> Result<ChunkedList<T>, Memory>
     requires { NoneIsEmpty runs.now }
     ensures { IfOk result (λ s. s ≡ joined runs.now ++ items.now) }
 {
@@ -233,7 +233,7 @@ fn appended<T: Drop>(
 }
 
 /// Returns the last chunk, if it has room for `count` more items.
-fn last_with_room<T: Drop>(runs: &[Run<T>], count: usize) -> Option<&List<Shared<T>>>
+fn last_with_room<T: Drop>(runs: &[Chunk<T>], count: usize) -> Option<&List<Shared<T>>>
     ensures inside { IfSome result (λ last. 0 < length runs.now) }
     ensures items { IfSome result (λ last. joined (take (length runs.now - 1) runs.now) ++ last.now ≡ joined runs.now) }
 {
@@ -247,19 +247,19 @@ fn last_with_room<T: Drop>(runs: &[Run<T>], count: usize) -> Option<&List<Shared
 /// Returns the list of `runs`, followed by `items` in new chunks.
 fn with_runs<T: Drop>(
     alloc: Global,
-    runs: &[Run<T>],
+    runs: &[Chunk<T>],
     items: &[Shared<T>],
-) -> Result<Series<T>, Memory>
+) -> Result<ChunkedList<T>, Memory>
     requires { NoneIsEmpty runs.now }
     ensures { IfOk result (λ s. s ≡ joined runs.now ++ items.now) }
 {
     let mut more = owners(alloc, runs)?;
     push_cut(alloc, &mut more, items)?;
-    Ok(Series { runs: more })
+    Ok(ChunkedList { runs: more })
 }
 
 /// Returns the total number of items in the chunks.
-fn count_of<T: Drop>(runs: &[Run<T>]) -> Result<usize, Memory>
+fn count_of<T: Drop>(runs: &[Chunk<T>]) -> Result<usize, Memory>
     ensures { IfOk result (λ count. count ≡ length (joined runs.now)) }
 {
     let mut count = 0;
@@ -276,7 +276,7 @@ fn sum_of(count: usize, more: usize) -> Result<usize, Memory>
 }
 
 /// Returns the item at index `place` of all chunks together.
-fn item_at<T: Drop>(runs: &[Run<T>], place: usize) -> Option<&T>
+fn item_at<T: Drop>(runs: &[Chunk<T>], place: usize) -> Option<&T>
     ensures { option_map (λ x. x.now) result ≡ slice_get (joined runs.now) place }
 {
     let mut left = place;

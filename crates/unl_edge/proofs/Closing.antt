@@ -2,24 +2,24 @@
 use Rattle.std.proofs.Common.{◌≡◌, ◌≤◌, ◌∙◌, ℕ, Bool, List, length, Option, Some, None, Result, Ok, Err, IfSome, ap, arith, inl, inr, refl, sym, subst, true}
 use Rattle.std.specs.Prelude.{◌⊎◌, map}
 use Rattle.unl_base.specs.Draws.{TakesDraw}
-use Rattle.unl_base.specs.Doors.{CameAt, DoorState, IsClosed, IsClosedAt, listening_at}
+use Rattle.unl_base.specs.Doors.{ServedOnlyAt, DoorState, IsClosed, IsClosedAt, listening_at}
 use Rattle.unl_base.specs.Streams.{Sends, SendsFront}
 use Rattle.unl_base.specs.declared.draws.Draw.{Draw}
 use Rattle.unl_core.specs.declared.board.Board.{Board}
 use Rattle.unl_edge.specs.Edges.{EdgeEnds, EdgeRuns, HandsLinks, IsServed, RunsEdge, StopsForMemory}
 use Rattle.unl_edge.specs.Scene.{Scene}
-use Rattle.unl_edge.specs.Sites.{Site, begun_board, site_at, site_of}
+use Rattle.unl_edge.specs.EdgeServices.{EdgeService, begun_board, service_at, service_of}
 use Rattle.unl_edge.specs.Upstreams.{connections_line, line_end}
 use Rattle.unl_edge.specs.declared.ends.ServingEnd.{ServingEnd}
 use Rattle.unl_edge.specs.declared.ends.ServingEnd.TheVariants.{Closed, WriteFault, DoorFault, OutOfMemory}
-use Rattle.unl_exchange.specs.Answering.{Coming}
-use Rattle.unl_upkeep.proofs.Connecting.{none_taken}
-use Rattle.unl_upkeep.specs.Feeding.{Feeding, feedings}
+use Rattle.unl_server.specs.Handling.{Coming}
+use Rattle.unl_refresh.proofs.Connecting.{none_taken}
+use Rattle.unl_refresh.specs.SlotParameters.{SlotParameters, slot_parameters}
 use Rattle.unl_words.specs.Lists.{environment_of}
-use Rattle.unl_words.specs.declared.words.EdgeWords.{EdgeWords}
-use Rattle.unl_input.specs.Refusal.{SaysLine}
-use Rattle.unl_input.specs.declared.refusal.SayFault.{SayFault}
-use Rattle.unl_input.specs.declared.refusal.SayFault.TheVariants as say
+use Rattle.unl_words.specs.declared.words.EdgeArguments.{EdgeArguments}
+use Rattle.unl_input.specs.Refusal.{WritesLine}
+use Rattle.unl_input.specs.declared.refusal.WriteLineFault.{WriteLineFault}
+use Rattle.unl_input.specs.declared.refusal.WriteLineFault.TheVariants as say
 use Rattle.unl_workers.specs.Accepting.{HandsOut}
 
 -- ---- the links
@@ -89,81 +89,81 @@ stops_at_once port before after middle same shut unread silent =
     }
 
 -- how an edge ends after it took a draw
-runs_so : (words : EdgeWords) (end : ServingEnd) (before after : Scene) (draw : Draw) (coming : Coming) → TakesDraw before.draws draw coming
-    → EdgeEnds (site_of words draw.word) words.port end (record before { draws = coming }) after → EdgeRuns words end before after
+runs_so : (words : EdgeArguments) (end : ServingEnd) (before after : Scene) (draw : Draw) (coming : Coming) → TakesDraw before.draws draw coming
+    → EdgeEnds (service_of words draw.word) words.port end (record before { draws = coming }) after → EdgeRuns words end before after
 runs_so words end before after draw coming taken ends = by_end end ends
   where
-    runs : (end : ServingEnd) → EdgeEnds (site_of words draw.word) words.port end (record before { draws = coming }) after → RunsEdge words end before after
+    runs : (end : ServingEnd) → EdgeEnds (service_of words draw.word) words.port end (record before { draws = coming }) after → RunsEdge words end before after
     runs end ends = record { draw = draw; coming = coming; taken = taken; ends = ends }
 
-    by_end : (end : ServingEnd) → EdgeEnds (site_of words draw.word) words.port end (record before { draws = coming }) after → EdgeRuns words end before after
+    by_end : (end : ServingEnd) → EdgeEnds (service_of words draw.word) words.port end (record before { draws = coming }) after → EdgeRuns words end before after
     by_end Closed ends = runs Closed ends
     by_end WriteFault ends = runs WriteFault ends
     by_end DoorFault ends = runs DoorFault ends
     by_end OutOfMemory ends = (ends.0, from_draw {draws = coming} ends.1, ends.2, ends.3)
 
 -- the same, with the state before and the edge service known by their parts
-pub begun_ends : (words : EdgeWords) (known : List (List ℕ)) (board : Board) (feeders : List Feeding) (end : ServingEnd) (before middle after : Scene)
+pub begun_ends : (words : EdgeArguments) (known : List (List ℕ)) (board : Board) (slot_pollers : List SlotParameters) (end : ServingEnd) (before middle after : Scene)
     (draw : Draw) (coming : Coming) → known ≡ words.tokens → board ≡ begun_board draw.word words.host words.upstream_tokens
-    → feeders ≡ feedings words.upstream words.delta words.upstream_tokens (map environment_of words.upstream_tokens)
+    → slot_pollers ≡ slot_parameters words.upstream words.delta words.upstream_tokens (map environment_of words.upstream_tokens)
     → before ≡ middle → TakesDraw middle.draws draw coming
-    → EdgeEnds (site_at known board feeders words.workers) words.port end (record middle { draws = coming }) after
+    → EdgeEnds (service_at known board slot_pollers words.workers) words.port end (record middle { draws = coming }) after
     → EdgeRuns words end before after
-begun_ends words known board feeders end before middle after draw coming tells begins feeds same taken ends =
+begun_ends words known board slot_pollers end before middle after draw coming tells begins feeds same taken ends =
     subst (λ (scene : Scene). EdgeRuns words end scene after) (sym same)
     (runs_so words end middle after draw coming taken
-    (subst (λ (site : Site). EdgeEnds site words.port end (record middle { draws = coming }) after)
-    (λ i. site_at (tells i) (begins i) (feeds i) words.workers) ends))
+    (subst (λ (service : EdgeService). EdgeEnds service words.port end (record middle { draws = coming }) after)
+    (λ i. service_at (tells i) (begins i) (feeds i) words.workers) ends))
 
 -- ---- the last line
 
 -- the door was closed, and the last line was sent
-pub closed_ends : (site : Site) (port served : ℕ) (before middle after : Scene) → before ≡ middle → HandsLinks served middle after
-    → IsServed site middle after → Sends middle.output.sent (connections_line served) after.output.sent → IsClosedAt port after.door.state
-    → EdgeEnds site port Closed before after
-closed_ends site port served before middle after same hands serves sent closed =
-    subst (λ (scene : Scene). EdgeEnds site port Closed scene after) (sym same) ends
+pub closed_ends : (service : EdgeService) (port served : ℕ) (before middle after : Scene) → before ≡ middle → HandsLinks served middle after
+    → IsServed service middle after → Sends middle.output.sent (connections_line served) after.output.sent → IsClosedAt port after.door.state
+    → EdgeEnds service port Closed before after
+closed_ends service port served before middle after same hands serves sent closed =
+    subst (λ (scene : Scene). EdgeEnds service port Closed scene after) (sym same) ends
   where
-    ends : EdgeEnds site port Closed middle after
+    ends : EdgeEnds service port Closed middle after
     ends = (served, hands, serves, sent, closed)
 
 -- the door was closed, and a prefix of the line was sent
-pub broken_ends : (site : Site) (port served : ℕ) (before middle after : Scene) → before ≡ middle → HandsLinks served middle after
-    → IsServed site middle after → SendsFront middle.output.sent (connections_line served) after.output.sent → IsClosedAt port after.door.state
-    → EdgeEnds site port WriteFault before after
-broken_ends site port served before middle after same hands serves sent closed =
-    subst (λ (scene : Scene). EdgeEnds site port WriteFault scene after) (sym same) ends
+pub broken_ends : (service : EdgeService) (port served : ℕ) (before middle after : Scene) → before ≡ middle → HandsLinks served middle after
+    → IsServed service middle after → SendsFront middle.output.sent (connections_line served) after.output.sent → IsClosedAt port after.door.state
+    → EdgeEnds service port WriteFault before after
+broken_ends service port served before middle after same hands serves sent closed =
+    subst (λ (scene : Scene). EdgeEnds service port WriteFault scene after) (sym same) ends
   where
-    ends : EdgeEnds site port WriteFault middle after
+    ends : EdgeEnds service port WriteFault middle after
     ends = (served, hands, serves, sent, closed)
 
 -- the door failed, or no thread could be started
-pub failed_ends : (site : Site) (port served : ℕ) (before middle after : Scene) → before ≡ middle → HandsLinks served middle after
-    → CameAt port served after.door.state → after.output.sent ≡ middle.output.sent → EdgeEnds site port DoorFault before after
-failed_ends site port served before middle after same hands came silent =
-    subst (λ (scene : Scene). EdgeEnds site port DoorFault scene after) (sym same) ends
+pub failed_ends : (service : EdgeService) (port served : ℕ) (before middle after : Scene) → before ≡ middle → HandsLinks served middle after
+    → ServedOnlyAt port served after.door.state → after.output.sent ≡ middle.output.sent → EdgeEnds service port DoorFault before after
+failed_ends service port served before middle after same hands came silent =
+    subst (λ (scene : Scene). EdgeEnds service port DoorFault scene after) (sym same) ends
   where
-    ends : EdgeEnds site port DoorFault middle after
+    ends : EdgeEnds service port DoorFault middle after
     ends = (served, hands, came, silent)
 
 -- memory ran out before the first link, or for the line
-pub stopped_ends : (site : Site) (port served : ℕ) (before middle after : Scene) → before ≡ middle → HandsLinks served middle after
-    → (served ≡ 0) ⊎ IsClosedAt port after.door.state → after.output.sent ≡ middle.output.sent → EdgeEnds site port OutOfMemory before after
-stopped_ends site port served before middle after same hands over silent =
-    subst (λ (scene : Scene). EdgeEnds site port OutOfMemory scene after) (sym same) ends
+pub stopped_ends : (service : EdgeService) (port served : ℕ) (before middle after : Scene) → before ≡ middle → HandsLinks served middle after
+    → (served ≡ 0) ⊎ IsClosedAt port after.door.state → after.output.sent ≡ middle.output.sent → EdgeEnds service port OutOfMemory before after
+stopped_ends service port served before middle after same hands over silent =
+    subst (λ (scene : Scene). EdgeEnds service port OutOfMemory scene after) (sym same) ends
   where
-    ends : EdgeEnds site port OutOfMemory middle after
+    ends : EdgeEnds service port OutOfMemory middle after
     ends = (served, hands, over, silent)
 
 -- the same, from the result of printing the line
-pub told_ends : (site : Site) (port served : ℕ) (told : Result Unit SayFault) (end : ServingEnd) (before middle after : Scene)
-    → end ≡ line_end told → before ≡ middle → HandsLinks served middle after → IsServed site middle after
-    → SaysLine told (connections_line served) middle.output.sent after.output.sent → IsClosedAt port after.door.state → EdgeEnds site port end before after
-told_ends site port served told end before middle after is same hands serves said closed =
-    subst (λ (e : ServingEnd). EdgeEnds site port e before after) (sym is) (by_told told said)
+pub told_ends : (service : EdgeService) (port served : ℕ) (told : Result Unit WriteLineFault) (end : ServingEnd) (before middle after : Scene)
+    → end ≡ line_end told → before ≡ middle → HandsLinks served middle after → IsServed service middle after
+    → WritesLine told (connections_line served) middle.output.sent after.output.sent → IsClosedAt port after.door.state → EdgeEnds service port end before after
+told_ends service port served told end before middle after is same hands serves said closed =
+    subst (λ (e : ServingEnd). EdgeEnds service port e before after) (sym is) (by_told told said)
   where
-    by_told : (told : Result Unit SayFault) → SaysLine told (connections_line served) middle.output.sent after.output.sent
-        → EdgeEnds site port (line_end told) before after
-    by_told (Ok u) said = closed_ends site port served before middle after same hands serves said closed
-    by_told (Err say.WriteFault) said = broken_ends site port served before middle after same hands serves said closed
-    by_told (Err say.Memory) said = stopped_ends site port served before middle after same hands (inr closed) said
+    by_told : (told : Result Unit WriteLineFault) → WritesLine told (connections_line served) middle.output.sent after.output.sent
+        → EdgeEnds service port (line_end told) before after
+    by_told (Ok u) said = closed_ends service port served before middle after same hands serves said closed
+    by_told (Err say.WriteFault) said = broken_ends service port served before middle after same hands serves said closed
+    by_told (Err say.Memory) said = stopped_ends service port served before middle after same hands (inr closed) said

@@ -21,15 +21,15 @@ use Rattle.unl_edge.specs.declared.ends.UpstreamEnd.TheVariants.{OutOfMemory as 
 use Rattle.unl_edge.specs.declared.status.Status.TheVariants as status
 use Rattle.unl_edge.proofs.Keeping.{all_taken, lines_keep, same_ending, silent}
 use Rattle.unl_edge.proofs.Named.{links_named}
-use Rattle.unl_exchange.specs.Answering.{Coming}
-use Rattle.unl_input.specs.declared.refusal.SayFault.TheVariants as say
+use Rattle.unl_server.specs.Handling.{Coming}
+use Rattle.unl_input.specs.declared.refusal.WriteLineFault.TheVariants as say
 use Rattle.unl_keeper.specs.Rows.{kept}
-use Rattle.unl_lines.specs.Lines.{lines}
-use Rattle.unl_lines.specs.Taken.{Ending, IsRefused, Outcome, done, outcome_of, refused}
-use Rattle.unl_lines.specs.declared.taking.LinesFault.TheVariants as line
-use Rattle.unl_lines.specs.Whole.{AnswersAll, IsRefusing, StandsOfRead}
-use Rattle.unl_lines.proofs.Silent.{prints_cause_alone}
-use Rattle.unl_lines.proofs.Whole.{stands_told}
+use Rattle.unl_input.specs.Lines.{lines}
+use Rattle.unl_input.specs.Taken.{Ending, IsRefused, Outcome, done, outcome_of, refused}
+use Rattle.unl_input.specs.declared.taking.LinesFault.TheVariants as line
+use Rattle.unl_input.specs.Whole.{AnswersAll, IsRefusing, HoldsOfRead}
+use Rattle.unl_input.proofs.Silent.{prints_cause_alone}
+use Rattle.unl_input.proofs.Whole.{stands_told}
 use Rattle.unl_tokens.specs.declared.token.Token.{Token}
 use Rattle.unl_upstream.specs.Kept.{HasKept, KeeperState, KeptState, acknowledged, commands_in, kept_commands, kept_rows, kept_state}
 use Rattle.unl_upstream.specs.Reopening.{IsSameKeeper, Reopens, rows_after}
@@ -39,7 +39,7 @@ use Rattle.unl_upstream.specs.declared.command.Command.{Command}
 use Rattle.unl_upstream.specs.declared.reopening.ReopenFault.{ReopenFault}
 use Rattle.unl_upstream.specs.declared.reopening.ReopenFault.TheVariants.{BadRow, NoRow, Fault, Memory}
 use Rattle.unl_words.specs.Lists.{are_different, are_environments, has_count}
-use Rattle.unl_words.specs.declared.words.UpstreamWords.{UpstreamWords}
+use Rattle.unl_words.specs.declared.words.UpstreamArguments.{UpstreamArguments}
 use Rattle.unl_words.proofs.Known.{others_differ}
 
 -- ---- the links
@@ -235,7 +235,7 @@ ends_kept start port end made last before after is_made ends back = by_end end e
 -- ---- the draw before
 
 -- how an upstream ends after it took a draw
-pub runs_so : (words : UpstreamWords) (end : UpstreamEnd) (before after : Scene) (start : UpstreamState) (coming : Coming)
+pub runs_so : (words : UpstreamArguments) (end : UpstreamEnd) (before after : Scene) (start : UpstreamState) (coming : Coming)
     → Begins words before.draws start coming → UpstreamEnds start words.port end (record before { draws = coming }) after
     → UpstreamRuns words end before after
 runs_so words end before after start coming begins ends = by_end end ends
@@ -305,7 +305,7 @@ told_decide outcome (Some bytes) old new is = ap code_of (sym (refused_is (outco
 
 -- a refused line determines the exit code
 pub refusing_decides : {D : Type 0} (outcome : List ℕ → Outcome D) (left left_after old new : Option (List ℕ))
-    → StandsOfRead left left_after (λ bytes. IsRefusing (outcome bytes) old new)
+    → HoldsOfRead left left_after (λ bytes. IsRefusing (outcome bytes) old new)
     → IfSome left (λ bytes. 3 ≡ code_of (ending_status (outcome bytes).ending))
 refusing_decides outcome left left_after old new is =
     told_decide outcome left old new (stands_told (λ bytes. IsRefusing (outcome bytes) old new) left left_after is)
@@ -382,7 +382,7 @@ kept_decided start port made last (Links DoorFault) held left left_after before 
 kept_decided start port made last (Links OutOfMemory) held left left_after before after is_made ends caused read write door keep memory = absurd (memory refl)
 
 -- the lines determine the exit code of an upstream
-pub upstream_decided : {Read Write Door Keep : Type 0} (words : UpstreamWords) (end : UpstreamEnd)
+pub upstream_decided : {Read Write Door Keep : Type 0} (words : UpstreamArguments) (end : UpstreamEnd)
     (before after : Scene) → UpstreamRuns words end before after → Caused (upstream_status end) Read Write Door Keep
     → ¬ Read → ¬ Write → ¬ Door → ¬ Keep → code_of (upstream_status end) ≢ 6
     → IsDecidedByLines words (code_of (upstream_status end)) before

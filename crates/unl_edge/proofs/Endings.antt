@@ -3,7 +3,7 @@ use Rattle.std.proofs.Common.{◌≡◌, ◌≢◌, ℕ, ◌==◌, List, cond, O
 use Rattle.unl_base.specs.declared.draws.Draw.{Draw}
 use Rattle.unl_documents.specs.Reading.{Reading}
 use Rattle.unl_documents.specs.Results.{Gives}
-use Rattle.unl_edge.specs.Ends.{CheckEnds, Ended, Ends, HasCauses, IsDecided, SaysOfInput, explained_status, outcome_end}
+use Rattle.unl_edge.specs.Ends.{CheckEnds, Ended, Ends, HasCauses, IsDecided, PrintsReport, explained_status, outcome_end}
 use Rattle.unl_edge.specs.Follows.{ask_of, ends_in, subject_of}
 use Rattle.unl_edge.specs.Scene.{Scene}
 use Rattle.unl_edge.specs.Status.{Caused, FailsToKeep, IsCaused, check_status, code_of, ending_status, explain_status, follow_status, lines_status, load_status, serving_status, words_status}
@@ -26,9 +26,9 @@ use Rattle.unl_follow.specs.declared.fault.FollowFault.TheVariants as follow
 use Rattle.unl_follow.proofs.Turning.{none_made}
 use Rattle.unl_input.proofs.Outcomes.{decides}
 use Rattle.unl_input.specs.Answer.{ComesTo, Outcome, outcome_of}
-use Rattle.unl_lines.specs.Whole.{TakesLines}
-use Rattle.unl_lines.specs.declared.taking.LinesFault.{LinesFault}
-use Rattle.unl_lines.specs.declared.taking.LinesFault.TheVariants as lines
+use Rattle.unl_input.specs.Whole.{TakesLines}
+use Rattle.unl_input.specs.declared.taking.LinesFault.{LinesFault}
+use Rattle.unl_input.specs.declared.taking.LinesFault.TheVariants as lines
 use Rattle.unl_load.specs.declared.fault.LoadFault.{LoadFault}
 use Rattle.unl_load.specs.declared.fault.LoadFault.TheVariants as load
 use Rattle.unl_replay.specs.Replay.{line_answer, opening, replay_of}
@@ -126,7 +126,7 @@ check_code : Outcome Report → ℕ
 check_code outcome = code_of (check_status (outcome_end outcome))
 
 -- the text sent about the input determines the exit code
-said_decides : (draw : Draw) (end : CheckEnd) (left left_after old new : Option (List ℕ)) → SaysOfInput draw end left left_after old new
+said_decides : (draw : Draw) (end : CheckEnd) (left left_after old new : Option (List ℕ)) → PrintsReport draw end left left_after old new
     → IfSome left (λ bytes. code_of (check_status end) ≡ code_of (check_status (outcome_end (report_of draw bytes))))
 unfolding check_code
 said_decides draw end left left_after old new told =

@@ -11,7 +11,7 @@ use Rattle.std.proofs.lemmas.List.{length-map}
 use Rattle.std.proofs.lemmas.List.Elements.{All-cons, All-nil}
 use Rattle.clap.proofs.WalkLemmas.{both}
 use Rattle.unl_core.specs.Board.{AreDifferent, empty_slot}
-use Rattle.unl_core.specs.Standing.{place_at}
+use Rattle.unl_core.specs.DeskStates.{place_at}
 use Rattle.unl_documents.specs.Texts.{has_bytes}
 use Rattle.unl_http_api.specs.RequestText.{fits_line}
 use Rattle.unl_tokens.specs.Scopes.{scope_of}

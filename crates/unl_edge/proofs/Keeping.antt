@@ -5,16 +5,16 @@ use Rattle.std.proofs.lemmas.Bool.Decides.{nat_tests}
 use Rattle.unl_documents.specs.Reading.{Reading}
 use Rattle.unl_edge.specs.Keeping.{Shelf, SpellKept, kept_as, kept_by, kept_line, keeping, refusal_name, with_command}
 use Rattle.unl_edge.specs.Upstreams.{obeying}
-use Rattle.unl_lines.specs.Laws.{IsSilent}
-use Rattle.unl_lines.specs.Lines.{lines}
-use Rattle.unl_lines.specs.Reading.{longest_line}
-use Rattle.unl_lines.specs.Taken.{LineResult, Outcome, Taken, Taking, done, followed, most_lines, outcome_of, refused, take_from, take_line}
-use Rattle.unl_lines.proofs.Silent.{prints_cause_alone}
+use Rattle.unl_input.specs.Laws.{IsSilent}
+use Rattle.unl_input.specs.Lines.{lines}
+use Rattle.unl_input.specs.Reading.{longest_line}
+use Rattle.unl_input.specs.Taken.{LineResult, Outcome, Taken, Taking, done, followed, most_lines, outcome_of, refused, take_from, take_line}
+use Rattle.unl_input.proofs.Silent.{prints_cause_alone}
 use Rattle.unl_upstream.specs.Command.{command_in}
 use Rattle.unl_upstream.specs.History.{accepted, after_commands, if_accepted, up_after}
 use Rattle.unl_upstream.specs.Kept.{most_rows, with_room}
 use Rattle.unl_edge.specs.PlainLines.{obeyed_as, obeyed_by, obeyed_line, refusal_name as plain_name}
-use Rattle.unl_upstream.specs.Upstream.{Obeyed, Obeying, UpstreamState, commanded, refused_as}
+use Rattle.unl_upstream.specs.Upstream.{AppliedCommand, CommandResult, UpstreamState, apply_command, refused_as}
 use Rattle.unl_upstream.proofs.Carrying.{both_behind}
 use Rattle.unl_upstream.specs.declared.command.Command.{Command}
 use Rattle.unl_upstream.specs.declared.refusal.CommandRefusal.{CommandRefusal}
@@ -28,14 +28,14 @@ use Rattle.unl_upstream.specs.declared.refusal.KeepCommandRefusal.TheVariants.{N
 -- ---- lines that print nothing
 
 -- a command that is kept prints nothing
-kept_silent : (command : Command) (shelf : Shelf) (comes : Result Obeyed KeepCommandRefusal) (taken : Taken Shelf) → kept_as command shelf comes ≡ Ok taken
+kept_silent : (command : Command) (shelf : Shelf) (comes : Result AppliedCommand KeepCommandRefusal) (taken : Taken Shelf) → kept_as command shelf comes ≡ Ok taken
     → taken.text ≡ []
 kept_silent command shelf (Ok obeyed) taken is =
     let same : record { text = []; desk = with_command command obeyed shelf } ≡ taken = cc is in ap (λ (t : Taken Shelf). t.text) (sym same)
 kept_silent command shelf (Err refusal) taken is = absurd (cc is)
 
 read_silent : (shelf : Shelf) (reading : Reading Command) (taken : Taken Shelf) → kept_by shelf reading ≡ Ok taken → taken.text ≡ []
-read_silent shelf (Ok command) taken is = kept_silent command shelf (with_room shelf.count (commanded command shelf.up)) taken is
+read_silent shelf (Ok command) taken is = kept_silent command shelf (with_room shelf.count (apply_command command shelf.up)) taken is
 read_silent shelf (Err fault) taken is = absurd (cc is)
 
 pub silent : IsSilent keeping
@@ -54,9 +54,9 @@ all_taken {D} taking start last read silent ending leaves =
 -- a line holds a command that is accepted and kept
 record KeepsOne (shelf : Shelf) (line : List ℕ) (now : Shelf) : Type 0 where
   pub command : Command
-  pub obeyed : Obeyed
+  pub obeyed : AppliedCommand
   pub spelled : command_in line ≡ Ok command
-  pub accepts : commanded command shelf.up ≡ Ok obeyed
+  pub accepts : apply_command command shelf.up ≡ Ok obeyed
   pub leads : with_command command obeyed shelf ≡ now
 
 -- the state after a line, if it isn't refused
@@ -68,7 +68,7 @@ keeps_one : (shelf : Shelf) (line : List ℕ) (taken : Taken Shelf) → kept_lin
 unfolding kept_line
 keeps_one shelf line taken is = decided (command_in line) refl is
   where
-    roomy : (command : Command) (obeyed : Obeyed) (t : Bool) → command_in line ≡ Ok command → commanded command shelf.up ≡ Ok obeyed
+    roomy : (command : Command) (obeyed : AppliedCommand) (t : Bool) → command_in line ≡ Ok command → apply_command command shelf.up ≡ Ok obeyed
         → kept_as command shelf (cond t (Ok obeyed) (Err (KeeperFull shelf.count))) ≡ Ok taken → KeepsOne shelf line taken.desk
     roomy command obeyed true spelled accepts is = record {
       command = command;
@@ -79,13 +79,13 @@ keeps_one shelf line taken is = decided (command_in line) refl is
     }
     roomy command obeyed false spelled accepts is = absurd (cc is)
 
-    keeps : (command : Command) (o : Obeying Obeyed) → command_in line ≡ Ok command → commanded command shelf.up ≡ o
+    keeps : (command : Command) (o : CommandResult AppliedCommand) → command_in line ≡ Ok command → apply_command command shelf.up ≡ o
         → kept_as command shelf (with_room shelf.count o) ≡ Ok taken → KeepsOne shelf line taken.desk
     keeps command (Ok obeyed) spelled accepts is = roomy command obeyed (ltb shelf.count most_rows) spelled accepts is
     keeps command (Err refusal) spelled accepts is = absurd (cc is)
 
     decided : (r : Reading Command) → command_in line ≡ r → kept_by shelf r ≡ Ok taken → KeepsOne shelf line taken.desk
-    decided (Ok command) spelled is = keeps command (commanded command shelf.up) spelled refl is
+    decided (Ok command) spelled is = keeps command (apply_command command shelf.up) spelled refl is
     decided (Err fault) spelled is = absurd (cc is)
 
 -- the lines from line `k` on
@@ -100,10 +100,10 @@ keeps_more shelf line more now last one others =
     let count : shelf.count + 1 ≡ now.count = ap (λ (s : Shelf). s.count) one.leads in record {
       commands = one.command ∷ others.commands;
       spelled = λ i. one.spelled i ∷ others.spelled i;
-      all_accepted = ap (λ (o : Obeying Obeyed). if_accepted one.command o (accepted others.commands (up_after shelf.up o))) one.accepts
+      all_accepted = ap (λ (o : CommandResult AppliedCommand). if_accepted one.command o (accepted others.commands (up_after shelf.up o))) one.accepts
           ∙ ap (λ (u : UpstreamState). one.command ∷ accepted others.commands u) up
           ∙ ap (λ (cs : List Command). one.command ∷ cs) others.all_accepted;
-      leads = others.leads ∙ sym (ap (λ (o : Obeying Obeyed). after_commands others.commands (up_after shelf.up o)) one.accepts ∙ ap (after_commands others.commands) up);
+      leads = others.leads ∙ sym (ap (λ (o : CommandResult AppliedCommand). after_commands others.commands (up_after shelf.up o)) one.accepts ∙ ap (after_commands others.commands) up);
       counted = omega (arith, others.counted, count);
       kept = others.kept ∙ ap (λ (s : Shelf). option_map (λ kept. kept ++ others.commands) s.commands) (sym one.leads)
           ∙ both_behind (one.command ∷ []) others.commands shelf.commands;
@@ -173,13 +173,13 @@ line_same : (k : ℕ) (shelf : Shelf) (line : List ℕ) (more : List (List ℕ))
 unfolding kept_line obeyed_line
 line_same k shelf line more room later = by_reading (command_in line)
   where
-    roomy : (command : Command) (obeyed : Obeyed) (t : Bool) → ltb shelf.count most_rows ≡ t
+    roomy : (command : Command) (obeyed : AppliedCommand) (t : Bool) → ltb shelf.count most_rows ≡ t
         → (followed k shelf (kept_as command shelf (cond t (Ok obeyed) (Err (KeeperFull shelf.count)))) (rest_from (k + 1) more)).ending
         ≡ (plain_from (k + 1) more obeyed.up).ending
     roomy command obeyed true is = later (with_command command obeyed shelf) refl
     roomy command obeyed false is = absurd (grind (arith, nat_tests, room, is))
 
-    by_command : (command : Command) (o : Obeying Obeyed)
+    by_command : (command : Command) (o : CommandResult AppliedCommand)
         → (followed k shelf (kept_as command shelf (with_room shelf.count o)) (rest_from (k + 1) more)).ending
         ≡ (followed k shelf.up (obeyed_as o) (plain_from (k + 1) more)).ending
     by_command command (Ok obeyed) = roomy command obeyed (ltb shelf.count most_rows) refl
@@ -187,7 +187,7 @@ line_same k shelf line more room later = by_reading (command_in line)
 
     by_reading : (r : Reading Command) → (followed k shelf (kept_by shelf r) (rest_from (k + 1) more)).ending
         ≡ (followed k shelf.up (obeyed_by shelf.up r) (plain_from (k + 1) more)).ending
-    by_reading (Ok command) = by_command command (commanded command shelf.up)
+    by_reading (Ok command) = by_command command (apply_command command shelf.up)
     by_reading (Err fault) = refl
 
 same_step : (k : ℕ) (shelf : Shelf) (line : List ℕ) (more : List (List ℕ)) → shelf.count + 1 ≤ k → GoesOnSame k more shelf

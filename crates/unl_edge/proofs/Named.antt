@@ -2,11 +2,11 @@
 use Rattle.std.proofs.Common.{◌≡◌, ℕ, ◌++◌, ◌∙◌, List, Some, None, refl, sym, ap, subst, arith}
 use Rattle.std.specs.Prelude.{option_map}
 use Rattle.unl_edge.specs.Upstreams.{Facing, NamesLinks}
-use Rattle.unl_exchange.specs.Answering.{Coming}
-use Rattle.unl_exchange.specs.Linked.{ServesLinks, linking}
+use Rattle.unl_server.specs.Handling.{Coming}
+use Rattle.unl_server.specs.Linked.{ServesLinks, linking}
 use Rattle.unl_upstream.specs.declared.command.Command.{Command}
 use Rattle.unl_upstream.specs.Kept.{Carries, HasKept, KeptState, acknowledged, kept_commands}
-use Rattle.unl_upstream.specs.KeptHosting.{IsNamed, LinkServed, Linked, LinksName}
+use Rattle.unl_upstream.specs.KeptHosting.{IsNamed, LinkServed, Linked, AllLinksEffect}
 use Rattle.unl_upstream.specs.Served.{draws_after}
 use Rattle.unl_upstream.proofs.Carrying.{both_behind, carries_all}
 use Rattle.unl_upstream.proofs.KeptNaming.{links_are_named}
@@ -23,7 +23,7 @@ pub links_named : (opened kept last : KeptState) (commands : List Command) (befo
     → ServesLinks LinkServed (linking kept before.coming before.door) (linking last after.coming after.door) served links returned
     → NamesLinks opened commands kept last before after served links returned
 links_named opened kept last commands before after served links returned has keeps named serves =
-    let names : LinksName opened.up opened.keeper.count before.coming commands 0 kept serves.given_links serves.backs last after.coming =
+    let names : AllLinksEffect opened.up opened.keeper.count before.coming commands 0 kept serves.given_links serves.backs last after.coming =
     links_are_named opened.up opened.keeper.count before.coming commands 0 kept serves.given_links serves.backs last after.coming named
     (subst (λ (c : Coming). Linked kept c serves.given_links serves.backs last after.coming) (none_gone before.coming) serves.linked) in
     let carries : Carries names.tried kept last = carries_all names.tried kept last has names.keeps in record {

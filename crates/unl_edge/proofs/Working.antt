@@ -8,25 +8,25 @@ use Rattle.unl_base.specs.Faults.{Rose}
 use Rattle.unl_core.specs.declared.board.Board.{Board}
 use Rattle.unl_core.specs.declared.board.Install.{Install}
 use Rattle.unl_delta.specs.Installing.{Installed}
-use Rattle.unl_edge.specs.Attending.{HasLearned, IsOfOrigin, ReadsOnAt, ServesAt}
+use Rattle.unl_edge.specs.LinkHandling.{HasLearned, IsOfOrigin, ReadsOnAt, ServesAt}
 use Rattle.unl_edge.specs.Edges.{links_of}
-use Rattle.unl_edge.specs.Sites.{ServesLinks, ServesSite, Site, WorkBeside, Worker, Works, opened, site_at, worker_of}
-use Rattle.unl_edge.specs.declared.attending.EdgeAttendant.{EdgeAttendant}
+use Rattle.unl_edge.specs.EdgeServices.{ServesLinks, RunsService, EdgeService, WorkConcurrently, Worker, Works, opened, service_at, worker_of}
+use Rattle.unl_edge.specs.declared.attending.EdgeLinkHandler.{EdgeLinkHandler}
 use Rattle.unl_edge_state.specs.Editions.{BoardAt, opening_at}
 use Rattle.unl_edge_state.specs.Reading.{seen_by, told_to}
 use Rattle.unl_edge_state.specs.declared.reader.EdgeReader.{EdgeReader}
-use Rattle.unl_exchange.specs.Answering.{Coming}
-use Rattle.unl_published.specs.declared.knowledge.Knowledge.{Knowledge}
-use Rattle.unl_serve.specs.Notes.{Rise}
-use Rattle.unl_serve.specs.declared.served.ServedOne.{ServedOne}
-use Rattle.unl_upkeep.proofs.Connecting.{connects_still, none_before}
-use Rattle.unl_upkeep.specs.Connects.{Connects}
-use Rattle.unl_upkeep.specs.Feeding.{Feeding}
-use Rattle.unl_upkeep.specs.Turns.{MakesTurn, upkept}
-use Rattle.unl_workers.specs.Serving.{Attends, ServesMany, Serving, serving}
-use Rattle.unl_workers.specs.declared.serving.Beside.{Beside}
-use Rattle.unl_workers.specs.declared.serving.BesideFault.{BesideFault}
-use Rattle.unl_workers.specs.declared.worker.Post.{Post}
+use Rattle.unl_server.specs.Handling.{Coming}
+use Rattle.unl_publication.specs.declared.knowledge.Knowledge.{Knowledge}
+use Rattle.unl_connection.specs.Notes.{Rise}
+use Rattle.unl_connection.specs.declared.served.ServedOne.{ServedOne}
+use Rattle.unl_refresh.proofs.Connecting.{connects_still, none_before}
+use Rattle.unl_refresh.specs.Connects.{Connects}
+use Rattle.unl_refresh.specs.SlotParameters.{SlotParameters}
+use Rattle.unl_refresh.specs.Turns.{MakesTurn, poll_state}
+use Rattle.unl_workers.specs.Serving.{ServesSlot, ServesMany, Serving, serving}
+use Rattle.unl_workers.specs.declared.pool.PoolOutcome.{PoolOutcome}
+use Rattle.unl_workers.specs.declared.pool.PoolFault.{PoolFault}
+use Rattle.unl_workers.specs.declared.worker.WorkerSlot.{WorkerSlot}
 
 -- fronts that rise from one to another
 pub risen : (first last : ℕ) (ones : List ServedOne) → Rise first ones last → first ≤ last
@@ -34,11 +34,11 @@ risen first last [] rise = rise
 risen first last (one ∷ ones) rise = let later = risen one.front last ones rise.1 in omega (arith, rise.0, later)
 
 -- the worker of a serving state
-works_by : {W : Type 0} → Serving (EdgeAttendant W) → Worker
+works_by : {W : Type 0} → Serving (EdgeLinkHandler W) → Worker
 works_by serving = record { reader = serving.server.desk.reader; book = serving.server.book; coming = serving.coming }
 
 -- links that were served
-links_served : {W : Type 0} (n : ℕ) (before after : Serving (EdgeAttendant W)) → ServesMany ServesAt n before after
+links_served : {W : Type 0} (n : ℕ) (before after : Serving (EdgeLinkHandler W)) → ServesMany ServesAt n before after
     → ServesLinks n (works_by before) (works_by after)
 unfolding works_by
 links_served zero before after many = ap works_by many
@@ -47,47 +47,47 @@ links_served (suc n) before after many =
     (works_by many.0, links_served n before many.0 many.1, record { link = one.link; link_after = one.link_after; served = one.served })
 
 -- a slot that was served
-attended : {W R : Type 0} (coming_of : R → Coming) (before after : Post (EdgeAttendant W) R)
-    → Attends ServesAt ReadsOnAt coming_of before after → Works (worker_of coming_of before) (worker_of coming_of after)
+attended : {W R : Type 0} (coming_of : R → Coming) (before after : WorkerSlot (EdgeLinkHandler W) R)
+    → ServesSlot ServesAt ReadsOnAt coming_of before after → Works (worker_of coming_of before) (worker_of coming_of after)
 unfolding works_by
 attended coming_of before after attends =
     (after.links, links_served after.links (serving before.server (coming_of before.draws)) (serving after.server (coming_of after.draws)) attends.served)
 
 -- each of them
-all_attended : {W R : Type 0} (coming_of : R → Coming) (before after : List (Post (EdgeAttendant W) R))
-    → AllZip (Attends ServesAt ReadsOnAt coming_of) before after → AllZip Works (map (worker_of coming_of) before) (map (worker_of coming_of) after)
+all_attended : {W R : Type 0} (coming_of : R → Coming) (before after : List (WorkerSlot (EdgeLinkHandler W) R))
+    → AllZip (ServesSlot ServesAt ReadsOnAt coming_of) before after → AllZip Works (map (worker_of coming_of) before) (map (worker_of coming_of) after)
 all_attended coming_of [] [] all = tt
 all_attended coming_of [] (last ∷ after) all = absurd all
 all_attended coming_of (first ∷ before) [] all = absurd all
 all_attended coming_of (first ∷ before) (last ∷ after) all = (attended coming_of first last all.0, all_attended coming_of before after all.1)
 
 -- what their readers have learned
-all_told : {W R : Type 0} (coming_of : R → Coming) (known : Knowledge BoardAt Install) (posts : List (Post (EdgeAttendant W) R))
+all_told : {W R : Type 0} (coming_of : R → Coming) (known : Knowledge BoardAt Install) (posts : List (WorkerSlot (EdgeLinkHandler W) R))
     → All (λ post. HasLearned known post.server.desk.reader) posts
     → All (λ worker. length known.installs ≤ told_to worker.reader) (map (worker_of coming_of) posts)
 all_told coming_of known [] learned = All-nil (λ (worker : Worker). length known.installs ≤ told_to worker.reader)
 all_told {W} {R} coming_of known (post ∷ posts) learned =
     All-cons (λ (worker : Worker). length known.installs ≤ told_to worker.reader) (worker_of coming_of post) (map (worker_of coming_of) posts)
-    (All-head (λ (p : Post (EdgeAttendant W) R). HasLearned known p.server.desk.reader) post posts learned).least
-    (all_told coming_of known posts (All-tail (λ (p : Post (EdgeAttendant W) R). HasLearned known p.server.desk.reader) post posts learned))
+    (All-head (λ (p : WorkerSlot (EdgeLinkHandler W) R). HasLearned known p.server.desk.reader) post posts learned).least
+    (all_told coming_of known posts (All-tail (λ (p : WorkerSlot (EdgeLinkHandler W) R). HasLearned known p.server.desk.reader) post posts learned))
 
 -- and the first board of that
-all_open : {W R : Type 0} (coming_of : R → Coming) (known : Knowledge BoardAt Install) (posts : List (Post (EdgeAttendant W) R))
+all_open : {W R : Type 0} (coming_of : R → Coming) (known : Knowledge BoardAt Install) (posts : List (WorkerSlot (EdgeLinkHandler W) R))
     → All (λ post. HasLearned known post.server.desk.reader) posts
     → All (λ worker. (seen_by worker.reader).opening ≡ known.opening) (map (worker_of coming_of) posts)
 all_open coming_of known [] learned = All-nil (λ (worker : Worker). (seen_by worker.reader).opening ≡ known.opening)
 all_open {W} {R} coming_of known (post ∷ posts) learned =
     All-cons (λ (worker : Worker). (seen_by worker.reader).opening ≡ known.opening) (worker_of coming_of post) (map (worker_of coming_of) posts)
-    (All-head (λ (p : Post (EdgeAttendant W) R). HasLearned known p.server.desk.reader) post posts learned).opens
-    (all_open coming_of known posts (All-tail (λ (p : Post (EdgeAttendant W) R). HasLearned known p.server.desk.reader) post posts learned))
+    (All-head (λ (p : WorkerSlot (EdgeLinkHandler W) R). HasLearned known p.server.desk.reader) post posts learned).opens
+    (all_open coming_of known posts (All-tail (λ (p : WorkerSlot (EdgeLinkHandler W) R). HasLearned known p.server.desk.reader) post posts learned))
 
 -- one more slot has learned
-pub learned_more : {W R : Type 0} (known now : Knowledge BoardAt Install) (posts longer : List (Post (EdgeAttendant W) R)) (post : Post (EdgeAttendant W) R)
+pub learned_more : {W R : Type 0} (known now : Knowledge BoardAt Install) (posts longer : List (WorkerSlot (EdgeLinkHandler W) R)) (post : WorkerSlot (EdgeLinkHandler W) R)
     → now ≡ known → longer ≡ posts ++ post ∷ [] → All (λ post. HasLearned known post.server.desk.reader) posts → HasLearned now post.server.desk.reader
     → All (λ post. HasLearned known post.server.desk.reader) longer
 learned_more {W} {R} known now posts longer post same more learned one =
-    subst (λ (all : List (Post (EdgeAttendant W) R)). All (λ p. HasLearned known p.server.desk.reader) all) (sym more)
-    (All-push (λ (p : Post (EdgeAttendant W) R). HasLearned known p.server.desk.reader) posts post learned
+    subst (λ (all : List (WorkerSlot (EdgeLinkHandler W) R)). All (λ p. HasLearned known p.server.desk.reader) all) (sym more)
+    (All-push (λ (p : WorkerSlot (EdgeLinkHandler W) R). HasLearned known p.server.desk.reader) posts post learned
     (subst (λ (k : Knowledge BoardAt Install). HasLearned k post.server.desk.reader) same one))
 
 -- the readers after the first are of its origin
@@ -97,9 +97,9 @@ others_of known readers rest reader steps all =
     All-tail (IsOfOrigin known) reader rest (subst (λ (rs : List EdgeReader). All (IsOfOrigin known) rs) steps all)
 
 -- the workers worked concurrently
-work_beside : {W R : Type 0} (coming_of : R → Coming) (known : Knowledge BoardAt Install) (before after : List (Post (EdgeAttendant W) R))
+work_beside : {W R : Type 0} (coming_of : R → Coming) (known : Knowledge BoardAt Install) (before after : List (WorkerSlot (EdgeLinkHandler W) R))
     (workers : ℕ) → length before ≡ workers → All (λ post. HasLearned known post.server.desk.reader) before
-    → AllZip (Attends ServesAt ReadsOnAt coming_of) before after → WorkBeside workers known.opening (length known.installs)
+    → AllZip (ServesSlot ServesAt ReadsOnAt coming_of) before after → WorkConcurrently workers known.opening (length known.installs)
 work_beside coming_of known before after workers many learned all = record {
   begun = map (worker_of coming_of) before;
   ended = map (worker_of coming_of) after;
@@ -110,20 +110,20 @@ work_beside coming_of known before after workers many learned all = record {
 }
 
 -- the same, if serving ended well
-pub served_beside : {W R : Type 0} (coming_of : R → Coming) (known : Knowledge BoardAt Install) (before : List (Post (EdgeAttendant W) R)) (workers : ℕ)
-    (served : Result (Beside (EdgeAttendant W) R) BesideFault) (result : Result ℕ BesideFault) → result ≡ links_of served → length before ≡ workers
+pub served_beside : {W R : Type 0} (coming_of : R → Coming) (known : Knowledge BoardAt Install) (before : List (WorkerSlot (EdgeLinkHandler W) R)) (workers : ℕ)
+    (served : Result (PoolOutcome (EdgeLinkHandler W) R) PoolFault) (result : Result ℕ PoolFault) → result ≡ links_of served → length before ≡ workers
     → All (λ post. HasLearned known post.server.desk.reader) before
-    → IfOk served (λ beside. AllZip (Attends ServesAt ReadsOnAt coming_of) before beside.posts.items) → OnOk result (WorkBeside workers known.opening (length known.installs))
+    → IfOk served (λ beside. AllZip (ServesSlot ServesAt ReadsOnAt coming_of) before beside.posts.items) → OnOk result (WorkConcurrently workers known.opening (length known.installs))
 served_beside coming_of known before workers (Ok beside) result is many learned all =
-    subst (λ (r : Result ℕ BesideFault). OnOk r (WorkBeside workers known.opening (length known.installs))) (sym is)
+    subst (λ (r : Result ℕ PoolFault). OnOk r (WorkConcurrently workers known.opening (length known.installs))) (sym is)
     (work_beside coming_of known before beside.posts.items workers many learned all)
 served_beside coming_of known before workers (Err fault) result is many learned all =
-    subst (λ (r : Result ℕ BesideFault). OnOk r (WorkBeside workers known.opening (length known.installs))) (sym is) tt
+    subst (λ (r : Result ℕ PoolFault). OnOk r (WorkConcurrently workers known.opening (length known.installs))) (sym is) tt
 
 -- ---- an edge service
 
 -- the upstream was polled in the first turn, and then perhaps again
-pub asked_first : (slots places : ℕ) {replies later : Option (List (List ℕ))} (last : Option (List (List ℕ))) {faults middle : ℕ} (after : ℕ) (served : Result ℕ BesideFault)
+pub asked_first : (slots places : ℕ) {replies later : Option (List (List ℕ))} (last : Option (List (List ℕ))) {faults middle : ℕ} (after : ℕ) (served : Result ℕ PoolFault)
     → slots ≡ places → Connects (slots + 1) replies faults later middle → OnOk served (Connects 0 later middle last after)
     → OnOk served (Connects (places + 1) replies faults last after)
 asked_first slots places {replies} last {faults} after (Ok links) count first then =
@@ -131,22 +131,22 @@ asked_first slots places {replies} last {faults} after (Ok links) count first th
 asked_first slots places last after (Err fault) count first then = tt
 
 -- the first turn was made, and links were served after it
-pub site_served : (site : Site) (first : Installed) (replies later last : Option (List (List ℕ))) (faults middle after : ℕ)
-    (served : Result ℕ BesideFault)
-    → (¬ (Rose faults middle) → MakesTurn site.known site.feeders (upkept site.opening replies) (upkept first later))
-    → OnOk served (Connects 0 later middle last after) → OnOk served (WorkBeside site.workers site.edition first.front)
-    → OnOk served (ServesSite site replies faults after)
-site_served site first replies later last faults middle after (Ok links) turn then work =
+pub service_served : (service : EdgeService) (first : Installed) (replies later last : Option (List (List ℕ))) (faults middle after : ℕ)
+    (served : Result ℕ PoolFault)
+    → (¬ (Rose faults middle) → MakesTurn service.known service.slot_pollers (poll_state service.opening replies) (poll_state first later))
+    → OnOk served (Connects 0 later middle last after) → OnOk served (WorkConcurrently service.workers service.edition first.front)
+    → OnOk served (RunsService service replies faults after)
+service_served service first replies later last faults middle after (Ok links) turn then work =
     record { first = first; turn = λ none. (later, turn (none_before faults middle after then.later none)); work = work }
-site_served site first replies later last faults middle after (Err fault) turn then work = tt
+service_served service first replies later last faults middle after (Err fault) turn then work = tt
 
 -- the same edge service, by its parts
-pub same_site : (known : List (List ℕ)) (board : Board) (begun : Installed) (edition : Option BoardAt) (feeders : List Feeding)
-    (workers readers : ℕ) (replies : Option (List (List ℕ))) (faults after : ℕ) (served : Result ℕ BesideFault)
+pub same_site : (known : List (List ℕ)) (board : Board) (begun : Installed) (edition : Option BoardAt) (slot_pollers : List SlotParameters)
+    (workers readers : ℕ) (replies : Option (List (List ℕ))) (faults after : ℕ) (served : Result ℕ PoolFault)
     → begun ≡ opened board → edition ≡ Some (opening_at board) → readers ≡ workers
-    → OnOk served (ServesSite (record { known = known; opening = begun; edition = edition; feeders = feeders; workers = readers })
+    → OnOk served (RunsService (record { known = known; opening = begun; edition = edition; slot_pollers = slot_pollers; workers = readers })
     replies faults after)
-    → OnOk served (ServesSite (site_at known board feeders workers) replies faults after)
-same_site known board begun edition feeders workers readers replies faults after served same opens count serves =
-    subst (λ (site : Site). OnOk served (ServesSite site replies faults after))
-    (λ i. record { known = known; opening = same i; edition = opens i; feeders = feeders; workers = count i }) serves
+    → OnOk served (RunsService (service_at known board slot_pollers workers) replies faults after)
+same_site known board begun edition slot_pollers workers readers replies faults after served same opens count serves =
+    subst (λ (service : EdgeService). OnOk served (RunsService service replies faults after))
+    (λ i. record { known = known; opening = same i; edition = opens i; slot_pollers = slot_pollers; workers = count i }) serves

@@ -1,21 +1,21 @@
 -- How an edge ends: it polls its upstream and serves the links of its door.
 use Rattle.std.specs.Prelude.{◌≡◌, ◌⊎◌, ℕ, ◌+◌, ◌≤◌, List, Option, option_map, drop, length, IfSome, Result, Ok, Err}
-use Rattle.unl_base.specs.Doors.{CameAt, DoorState, IsClosed, IsClosedAt}
+use Rattle.unl_base.specs.Doors.{ServedOnlyAt, DoorState, IsClosed, IsClosedAt}
 use Rattle.unl_base.specs.Draws.{TakesDraw}
 use Rattle.unl_base.specs.Streams.{Sends, SendsFront}
 use Rattle.unl_base.specs.declared.draws.Draw.{Draw}
 use Rattle.unl_edge.specs.Scene.{Scene}
-use Rattle.unl_edge.specs.Sites.{ServesSite, Site, site_of}
+use Rattle.unl_edge.specs.EdgeServices.{RunsService, EdgeService, service_of}
 use Rattle.unl_edge.specs.Upstreams.{connections_line}
 use Rattle.unl_edge.specs.declared.ends.ServingEnd.{ServingEnd}
 use Rattle.unl_edge.specs.declared.ends.ServingEnd.TheVariants.{Closed, WriteFault, DoorFault, OutOfMemory}
-use Rattle.unl_exchange.specs.Answering.{Coming}
-use Rattle.unl_upkeep.specs.Connects.{Connects}
-use Rattle.unl_words.specs.declared.words.EdgeWords.{EdgeWords}
+use Rattle.unl_server.specs.Handling.{Coming}
+use Rattle.unl_refresh.specs.Connects.{Connects}
+use Rattle.unl_words.specs.declared.words.EdgeArguments.{EdgeArguments}
 use Rattle.unl_workers.specs.Accepting.{HandsOut}
-use Rattle.unl_workers.specs.declared.serving.Beside.{Beside}
-use Rattle.unl_workers.specs.declared.serving.BesideFault.{BesideFault}
-use Rattle.unl_workers.specs.declared.serving.BesideFault.TheVariants.{Door, Spawner, Memory}
+use Rattle.unl_workers.specs.declared.pool.PoolOutcome.{PoolOutcome}
+use Rattle.unl_workers.specs.declared.pool.PoolFault.{PoolFault}
+use Rattle.unl_workers.specs.declared.pool.PoolFault.TheVariants.{Door, Spawner, Memory}
 
 -- If `Connects 0` holds from any earlier state to this one, it also holds to the later one.
 abbrev pub GoesOn : (replies : Option (List (List ℕ))) (faults : ℕ) (replies_after : Option (List (List ℕ))) (faults_after : ℕ) → Type 0
@@ -28,17 +28,17 @@ abbrev pub AsksPeer : ℕ → Scene → Scene → Type 0
 AsksPeer least before after = Connects least before.peer.state.replies before.peer.faults after.peer.state.replies after.peer.faults
 
 -- the number of links handed out, or why serving ended
-abbrev pub links_of : {S R : Type 0} → Result (Beside S R) BesideFault → Result ℕ BesideFault
+abbrev pub links_of : {S R : Type 0} → Result (PoolOutcome S R) PoolFault → Result ℕ PoolFault
 links_of (Ok beside) = Ok beside.links
 links_of (Err fault) = Err fault
 
 -- `Ok`: the door handed out the number of links that is returned, and is closed. `Door`: it handed out some. If no thread could
 -- be started or memory ran out, the door is unchanged. No link comes back: the worker that served it drops it.
-abbrev pub HandsOver : {A : Type 0} → (A → ℕ) → Result A BesideFault → DoorState → DoorState → Type 0
-HandsOver links (Ok done) before after = HandsOut (links done) before after × IsClosed after
-HandsOver links (Err Door) before after = (n : ℕ) × HandsOut n before after
-HandsOver links (Err Spawner) before after = after ≡ before
-HandsOver links (Err Memory) before after = after ≡ before
+abbrev pub HandsOutLinks : {A : Type 0} → (A → ℕ) → Result A PoolFault → DoorState → DoorState → Type 0
+HandsOutLinks links (Ok done) before after = HandsOut (links done) before after × IsClosed after
+HandsOutLinks links (Err Door) before after = (n : ℕ) × HandsOut n before after
+HandsOutLinks links (Err Spawner) before after = after ≡ before
+HandsOutLinks links (Err Memory) before after = after ≡ before
 
 -- `served` of the links to come were handed out, none came back, and nothing of the input was read.
 pub record HandsLinks (served : ℕ) (before after : Scene) : Type 0 where
@@ -49,9 +49,9 @@ pub record HandsLinks (served : ℕ) (before after : Scene) : Type 0 where
   pub unread : after.input.left ≡ before.input.left
 
 -- The peer was asked for the book and for each slot at least once, and links were served after the first turn.
-abbrev pub IsServed : Site → Scene → Scene → Type 0
-IsServed site before after = AsksPeer (length site.opening.places + 1) before after
-    × ServesSite site before.peer.state.replies before.peer.faults after.peer.faults
+abbrev pub IsServed : EdgeService → Scene → Scene → Type 0
+IsServed service before after = AsksPeer (length service.opening.places + 1) before after
+    × RunsService service before.peer.state.replies before.peer.faults after.peer.faults
 
 -- Memory ran out before the first link was handed out, or for the last line once the door was closed; nothing was sent.
 abbrev pub StopsForMemory : ℕ → Scene → Scene → Type 0
@@ -62,26 +62,26 @@ StopsForMemory port before after =
 -- How an edge ends, with a door that is to listen at this port. The door was closed there, and the last line or a prefix of it
 -- was sent; before that, the upstream was asked for the book and for each slot at least once, and then links were served. Or
 -- the door failed, a thread couldn't be started, or memory ran out, and nothing was sent.
-abbrev pub EdgeEnds : Site → ℕ → ServingEnd → Scene → Scene → Type 0
-EdgeEnds site port Closed before after =
-    (served : ℕ) × HandsLinks served before after × IsServed site before after
+abbrev pub EdgeEnds : EdgeService → ℕ → ServingEnd → Scene → Scene → Type 0
+EdgeEnds service port Closed before after =
+    (served : ℕ) × HandsLinks served before after × IsServed service before after
     × Sends before.output.sent (connections_line served) after.output.sent × IsClosedAt port after.door.state
-EdgeEnds site port WriteFault before after =
-    (served : ℕ) × HandsLinks served before after × IsServed site before after
+EdgeEnds service port WriteFault before after =
+    (served : ℕ) × HandsLinks served before after × IsServed service before after
     × SendsFront before.output.sent (connections_line served) after.output.sent × IsClosedAt port after.door.state
-EdgeEnds site port DoorFault before after =
-    (served : ℕ) × HandsLinks served before after × CameAt port served after.door.state × (after.output.sent ≡ before.output.sent)
-EdgeEnds site port OutOfMemory before after = StopsForMemory port before after
+EdgeEnds service port DoorFault before after =
+    (served : ℕ) × HandsLinks served before after × ServedOnlyAt port served after.door.state × (after.output.sent ≡ before.output.sent)
+EdgeEnds service port OutOfMemory before after = StopsForMemory port before after
 
 -- an edge with these arguments takes a draw for its boot number, and ends like this
-pub record RunsEdge (words : EdgeWords) (end : ServingEnd) (before after : Scene) : Type 0 where
+pub record RunsEdge (words : EdgeArguments) (end : ServingEnd) (before after : Scene) : Type 0 where
   pub draw : Draw
   pub coming : Coming
   pub taken : TakesDraw before.draws draw coming
-  pub ends : EdgeEnds (site_of words draw.word) words.port end (record before { draws = coming }) after
+  pub ends : EdgeEnds (service_of words draw.word) words.port end (record before { draws = coming }) after
 
 -- how an edge with these arguments ends
-abbrev pub EdgeRuns : EdgeWords → ServingEnd → Scene → Scene → Type 0
+abbrev pub EdgeRuns : EdgeArguments → ServingEnd → Scene → Scene → Type 0
 EdgeRuns words Closed before after = RunsEdge words Closed before after
 EdgeRuns words WriteFault before after = RunsEdge words WriteFault before after
 EdgeRuns words DoorFault before after = RunsEdge words DoorFault before after

@@ -18,9 +18,9 @@ use Rattle.unl_edge.specs.declared.status.Status.{Status}
 use Rattle.unl_edge.specs.declared.status.Status.TheVariants as status
 use Rattle.unl_explain.specs.Running.{Explains, explained}
 use Rattle.unl_input.specs.Answer.{Outcome, Says, SaysFront, outcome_of}
-use Rattle.unl_input.specs.declared.refusal.SayFault.{SayFault}
-use Rattle.unl_input.specs.declared.refusal.SayFault.TheVariants as say
-use Rattle.unl_lines.specs.Whole.{TakesLines}
+use Rattle.unl_input.specs.declared.refusal.WriteLineFault.{WriteLineFault}
+use Rattle.unl_input.specs.declared.refusal.WriteLineFault.TheVariants as say
+use Rattle.unl_input.specs.Whole.{TakesLines}
 use Rattle.unl_load.specs.Line.{load_line}
 use Rattle.unl_load.specs.declared.fault.LoadFault.{LoadFault}
 use Rattle.unl_load.specs.declared.fault.LoadFault.TheVariants as load
@@ -43,13 +43,13 @@ outcome_end (Ok report) = report_end report.failed
 outcome_end (Err refusal) = Refused
 
 -- the outcome of a check with a refused input, from the result of printing the cause
-abbrev pub refused_end : Result (Unit {0}) SayFault → CheckEnd
+abbrev pub refused_end : Result (Unit {0}) WriteLineFault → CheckEnd
 refused_end (Ok u) = Refused
 refused_end (Err say.WriteFault) = WriteFault
 refused_end (Err say.Memory) = OutOfMemory
 
 -- The input was read, and its report or the cause of its refusal was sent in full. That determines the outcome.
-pub record SaysOfInput (draw : Draw) (end : CheckEnd) (left left_after old new : Option (List ℕ)) : Type 0 where
+pub record PrintsReport (draw : Draw) (end : CheckEnd) (left left_after old new : Option (List ℕ)) : Type 0 where
   pub outcome : Outcome Report
   pub says : Says (accepted draw) text_of outcome left left_after old new
   pub ends : end ≡ outcome_end outcome
@@ -57,9 +57,9 @@ pub record SaysOfInput (draw : Draw) (end : CheckEnd) (left left_after old new :
 -- How a check ends, even if the input's bytes are not observable. If the input failed or memory ran out, nothing was sent; if the
 -- output failed, a prefix of the text was sent.
 abbrev pub CheckEnds : Draw → CheckEnd → Option (List ℕ) → Option (List ℕ) → Option (List ℕ) → Option (List ℕ) → Type 0
-CheckEnds draw Passed left left_after old new = SaysOfInput draw Passed left left_after old new
-CheckEnds draw TestsFailed left left_after old new = SaysOfInput draw TestsFailed left left_after old new
-CheckEnds draw Refused left left_after old new = SaysOfInput draw Refused left left_after old new
+CheckEnds draw Passed left left_after old new = PrintsReport draw Passed left left_after old new
+CheckEnds draw TestsFailed left left_after old new = PrintsReport draw TestsFailed left left_after old new
+CheckEnds draw Refused left left_after old new = PrintsReport draw Refused left left_after old new
 CheckEnds draw ReadFault left left_after old new = new ≡ old
 CheckEnds draw WriteFault left left_after old new =
     (outcome : Outcome Report) × SaysFront (accepted draw) text_of outcome left left_after old new
@@ -80,10 +80,10 @@ abbrev pub bad_words : List ℕ
 bad_words = codes "unl_edge: bad words\n"
 
 -- It was sent, or a prefix of it; or memory ran out before the arguments were read, and nothing was sent.
-abbrev pub SaysBadWords : WordsEnd → Option (List ℕ) → Option (List ℕ) → Type 0
-SaysBadWords words.Bad old new = Sends old bad_words new
-SaysBadWords words.WriteFault old new = SendsFront old bad_words new
-SaysBadWords words.OutOfMemory old new = new ≡ old
+abbrev pub PrintsBadWords : WordsEnd → Option (List ℕ) → Option (List ℕ) → Type 0
+PrintsBadWords words.Bad old new = Sends old bad_words new
+PrintsBadWords words.WriteFault old new = SendsFront old bad_words new
+PrintsBadWords words.OutOfMemory old new = new ≡ old
 
 -- ---- the program
 
@@ -113,7 +113,7 @@ Ends (Ok (Follow replica)) status before after =
     Ended follow_status (λ end. FollowEnds replica end before after) status
 Ends (Ok (Load seed count)) status before after =
     Ended load_status (λ end. LoadEnds seed count end before.output.sent after.output.sent) status
-Ends (Err Bad) status before after = Ended words_status (λ end. SaysBadWords end before.output.sent after.output.sent) status
+Ends (Err Bad) status before after = Ended words_status (λ end. PrintsBadWords end before.output.sent after.output.sent) status
 Ends (Err Memory) s before after = s ≡ status.OutOfMemory
 
 -- the exit code is that of a status with which the program ended

@@ -2,11 +2,11 @@
 use Rattle.std.specs.Prelude.{◌≡◌, ⊤, ℕ, ◌+◌, List, [], ◌∷◌, ◌++◌, length, map, codes, Option, option_map, Result, Ok, Err}
 use Rattle.unl_documents.specs.FaultText.{fault_text}
 use Rattle.unl_documents.specs.Reading.{Reading}
-use Rattle.unl_lines.specs.Taken.{LineResult, Taking}
+use Rattle.unl_input.specs.Taken.{LineResult, Taking}
 use Rattle.unl_upstream.specs.Command.{command_in}
 use Rattle.unl_upstream.specs.History.{accepted, after_commands}
 use Rattle.unl_upstream.specs.Kept.{KeptState, kept_commands, with_room}
-use Rattle.unl_upstream.specs.Upstream.{Obeyed, UpstreamState, commanded}
+use Rattle.unl_upstream.specs.Upstream.{AppliedCommand, UpstreamState, apply_command}
 use Rattle.unl_upstream.specs.declared.command.Command.{Command}
 use Rattle.unl_upstream.specs.declared.refusal.KeepCommandRefusal.{KeepCommandRefusal}
 use Rattle.unl_upstream.specs.declared.refusal.KeepCommandRefusal.TheVariants.{NoSuchEnvironment, NoSuchFeature}
@@ -33,7 +33,7 @@ refusal_name KeeperFault = []
 refusal_name Memory = []
 
 -- one more command was accepted and is kept
-abbrev pub with_command : Command → Obeyed → Shelf → Shelf
+abbrev pub with_command : Command → AppliedCommand → Shelf → Shelf
 with_command command obeyed shelf = record {
   up = obeyed.up;
   count = shelf.count + 1;
@@ -41,13 +41,13 @@ with_command command obeyed shelf = record {
 }
 
 -- a command that is kept prints nothing
-abbrev pub kept_as : Command → Shelf → Result Obeyed KeepCommandRefusal → LineResult Shelf
+abbrev pub kept_as : Command → Shelf → Result AppliedCommand KeepCommandRefusal → LineResult Shelf
 kept_as command shelf (Ok obeyed) = Ok (record { text = []; desk = with_command command obeyed shelf })
 kept_as command shelf (Err refusal) = Err (refusal_name refusal)
 
 -- the effect of keeping a command, unless the keeper fails or memory runs out
 abbrev pub kept_one : Command → Shelf → LineResult Shelf
-kept_one command shelf = kept_as command shelf (with_room shelf.count (commanded command shelf.up))
+kept_one command shelf = kept_as command shelf (with_room shelf.count (apply_command command shelf.up))
 
 -- the command of a line is kept, if it can be read
 abbrev pub kept_by : Shelf → Reading Command → LineResult Shelf
@@ -61,13 +61,6 @@ kept_line shelf line = kept_by shelf (command_in line)
 -- as `kept_line`, whatever the line's number
 abbrev pub keeping : Taking Shelf
 keeping number shelf line = kept_line shelf line
-
--- The effect of keeping a command. Nothing is claimed for a fault of the keeper or out of memory.
-abbrev pub KeepsIn : Command → Shelf → Result (Unit {0}) KeepCommandRefusal → Shelf → Type 0
-KeepsIn command before (Ok u) after = kept_one command before ≡ Ok (record { text = []; desk = after })
-KeepsIn command before (Err KeeperFault) after = ⊤
-KeepsIn command before (Err Memory) after = ⊤
-KeepsIn command before (Err refusal) after = kept_one command before ≡ Err (refusal_name refusal)
 
 -- The lines hold these commands, one each. All are accepted and lead to `after`, and they are kept after the earlier ones.
 pub record SpellKept (before : Shelf) (spelling : List (List ℕ)) (after : Shelf) : Type 0 where

@@ -2,7 +2,7 @@
 -- door.
 use Rattle.std.specs.Prelude.{◌≡◌, ◌≢◌, ◌⊎◌, ℕ, false, List, [], ◌++◌, codes, decimal, Option, Some, IfSome, Result, Ok, Err}
 use Rattle.std.specs.Prelude.{option_and_then, option_map}
-use Rattle.unl_base.specs.Doors.{CameAt, DoorState, IsClosedAt}
+use Rattle.unl_base.specs.Doors.{ServedOnlyAt, DoorState, IsClosedAt}
 use Rattle.unl_base.specs.Draws.{TakesDraw}
 use Rattle.unl_base.specs.Faults.{Rose}
 use Rattle.unl_base.specs.Streams.{HasEnded, Sends, SendsFront, Takes}
@@ -14,17 +14,17 @@ use Rattle.unl_edge.specs.declared.ends.ServingEnd.TheVariants.{Closed, WriteFau
 use Rattle.unl_edge.specs.declared.ends.UpstreamEnd.{UpstreamEnd}
 use Rattle.unl_edge.specs.declared.ends.UpstreamEnd.TheVariants.{OutOfMemory as NoMemory, KeeperFault, Row, Lines, Links}
 use Rattle.unl_edge.specs.Status.{code_of, ending_status}
-use Rattle.unl_input.specs.Refusal.{SaysLine}
-use Rattle.unl_input.specs.declared.refusal.SayFault.{SayFault}
-use Rattle.unl_input.specs.declared.refusal.SayFault.TheVariants as say
-use Rattle.unl_lines.specs.Lines.{lines}
-use Rattle.unl_lines.specs.Taken.{Taking, done, outcome_of}
-use Rattle.unl_lines.specs.Whole.{TakesLines}
-use Rattle.unl_lines.specs.declared.taking.LinesFault.TheVariants as line
-use Rattle.unl_exchange.specs.Answering.{Coming}
-use Rattle.unl_exchange.specs.Linked.{ServesLinks as ServesTold, linking}
-use Rattle.unl_upstream.specs.Kept.{HoldsOn, KeeperState, KeptState, acknowledged, commands_in, kept_commands, kept_rows, kept_state}
-use Rattle.unl_upstream.specs.KeptHosting.{Hosts, LinkServed, LinksName, NoKeeperFaults}
+use Rattle.unl_input.specs.Refusal.{WritesLine}
+use Rattle.unl_input.specs.declared.refusal.WriteLineFault.{WriteLineFault}
+use Rattle.unl_input.specs.declared.refusal.WriteLineFault.TheVariants as say
+use Rattle.unl_input.specs.Lines.{lines}
+use Rattle.unl_input.specs.Taken.{Taking, done, outcome_of}
+use Rattle.unl_input.specs.Whole.{TakesLines}
+use Rattle.unl_input.specs.declared.taking.LinesFault.TheVariants as line
+use Rattle.unl_server.specs.Handling.{Coming}
+use Rattle.unl_server.specs.Linked.{ServesLinks as ServesTold, linking}
+use Rattle.unl_upstream.specs.Kept.{AttemptsPreserve, KeeperState, KeptState, acknowledged, commands_in, kept_commands, kept_rows, kept_state}
+use Rattle.unl_upstream.specs.KeptHosting.{Hosts, LinkServed, AllLinksEffect, NoKeeperFaults}
 use Rattle.unl_edge.specs.PlainLines.{obeyed_line}
 use Rattle.unl_upstream.specs.Reopening.{IsOpening, IsSameKeeper, Reopens}
 use Rattle.unl_upstream.specs.Upstream.{UpstreamState, opening}
@@ -32,7 +32,7 @@ use Rattle.unl_upstream.specs.declared.command.Command.{Command}
 use Rattle.unl_upstream.specs.declared.reopening.ReopenFault.{ReopenFault}
 use Rattle.unl_upstream.specs.declared.reopening.ReopenFault.TheVariants.{BadRow, NoRow, Fault, Memory}
 use Rattle.unl_words.specs.OwnBook.{own_book}
-use Rattle.unl_words.specs.declared.words.UpstreamWords.{UpstreamWords}
+use Rattle.unl_words.specs.declared.words.UpstreamArguments.{UpstreamArguments}
 
 -- ---- the printed lines
 
@@ -45,7 +45,7 @@ abbrev pub row_line : ℕ → List ℕ
 row_line place = codes "refused: row " ++ (decimal place ++ codes "\n")
 
 -- the outcome of serving once the door is closed, from the result of printing the count of its links
-abbrev pub line_end : Result (Unit {0}) SayFault → ServingEnd
+abbrev pub line_end : Result (Unit {0}) WriteLineFault → ServingEnd
 line_end (Ok u) = Closed
 line_end (Err say.WriteFault) = WriteFault
 line_end (Err say.Memory) = OutOfMemory
@@ -77,7 +77,7 @@ pub record IsUntouched (before after : Facing) : Type 0 where
 -- keeper changed only by what was to be kept of the links.
 pub record ServesLinks (state last : KeptState) (before after : Facing) (served : ℕ) : Type 0 where
   pub hosts : Hosts (linking state before.coming before.door) (linking last after.coming after.door) served
-  pub carries : HoldsOn state last
+  pub carries : AttemptsPreserve state last
 
 -- How serving ends at a door that is to listen at this port: the door was closed, and the last line was sent, or a
 -- prefix of it, or nothing if out of memory; or the door failed.
@@ -89,7 +89,7 @@ LinksEnd state port WriteFault last before after =
     (served : ℕ) × ServesLinks state last before after served × SendsFront before.sent (connections_line served) after.sent
     × IsClosedAt port after.door
 LinksEnd state port DoorFault last before after =
-    (served : ℕ) × ServesLinks state last before after served × CameAt port served after.door × (after.sent ≡ before.sent)
+    (served : ℕ) × ServesLinks state last before after served × ServedOnlyAt port served after.door × (after.sent ≡ before.sent)
 LinksEnd state port OutOfMemory last before after =
     (served : ℕ) × ServesLinks state last before after served × (after.sent ≡ before.sent) × IsClosedAt port after.door
 
@@ -100,7 +100,7 @@ pub record NamesLinks
     (opened : KeptState) (commands : List Command) (kept last : KeptState) (before after : Facing) (served : ℕ)
     (links : List (List ℕ)) (returned : List (List ℕ × ℕ)) : Type 0 where
   pub serves : ServesTold LinkServed (linking kept before.coming before.door) (linking last after.coming after.door) served links returned
-  pub names : LinksName opened.up opened.keeper.count before.coming commands 0 kept serves.given_links serves.backs last after.coming
+  pub names : AllLinksEffect opened.up opened.keeper.count before.coming commands 0 kept serves.given_links serves.backs last after.coming
   pub keeps : kept_commands last.keeper ≡ option_map (λ kept. kept ++ names.commands_after) (kept_commands opened.keeper)
   pub calm : last.keeper.faults ≡ 0 → NoKeeperFaults opened.up opened.keeper.count before.coming commands 0 kept serves.given_links
       serves.backs names.commands_after names.gone_after last names.linked
@@ -146,7 +146,7 @@ LinesEnd opened port (Links WriteFault) last left left_after before after =
     (served : ℕ) × ServesAfterLines opened last left left_after before after served
     × SendsFront before.sent (connections_line served) after.sent × IsClosedAt port after.door
 LinesEnd opened port (Links DoorFault) last left left_after before after =
-    (served : ℕ) × ServesAfterLines opened last left left_after before after served × CameAt port served after.door
+    (served : ℕ) × ServesAfterLines opened last left left_after before after served × ServedOnlyAt port served after.door
     × (after.sent ≡ before.sent)
 LinesEnd opened port (Links OutOfMemory) last left left_after before after =
     (served : ℕ) × ServesAfterLines opened last left left_after before after served × (after.sent ≡ before.sent)
@@ -205,7 +205,7 @@ abbrev pub KeeperEnd : KeptState → ℕ → UpstreamEnd → KeeperState → Opt
 KeeperEnd start port NoMemory last left left_after before after = IsUntouched before after
 KeeperEnd start port KeeperFault last left left_after before after = after.door ≡ before.door
 KeeperEnd start port (Row told) last left left_after before after =
-    (place : ℕ) × RefusesRow start place × SaysLine told (row_line place) before.sent after.sent × (after.door ≡ before.door)
+    (place : ℕ) × RefusesRow start place × WritesLine told (row_line place) before.sent after.sent × (after.door ≡ before.door)
 KeeperEnd start port (Lines fault) last left left_after before after =
     EndsReopened start port (Lines fault) last left left_after before after
 KeeperEnd start port (Links end) last left left_after before after = EndsReopened start port (Links end) last left left_after before after
@@ -237,20 +237,20 @@ UpstreamEnds start port (Links end) before after = EndsKept start port (Links en
 -- ---- the command
 
 -- an upstream with these arguments begins, and takes a draw for its boot number
-pub record Begins (words : UpstreamWords) (coming : Coming) (start : UpstreamState) (coming_after : Coming) : Type 0 where
+pub record Begins (words : UpstreamArguments) (coming : Coming) (start : UpstreamState) (coming_after : Coming) : Type 0 where
   pub draw : Draw
   pub taken : TakesDraw coming draw coming_after
   pub opens : start ≡ opening draw.word words.secret words.environments (own_book words.client_tokens words.frontend_tokens) words.epoch
 
 -- an upstream with these arguments began, and ended like this
-pub record RunsUpstream (words : UpstreamWords) (end : UpstreamEnd) (before after : Scene) : Type 0 where
+pub record RunsUpstream (words : UpstreamArguments) (end : UpstreamEnd) (before after : Scene) : Type 0 where
   pub start : UpstreamState
   pub coming : Coming
   pub begins : Begins words before.draws start coming
   pub ends : UpstreamEnds start words.port end (record before { draws = coming }) after
 
 -- how an upstream with these arguments ends; if memory ran out before it took lines, nothing was sent and no link was handed out
-abbrev pub UpstreamRuns : UpstreamWords → UpstreamEnd → Scene → Scene → Type 0
+abbrev pub UpstreamRuns : UpstreamArguments → UpstreamEnd → Scene → Scene → Type 0
 UpstreamRuns words NoMemory before after = IsUntouched (facing_of before) (facing_of after)
 UpstreamRuns words KeeperFault before after = RunsUpstream words KeeperFault before after
 UpstreamRuns words (Row told) before after = RunsUpstream words (Row told) before after
@@ -272,7 +272,7 @@ IsDecidedFrom start code left =
 
 -- The exit code is that of how the lines end, from the start state with these arguments, reopened on a new keeper. If what the
 -- maker holds is observable, it is that of how they end without a keeper.
-pub record IsDecidedByLines (words : UpstreamWords) (code : ℕ) (before : Scene) : Type 0 where
+pub record IsDecidedByLines (words : UpstreamArguments) (code : ℕ) (before : Scene) : Type 0 where
   pub start : UpstreamState
   pub coming : Coming
   pub begins : Begins words before.draws start coming

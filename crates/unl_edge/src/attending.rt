@@ -4,25 +4,25 @@ ghost use Rattle.std.specs.Prelude.{◌≡◌, [], IfOk};
 use std::alloc::Global;
 use std::sync::{Mutex, Wait};
 use unl_base::{Draw, Draws, Link};
+use unl_connection::{Served, serve_connection};
 use unl_core::{Answer, Desk};
 use unl_documents::Memory;
 use unl_edge_state::EdgeReader;
-use unl_exchange::Server;
 use unl_http_api::Request;
 use unl_metrics::MetricsBook;
-use unl_serve::{Served, serve_connection};
-use unl_upkeep::hand_on;
-use unl_workers::Attendant;
+use unl_refresh::flush_into_shared;
+use unl_server::Server;
+use unl_workers::LinkHandler;
 
 /// A desk whose boards are never older than the last one its reader learned of.
 #[derive(Drop)]
-pub(crate) struct ToldDesk {
+pub(crate) struct FreshDesk {
     pub reader: EdgeReader,
 }
 
-impl Desk for ToldDesk {
+impl Desk for FreshDesk {
     ghost use Rattle.std.specs.Prelude.{Some};
-    ghost use Rattle.unl_edge.specs.Attending.{least_front};
+    ghost use Rattle.unl_edge.specs.LinkHandling.{least_front};
     ghost use Rattle.unl_edge_state.specs.Reading.{board_of, seen_by};
 
     ghost front = { λ desk. least_front desk.reader };
@@ -44,27 +44,27 @@ impl Desk for ToldDesk {
 /// Serves links over the published boards and passes on the metrics they report. It holds a desk, the metrics reported at it, a
 /// buffer for the notes of one connection, and the shared book that the metrics go to.
 #[derive(Drop)]
-pub(crate) struct EdgeAttendant<'a, W> {
-    pub desk: ToldDesk,
+pub(crate) struct EdgeLinkHandler<'a, W> {
+    pub desk: FreshDesk,
     pub book: MetricsBook,
     notes: Served,
     shared: &'a Mutex<MetricsBook>,
     rt: &'a W,
 }
 
-impl<'a, W> EdgeAttendant<'a, W> {
+impl<'a, W> EdgeLinkHandler<'a, W> {
     /// Creates the state for one worker, with no metrics.
     pub fn new(
         alloc: Global,
         rt: &'a W,
         shared: &'a Mutex<MetricsBook>,
         reader: EdgeReader,
-    ) -> Result<EdgeAttendant<'a, W>, Memory>
+    ) -> Result<EdgeLinkHandler<'a, W>, Memory>
         ensures { IfOk result (λ attendant. (attendant.desk.reader ≡ reader) × (attendant.book ≡ [])) }
     {
         let notes = Served::new(alloc)?;
-        Ok(EdgeAttendant {
-            desk: ToldDesk { reader },
+        Ok(EdgeLinkHandler {
+            desk: FreshDesk { reader },
             book: MetricsBook::new(alloc),
             notes,
             shared,
@@ -73,8 +73,8 @@ impl<'a, W> EdgeAttendant<'a, W> {
     }
 }
 
-impl<'a, W: Wait> Server for EdgeAttendant<'a, W> {
-    ghost use Rattle.unl_edge.specs.Attending.{ReadsOnAt, ServesAt};
+impl<'a, W: Wait> Server for EdgeLinkHandler<'a, W> {
+    ghost use Rattle.unl_edge.specs.LinkHandling.{ReadsOnAt, ServesAt};
     ghost use Rattle.std.proofs.Common.{rules};
 
     ghost fits = { λ server. Unit {0} };
@@ -93,7 +93,7 @@ impl<'a, W: Wait> Server for EdgeAttendant<'a, W> {
             draws,
             &mut self.notes,
         );
-        hand_on(alloc, self.rt, self.shared, &mut self.book);
+        flush_into_shared(alloc, self.rt, self.shared, &mut self.book);
     }
 
     ghost keeps_itself = { Prim.search rules };
@@ -101,6 +101,6 @@ impl<'a, W: Wait> Server for EdgeAttendant<'a, W> {
     ghost keeps_on = { Prim.search rules };
 }
 
-impl<'a, W: Wait> Attendant for EdgeAttendant<'a, W> {
+impl<'a, W: Wait> LinkHandler for EdgeLinkHandler<'a, W> {
     ghost always = { λ server. tt };
 }

@@ -1,14 +1,14 @@
 //! Proofs that the parts of a worker's state are `Send`. They are proved part by part, since one proof search over all of them
 //! times out.
 ghost use Rattle.std.specs.Thread.{IsSend};
-ghost use Rattle.unl_edge.specs.contracts.attending.ToldDesk as DeskType;
+ghost use Rattle.unl_edge.specs.contracts.attending.FreshDesk as DeskType;
 ghost use Rattle.unl_metrics.specs.contracts.book.MetricsBook as BookType;
-ghost use Rattle.unl_serve.specs.contracts.served.Served as NotesType;
+ghost use Rattle.unl_connection.specs.contracts.served.Served as NotesType;
 
-use crate::attending::ToldDesk;
-use unl_edge_state::readers_cross;
+use crate::attending::FreshDesk;
+use unl_connection::Served;
+use unl_edge_state::readers_are_send;
 use unl_metrics::MetricsBook;
-use unl_serve::Served;
 
 /// States that `T` is `Send`.
 fn send_of<T: Send>()
@@ -19,8 +19,8 @@ fn send_of<T: Send>()
 fn desks_cross()
     ensures { IsSend DeskType.the_row }
 {
-    readers_cross();
-    send_of::<ToldDesk>()
+    readers_are_send();
+    send_of::<FreshDesk>()
 }
 
 /// A metrics book is `Send`.
@@ -39,7 +39,7 @@ fn notes_cross()
 
 /// The parts of a worker's state are `Send`. Callers that move one to another thread call this first, to have the facts. It does
 /// nothing at run time.
-pub(crate) fn attendants_cross()
+pub(crate) fn worker_parts_are_send()
     ensures desk { IsSend DeskType.the_row }
     ensures book { IsSend BookType.the_row }
     ensures notes { IsSend NotesType.the_row }

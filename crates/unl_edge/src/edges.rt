@@ -4,15 +4,15 @@ ghost use Rattle.unl_base.specs.Faults.{Rose};
 ghost use Rattle.unl_core.specs.Board.{AreSlots};
 ghost use Rattle.unl_edge.specs.Edges.{EdgeEnds, EdgeRuns};
 ghost use Rattle.unl_edge.specs.Scene.{ServingFailed};
-ghost use Rattle.unl_edge.specs.Sites.{begun_board, opened, site_at};
+ghost use Rattle.unl_edge.specs.EdgeServices.{begun_board, opened, service_at};
 ghost use Rattle.unl_edge.specs.Status.{Caused, serving_status};
-ghost use Rattle.unl_upkeep.specs.Feeding.{feedings};
+ghost use Rattle.unl_refresh.specs.SlotParameters.{slot_parameters};
 ghost use Rattle.unl_words.specs.Lists.{are_upstream_tokens, environment_of};
 ghost use Rattle.unl_words.specs.Ranges.{IsEdge};
 
+use crate::edge_service::serve_service;
 use crate::ends::ServingEnd;
-use crate::site::serve_site;
-use crate::upstreams::say_connections;
+use crate::upstreams::print_connections;
 use crate::world::World;
 use std::alloc::Global;
 use std::sync::Wait;
@@ -20,15 +20,15 @@ use unl_base::{Door, Draws, Pace, Peer, Sink, Source, Spawner};
 use unl_core::Board;
 use unl_documents::{List, Memory, Text};
 use unl_keeper::KeepMaker;
-use unl_upkeep::Upkeep;
-use unl_words::{EdgeWords, token_environments};
-use unl_workers::BesideFault;
+use unl_refresh::Poller;
+use unl_words::{EdgeArguments, token_environments};
+use unl_workers::PoolFault;
 
 /// Runs an edge. The boot number of its board is the word of a draw. The upstream is polled once; then the workers serve the
 /// links that come to the port, concurrently, while the upstream is polled again at a pace.
 pub fn run_edge<I: Source, O: Sink, D: Door, P, R, T, S: Spawner, Q: KeepMaker, W: Wait + Sync>(
     alloc: Global,
-    words: &EdgeWords,
+    words: &EdgeArguments,
     world: &mut World<I, O, D, P, R, T, S, Q, W>,
 ) -> ServingEnd
 where
@@ -43,21 +43,21 @@ where
 {
     let boot = world.draws.draw().word;
     match begin_site(alloc, boot, words) {
-        Ok((board, upkeep)) => serve_links(alloc, words.port, words.workers, board, upkeep, world),
+        Ok((board, poller)) => serve_links(alloc, words.port, words.workers, board, poller, world),
         Err(Memory) => ServingEnd::OutOfMemory,
     }
 }
 
 /// Creates a board with an empty slot for each of the upstream's tokens, and the state that keeps it up to date.
 #[tactic(auto, using(crate::proofs::Fitting::address_fits, crate::proofs::Fitting::tokens_fit, crate::proofs::Fitting::opened_places))]
-fn begin_site(alloc: Global, boot: u64, words: &EdgeWords) -> Result<(Board, Upkeep), Memory>
+fn begin_site(alloc: Global, boot: u64, words: &EdgeArguments) -> Result<(Board, Poller), Memory>
     requires { IsEdge words.now }
-    ensures slots { IfOk result (λ site. AreSlots site.0.slots) }
-    ensures board { IfOk result (λ site. site.0 ≡ begun_board boot words.now.host words.now.upstream_tokens) }
-    ensures known { IfOk result (λ site. site.1.known ≡ words.now.tokens) }
-    ensures feeders { IfOk result (λ site. site.1.feeders
-        ≡ feedings words.now.upstream words.now.delta words.now.upstream_tokens (map environment_of words.now.upstream_tokens)) }
-    ensures places { IfOk result (λ site. site.1.slots ≡ length (opened site.0).places) }
+    ensures slots { IfOk result (λ service. AreSlots service.0.slots) }
+    ensures board { IfOk result (λ service. service.0 ≡ begun_board boot words.now.host words.now.upstream_tokens) }
+    ensures known { IfOk result (λ service. service.1.known ≡ words.now.tokens) }
+    ensures slot_pollers { IfOk result (λ service. service.1.slot_pollers
+        ≡ slot_parameters words.now.upstream words.now.delta words.now.upstream_tokens (map environment_of words.now.upstream_tokens)) }
+    ensures places { IfOk result (λ service. service.1.slots ≡ length (opened service.0).places) }
 {
     let environments = token_environments(alloc, &words.upstream_tokens)?;
     let board = board_of(
@@ -67,7 +67,7 @@ fn begin_site(alloc: Global, boot: u64, words: &EdgeWords) -> Result<(Board, Upk
         &environments,
         &words.host,
     )?;
-    let upkeep = Upkeep::new(
+    let poller = Poller::new(
         alloc,
         &words.upstream,
         &words.upstream_tokens,
@@ -75,7 +75,7 @@ fn begin_site(alloc: Global, boot: u64, words: &EdgeWords) -> Result<(Board, Upk
         &words.tokens,
         words.delta,
     )?;
-    Ok((board, upkeep))
+    Ok((board, poller))
 }
 
 /// Creates a board with an empty slot for each environment of the upstream's tokens.
@@ -101,7 +101,7 @@ fn serve_links<I: Source, O: Sink, D: Door, P, R, T, S: Spawner, Q: KeepMaker, W
     port: u16,
     workers: u32,
     board: Board,
-    upkeep: Upkeep,
+    poller: Poller,
     world: &mut World<I, O, D, P, R, T, S, Q, W>,
 ) -> ServingEnd
 where
@@ -111,29 +111,29 @@ where
     T: Pace + Send,
     requires workers { (0 < workers) × (workers ≤ 16) }
     requires slots { AreSlots board.slots }
-    requires feeders { upkeep.slots ≡ length (opened board).places }
-    ensures ends { EdgeEnds (site_at upkeep.known board upkeep.feeders workers) port result world.old world.new }
+    requires slot_pollers { poller.slots ≡ length (opened board).places }
+    ensures ends { EdgeEnds (service_at poller.known board poller.slot_pollers workers) port result world.old world.new }
     ensures caused { Caused (serving_status result) ⊥ (Rose world.old.output.faults world.new.output.faults)
         (ServingFailed world.old world.new) ⊥ }
 {
     if world.door.listen(port).is_err() {
         return ServingEnd::DoorFault;
     }
-    match serve_site(
+    match serve_service(
         alloc,
         &world.rt,
         workers,
         board,
-        upkeep,
+        poller,
         &mut world.door,
         &mut world.peer,
         &mut world.draws,
         &mut world.pace,
         &mut world.spawner,
     ) {
-        Ok(links) => ServingEnd::of_line(say_connections(alloc, &mut world.output, links)),
-        Err(BesideFault::Door) => ServingEnd::DoorFault,
-        Err(BesideFault::Spawner) => ServingEnd::DoorFault,
-        Err(BesideFault::Memory) => ServingEnd::OutOfMemory,
+        Ok(links) => ServingEnd::of_line(print_connections(alloc, &mut world.output, links)),
+        Err(PoolFault::Door) => ServingEnd::DoorFault,
+        Err(PoolFault::Spawner) => ServingEnd::DoorFault,
+        Err(PoolFault::Memory) => ServingEnd::OutOfMemory,
     }
 }

@@ -2,8 +2,7 @@
 ghost use Rattle.std.specs.Prelude.{◌≡◌};
 ghost use Rattle.unl_edge.specs.Upstreams.{line_end};
 
-use unl_input::SayFault;
-use unl_lines::LinesFault;
+use unl_input::{LinesFault, WriteLineFault};
 
 /// The outcome of a check.
 #[derive(Clone, Copy, Debug, PartialEq, Eq)]
@@ -37,13 +36,13 @@ pub enum ServingEnd {
 
 impl ServingEnd {
     /// Returns the outcome for a closed door, from the result of printing the count of its links.
-    pub fn of_line(told: Result<(), SayFault>) -> ServingEnd
+    pub fn of_line(told: Result<(), WriteLineFault>) -> ServingEnd
         ensures { result ≡ line_end told }
     {
         match told {
             Ok(()) => ServingEnd::Closed,
-            Err(SayFault::WriteFault) => ServingEnd::WriteFault,
-            Err(SayFault::Memory) => ServingEnd::OutOfMemory,
+            Err(WriteLineFault::WriteFault) => ServingEnd::WriteFault,
+            Err(WriteLineFault::Memory) => ServingEnd::OutOfMemory,
         }
     }
 }
@@ -56,7 +55,7 @@ pub enum UpstreamEnd {
     /// Its keeper failed, or none could be created.
     KeeperFault,
     /// A row of its keeper is missing or isn't an accepted command; with the result of printing that.
-    Row(Result<(), SayFault>),
+    Row(Result<(), WriteLineFault>),
     /// Not all lines of its input were accepted.
     Lines(LinesFault),
     /// All lines were accepted, and then links were served.

@@ -8,8 +8,8 @@ ghost use Rattle.unl_words.specs.Ranges.{IsFollow};
 use std::alloc::Global;
 use unl_base::{Draws, Pace, Peer, Sink};
 use unl_follow::{FollowFault, Subject, follow};
-use unl_upkeep::first_ask;
-use unl_words::FollowWords;
+use unl_refresh::first_ask;
+use unl_words::FollowArguments;
 
 /// Polls an upstream turn by turn with a token, and prints at each turn whether a feature is on in a context.
 ///
@@ -18,7 +18,7 @@ use unl_words::FollowWords;
 #[tactic(auto, using(crate::proofs::Fitting::address_fits, crate::proofs::Fitting::token_fits))]
 pub fn run_follow<P: Peer, R: Draws, T: Pace, O: Sink>(
     alloc: Global,
-    words: &FollowWords,
+    words: &FollowArguments,
     peer: &mut P,
     draws: &mut R,
     pace: &mut T,

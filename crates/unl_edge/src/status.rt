@@ -6,8 +6,7 @@ ghost use Rattle.unl_edge.specs.Status.{row_status, serving_status, upstream_sta
 use crate::ends::{CheckEnd, ServingEnd, UpstreamEnd, WordsEnd};
 use unl_explain::ExplainFault;
 use unl_follow::FollowFault;
-use unl_input::SayFault;
-use unl_lines::LinesFault;
+use unl_input::{LinesFault, WriteLineFault};
 use unl_load::LoadFault;
 
 /// How the program ends.
@@ -127,13 +126,13 @@ impl Status {
     }
 
     /// Returns the status for a refused row of a keeper, from the result of printing that.
-    pub fn of_row(told: Result<(), SayFault>) -> Status
+    pub fn of_row(told: Result<(), WriteLineFault>) -> Status
         ensures { result ≡ row_status told }
     {
         match told {
             Ok(()) => Status::Refused,
-            Err(SayFault::WriteFault) => Status::WriteFault,
-            Err(SayFault::Memory) => Status::OutOfMemory,
+            Err(WriteLineFault::WriteFault) => Status::WriteFault,
+            Err(WriteLineFault::Memory) => Status::OutOfMemory,
         }
     }
 

@@ -4,26 +4,25 @@ ghost use Rattle.unl_base.specs.Faults.{Rose};
 ghost use Rattle.unl_edge.specs.Status.{Caused, IsCaused, row_status, serving_status, upstream_status};
 ghost use Rattle.unl_edge.specs.Upstreams.{IsNew, KeeperEnd, LinesEnd, LinksEnd, UpstreamEnds, UpstreamRuns};
 ghost use Rattle.unl_edge.specs.Upstreams.{connections_line, facing, row_line};
-ghost use Rattle.unl_input.specs.Refusal.{SaysLine};
+ghost use Rattle.unl_input.specs.Refusal.{WritesLine};
 ghost use Rattle.unl_upstream.specs.Kept.{keeper_by, kept_state};
 ghost use Rattle.unl_upstream.specs.Reopening.{IsOpening};
 ghost use Rattle.unl_upstream.specs.Upstream.{opening};
 ghost use Rattle.unl_words.specs.OwnBook.{own_book};
 ghost use Rattle.unl_words.specs.Ranges.{IsUpstream};
 
+use crate::command_intake::CommandIntake;
 use crate::ends::{ServingEnd, UpstreamEnd};
-use crate::kept_upstream::KeptUpstream;
 use crate::world::World;
 use std::alloc::{AllocError, Global};
 use std::marker::Model;
 use std::sync::Wait;
 use unl_base::{Door, Draws, Pace, Peer, Sink, Source, Spawner, write_all};
 use unl_documents::Memory;
-use unl_input::SayFault;
+use unl_input::{LinesFault, WriteLineFault, process_lines};
 use unl_keeper::{KeepMaker, KeepRefusal, Keeper};
-use unl_lines::{LinesFault, take_lines};
 use unl_upstream::{ReopenFault, Upstream, host_kept, reopen};
-use unl_words::{UpstreamWords, own_book};
+use unl_words::{UpstreamArguments, own_book};
 
 /// Runs an upstream. Its boot number is the word of a draw. It is reopened on a keeper, takes the commands of the input's lines,
 /// and then serves the links that come to its port, one after the other.
@@ -37,7 +36,11 @@ pub fn run_upstream<
     S: Spawner,
     Q: KeepMaker,
     W: Wait,
->(alloc: Global, words: &UpstreamWords, world: &mut World<I, O, D, P, R, T, S, Q, W>) -> UpstreamEnd
+>(
+    alloc: Global,
+    words: &UpstreamArguments,
+    world: &mut World<I, O, D, P, R, T, S, Q, W>,
+) -> UpstreamEnd
     requires { IsUpstream words.now }
     ensures runs { UpstreamRuns words.now result world.old world.new }
     ensures caused { IsCaused (upstream_status result) world.old world.new }
@@ -77,7 +80,7 @@ impl NewUpstream {
 }
 
 /// Creates an upstream that has taken no command.
-fn begin(alloc: Global, boot: u64, words: &UpstreamWords) -> Result<NewUpstream, Memory>
+fn begin(alloc: Global, boot: u64, words: &UpstreamArguments) -> Result<NewUpstream, Memory>
     requires { IsUpstream words.now }
     ensures { IfOk result (λ fresh. fresh ≡ opening boot words.now.secret words.now.environments
         (own_book words.now.client_tokens words.now.frontend_tokens) words.now.epoch) }
@@ -190,13 +193,13 @@ fn take_commands<K: Keeper, I: Source, O: Sink, D: Door, R: Draws, W: Wait>(
     ensures caused { Caused (upstream_status result.0) (Rose (I.faults input.old) (I.faults input.new))
         (Rose (O.faults output.old) (O.faults output.new)) (Rose (D.faults door.old) (D.faults door.new)) (K.faults result.1 ≢ 0) }
 {
-    let mut kept = KeptUpstream {
+    let mut kept = CommandIntake {
         up,
         keeper,
         failed: false,
     };
-    let taken = take_lines::<KeptUpstream<K>, I, O>(alloc, &mut kept, input, output);
-    let KeptUpstream {
+    let taken = process_lines::<CommandIntake<K>, I, O>(alloc, &mut kept, input, output);
+    let CommandIntake {
         mut up,
         mut keeper,
         failed,
@@ -234,10 +237,10 @@ fn serve_links<K: Keeper, O: Sink, D: Door, R: Draws, W: Wait>(
         return ServingEnd::DoorFault;
     }
     match host_kept(rt, alloc, up, keeper, door, draws) {
-        Ok(served) => match say_connections(alloc, output, served) {
+        Ok(served) => match print_connections(alloc, output, served) {
             Ok(()) => ServingEnd::Closed,
-            Err(SayFault::WriteFault) => ServingEnd::WriteFault,
-            Err(SayFault::Memory) => ServingEnd::OutOfMemory,
+            Err(WriteLineFault::WriteFault) => ServingEnd::WriteFault,
+            Err(WriteLineFault::Memory) => ServingEnd::OutOfMemory,
         },
         Err(_) => ServingEnd::DoorFault,
     }
@@ -247,16 +250,16 @@ fn serve_links<K: Keeper, O: Sink, D: Door, R: Draws, W: Wait>(
 ///
 /// # Errors
 /// `WriteFault` if the output failed: a prefix of the line was sent. `Memory` if out of memory: nothing was sent.
-fn say_row<O: Sink>(alloc: Global, output: &mut O, place: u64) -> Result<(), SayFault>
-    ensures said { SaysLine result (row_line place) (O.sent output.old) (O.sent output.new) }
+fn say_row<O: Sink>(alloc: Global, output: &mut O, place: u64) -> Result<(), WriteLineFault>
+    ensures said { WritesLine result (row_line place) (O.sent output.old) (O.sent output.new) }
     ensures write { Caused (row_status result) ⊥ (Rose (O.faults output.old) (O.faults output.new)) ⊥ ⊥ }
 {
     let Ok(line) = row_line(alloc, place) else {
-        return Err(SayFault::Memory);
+        return Err(WriteLineFault::Memory);
     };
     match write_all(output, line.as_bytes()) {
         Ok(()) => Ok(()),
-        Err(_) => Err(SayFault::WriteFault),
+        Err(_) => Err(WriteLineFault::WriteFault),
     }
 }
 
@@ -270,20 +273,20 @@ fn row_line(alloc: Global, place: u64) -> Result<String, AllocError>
 ///
 /// # Errors
 /// `WriteFault` if the output failed: a prefix of the line was sent. `Memory` if out of memory: nothing was sent.
-pub(crate) fn say_connections<O: Sink>(
+pub(crate) fn print_connections<O: Sink>(
     alloc: Global,
     output: &mut O,
     served: u64,
-) -> Result<(), SayFault>
-    ensures said { SaysLine result (connections_line served) (O.sent output.old) (O.sent output.new) }
-    ensures write { IsErrOf result SayFault.WriteFault → Rose (O.faults output.old) (O.faults output.new) }
+) -> Result<(), WriteLineFault>
+    ensures said { WritesLine result (connections_line served) (O.sent output.old) (O.sent output.new) }
+    ensures write { IsErrOf result WriteLineFault.WriteFault → Rose (O.faults output.old) (O.faults output.new) }
 {
     let Ok(line) = connections_line(alloc, served) else {
-        return Err(SayFault::Memory);
+        return Err(WriteLineFault::Memory);
     };
     match write_all(output, line.as_bytes()) {
         Ok(()) => Ok(()),
-        Err(_) => Err(SayFault::WriteFault),
+        Err(_) => Err(WriteLineFault::WriteFault),
     }
 }
 

@@ -1,5 +1,5 @@
 -- The published board, and the boards at each front.
-use Rattle.std.proofs.Common.{◌≡◌, ℕ, zero, suc, ◌<◌, ◌≤◌, ◌+◌, List, [], ◌∷◌, ◌++◌, length, take, fold, Bool, true, false, leb, Option, Some, None, is_some, refl, sym, ap, ◌∙◌, subst, arith, IfSome, length-append, unwrap_or}
+use Rattle.std.proofs.Common.{◌≡◌, ℕ, zero, suc, ◌<◌, ◌≤◌, ◌+◌, ◌⊎◌, inl, inr, List, [], ◌∷◌, ◌++◌, length, take, fold, Bool, true, false, leb, Option, Some, None, is_some, refl, sym, ap, ◌∙◌, subst, arith, IfSome, length-append, unwrap_or}
 use Rattle.std.specs.Option.{option_map}
 use Rattle.std.proofs.lemmas.Bool.Decides.{nat_tests}
 use Rattle.unl_core.specs.declared.board.Board.{Board}
@@ -7,12 +7,12 @@ use Rattle.unl_core.specs.declared.board.Install.{Install}
 use Rattle.unl_core.specs.Board.{board_after, installed}
 use Rattle.unl_edge_state.specs.Editions.{BoardAt, board_known, edited, no_board}
 use Rattle.unl_edge_state.specs.Orderly.{IsInOrder, IsOrderly, KnowsOrderly}
-use Rattle.unl_edge_state.specs.Reading.{board_of}
+use Rattle.unl_edge_state.specs.Reading.{ContinuedFromOpening, board_of}
 use Rattle.unl_edge_state.proofs.GoingOn.{orderly_more}
-use Rattle.unl_published.specs.declared.knowledge.Knowledge.{Knowledge}
-use Rattle.unl_published.specs.Meaning.{at_or, known, value_at, where_true}
-use Rattle.unl_published.specs.Looking.{Follows}
-use Rattle.unl_published.specs.Rule.{with_installs}
+use Rattle.unl_publication.specs.declared.knowledge.Knowledge.{Knowledge}
+use Rattle.unl_publication.specs.Meaning.{item_or, known, value_at, some_if}
+use Rattle.unl_publication.specs.Looking.{Follows}
+use Rattle.unl_publication.specs.Rule.{with_installs}
 
 -- The board after folding over the installs.
 pub board_of_fold : (opening : BoardAt) (list : List Install) → (fold edited opening list).board ≡ board_after opening.board list
@@ -62,18 +62,28 @@ keeps_left old new before taken old_is new_is follows k board is =
     keeps_boards old new (λ j e h. subst (λ (v : Knowledge BoardAt Install). value_at edited v j ≡ Some e) (sym new_is)
     (follows.keeps j e (subst (λ (v : Knowledge BoardAt Install). value_at edited v j ≡ Some e) old_is h))) k board is
 
-true_here : {A : Type 0} (p : Bool) (x : Option A) → p ≡ true → where_true p x ≡ x
-true_here p x is = ap (λ (z : Bool). where_true z x) is
+true_here : {A : Type 0} (p : Bool) (x : Option A) → p ≡ true → some_if p x ≡ x
+true_here p x is = ap (λ (z : Bool). some_if z x) is
 
--- The board at a front, for a reader that never continued from a learned list.
-pub boards_are : (known : Knowledge BoardAt Install) (opening : BoardAt) (k : ℕ) → known.opening ≡ Some opening → known.before ≡ [] → k ≤ length known.installs
+-- Continuing from the opening value changes no value.
+item_same : (k : ℕ) (opening : BoardAt) (before : List (Option BoardAt)) (list : List Install) → (before ≡ []) ⊎ (before ≡ Some opening ∷ [])
+    → item_or before k (Some (fold edited opening (take k list))) ≡ Some (fold edited opening (take k list))
+item_same k opening before list (inl none) = ap (λ (xs : List (Option BoardAt)). item_or xs k (Some (fold edited opening (take k list)))) none
+item_same zero opening before [] (inr one) = ap (λ (xs : List (Option BoardAt)). item_or xs 0 (Some opening)) one
+item_same zero opening before (what ∷ list) (inr one) = ap (λ (xs : List (Option BoardAt)). item_or xs 0 (Some opening)) one
+item_same (suc k) opening before list (inr one) =
+    ap (λ (xs : List (Option BoardAt)). item_or xs (suc k) (Some (fold edited opening (take (suc k) list)))) one
+
+-- The board at a front, for a reader that never continued from a learned list, or only from the opening value.
+pub boards_are : (known : Knowledge BoardAt Install) (opening : BoardAt) (k : ℕ) → known.opening ≡ Some opening → ContinuedFromOpening opening known
+    → k ≤ length known.installs
     → board_of known k ≡ Some (board_after opening.board (take k known.installs))
-boards_are known opening k is none low =
+boards_are known opening k is start low =
     let within : leb k (length known.installs) ≡ true = grind (arith, nat_tests) in
     ap (option_map (λ (e : BoardAt). e.board)) (
     true_here (leb k (length known.installs)) _ within
-    ∙ ap (λ (xs : List (Option BoardAt)). at_or xs k (option_map (λ o. fold edited o (take k known.installs)) known.opening)) none
-    ∙ ap (option_map (λ (o : BoardAt). fold edited o (take k known.installs))) is)
+    ∙ ap (λ (o : Option BoardAt). item_or known.before k (option_map (λ b. fold edited b (take k known.installs)) o)) is
+    ∙ item_same k opening known.before known.installs start)
     ∙ ap (λ (b : Board). Some b) (board_of_fold opening (take k known.installs))
 
 more_orderly : (opening : Option BoardAt) (list : List Install) (what : Install) → IfSome opening (λ o. IsOrderly o.board list)

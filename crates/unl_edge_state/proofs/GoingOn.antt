@@ -5,7 +5,7 @@ use Rattle.unl_core.specs.declared.board.Slot.{Slot}
 use Rattle.unl_core.specs.declared.board.Install.{Install}
 use Rattle.unl_core.specs.declared.board.Install.TheVariants.{Tokens, Env}
 use Rattle.unl_core.specs.Board.{board_after, installed, taking}
-use Rattle.unl_core.specs.Standing.{snapshot_at}
+use Rattle.unl_core.specs.DeskStates.{snapshot_at}
 use Rattle.unl_delta.specs.declared.batch.Batch.{Batch}
 use Rattle.unl_delta.specs.declared.batch.Verdict.{Verdict}
 use Rattle.unl_delta.specs.declared.batch.Verdict.TheVariants.{Apply, Repeat, Old, Gap, Held}
@@ -15,7 +15,7 @@ use Rattle.unl_delta.specs.declared.version.EnvVersion.{EnvVersion}
 use Rattle.unl_delta.specs.declared.version.Place.{Place}
 use Rattle.unl_delta.specs.Batch.{changes_verdict, empty_version, from_hydration, go_on, hydration_verdict, last_number, next_on, next_version, reaches, verdict_of, verdict_on}
 use Rattle.unl_delta.specs.History.{IsNotBelow}
-use Rattle.unl_delta.specs.Revision.{Revision, is_older, revision_of, IsUpTo}
+use Rattle.unl_delta.specs.Revision.{Revision, is_older, revision_of, IsNotOlder}
 use Rattle.unl_delta.specs.State.{number_of}
 use Rattle.unl_delta.proofs.Revisions.{not_older, up_to_both, up_to_itself}
 use Rattle.unl_edge_state.specs.Orderly.{GoesOn, IsInOrder, IsOrderly}
@@ -38,7 +38,7 @@ hydrated : (version : Option EnvVersion) (held : Bool) (new : EnvVersion) → hy
 hydrated None held new is = tt
 hydrated (Some v) held new is = decided (is_older (revision_of new) (revision_of v)) _ refl is
   where
-    decided : (t : Bool) (else_ : Verdict) → is_older (revision_of new) (revision_of v) ≡ t → cond t Old else_ ≡ Apply → IsUpTo (revision_of v) (revision_of new)
+    decided : (t : Bool) (else_ : Verdict) → is_older (revision_of new) (revision_of v) ≡ t → cond t Old else_ ≡ Apply → IsNotOlder (revision_of v) (revision_of new)
     decided true else_ t_is so = absurd cc
     decided false else_ t_is so = not_older (revision_of v) (revision_of new) t_is
 
@@ -49,7 +49,7 @@ changed (Some v) true g after event es is = absurd cc
 changed (Some v) false g after event es is = decided (ltb g v.epoch) (ltb v.epoch g) (leb (last_number (number_of event) es) v.number) _ refl is
   where
     decided : (p q s : Bool) (else_ : Verdict) → leb (last_number (number_of event) es) v.number ≡ s → cond p Old (cond q Gap (cond s Repeat else_)) ≡ Apply
-        → IsUpTo (revision_of v) (revision_of (go_on v (event ∷ es)))
+        → IsNotOlder (revision_of v) (revision_of (go_on v (event ∷ es)))
     decided true q s else_ s_is so = absurd cc
     decided false true s else_ s_is so = absurd cc
     decided false false true else_ s_is so = absurd cc
@@ -80,7 +80,7 @@ one board (Tokens book) slot goes = not_below_itself (snapshot_at board.slots sl
 one board (Env i version) slot goes =
     let up : IsNotBelow goes.place.version (Some (next_version goes.place goes.batch)) = next_not_below goes.place goes.batch goes.applies in
     let here : IsNotBelow (snapshot_at board.slots i) (Some version) = subst (λ (v : EnvVersion). IsNotBelow (snapshot_at board.slots i) (Some v)) (sym goes.next)
-    (subst (λ (v : Option EnvVersion). IsNotBelow v (Some (next_version goes.place goes.batch))) goes.stands up) in
+    (subst (λ (v : Option EnvVersion). IsNotBelow v (Some (next_version goes.place goes.batch))) goes.represents up) in
     at_slot board.slots i slot version here
 
 many : (board : Board) (list : List Install) (slot : ℕ) → IsOrderly board list → IsNotBelow (snapshot_at board.slots slot) (snapshot_at (board_after board list).slots slot)

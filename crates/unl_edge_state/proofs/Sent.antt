@@ -12,10 +12,10 @@ use Rattle.unl_delta.specs.contracts.version.Place as Place
 use Rattle.unl_edge_state.specs.contracts.reader.EdgeReader as EdgeReader
 use Rattle.unl_edge_state.specs.contracts.writer.EdgeWriter.TheInside as Inside
 use Rattle.unl_edge_state.specs.Crossing.{publisher_type, publishing_type, reader_type, seat_type, writer_type}
-use Rattle.unl_published.specs.contracts.publisher.Publisher as Publisher
-use Rattle.unl_published.specs.contracts.reader.Reader as Reader
-use Rattle.unl_published.specs.contracts.rule.Ruled as Ruled
-use Rattle.unl_published.specs.contracts.rule.RuledProtocolKnowledgeState.TheImpl as ruled
+use Rattle.unl_publication.specs.contracts.publisher.Publisher as Publisher
+use Rattle.unl_publication.specs.contracts.reader.Reader as Reader
+use Rattle.unl_publication.specs.contracts.rule.Ruled as Ruled
+use Rattle.unl_publication.specs.contracts.rule.RuledProtocolKnowledgeState.TheImpl as ruled
 
 -- A reader, from its seat.
 reader_send : IsSend seat_type → IsSend reader_type

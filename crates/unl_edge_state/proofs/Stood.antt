@@ -6,77 +6,77 @@ use Rattle.unl_core.specs.declared.board.Install.{Install}
 use Rattle.unl_core.specs.declared.board.Install.TheVariants.{Env}
 use Rattle.unl_core.specs.declared.board.Slot.{Slot}
 use Rattle.unl_core.specs.Board.{board_after, installed, taking}
-use Rattle.unl_core.specs.Standing.{snapshot_at}
+use Rattle.unl_core.specs.DeskStates.{snapshot_at}
 use Rattle.unl_delta.specs.declared.batch.Batch.{Batch}
 use Rattle.unl_delta.specs.declared.batch.Verdict.TheVariants.{Apply}
 use Rattle.unl_delta.specs.declared.version.EnvVersion.{EnvVersion}
 use Rattle.unl_delta.specs.Batch.{next_version, verdict_of}
-use Rattle.unl_delta.specs.History.{Era, FollowsLines, IsLine, IsSent, StandsIn}
+use Rattle.unl_delta.specs.History.{Era, PreservesLines, IsLine, IsSent, RepresentsLine}
 use Rattle.unl_delta.specs.Installing.{place_of}
 use Rattle.unl_delta.specs.View.{Sees}
 use Rattle.unl_delta.proofs.Delivery.{next_follows}
 use Rattle.unl_edge_state.specs.Editions.{BoardAt, board_known, no_board}
-use Rattle.unl_edge_state.specs.Histories.{HasStood, HasStoodFrom, SlotStands}
-use Rattle.unl_edge_state.specs.Reading.{board_of}
+use Rattle.unl_edge_state.specs.Histories.{HasStood, HasStoodFrom, SlotRepresented}
+use Rattle.unl_edge_state.specs.Reading.{ContinuedFromOpening, board_of}
 use Rattle.unl_edge_state.specs.Writing.{Stays, Writing, after_batch, installed_by}
 use Rattle.unl_edge_state.proofs.Boards.{boards_are}
-use Rattle.unl_published.specs.declared.knowledge.Knowledge.{Knowledge}
+use Rattle.unl_publication.specs.declared.knowledge.Knowledge.{Knowledge}
 
 -- The last board of all.
 last_stands : (line : List Era) (sees : Sees) (slot : ℕ) (board : Board) (list : List Install) → HasStoodFrom line sees slot board list
-    → SlotStands line sees slot (board_after board list)
+    → SlotRepresented line sees slot (board_after board list)
 last_stands line sees slot board [] stood = stood
 last_stands line sees slot board (what ∷ more) stood = last_stands line sees slot (installed what board) more stood.1
 
 -- One install more.
 stood_more : (line : List Era) (sees : Sees) (slot : ℕ) (board : Board) (list : List Install) (what : Install) → HasStoodFrom line sees slot board list
-    → SlotStands line sees slot (installed what (board_after board list)) → HasStoodFrom line sees slot board (list ++ what ∷ [])
+    → SlotRepresented line sees slot (installed what (board_after board list)) → HasStoodFrom line sees slot board (list ++ what ∷ [])
 stood_more line sees slot board [] what stood new = (stood, new)
 stood_more line sees slot board (first ∷ more) what stood new = (stood.0, stood_more line sees slot (installed first board) more what stood.1 new)
 
 -- A slot, if there is one, has the version it was given.
-taken_stands : (line : List Era) (sees : Sees) (slots : List Slot) (slot : ℕ) (v : EnvVersion) → StandsIn line sees v → IfSome (snapshot_at (taking slot v slots) slot) (StandsIn line sees)
-taken_stands line sees [] slot v stands = tt
-taken_stands line sees (s ∷ slots) zero v stands = stands
-taken_stands line sees (s ∷ slots) (suc slot) v stands = taken_stands line sees slots slot v stands
+taken_stands : (line : List Era) (sees : Sees) (slots : List Slot) (slot : ℕ) (v : EnvVersion) → RepresentsLine line sees v → IfSome (snapshot_at (taking slot v slots) slot) (RepresentsLine line sees)
+taken_stands line sees [] slot v represents = tt
+taken_stands line sees (s ∷ slots) zero v represents = represents
+taken_stands line sees (s ∷ slots) (suc slot) v represents = taken_stands line sees slots slot v represents
 
 known_stands : (line : List Era) (sees : Sees) (slot : ℕ) (opening : Option BoardAt) (list : List Install) → IfSome opening (λ o. HasStoodFrom line sees slot o.board list)
-    → SlotStands line sees slot (unwrap_or (option_map (λ o. board_after o.board list) opening) no_board)
+    → SlotRepresented line sees slot (unwrap_or (option_map (λ o. board_after o.board list) opening) no_board)
 known_stands line sees slot None list stood = tt
 known_stands line sees slot (Some opening) list stood = last_stands line sees slot opening.board list stood
 
 known_more : (line : List Era) (sees : Sees) (slot : ℕ) (opening : Option BoardAt) (list : List Install) (v : EnvVersion) → IfSome opening (λ o. HasStoodFrom line sees slot o.board list)
-    → StandsIn line sees v → IfSome opening (λ o. HasStoodFrom line sees slot o.board (list ++ Env slot v ∷ []))
-known_more line sees slot None list v stood stands = tt
-known_more line sees slot (Some opening) list v stood stands =
-    stood_more line sees slot opening.board list (Env slot v) stood (taken_stands line sees (board_after opening.board list).slots slot v stands)
+    → RepresentsLine line sees v → IfSome opening (λ o. HasStoodFrom line sees slot o.board (list ++ Env slot v ∷ []))
+known_more line sees slot None list v stood represents = tt
+known_more line sees slot (Some opening) list v stood represents =
+    stood_more line sees slot opening.board list (Env slot v) stood (taken_stands line sees (board_after opening.board list).slots slot v represents)
 
 -- A batch that was sent of the line was published, or nothing was.
 pub batch_stood : {E : Type 0} (r : Result ℕ E) (w new : Writing) (slot : ℕ) (batch : Batch) → (place_of (installed_by w) slot).version ≡ snapshot_at (board_known w.known).slots slot
     → verdict_of (place_of (installed_by w) slot) batch ≡ Apply → OnOk r (new ≡ record (after_batch slot batch w) { closed = new.closed }) → OnErr r (Stays w new)
     → (line : List Era) (sees : Sees) → IsLine line → HasStood line sees slot w.known → IsSent line sees batch → HasStood line sees slot new.known
-batch_stood (Err e) w new slot batch stands applies published stays line sees h stood sent = subst (λ (x : Writing). HasStood line sees slot x.known) (sym stays) stood
-batch_stood (Ok front) w new slot batch stands applies published stays line sees h stood sent =
+batch_stood (Err e) w new slot batch represents applies published stays line sees h stood sent = subst (λ (x : Writing). HasStood line sees slot x.known) (sym stays) stood
+batch_stood (Ok front) w new slot batch represents applies published stays line sees h stood sent =
     let v : EnvVersion = next_version (place_of (installed_by w) slot) batch in
-    let before : IfSome (place_of (installed_by w) slot).version (StandsIn line sees) =
-    subst (λ (o : Option EnvVersion). IfSome o (StandsIn line sees)) (sym stands) (known_stands line sees slot w.known.opening w.known.installs stood) in
-    let follows : FollowsLines (place_of (installed_by w) slot).version batch (Some v) = next_follows (place_of (installed_by w) slot) batch v applies refl in
+    let before : IfSome (place_of (installed_by w) slot).version (RepresentsLine line sees) =
+    subst (λ (o : Option EnvVersion). IfSome o (RepresentsLine line sees)) (sym represents) (known_stands line sees slot w.known.opening w.known.installs stood) in
+    let follows : PreservesLines (place_of (installed_by w) slot).version batch (Some v) = next_follows (place_of (installed_by w) slot) batch v applies refl in
     subst (λ (x : Writing). HasStood line sees slot x.known) (sym published)
-    (known_more line sees slot w.known.opening w.known.installs v stood (follows.stands line sees h before sent))
+    (known_more line sees slot w.known.opening w.known.installs v stood (follows.represents line sees h before sent))
 
 -- ---- each board
 
 stood_at : (line : List Era) (sees : Sees) (slot : ℕ) (board : Board) (list : List Install) (k : ℕ) → HasStoodFrom line sees slot board list
-    → SlotStands line sees slot (board_after board (take k list))
+    → SlotRepresented line sees slot (board_after board (take k list))
 stood_at line sees slot board [] zero stood = stood
 stood_at line sees slot board [] (suc k) stood = stood
 stood_at line sees slot board (what ∷ more) zero stood = stood.0
 stood_at line sees slot board (what ∷ more) (suc k) stood = stood_at line sees slot (installed what board) more k stood.1
 
 -- The board at each front.
-pub boards_stand : (line : List Era) (sees : Sees) (slot : ℕ) (known : Knowledge BoardAt Install) (opening : BoardAt) (k : ℕ) → known.opening ≡ Some opening → known.before ≡ []
-    → k ≤ length known.installs → HasStood line sees slot known → IfSome (board_of known k) (SlotStands line sees slot)
-boards_stand line sees slot known opening k is none low stood =
+pub boards_represent : (line : List Era) (sees : Sees) (slot : ℕ) (known : Knowledge BoardAt Install) (opening : BoardAt) (k : ℕ) → known.opening ≡ Some opening
+    → ContinuedFromOpening opening known → k ≤ length known.installs → HasStood line sees slot known → IfSome (board_of known k) (SlotRepresented line sees slot)
+boards_represent line sees slot known opening k is start low stood =
     let from : HasStoodFrom line sees slot opening.board known.installs =
     subst (λ (o : Option BoardAt). IfSome o (λ (b : BoardAt). HasStoodFrom line sees slot b.board known.installs)) is stood in
-    subst (λ (o : Option Board). IfSome o (SlotStands line sees slot)) (sym (boards_are known opening k is none low)) (stood_at line sees slot opening.board known.installs k from)
+    subst (λ (o : Option Board). IfSome o (SlotRepresented line sees slot)) (sym (boards_are known opening k is start low)) (stood_at line sees slot opening.board known.installs k from)

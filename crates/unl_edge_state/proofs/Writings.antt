@@ -7,8 +7,8 @@ use Rattle.unl_core.specs.declared.board.Board.{Board}
 use Rattle.unl_core.specs.declared.board.Install.{Install}
 use Rattle.unl_core.specs.declared.board.Install.TheVariants.{Tokens, Env}
 use Rattle.unl_core.specs.Board.{AreSlots, with_tokens}
-use Rattle.unl_core.specs.Standing.{IsStanding, place_at, snapshot_at}
-use Rattle.unl_core.proofs.Standings.{standing_begun, standing_held, standing_taking}
+use Rattle.unl_core.specs.DeskStates.{IsStanding, place_at, snapshot_at}
+use Rattle.unl_core.proofs.DeskStateLemmas.{standing_begun, standing_held, standing_taking}
 use Rattle.unl_delta.specs.declared.batch.Batch.{Batch}
 use Rattle.unl_delta.specs.declared.batch.Verdict.TheVariants.{Apply}
 use Rattle.unl_delta.specs.declared.version.EnvVersion.{EnvVersion}
@@ -20,8 +20,8 @@ use Rattle.unl_edge_state.specs.Editions.{BoardAt, board_known, opening_at}
 use Rattle.unl_edge_state.specs.Orderly.{KnowsOrderly}
 use Rattle.unl_edge_state.specs.Writing.{Writing, IsWriting, Stays, after_batch, after_hold, installed_by, with_install, with_version}
 use Rattle.unl_edge_state.proofs.Boards.{known_more, knows_more}
-use Rattle.unl_published.specs.declared.knowledge.Knowledge.{Knowledge}
-use Rattle.unl_published.specs.Rule.{knows_opening, with_installs}
+use Rattle.unl_publication.specs.declared.knowledge.Knowledge.{Knowledge}
+use Rattle.unl_publication.specs.Rule.{knows_opening, with_installs}
 use Rattle.unl_tokens.specs.declared.token.Token.{Token}
 
 tokens_stand : (board : Board) (places : List Place) (book : List Token) → IsStanding board places → IsStanding (with_tokens book board) places
@@ -32,7 +32,7 @@ pub writing_begun : (board : Board) (known : Knowledge BoardAt Install) (table :
     → places ≡ map place_at board.slots → All IsValidPlace places → IsWriting known places
 writing_begun board known table places slots is made valid = subst (λ (k : Knowledge BoardAt Install). IsWriting k places) (sym is) (record {
   begun = refl;
-  stands = standing_begun board places slots made valid;
+  represents = standing_begun board places slots made valid;
 })
 
 -- A book was published.
@@ -40,7 +40,7 @@ pub writing_tokens : (known new : Knowledge BoardAt Install) (places : List Plac
     → new ≡ with_installs (Tokens book ∷ []) known → IsWriting new places
 writing_tokens known new places book w is = subst (λ (k : Knowledge BoardAt Install). IsWriting k places) (sym is) (record {
   begun = w.begun;
-  stands = subst (λ (b : Board). IsStanding b places) (sym (known_more known (Tokens book) w.begun)) (tokens_stand (board_known known) places book w.stands);
+  represents = subst (λ (b : Board). IsStanding b places) (sym (known_more known (Tokens book) w.begun)) (tokens_stand (board_known known) places book w.represents);
 })
 
 -- A version was published, and is at its place.
@@ -49,9 +49,9 @@ pub writing_version : (known new : Knowledge BoardAt Install) (places : List Pla
 writing_version known new places slot v kept held w is kept_is valid =
     subst (λ (k : Knowledge BoardAt Install). IsWriting k (set places slot (record { version = Some kept; held = held }))) (sym is) (record {
       begun = w.begun;
-      stands =
+      represents =
           subst (λ (b : Board). IsStanding b (set places slot (record { version = Some kept; held = held }))) (sym (known_more known (Env slot v) w.begun))
-          (standing_taking (board_known known) places slot v (record { version = Some kept; held = held }) w.stands (ap Some kept_is) valid);
+          (standing_taking (board_known known) places slot v (record { version = Some kept; held = held }) w.represents (ap Some kept_is) valid);
     })
 
 -- A place is held or released, and keeps its version.
@@ -59,7 +59,7 @@ pub writing_held : (known : Knowledge BoardAt Install) (places : List Place) (sl
     → place.version ≡ (get_or places slot d).version → IsWriting known (set places slot place)
 writing_held known places slot place d w low same = record {
   begun = w.begun;
-  stands = standing_held (board_known known) places slot place d w.stands low same;
+  represents = standing_held (board_known known) places slot place d w.represents low same;
 }
 
 -- The place at an index.
@@ -121,11 +121,11 @@ batch_told (Ok front) w new slot batch begun published = batch_installed w new s
 pub batch_orderly : {E : Type 0} (r : Result ℕ E) (w new : Writing) (slot : ℕ) (batch : Batch) → (place_of (installed_by w) slot).version ≡ snapshot_at (board_known w.known).slots slot
     → verdict_of (place_of (installed_by w) slot) batch ≡ Apply → OnOk r (new ≡ record (after_batch slot batch w) { closed = new.closed }) → OnErr r (Stays w new)
     → KnowsOrderly w.known → KnowsOrderly new.known
-batch_orderly (Ok front) w new slot batch stands applies published stays orderly =
+batch_orderly (Ok front) w new slot batch represents applies published stays orderly =
     let v : EnvVersion = next_version (place_of (installed_by w) slot) batch in
     subst (λ (x : Writing). KnowsOrderly x.known) (sym published)
-    (knows_more w.known (Env slot v) orderly (record { place = place_of (installed_by w) slot; stands = stands; batch = batch; applies = applies; next = refl }))
-batch_orderly (Err e) w new slot batch stands applies published stays orderly = subst (λ (x : Writing). KnowsOrderly x.known) (sym stays) orderly
+    (knows_more w.known (Env slot v) orderly (record { place = place_of (installed_by w) slot; represents = represents; batch = batch; applies = applies; next = refl }))
+batch_orderly (Err e) w new slot batch represents applies published stays orderly = subst (λ (x : Writing). KnowsOrderly x.known) (sym stays) orderly
 
 -- A book, which can follow any other.
 pub book_orderly : (w new : Writing) (tokens : List Token) → new ≡ record (with_install (Tokens tokens) w) { closed = new.closed } → KnowsOrderly w.known → KnowsOrderly new.known

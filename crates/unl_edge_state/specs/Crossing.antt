@@ -10,12 +10,12 @@ use Rattle.unl_edge_state.specs.contracts.edition.Edition as Edition
 use Rattle.unl_edge_state.specs.contracts.edition.EditionAbsorbInstall.TheImpl as absorb
 use Rattle.unl_edge_state.specs.contracts.edition.EditionCountedInstall.TheImpl as counted
 use Rattle.unl_edge_state.specs.contracts.writer.EdgeWriter as Writer
-use Rattle.unl_published.specs.contracts.knowledge.Knowledge as Knowledge
-use Rattle.unl_published.specs.contracts.publisher.Publisher as Publisher
-use Rattle.unl_published.specs.contracts.reader.Reader as Reader
-use Rattle.unl_published.specs.contracts.rule.Ruled as Ruled
-use Rattle.unl_published.specs.contracts.writer.Writer as Publishing
-use Rattle.unl_published.specs.contracts.rule.RuledProtocolKnowledgeState.TheImpl as ruled
+use Rattle.unl_publication.specs.contracts.knowledge.Knowledge as Knowledge
+use Rattle.unl_publication.specs.contracts.publisher.Publisher as Publisher
+use Rattle.unl_publication.specs.contracts.reader.Reader as Reader
+use Rattle.unl_publication.specs.contracts.rule.Ruled as Ruled
+use Rattle.unl_publication.specs.contracts.writer.Writer as Publishing
+use Rattle.unl_publication.specs.contracts.rule.RuledProtocolKnowledgeState.TheImpl as ruled
 
 -- The type of a seat of a reader of editions.
 abbrev pub seat_type : RattleType

@@ -3,7 +3,7 @@ use Rattle.std.specs.Prelude.{ℕ, ◌+◌, [], Option, option_map, unwrap_or}
 use Rattle.unl_core.specs.declared.board.Board.{Board}
 use Rattle.unl_core.specs.declared.board.Install.{Install}
 use Rattle.unl_core.specs.Board.{board_after, installed}
-use Rattle.unl_published.specs.declared.knowledge.Knowledge.{Knowledge}
+use Rattle.unl_publication.specs.declared.knowledge.Knowledge.{Knowledge}
 
 -- A board, and the number of installs that led to it.
 pub record BoardAt : Type 0 where

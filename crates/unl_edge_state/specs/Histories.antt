@@ -3,21 +3,21 @@ use Rattle.std.specs.Prelude.{ℕ, List, [], ◌∷◌, IfSome}
 use Rattle.unl_core.specs.declared.board.Board.{Board}
 use Rattle.unl_core.specs.declared.board.Install.{Install}
 use Rattle.unl_core.specs.Board.{installed}
-use Rattle.unl_core.specs.Standing.{snapshot_at}
-use Rattle.unl_delta.specs.History.{Era, StandsIn}
+use Rattle.unl_core.specs.DeskStates.{snapshot_at}
+use Rattle.unl_delta.specs.History.{Era, RepresentsLine}
 use Rattle.unl_delta.specs.View.{Sees}
 use Rattle.unl_edge_state.specs.Editions.{BoardAt}
-use Rattle.unl_published.specs.declared.knowledge.Knowledge.{Knowledge}
+use Rattle.unl_publication.specs.declared.knowledge.Knowledge.{Knowledge}
 
 -- The version at a slot, if there is one, is a revision of the line, filtered by `sees`.
-abbrev pub SlotStands : List Era → Sees → ℕ → Board → Type 0
-SlotStands line sees slot board = IfSome (snapshot_at board.slots slot) (StandsIn line sees)
+abbrev pub SlotRepresented : List Era → Sees → ℕ → Board → Type 0
+SlotRepresented line sees slot board = IfSome (snapshot_at board.slots slot) (RepresentsLine line sees)
 
 -- This holds on the board, and on each board that the installs lead to.
 abbrev pub HasStoodFrom : List Era → Sees → ℕ → Board → List Install → Type 0
-HasStoodFrom line sees slot board [] = SlotStands line sees slot board
+HasStoodFrom line sees slot board [] = SlotRepresented line sees slot board
 HasStoodFrom line sees slot board (what ∷ more) =
-    SlotStands line sees slot board × HasStoodFrom line sees slot (installed what board) more
+    SlotRepresented line sees slot board × HasStoodFrom line sees slot (installed what board) more
 
 -- This holds for everything known to be published, from the opening board on.
 abbrev pub HasStood : List Era → Sees → ℕ → Knowledge BoardAt Install → Type 0

@@ -4,19 +4,19 @@ use Rattle.unl_core.specs.declared.board.Board.{Board}
 use Rattle.unl_core.specs.declared.board.Install.{Install}
 use Rattle.unl_core.specs.declared.board.Install.TheVariants.{Tokens, Env}
 use Rattle.unl_core.specs.Board.{installed}
-use Rattle.unl_core.specs.Standing.{snapshot_at}
+use Rattle.unl_core.specs.DeskStates.{snapshot_at}
 use Rattle.unl_delta.specs.declared.batch.Batch.{Batch}
 use Rattle.unl_delta.specs.declared.batch.Verdict.TheVariants.{Apply}
 use Rattle.unl_delta.specs.declared.version.EnvVersion.{EnvVersion}
 use Rattle.unl_delta.specs.declared.version.Place.{Place}
 use Rattle.unl_delta.specs.Batch.{next_version, verdict_of}
 use Rattle.unl_edge_state.specs.Editions.{BoardAt}
-use Rattle.unl_published.specs.declared.knowledge.Knowledge.{Knowledge}
+use Rattle.unl_publication.specs.declared.knowledge.Knowledge.{Knowledge}
 
 -- The version is the next one after a batch that applies at a place with the slot's version, whether held or not.
 pub record GoesOn (board : Board) (slot : ℕ) (version : EnvVersion) : Type 0 where
   pub place : Place
-  pub stands : place.version ≡ snapshot_at board.slots slot
+  pub represents : place.version ≡ snapshot_at board.slots slot
   pub batch : Batch
   pub applies : verdict_of place batch ≡ Apply
   pub next : version ≡ next_version place batch

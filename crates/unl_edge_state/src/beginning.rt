@@ -2,11 +2,11 @@
 ghost use Rattle.std.specs.Prelude.{◌≡◌, ℕ, ◌<◌, ◌≤◌, All, IfOk, IsTrue, false, length, map};
 ghost use Rattle.std.specs.Prelude.{is_some, true};
 ghost use Rattle.unl_core.specs.Board.{AreSlots};
-ghost use Rattle.unl_core.specs.Standing.{place_at};
+ghost use Rattle.unl_core.specs.DeskStates.{place_at};
 ghost use Rattle.unl_edge_state.specs.Editions.{opening_at};
 ghost use Rattle.unl_edge_state.specs.Reading.{HasBegun};
-ghost use Rattle.unl_published.specs.Rule.{knows_opening, told_by};
-ghost use Rattle.unl_published.specs.Seen.{is_closed, written};
+ghost use Rattle.unl_publication.specs.Rule.{knows_opening, told_by};
+ghost use Rattle.unl_publication.specs.Seen.{is_closed, written};
 
 use crate::edition::Edition;
 use crate::reader::EdgeReader;
@@ -14,8 +14,8 @@ use crate::writer::EdgeWriter;
 use std::alloc::{AllocError, Global};
 use std::sync::Wait;
 use unl_core::{Board, Install, Slot, places_at};
-use unl_documents::{Copied, List, Memory, Text};
-use unl_published::{Ruled, Writer, new_reader};
+use unl_documents::{List, Memory, Text, TryClone};
+use unl_publication::{Ruled, Writer, new_reader};
 
 /// Creates a writer of a board, and `readers` readers that know only the opening board. There is room for one list per
 /// reader that the writer has reported and the reader has not learned yet.

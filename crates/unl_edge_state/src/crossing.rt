@@ -15,7 +15,7 @@ use left_right::writer::Writer as Sides;
 use std::sync::Wait;
 use unl_core::Install;
 use unl_delta::Place;
-use unl_published::{Knowledge, Ruled, Writer as Publishing};
+use unl_publication::{Knowledge, Ruled, Writer as Publishing};
 
 /// Turns the bound `Sync` into a fact.
 fn sync_of<T: Sync>()
@@ -68,7 +68,7 @@ fn seats_cross()
 
 /// A reader can be sent to another thread. A caller that sends one calls this first, to have the fact. Does nothing at
 /// run time.
-pub fn readers_cross()
+pub fn readers_are_send()
     ensures { IsSend ReaderType.the_row }
 {
     seats_cross();
@@ -103,7 +103,7 @@ fn place_send()
 
 /// A writer can be sent to another thread, if threads can share what it waits by. A caller that sends one calls this
 /// first, to have the fact. Does nothing at run time.
-pub fn writers_cross<W: Wait + Sync>()
+pub fn writers_are_send<W: Wait + Sync>()
     ensures { (lifetime : NamedLft) → IsSend (writer_type lifetime W.row) }
 {
     publishing_crosses();

@@ -8,7 +8,7 @@ use std::alloc::AllocError;
 use std::marker::Model;
 use unl_core::{Board, Install, install};
 use unl_documents::Memory;
-use unl_published::Counted;
+use unl_publication::Counted;
 
 /// A board, and how many installs led to it.
 #[derive(Drop)]

@@ -3,33 +3,34 @@ ghost use Rattle.std.specs.Prelude.{◌≡◌, ◌≤◌, ℕ, List, [], IfSome,
 ghost use Rattle.unl_core.specs.declared.board.Board.{Board};
 ghost use Rattle.unl_core.specs.declared.board.Install.{Install};
 ghost use Rattle.unl_core.specs.Board.{board_after};
-ghost use Rattle.unl_core.specs.Standing.{snapshot_at};
+ghost use Rattle.unl_core.specs.DeskStates.{snapshot_at};
 ghost use Rattle.unl_delta.specs.History.{Era, IsNotBelow};
 ghost use Rattle.unl_delta.specs.View.{Sees};
 ghost use Rattle.unl_edge_state.specs.Editions.{BoardAt};
-ghost use Rattle.unl_edge_state.specs.Histories.{HasStood, SlotStands};
+ghost use Rattle.unl_edge_state.specs.Histories.{HasStood, SlotRepresented};
 ghost use Rattle.unl_edge_state.specs.Orderly.{IsOrderly};
-ghost use Rattle.unl_edge_state.specs.Reading.{board_of};
-ghost use Rattle.unl_published.specs.declared.knowledge.Knowledge.{Knowledge};
+ghost use Rattle.unl_edge_state.specs.Reading.{ContinuedFromOpening, board_of};
+ghost use Rattle.unl_publication.specs.declared.knowledge.Knowledge.{Knowledge};
 
 /// The board at a front `k` is the opening board after the first `k` installs that were seen, if the reader never
-/// continued from a list that it learned.
+/// continued from a list that it learned, or did so only from the opening board, as a worker's reader does before its first
+/// look.
 pub fn boards_are_after_installs()
-    ensures { (known : Knowledge BoardAt Install) (opening : BoardAt) (k : ℕ) → known.opening ≡ Some opening → known.before ≡ []
-        → k ≤ length known.installs → board_of known k ≡ Some (board_after opening.board (take k known.installs)) }
+    ensures { (known : Knowledge BoardAt Install) (opening : BoardAt) (k : ℕ) → known.opening ≡ Some opening
+        → ContinuedFromOpening opening known → k ≤ length known.installs → board_of known k ≡ Some (board_after opening.board (take k known.installs)) }
 {}
 
 /// In an orderly list, a larger front has no older version at any slot, and no slot becomes empty.
-pub fn fronts_only_go_on()
+pub fn versions_never_fall()
     ensures { (board : Board) (list : List Install) (j k slot : ℕ) → IsOrderly board list → j ≤ k
         → IsNotBelow (snapshot_at (board_after board (take j list)).slots slot) (snapshot_at (board_after board (take k list)).slots slot) }
 {}
 
 /// If each version that a slot has had is a revision of a line of histories, filtered by `sees`, so is the slot's
 /// version on the board at each front, if there is one. This is for a reader that never continued from a list that it
-/// learned.
-pub fn boards_stand_for_lines()
+/// learned, or did so only from the opening board.
+pub fn boards_represent_lines()
     ensures { (line : List Era) (sees : Sees) (slot : ℕ) (known : Knowledge BoardAt Install) (opening : BoardAt) (k : ℕ)
-        → known.opening ≡ Some opening → known.before ≡ [] → k ≤ length known.installs → HasStood line sees slot known
-        → IfSome (board_of known k) (SlotStands line sees slot) }
+        → known.opening ≡ Some opening → ContinuedFromOpening opening known → k ≤ length known.installs → HasStood line sees slot known
+        → IfSome (board_of known k) (SlotRepresented line sees slot) }
 {}

@@ -10,7 +10,7 @@ mod reader;
 mod writer;
 
 pub use beginning::begin;
-pub use crossing::{readers_cross, writers_cross};
+pub use crossing::{readers_are_send, writers_are_send};
 pub use edition::Edition;
 pub use reader::{EdgeReader, Told};
 pub use writer::EdgeWriter;

@@ -1,8 +1,8 @@
 //! A desk that answers over the board published when it looks.
 ghost use Rattle.std.specs.Prelude.{max, ◌≡◌, ◌≤◌, true, is_some, unwrap_or, option_map, IfSome};
-ghost use Rattle.unl_published.specs.Looking.{SameOrigin, goes_on};
-ghost use Rattle.unl_published.specs.Rule.{knows_nothing};
-ghost use Rattle.unl_published.specs.Seen.{next, told_front, told_list};
+ghost use Rattle.unl_publication.specs.Looking.{SameOrigin, goes_on};
+ghost use Rattle.unl_publication.specs.Rule.{knows_nothing};
+ghost use Rattle.unl_publication.specs.Seen.{next, told_front, told_list};
 
 use crate::edition::Edition;
 use std::alloc::Global;
@@ -10,10 +10,10 @@ use unl_base::Draw;
 use unl_core::{Answer, Desk, Install, answer};
 use unl_documents::Memory;
 use unl_http_api::Request;
-use unl_published::{Reader, Ruled};
+use unl_publication::{Reader, Ruled};
 
 /// What a writer knew at one moment, for one reader to learn.
-pub type Told = unl_published::Told<Edition, Install, Ruled<Install>>;
+pub type Told = unl_publication::Told<Edition, Install, Ruled<Install>>;
 
 /// A desk over what one writer publishes. It looks once for each answer, and never waits.
 #[derive(Drop)]
@@ -59,9 +59,9 @@ impl Desk for EdgeReader {
     ghost use Rattle.unl_edge_state.specs.Editions.{board_known};
     ghost use Rattle.unl_edge_state.specs.Reading.{board_of, next_of, seen_by, told_to};
     ghost use Rattle.unl_metrics.specs.Reports.{IsReport};
-    ghost use Rattle.unl_published.specs.Looking.{LooksBelow, SameOrigin};
-    ghost use Rattle.unl_published.specs.Meaning.{front_seen};
-    ghost use Rattle.unl_published.specs.Rule.{StartsWith};
+    ghost use Rattle.unl_publication.specs.Looking.{LooksBelow, SameOrigin};
+    ghost use Rattle.unl_publication.specs.Meaning.{front_seen};
+    ghost use Rattle.unl_publication.specs.Rule.{StartsWith};
 
     ghost front = { λ reader. front_seen (seen_by reader) };
 

@@ -4,7 +4,7 @@ ghost use Rattle.std.specs.Prelude.{OnSome};
 ghost use Rattle.unl_core.specs.declared.board.Install.TheVariants.{Env, Tokens};
 ghost use Rattle.unl_delta.specs.declared.batch.Verdict.TheVariants.{Apply};
 ghost use Rattle.unl_delta.specs.Batch.{next_version, verdict_of};
-ghost use Rattle.unl_delta.specs.History.{Era, FollowsLines, IsLine, IsSent};
+ghost use Rattle.unl_delta.specs.History.{Era, PreservesLines, IsLine, IsSent};
 ghost use Rattle.unl_delta.specs.Installing.{after_hold, after_install, place_of, IsBookInstalled};
 ghost use Rattle.unl_delta.specs.Valid.{IsValidBatch, IsValidPlace};
 ghost use Rattle.unl_delta.specs.View.{Sees};
@@ -14,8 +14,8 @@ ghost use Rattle.unl_edge_state.specs.Histories.{HasStood};
 ghost use Rattle.unl_edge_state.specs.Orderly.{KnowsOrderly};
 ghost use Rattle.unl_edge_state.specs.Writing as writing;
 ghost use Rattle.unl_edge_state.specs.Writing.{after_publish, installed_by, with_install, with_version, IsWithin, IsWriting, Stays};
-ghost use Rattle.unl_published.specs.Rule.{told_by};
-ghost use Rattle.unl_published.specs.Seen.{is_closed, told_front, told_list, written};
+ghost use Rattle.unl_publication.specs.Rule.{told_by};
+ghost use Rattle.unl_publication.specs.Seen.{is_closed, told_front, told_list, written};
 
 use crate::edition::Edition;
 use crate::reader::Told;
@@ -26,7 +26,7 @@ use unl_compiled::Snapshot;
 use unl_core::{Board, Install, snapshot_after};
 use unl_delta::{Batch, Installer, Place};
 use unl_documents::{Memory, Shared};
-use unl_published::{Counted, Publisher, Ruled, Writer};
+use unl_publication::{Counted, Publisher, Ruled, Writer};
 use unl_tokens::Book;
 
 /// Publishes what is installed on a board, and keeps the place of each slot: its version, and whether it is held. It
@@ -37,7 +37,7 @@ pub struct EdgeWriter<'a, W: Wait> {
 }
 
 impl<'a, W: Wait> Model for EdgeWriter<'a, W> {
-    ghost use Rattle.unl_published.specs.Seen.{published, stays_closed};
+    ghost use Rattle.unl_publication.specs.Seen.{published, stays_closed};
     ghost use Rattle.unl_edge_state.specs.Writing.{IsWriting, Writing};
 
     ghost Value = { Writing };
@@ -179,7 +179,7 @@ impl<W: Wait> Installer for EdgeWriter<'_, W> {
         requires batch { IsValidBatch batch.now }
         requires applies { verdict_of (place_of (installed_by self.old) slot) batch.now ≡ Apply }
         ensures published { OnOk result (installed_by self.new ≡ after_install slot batch.now (installed_by self.old)) }
-        ensures stands { OnOk result (FollowsLines (place_of (installed_by self.old) slot).version batch.now
+        ensures represents { OnOk result (PreservesLines (place_of (installed_by self.old) slot).version batch.now
             (place_of (installed_by self.new) slot).version) }
         ensures whole { OnOk result (self.new ≡ record (writing.after_batch slot batch.now self.old) { closed = self.new.closed }) }
         ensures front { IfOk result (λ front. front ≡ (installed_by self.new).front) }

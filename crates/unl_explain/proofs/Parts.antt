@@ -20,7 +20,7 @@ use Rattle.unl_dependencies.specs.Evaluation.{dependencies_met, evaluation_of, e
 use Rattle.unl_dependencies.specs.declared.evaluation.Evaluation.{Evaluation}
 use Rattle.unl_explain.specs.declared.reason.ParentReason.{ParentReason}
 use Rattle.unl_explain.specs.declared.reason.StrategyReason.{StrategyReason}
-use Rattle.unl_explain.specs.Laws.{OnIsExplained, ActiveIsExplained, EvaluationIsExplained, all_true, is_active_by_parts, is_on_by_parts, stands}
+use Rattle.unl_explain.specs.Laws.{OnIsExplained, ActiveIsExplained, EvaluationIsExplained, all_true, is_active_by_parts, is_on_by_parts, is_found_and_holds}
 use Rattle.unl_explain.specs.Reasons.{found_reason, missing_reason, parent_reason, reason_of, reasons_from, reasons_of, segment_reason, strategy_reason, truths_of}
 
 -- ---- lists
@@ -39,16 +39,16 @@ unfolding all_hold truths_of
 same_truths constraints context now = all_mapped (λ (c : Constraint). constraint_holds c context now) (λ (b : Bool). b) (λ (c : Constraint). constraint_holds c context now) (λ c. refl) constraints
 
 where_found : (context : Fields) (now id : ℕ) (found : Option Segment)
-    → option_map_or (λ (s : Segment). all_hold s.constraints context now) found false ≡ stands (option_map_or (found_reason context now id) found (missing_reason id))
+    → option_map_or (λ (s : Segment). all_hold s.constraints context now) found false ≡ is_found_and_holds (option_map_or (found_reason context now id) found (missing_reason id))
 where_found context now id None = refl
 where_found context now id (Some s) = same_truths s.constraints context now
 
-same_segment : (segments : List Segment) (context : Fields) (now id : ℕ) → is_segment_met segments context now id ≡ stands (segment_reason segments context now id)
+same_segment : (segments : List Segment) (context : Fields) (now id : ℕ) → is_segment_met segments context now id ≡ is_found_and_holds (segment_reason segments context now id)
 unfolding is_segment_met segment_reason
 same_segment segments context now id = where_found context now id (segment_of id segments)
 
-same_segments : (segments : List Segment) (context : Fields) (now : ℕ) (ids : List ℕ) → list_all (is_segment_met segments context now) ids ≡ list_all stands (map (segment_reason segments context now) ids)
-same_segments segments context now ids = all_mapped (is_segment_met segments context now) stands (segment_reason segments context now) (same_segment segments context now) ids
+same_segments : (segments : List Segment) (context : Fields) (now : ℕ) (ids : List ℕ) → list_all (is_segment_met segments context now) ids ≡ list_all is_found_and_holds (map (segment_reason segments context now) ids)
+same_segments segments context now ids = all_mapped (is_segment_met segments context now) is_found_and_holds (segment_reason segments context now) (same_segment segments context now) ids
 
 same_active : (feature : List ℕ) (segments : List Segment) (context : Fields) (moment : Moment) (place : ℕ) (s : Strategy)
     → (strategy_reason feature segments context moment place s).active ≡ is_active_by_parts (strategy_reason feature segments context moment place s)

@@ -25,13 +25,13 @@ abbrev pub is_on_by_parts : Reason → Bool
 is_on_by_parts r = r.enabled && (list_all (λ p. p.met) r.parents && (length r.strategies == 0 || is_some r.first))
 
 -- The segment is found, and all of its constraints hold.
-abbrev pub stands : SegmentReason → Bool
-stands s = s.found && all_true s.constraints
+abbrev pub is_found_and_holds : SegmentReason → Bool
+is_found_and_holds s = s.found && all_true s.constraints
 
 -- By its parts, the strategy is active: all of its constraints hold, each of its segments is found and holds, and its own
 -- rule holds.
 abbrev pub is_active_by_parts : StrategyReason → Bool
-is_active_by_parts s = all_true s.constraints && (list_all stands s.segments && s.rule)
+is_active_by_parts s = all_true s.constraints && (list_all is_found_and_holds s.segments && s.rule)
 
 -- A feature is on exactly if it is on by its parts.
 abbrev pub OnIsExplained : Type 0

@@ -32,18 +32,18 @@ fault_of (refusal.BadInput fault) = BadInput fault
 fault_of refusal.TooLarge = TooLarge
 
 -- An input with this outcome was read, and all of its line was sent: the explanation or the refusal.
-abbrev pub SaysOfInput : Outcome (List ℕ) → Option (List ℕ) → Option (List ℕ) → Option (List ℕ) → Option (List ℕ) → Type 0
-SaysOfInput outcome left left_after old new = Says explained as_it_is outcome left left_after old new
+abbrev pub PrintsRefusal : Outcome (List ℕ) → Option (List ℕ) → Option (List ℕ) → Option (List ℕ) → Option (List ℕ) → Type 0
+PrintsRefusal outcome left left_after old new = Says explained as_it_is outcome left left_after old new
 
 -- An input was read, and a prefix of its line was sent: of the explanation or of the refusal.
-abbrev pub SaysFrontOfInput : Option (List ℕ) → Option (List ℕ) → Option (List ℕ) → Option (List ℕ) → Type 0
-SaysFrontOfInput left left_after old new = (outcome : Outcome (List ℕ)) × SaysFront explained as_it_is outcome left left_after old new
+abbrev pub PrintsRefusalPrefix : Option (List ℕ) → Option (List ℕ) → Option (List ℕ) → Option (List ℕ) → Type 0
+PrintsRefusalPrefix left left_after old new = (outcome : Outcome (List ℕ)) × SaysFront explained as_it_is outcome left left_after old new
 
 -- How explaining an input ends, in terms of the source's remaining bytes and the sink's sent bytes, before and after.
 abbrev pub Explains : Result (Unit {0}) ExplainFault → Option (List ℕ) → Option (List ℕ) → Option (List ℕ) → Option (List ℕ) → Type 0
-Explains (Ok u) left left_after old new = (line : List ℕ) × SaysOfInput (Ok line) left left_after old new
-Explains (Err (BadInput fault)) left left_after old new = SaysOfInput (Err (refusal.BadInput fault)) left left_after old new
-Explains (Err TooLarge) left left_after old new = SaysOfInput (Err refusal.TooLarge) left left_after old new
+Explains (Ok u) left left_after old new = (line : List ℕ) × PrintsRefusal (Ok line) left left_after old new
+Explains (Err (BadInput fault)) left left_after old new = PrintsRefusal (Err (refusal.BadInput fault)) left left_after old new
+Explains (Err TooLarge) left left_after old new = PrintsRefusal (Err refusal.TooLarge) left left_after old new
 Explains (Err ReadFault) left left_after old new = new ≡ old
-Explains (Err WriteFault) left left_after old new = SaysFrontOfInput left left_after old new
+Explains (Err WriteFault) left left_after old new = PrintsRefusalPrefix left left_after old new
 Explains (Err Memory) left left_after old new = new ≡ old

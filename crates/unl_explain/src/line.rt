@@ -12,7 +12,7 @@ use crate::reason::{Origin, ParentCause, ParentReason, Reason, SegmentReason, St
 use serde_json::{Map, Value};
 use std::alloc::{AllocError, Global};
 use unl_dependencies::{Evaluation, VariantAnswer};
-use unl_documents::written::{Written, put, put_some};
+use unl_documents::to_value::{ToValue, put, put_some};
 use unl_documents::{Field, List, Memory};
 
 /// Returns the line for an explanation: a JSON object with its keys in byte order, or `null` if the state lacks the feature.
@@ -140,7 +140,7 @@ fn variant_value(alloc: Global, variant: &VariantAnswer) -> Result<Value, Memory
     Ok(Value::Object(members))
 }
 
-impl Written for ParentReason {
+impl ToValue for ParentReason {
     ghost written = { parent_data };
 
     #[tactic(auto, unfolding(crate::specs::Line::parent_data))]
@@ -186,7 +186,7 @@ fn put_variant(
     }
 }
 
-impl Written for StrategyReason {
+impl ToValue for StrategyReason {
     ghost written = { strategy_data };
 
     #[tactic(auto, unfolding(crate::specs::Line::strategy_data))]
@@ -201,7 +201,7 @@ impl Written for StrategyReason {
     }
 }
 
-impl Written for SegmentReason {
+impl ToValue for SegmentReason {
     ghost written = { segment_data };
 
     #[tactic(auto, unfolding(crate::specs::Line::segment_data))]

@@ -8,7 +8,7 @@ use crate::reason::{ParentCause, ParentReason};
 use std::alloc::Global;
 use unl_context::Context;
 use unl_dependencies::{evaluate_where, feature_named, is_met};
-use unl_documents::{Copied, Dependency, Feature, List, Memory, State};
+use unl_documents::{Dependency, Feature, List, Memory, State, TryClone};
 use unl_strategies::Moment;
 
 /// Explains for each dependency whether it is met, and why.

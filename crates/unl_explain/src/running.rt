@@ -10,23 +10,31 @@ use crate::explaining::explain;
 use crate::line::explanation_line;
 use crate::question::{Question, question_in};
 use std::alloc::Global;
+use thiserror::Error;
 use unl_base::{Sink, Source};
 use unl_documents::{BadDocument, List, Memory};
-use unl_input::{AnswerFault, InputAnswer, InputRefusal, SayFault, answer_input, say_refusal};
+use unl_input::{
+    AnswerFault, InputAnswer, InputRefusal, WriteLineFault, answer_input, write_refusal,
+};
 use unl_strategies::Moment;
 
 /// Why an input was not explained.
-#[derive(Debug, Drop, PartialEq)]
+#[derive(Debug, Drop, PartialEq, Error)]
 pub enum ExplainFault {
     /// The input has this fault, its first. It is never `Memory`.
+    #[error("the input is not accepted")]
     BadInput(BadDocument),
     /// The input has more than 16,777,216 bytes.
+    #[error("the input is too large")]
     TooLarge,
     /// The source failed.
+    #[error("the input failed")]
     ReadFault,
     /// The sink failed.
+    #[error("the output failed")]
     WriteFault,
     /// Out of memory.
+    #[error("out of memory")]
     Memory,
 }
 
@@ -61,10 +69,10 @@ pub fn explain_run<S: Source, K: Sink>(
 {
     match answer_input::<Explaining, S, K>(alloc, &Explaining, source, sink) {
         Ok(_line) => Ok(()),
-        Err(AnswerFault::Refused(refusal)) => match say_refusal(alloc, sink, &refusal) {
+        Err(AnswerFault::Refused(refusal)) => match write_refusal(alloc, sink, &refusal) {
             Ok(()) => Err(fault_of(refusal)),
-            Err(SayFault::WriteFault) => Err(ExplainFault::WriteFault),
-            Err(SayFault::Memory) => Err(ExplainFault::Memory),
+            Err(WriteLineFault::WriteFault) => Err(ExplainFault::WriteFault),
+            Err(WriteLineFault::Memory) => Err(ExplainFault::Memory),
         },
         Err(AnswerFault::ReadFault) => Err(ExplainFault::ReadFault),
         Err(AnswerFault::WriteFault) => Err(ExplainFault::WriteFault),

@@ -8,7 +8,7 @@ use std::alloc::Global;
 use unl_constraints::holds;
 use unl_context::Context;
 use unl_documents::{
-    Constraint, Copied, Feature, List, Memory, Segment, Shared, Strategy, Text, segment_of,
+    Constraint, Feature, List, Memory, Segment, Shared, Strategy, Text, TryClone, segment_of,
 };
 use unl_strategies::{Moment, active, rule};
 

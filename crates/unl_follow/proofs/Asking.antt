@@ -10,7 +10,7 @@ use Rattle.unl_refresh.specs.Exchange.{Asks, AsksAtMostOnce}
 use Rattle.unl_refresh.specs.Refresh.{Refreshed, Refreshes}
 use Rattle.unl_follow.specs.Replica.{Kept, installed_by}
 use Rattle.unl_follow.specs.Run.{AsksOnce}
-use Rattle.unl_follow.specs.Turns.{Stand, request_at, turned_by, turned_to}
+use Rattle.unl_follow.specs.Turns.{TurnState, request_at, turned_by, turned_to}
 
 -- a relation of the bytes sent carries over to the peer's view of them
 told : (Holds : Option (List ℕ) → Option (List ℕ) → Type 0) (sent sent_after : Option (List ℕ)) (peer peer_after : PeerState)
@@ -20,7 +20,7 @@ told Holds sent sent_after peer peer_after same same_after holds =
     (subst (λ (o : Option (List ℕ)). Holds o sent_after) (sym same) holds)
 
 -- what is kept, and the tag of the next request
-abbrev standing : Kept → Option (List ℕ) → Stand
+abbrev standing : Kept → Option (List ℕ) → TurnState
 standing kept tag = record { installed = installed_by kept; tag = tag }
 
 pub replied : (ask : Ask) (before after : Kept) (tag : Option (List ℕ)) (outcome : Outcome) (peer peer_after : PeerState)

@@ -7,7 +7,7 @@ use Rattle.unl_delta.specs.declared.batch.Verdict.{Verdict}
 use Rattle.unl_delta.specs.declared.batch.Verdict.TheVariants.{Apply, Repeat, Old, Gap, Held}
 use Rattle.unl_delta.specs.declared.version.EnvVersion.{EnvVersion}
 use Rattle.unl_delta.specs.Batch.{verdict_of}
-use Rattle.unl_delta.specs.History.{Era, StandsIn, revision_in}
+use Rattle.unl_delta.specs.History.{Era, RepresentsLine, revision_in}
 use Rattle.unl_delta.specs.Installing.{Installed, place_of}
 use Rattle.unl_delta.specs.Revision.{revision_of}
 use Rattle.unl_delta.specs.View.{Sees, view_of}
@@ -53,7 +53,7 @@ front_rises result ask before after tag coming takes fault =
 -- ---- lines of histories
 
 -- the state of a version that represents the line is one revision of it
-pub state_where : (line : List Era) (sees : Sees) (version : Option EnvVersion) → IfSome version (StandsIn line sees)
+pub state_where : (line : List Era) (sees : Sees) (version : Option EnvVersion) → IfSome version (RepresentsLine line sees)
     → IfSome version (λ v. option_map (view_of sees) (revision_in line (revision_of v)) ≡ Some v.state)
-state_where line sees None stands = tt
-state_where line sees (Some v) stands = state_in line sees v stands
+state_where line sees None represents = tt
+state_where line sees (Some v) represents = state_in line sees v represents

@@ -18,7 +18,7 @@ use Rattle.unl_follow.specs.declared.fault.FollowFault.{FollowFault}
 use Rattle.unl_follow.specs.declared.fault.FollowFault.TheVariants.{WriteFault, Memory}
 use Rattle.unl_refresh.specs.declared.outcome.Outcome.{Outcome}
 use Rattle.unl_follow.specs.Run.{AreAsMany, AsksOnce, Ends, Follows, Meets, RoseBy, Runs, TakesTurn}
-use Rattle.unl_follow.specs.Turns.{Came, Comes, IsAsked, Stand, Turn, Turned, first_stand, follow_text, reply_at, request_at, stand_after, turn_line, turned_to}
+use Rattle.unl_follow.specs.Turns.{ReplyOrFault, Comes, IsAsked, TurnState, Turn, TurnEffect, first_stand, follow_text, reply_at, request_at, state_after, turn_line, turned_to}
 
 -- ---- what is sent
 
@@ -56,7 +56,7 @@ next_is (Some list) j = refl
 -- ---- one more turn
 
 -- a turn that received this, after turns that used up `i` replies and had `k` faults
-record Came_on (came : Came) (replies : Option (List (List ℕ))) (i k before : ℕ) (replies_after : Option (List (List ℕ))) (after : ℕ) : Type 0 where
+record Came_on (came : ReplyOrFault) (replies : Option (List (List ℕ))) (i k before : ℕ) (replies_after : Option (List (List ℕ))) (after : ℕ) : Type 0 where
   taken : ℕ
   failed : ℕ
   comes : Comes replies came i k taken failed
@@ -69,7 +69,7 @@ later_still k before mid after rose later = omega (arith, rose, later)
 one_more : (k before mid after : ℕ) → RoseBy k before mid → Rose mid after → RoseBy (k + 1) before after
 one_more k before mid after rose more = omega (arith, rose, more)
 
-came_on : (came : Came) (request : List ℕ) (replies : Option (List (List ℕ))) (between peer_after : PeerState) (i k before mid after : ℕ)
+came_on : (came : ReplyOrFault) (request : List ℕ) (replies : Option (List (List ℕ))) (between peer_after : PeerState) (i k before mid after : ℕ)
     → between.replies ≡ option_map (λ list. drop i list) replies → RoseBy k before mid
     → Meets came request between mid peer_after after → Came_on came replies i k before peer_after.replies after
 came_on (Some reading) request replies between peer_after i k before mid after left counted meets = record {
@@ -95,7 +95,7 @@ came_on None request replies between peer_after i k before mid after left counte
 }
 
 -- what the peer was sent in a turn
-asked_on : (came : Came) (request : List ℕ) (peer peer_after : PeerState) (faults faults_after : ℕ)
+asked_on : (came : ReplyOrFault) (request : List ℕ) (peer peer_after : PeerState) (faults faults_after : ℕ)
     → Meets came request peer faults peer_after faults_after → IsAsked came request peer.sent peer_after.sent
 asked_on (Some reading) request peer peer_after faults faults_after meets = meets.1.sends
 asked_on None request peer peer_after faults faults_after meets = ⊎_elim (λ kept. inl kept.1) (λ part. inr part.sends) meets.0
@@ -103,19 +103,19 @@ asked_on None request peer peer_after faults faults_after meets = ⊎_elim (λ k
 -- ---- the run so far
 
 -- `count` turns were made, and this is the state after them
-pub record Reached (ask : Ask) (subject : Subject) (start : Ends) (count : ℕ) (stand : Stand) (now : Ends) : Type 0 where
+pub record Reached (ask : Ask) (subject : Subject) (start : Ends) (count : ℕ) (stand : TurnState) (now : Ends) : Type 0 where
   pub turns : List Turn
   pub many : length turns ≡ count
-  pub stands : stand ≡ stand_after ask.delta turns
+  pub represents : stand ≡ state_after ask.delta turns
   pub follows : Follows Sends ask subject start turns now
 
-pub Reached_begin : (ask : Ask) (subject : Subject) (start : Ends) (stand : Stand) → stand ≡ first_stand
+pub Reached_begin : (ask : Ask) (subject : Subject) (start : Ends) (stand : TurnState) → stand ≡ first_stand
     → Reached ask subject start 0 stand start
-unfolding stand_after follow_text
+unfolding state_after follow_text
 Reached_begin ask subject start stand first = record {
   turns = [];
   many = refl;
-  stands = first;
+  represents = first;
   follows = record {
     taken = 0;
     failed = 0;
@@ -135,7 +135,7 @@ Reached_begin ask subject start stand first = record {
 -- one more turn, with its text sent by a relation that continues after what was sent in full
 turns_more : (Sent : Option (List ℕ) → List ℕ → Option (List ℕ) → Type 0)
     → ((old mid new : Option (List ℕ)) (a b : List ℕ) → Sends old a mid → Sent mid b new → Sent old (a ++ b) new)
-    → (ask : Ask) (subject : Subject) (start mid now : Ends) (count : ℕ) (stand next : Stand) (reached : Reached ask subject start count stand mid)
+    → (ask : Ask) (subject : Subject) (start mid now : Ends) (count : ℕ) (stand next : TurnState) (reached : Reached ask subject start count stand mid)
     → (takes : TakesTurn Sent ask subject (count + 1) stand mid next now) → Follows Sent ask subject start (takes.turn ∷ reached.turns) now
 unfolding follow_text
 turns_more Sent goes_on ask subject start mid now count stand next reached takes =
@@ -150,28 +150,28 @@ turns_more Sent goes_on ask subject start mid now count stand next reached takes
       asked = (
         mid.peer.sent,
         reached.follows.asked,
-        subst (λ (s : Stand). IsAsked takes.turn.came (request_at ask s) mid.peer.sent now.peer.sent) reached.stands asks,
+        subst (λ (s : TurnState). IsAsked takes.turn.came (request_at ask s) mid.peer.sent now.peer.sent) reached.represents asks,
       );
       counted = on.counted;
       drawn = (mid.coming, reached.follows.drawn, takes.drawn);
       sends = goes_on start.sent mid.sent now.sent (follow_text ask.delta subject reached.turns) _ reached.follows.sends
-          (subst (λ (k : ℕ). Sent mid.sent (turn_line subject (k + 1) takes.turn.draw (turned_to ask.delta (stand_after ask.delta reached.turns) takes.turn.came)) now.sent) (sym reached.many)
-          (subst (λ (s : Stand). Sent mid.sent (turn_line subject (count + 1) takes.turn.draw (turned_to ask.delta s takes.turn.came)) now.sent) reached.stands takes.sends));
+          (subst (λ (k : ℕ). Sent mid.sent (turn_line subject (k + 1) takes.turn.draw (turned_to ask.delta (state_after ask.delta reached.turns) takes.turn.came)) now.sent) (sym reached.many)
+          (subst (λ (s : TurnState). Sent mid.sent (turn_line subject (count + 1) takes.turn.draw (turned_to ask.delta s takes.turn.came)) now.sent) reached.represents takes.sends));
     }
 
 -- one more turn
-pub Reached_more : (ask : Ask) (subject : Subject) (start mid now : Ends) (count : ℕ) (stand next : Stand) → Reached ask subject start count stand mid
+pub Reached_more : (ask : Ask) (subject : Subject) (start mid now : Ends) (count : ℕ) (stand next : TurnState) → Reached ask subject start count stand mid
     → TakesTurn Sends ask subject (count + 1) stand mid next now → Reached ask subject start (count + 1) next now
-unfolding stand_after
+unfolding state_after
 Reached_more ask subject start mid now count stand next reached takes = record {
   turns = takes.turn ∷ reached.turns;
   many = omega (arith, reached.many);
-  stands = takes.stands ∙ ap (λ (s : Stand). (turned_to ask.delta s takes.turn.came).stand) reached.stands;
+  represents = takes.represents ∙ ap (λ (s : TurnState). (turned_to ask.delta s takes.turn.came).stand) reached.represents;
   follows = turns_more Sends Sends_more ask subject start mid now count stand next reached takes;
 }
 
 -- one more turn, with a prefix of its line sent
-pub Reached_cut : (ask : Ask) (subject : Subject) (start mid now : Ends) (count : ℕ) (stand next : Stand) → Reached ask subject start count stand mid
+pub Reached_cut : (ask : Ask) (subject : Subject) (start mid now : Ends) (count : ℕ) (stand next : TurnState) → Reached ask subject start count stand mid
     → TakesTurn SendsFront ask subject (count + 1) stand mid next now → (turns : List Turn) × Follows SendsFront ask subject start turns now
 Reached_cut ask subject start mid now count stand next reached takes =
     (takes.turn ∷ reached.turns, turns_more SendsFront front_more ask subject start mid now count stand next reached takes)
@@ -235,7 +235,7 @@ stopped asked (suc made) start mid now turns paced many few first told =
 -- ---- one turn of the code
 
 pub turn_taken : (Sent : Option (List ℕ) → List ℕ → Option (List ℕ) → Type 0) (ask : Ask) (subject : Subject) (number : ℕ)
-    (stand next : Stand) (before after : Ends) (draw : Draw) (outcome : Option Outcome) (line : List ℕ)
+    (stand next : TurnState) (before after : Ends) (draw : Draw) (outcome : Option Outcome) (line : List ℕ)
     → TakesDraw before.coming draw after.coming
     → AsksOnce ask stand before.peer before.faults (record { outcome = outcome; stand = next }) after.peer after.faults
     → line ≡ turn_line subject number draw (record { outcome = outcome; stand = next })
@@ -244,14 +244,14 @@ turn_taken Sent ask subject number stand next before after draw outcome line dra
   turn = record { draw = draw; came = asks.came };
   drawn = drawn;
   meets = asks.meets;
-  stands = ap (λ (t : Turned). t.stand) asks.turned_so;
+  represents = ap (λ (t : TurnEffect). t.stand) asks.turned_so;
   sends = subst (λ (bytes : List ℕ). Sent before.sent bytes after.sent)
-      (same ∙ ap (λ (t : Turned). turn_line subject number draw t) asks.turned_so) sends;
+      (same ∙ ap (λ (t : TurnEffect). turn_line subject number draw t) asks.turned_so) sends;
 }
 
 -- the ask of a turn differs from the run's only in its tag, and makes the request that the run's makes with the current tag
 of_the_run : (Sent : Option (List ℕ) → List ℕ → Option (List ℕ) → Type 0) (ask asked : Ask) → asked ≡ with_tag asked.tag ask
-    → (subject : Subject) (number : ℕ) (stand next : Stand) (before after : Ends)
+    → (subject : Subject) (number : ℕ) (stand next : TurnState) (before after : Ends)
     → TakesTurn Sent asked subject number stand before next after → TakesTurn Sent ask subject number stand before next after
 of_the_run Sent ask asked same subject number stand next before after takes =
     at_tag asked.tag (subst (λ (a : Ask). TakesTurn Sent a subject number stand before next after) same takes)
@@ -259,11 +259,11 @@ of_the_run Sent ask asked same subject number stand next before after takes =
     at_tag : (tag : Option (List ℕ)) → TakesTurn Sent (with_tag tag ask) subject number stand before next after
         → TakesTurn Sent ask subject number stand before next after
     at_tag tag turn =
-        record { turn = turn.turn; drawn = turn.drawn; meets = turn.meets; stands = turn.stands; sends = turn.sends }
+        record { turn = turn.turn; drawn = turn.drawn; meets = turn.meets; represents = turn.represents; sends = turn.sends }
 
 -- one more turn, with an ask that differs from the run's only in its tag
 pub Reached_next : (ask asked : Ask) → asked ≡ with_tag asked.tag ask → (subject : Subject) (start mid now : Ends) (count : ℕ)
-    (stand next : Stand) → Reached ask subject start count stand mid → TakesTurn Sends asked subject (count + 1) stand mid next now
+    (stand next : TurnState) → Reached ask subject start count stand mid → TakesTurn Sends asked subject (count + 1) stand mid next now
     → Reached ask subject start (count + 1) next now
 Reached_next ask asked same subject start mid now count stand next reached takes =
     Reached_more ask subject start mid now count stand next reached
@@ -271,7 +271,7 @@ Reached_next ask asked same subject start mid now count stand next reached takes
 
 -- the run after a turn that failed
 pub cut_runs : {T : Type 0} (ask asked : Ask) → asked ≡ with_tag asked.tag ask → (subject : Subject) (start mid now : Ends) (count : ℕ)
-    (stand next : Stand) (most : ℕ) (pace : Option ℕ) (result : Result T FollowFault) (fault : FollowFault)
+    (stand next : TurnState) (most : ℕ) (pace : Option ℕ) (result : Result T FollowFault) (fault : FollowFault)
     → Reached ask subject start count stand mid → result ≡ Err fault
     → (result ≡ Err WriteFault → TakesTurn SendsFront asked subject (count + 1) stand mid next now)
     → (result ≡ Err Memory → now.sent ≡ mid.sent) → Runs {T = T} most pace ask subject start (Err fault) now

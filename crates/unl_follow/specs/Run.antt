@@ -12,7 +12,7 @@ use Rattle.unl_refresh.specs.Exchange.{Asks, AsksAtMostOnce, IsRead}
 use Rattle.unl_follow.specs.declared.fault.FollowFault.{FollowFault}
 use Rattle.unl_follow.specs.declared.fault.FollowFault.TheVariants.{WriteFault, Memory}
 use Rattle.unl_follow.specs.Replica.{Subject}
-use Rattle.unl_follow.specs.Turns.{Came, HaveAsked, HaveDrawn, HaveTurned, Stand, Turn, Turned, follow_text, request_at, turn_line}
+use Rattle.unl_follow.specs.Turns.{ReplyOrFault, HaveAsked, HaveDrawn, HaveTurned, TurnState, Turn, TurnEffect, follow_text, request_at, turn_line}
 use Rattle.unl_follow.specs.Turns.{turned_to}
 
 -- The ends of a run: the peer (what it was sent on its last connection, and what its next ones give to read) with its count of
@@ -26,7 +26,7 @@ pub record Ends : Type 0 where
 -- ---- one turn
 
 -- The peer was sent the request and used up one reply; or it failed, with at most one connection.
-abbrev pub Meets : Came → List ℕ → PeerState → ℕ → PeerState → ℕ → Type 0
+abbrev pub Meets : ReplyOrFault → List ℕ → PeerState → ℕ → PeerState → ℕ → Type 0
 Meets (Some reading) request peer faults peer_after faults_after =
     IsRead (option_map next_of peer.replies) reading × Asks request peer.replies peer.sent peer_after.replies peer_after.sent
     × (faults ≤ faults_after)
@@ -35,20 +35,20 @@ Meets None request peer faults peer_after faults_after =
 
 -- One request was made in state `stand`, and it had this outcome and effect.
 pub record AsksOnce
-    (ask : Ask) (stand : Stand) (peer : PeerState) (faults : ℕ) (turned : Turned) (peer_after : PeerState) (faults_after : ℕ)
+    (ask : Ask) (stand : TurnState) (peer : PeerState) (faults : ℕ) (turned : TurnEffect) (peer_after : PeerState) (faults_after : ℕ)
     : Type 0 where
-  pub came : Came
+  pub came : ReplyOrFault
   pub meets : Meets came (request_at ask stand) peer faults peer_after faults_after
   pub turned_so : turned ≡ turned_to ask.delta stand came
 
 -- Turn `number` was made, and its line was sent, as `Sent` says (in full, or a prefix).
 pub record TakesTurn
     (Sent : Option (List ℕ) → List ℕ → Option (List ℕ) → Type 0) (ask : Ask) (subject : Subject) (number : ℕ)
-    (stand : Stand) (before : Ends) (stand_after : Stand) (after : Ends) : Type 0 where
+    (stand : TurnState) (before : Ends) (state_after : TurnState) (after : Ends) : Type 0 where
   pub turn : Turn
   pub drawn : TakesDraw before.coming turn.draw after.coming
   pub meets : Meets turn.came (request_at ask stand) before.peer before.faults after.peer after.faults
-  pub stands : stand_after ≡ (turned_to ask.delta stand turn.came).stand
+  pub represents : state_after ≡ (turned_to ask.delta stand turn.came).stand
   pub sends : Sent before.sent (turn_line subject number turn.draw (turned_to ask.delta stand turn.came)) after.sent
 
 -- ---- the run

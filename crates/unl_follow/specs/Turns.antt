@@ -17,44 +17,44 @@ use Rattle.unl_follow.specs.Line.{line_of, number_text, on_text, word_of}
 use Rattle.unl_follow.specs.Replica.{Subject, found_in, installed_by, new_replica}
 
 -- what a request received: a reply, as it was parsed, or nothing if the peer failed
-abbrev pub Came : Type 0
-Came = Option (Result Got BadReply)
+abbrev pub ReplyOrFault : Type 0
+ReplyOrFault = Option (Result Got BadReply)
 
 -- a turn: its draw, and what its request received
 pub record Turn : Type 0 where
   pub draw : Draw
-  pub came : Came
+  pub came : ReplyOrFault
 
 -- the state between two turns: what is installed, and the tag of the next request
-pub record Stand : Type 0 where
+pub record TurnState : Type 0 where
   pub installed : Installed
   pub tag : Option (List ℕ)
 
 -- the effect of a turn: its outcome (none if the peer failed) and the state after it
-pub record Turned : Type 0 where
+pub record TurnEffect : Type 0 where
   pub outcome : Option Outcome
-  pub stand : Stand
+  pub stand : TurnState
 
 -- the state before the first turn
-abbrev pub first_stand : Stand
+abbrev pub first_stand : TurnState
 first_stand = record { installed = installed_by new_replica; tag = None }
 
 -- the effect of a refresh
-abbrev pub turned_by : Refreshed → Turned
+abbrev pub turned_by : Refreshed → TurnEffect
 turned_by after = record { outcome = Some after.outcome; stand = record { installed = after.installed; tag = after.tag } }
 
 -- the effect of what was received; after a fault nothing is applied, and the next request has no tag
-unfoldable pub turned_to : Bool → Stand → Came → Turned
+unfoldable pub turned_to : Bool → TurnState → ReplyOrFault → TurnEffect
 turned_to delta before None = record { outcome = None; stand = record { installed = before.installed; tag = None } }
 turned_to delta before (Some reading) = turned_by (after_reading 0 delta before.tag before.installed reading)
 
 -- the state after these turns
-unfoldable pub stand_after : Bool → List Turn → Stand
-stand_after delta [] = first_stand
-stand_after delta (turn ∷ earlier) = (turned_to delta (stand_after delta earlier) turn.came).stand
+unfoldable pub state_after : Bool → List Turn → TurnState
+state_after delta [] = first_stand
+state_after delta (turn ∷ earlier) = (turned_to delta (state_after delta earlier) turn.came).stand
 
 -- the version of the place
-abbrev pub version_in : Stand → Option EnvVersion
+abbrev pub version_in : TurnState → Option EnvVersion
 version_in stand = (place_of stand.installed 0).version
 
 -- the moment of a draw, on a host without a name
@@ -62,7 +62,7 @@ abbrev pub moment_of : Draw → Moment
 moment_of draw = record { now = draw.now; word = draw.word; host = [] }
 
 -- the line of turn `k`, by its draw and effect
-unfoldable pub turn_line : Subject → ℕ → Draw → Turned → List ℕ
+unfoldable pub turn_line : Subject → ℕ → Draw → TurnEffect → List ℕ
 turn_line subject k draw turned =
     line_of k (word_of turned.outcome) (number_text (version_in turned.stand))
     (on_text (found_in (version_in turned.stand) subject.feature subject.context (moment_of draw)))
@@ -72,7 +72,7 @@ unfoldable pub follow_text : Bool → Subject → List Turn → List ℕ
 follow_text delta subject [] = []
 follow_text delta subject (turn ∷ earlier) =
     follow_text delta subject earlier
-    ++ turn_line subject (length earlier + 1) turn.draw (turned_to delta (stand_after delta earlier) turn.came)
+    ++ turn_line subject (length earlier + 1) turn.draw (turned_to delta (state_after delta earlier) turn.came)
 
 -- ---- the replies, requests and draws of the turns
 
@@ -82,7 +82,7 @@ reply_at replies j = option_map (λ list. next_of (drop j list)) replies
 
 -- What a turn received, after turns that used up `i` replies and had `k` faults; with it these are `j` and `m`. A reply is the
 -- next one of the list and is used up. A fault counts as one more, and may have used up a reply.
-abbrev pub Comes : Option (List (List ℕ)) → Came → ℕ → ℕ → ℕ → ℕ → Type 0
+abbrev pub Comes : Option (List (List ℕ)) → ReplyOrFault → ℕ → ℕ → ℕ → ℕ → Type 0
 Comes replies (Some reading) i k j m = IsRead (reply_at replies i) reading × (j ≡ i + 1) × (m ≡ k)
 Comes replies None i k j m = ((j ≡ i) ⊎ (j ≡ i + 1)) × (m ≡ k + 1)
 
@@ -93,12 +93,12 @@ HaveTurned replies (turn ∷ earlier) j m =
     (i : ℕ) × (k : ℕ) × HaveTurned replies earlier i k × Comes replies turn.came i k j m
 
 -- the request of a turn: for the ask's host, token and mode, with the tag before the turn
-abbrev pub request_at : Ask → Stand → List ℕ
+abbrev pub request_at : Ask → TurnState → List ℕ
 request_at ask stand = refresh_request ask.delta ask.host ask.token stand.tag
 
 -- The bytes sent on the peer's last connection after a turn: the turn's request, on a new connection. If the peer failed: a
 -- prefix of the request, perhaps all of it, or the bytes of before.
-abbrev pub IsAsked : Came → List ℕ → Option (List ℕ) → Option (List ℕ) → Type 0
+abbrev pub IsAsked : ReplyOrFault → List ℕ → Option (List ℕ) → Option (List ℕ) → Type 0
 IsAsked (Some reading) request asked asked_after = asked_after ≡ option_map (λ _. request) asked
 IsAsked None request asked asked_after = (asked_after ≡ asked) ⊎ SendsFront (option_map (λ _. []) asked) request asked_after
 
@@ -107,7 +107,7 @@ abbrev pub HaveAsked : Ask → Option (List ℕ) → List Turn → Option (List 
 HaveAsked ask asked [] asked_after = asked_after ≡ asked
 HaveAsked ask asked (turn ∷ earlier) asked_after =
     (between : Option (List ℕ)) × HaveAsked ask asked earlier between
-    × IsAsked turn.came (request_at ask (stand_after ask.delta earlier)) between asked_after
+    × IsAsked turn.came (request_at ask (state_after ask.delta earlier)) between asked_after
 
 -- these turns took their draws one after another
 abbrev pub HaveDrawn : Option (List Draw × Draw) → List Turn → Option (List Draw × Draw) → Type 0

@@ -26,9 +26,9 @@ pub(crate) fn line(
         (on_text (found_in replica.now.place.version subject.now.feature subject.now.context moment.entry.now))) }
 {
     let word = word(alloc, outcome)?;
-    let stands = number_text(alloc, replica.version())?;
+    let represents = number_text(alloc, replica.version())?;
     let on = on_word(alloc, replica, subject, moment)?;
-    let line = line_of(alloc, number, &word, &stands, on)?;
+    let line = line_of(alloc, number, &word, &represents, on)?;
     Ok(line)
 }
 
@@ -38,13 +38,13 @@ fn line_of(
     alloc: Global,
     number: u32,
     word: &String,
-    stands: &String,
+    represents: &String,
     on: &str,
 ) -> Result<String, AllocError>
     ensures { IfOk result (λ line. string_bytes line
-        ≡ line_of number (string_bytes word.now) (string_bytes stands.now) on.now) }
+        ≡ line_of number (string_bytes word.now) (string_bytes represents.now) on.now) }
 {
-    format!(in alloc; "turn {number} {word} number {stands} on {on}\n")
+    format!(in alloc; "turn {number} {word} number {represents} on {on}\n")
 }
 
 /// Returns the word for the outcome of a turn.

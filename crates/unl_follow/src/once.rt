@@ -6,7 +6,7 @@ ghost use Rattle.unl_base.specs.Faults.{Rose};
 ghost use Rattle.unl_delta.specs.declared.batch.Batch.{Batch};
 ghost use Rattle.unl_delta.specs.declared.batch.Verdict.TheVariants.{Apply};
 ghost use Rattle.unl_delta.specs.Batch.{verdict_of};
-ghost use Rattle.unl_delta.specs.History.{Era, IsLine, IsNotBelow, PlaceStandsFor};
+ghost use Rattle.unl_delta.specs.History.{Era, IsLine, IsNotBelow, PlaceRepresents};
 ghost use Rattle.unl_delta.specs.Installing.{after_install};
 ghost use Rattle.unl_delta.specs.View.{Sees};
 ghost use Rattle.unl_follow.specs.Replica.{installed_by};
@@ -59,9 +59,9 @@ pub fn follow_once<P: Peer>(
 
     // Batches may be lost, duplicated or out of order: if the server sends batches from a line of histories, the place has one
     // revision of that line, as seen through the projects, and its epoch and number don't fall.
-    ensures delivery { (line : List Era) (sees : Sees) → IsLine line → PlaceStandsFor line sees replica.old.place
+    ensures delivery { (line : List Era) (sees : Sees) → IsLine line → PlaceRepresents line sees replica.old.place
         → Brings line sees ask.old.delta replica.old.place (option_map next_of (P.state peer.old).replies)
-        → PlaceStandsFor line sees replica.new.place × IsNotBelow replica.old.place.version replica.new.place.version }
+        → PlaceRepresents line sees replica.new.place × IsNotBelow replica.old.place.version replica.new.place.version }
 
     // No outcome reports an allocation failure.
     ensures named { IfOk result IsNamedOutcome }

@@ -289,7 +289,7 @@ written_is_read method target host token tag body can =
         short = omega (arith, can.head_fits, ap length text, length-append (print_request head) body);
       };
       accepted = no_fault method host token tag digits n said (fits_limit n can.body_fits);
-      whole = length_told method host token tag digits n can.method_is said (λ get. ap length (can.body_told get));
+      whole = length_told method host token tag digits n can.method_is said (λ get. ap length (can.body_allowed get));
       parts = parts_read method target host token tag digits body can.method_is;
     }
   where

@@ -67,7 +67,7 @@ pub record CanBeRead
   pub tag_bytes : IfSome tag (AllPass is_value_byte)
   pub head_fits : length (request_text method target host token tag body) ≤ 8192 + length body
   pub body_fits : length body ≤ 1048576
-  pub body_told : method ≡ Get → body ≡ []
+  pub body_allowed : method ≡ Get → body ≡ []
 
 -- what the server reads from such a request; it trims the white space around the token and the tag
 abbrev pub request_read : Method → List ℕ → Option (List ℕ) → Option (List ℕ) → List ℕ → Request

@@ -3,6 +3,7 @@ ghost use Rattle.std.specs.Prelude.{◌≡◌};
 ghost use Rattle.unl_http_api.specs.declared.got.BadReply.TheVariants.{Memory as memory};
 
 use crate::request::Bytes;
+use thiserror::Error;
 use unl_documents::Memory as NoMemory;
 
 /// A parsed reply.
@@ -18,16 +19,20 @@ pub struct Got {
 
 /// Why bytes are not a valid reply: the first of these that applies, except that a stated length above the limit is
 /// reported before `Short`; or out of memory.
-#[derive(Clone, Copy, Debug, PartialEq, Eq)]
+#[derive(Clone, Copy, Debug, PartialEq, Eq, Error)]
 pub enum BadReply {
     /// No head of at most 64 fields ends within the first 8,192 bytes; or the head has a `Transfer-Encoding` field, more
     /// than one `Content-Length`, or a `Content-Length` that isn't 1 to 19 digits.
+    #[error("the head is no head of a reply")]
     Head,
     /// The bytes end before the end of the body.
+    #[error("the reply ends before its body does")]
     Short,
     /// The stated length is above 16,777,216; or no length is stated and more than 16,777,216 bytes follow the head.
+    #[error("the reply is too large")]
     TooLarge,
     /// Out of memory.
+    #[error("out of memory")]
     Memory,
 }
 

@@ -58,7 +58,6 @@ ends_broken answer reads says left left_after old new bytes read is sent = recor
   front = record { comes = record { bytes = bytes; read = read.0; is = within reads bytes (Ok answer) read.1 is }; sent = sent };
 }
 
-
 -- ---- all remaining bytes determine the outcome
 
 -- All remaining bytes are those that were read, then the rest.

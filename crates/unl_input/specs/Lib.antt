@@ -1,3 +1,10 @@
+pub mod Laws
+pub mod Lines
+pub mod Reading
+pub mod Taken
+pub mod Taking
+pub mod Turns
+pub mod Whole
 pub mod Input
 pub mod Refusal
 pub mod Answer

@@ -4,8 +4,8 @@ use Rattle.unl_base.specs.Streams.{Sends, SendsFront}
 use Rattle.unl_documents.specs.FaultText.{fault_text}
 use Rattle.unl_input.specs.declared.refusal.InputRefusal.{InputRefusal}
 use Rattle.unl_input.specs.declared.refusal.InputRefusal.TheVariants.{BadInput, TooLarge}
-use Rattle.unl_input.specs.declared.refusal.SayFault.{SayFault}
-use Rattle.unl_input.specs.declared.refusal.SayFault.TheVariants.{WriteFault, Memory}
+use Rattle.unl_input.specs.declared.refusal.WriteLineFault.{WriteLineFault}
+use Rattle.unl_input.specs.declared.refusal.WriteLineFault.TheVariants.{WriteFault, Memory}
 
 -- The text of the cause.
 abbrev pub refusal_text : InputRefusal → List ℕ
@@ -17,7 +17,7 @@ abbrev pub refusal_line : InputRefusal → List ℕ
 refusal_line refusal = codes "refused: " ++ (refusal_text refusal ++ codes "\n")
 
 -- How writing a line ends: all of it was sent, a prefix of it if a write failed, or nothing if memory ran out.
-abbrev pub SaysLine : Result (Unit {0}) SayFault → List ℕ → Option (List ℕ) → Option (List ℕ) → Type 0
-SaysLine (Ok u) line old new = Sends old line new
-SaysLine (Err WriteFault) line old new = SendsFront old line new
-SaysLine (Err Memory) line old new = new ≡ old
+abbrev pub WritesLine : Result (Unit {0}) WriteLineFault → List ℕ → Option (List ℕ) → Option (List ℕ) → Type 0
+WritesLine (Ok u) line old new = Sends old line new
+WritesLine (Err WriteFault) line old new = SendsFront old line new
+WritesLine (Err Memory) line old new = new ≡ old

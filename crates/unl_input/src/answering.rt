@@ -8,6 +8,7 @@ ghost use Rattle.unl_input.specs.Answer.{Answers};
 use crate::reading::{InputFault, read_input};
 use crate::refusal::InputRefusal;
 use std::alloc::Global;
+use thiserror::Error;
 use unl_base::{Sink, Source, write_all};
 use unl_documents::BadDocument;
 
@@ -35,15 +36,19 @@ pub trait InputAnswer {
 }
 
 /// Why a whole input was not answered.
-#[derive(Debug, Drop, PartialEq)]
+#[derive(Debug, Drop, PartialEq, Error)]
 pub enum AnswerFault {
     /// The input is refused.
+    #[error("the input is refused")]
     Refused(InputRefusal),
     /// The source failed.
+    #[error("the input failed")]
     ReadFault,
     /// The sink failed.
+    #[error("the output failed")]
     WriteFault,
     /// Out of memory.
+    #[error("out of memory")]
     Memory,
 }
 

@@ -1,13 +1,19 @@
-//! Inputs that are read whole: reading all bytes of a source up to a limit, computing an answer from them, and reporting why
-//! an input is refused. Also reads the context at its key in such an input.
+//! Inputs of commands. An input is read whole, up to a limit, and answered or refused ([`answer_input`]), or it is taken line by
+//! line, each line processed before the next is read ([`process_lines`]). [`context_in`] reads the context in such an input.
 #![tactic(auto)]
 
 mod answering;
 mod context;
+pub mod laws;
+mod line;
+mod reader;
 mod reading;
 mod refusal;
+mod taking;
 
 pub use answering::{AnswerFault, InputAnswer, answer_input};
 pub use context::context_in;
+pub use line::{LineProcessor, LineRefusal};
 pub use reading::{InputFault, read_input};
-pub use refusal::{InputRefusal, SayFault, say_refusal};
+pub use refusal::{InputRefusal, WriteLineFault, write_refusal};
+pub use taking::{LinesFault, process_lines};

@@ -4,6 +4,7 @@ ghost use Rattle.unl_base.specs.Faults.{Rose};
 ghost use Rattle.unl_input.specs.Input.{HasRead};
 
 use std::alloc::{AllocError, Global};
+use thiserror::Error;
 use unl_base::Source;
 use unl_documents::{List, Memory};
 
@@ -14,13 +15,16 @@ const ROOM: usize = 65_536;
 const LONGEST: usize = 16_777_216;
 
 /// Why an input could not be read whole.
-#[derive(Clone, Copy, Debug, PartialEq, Eq)]
+#[derive(Clone, Copy, Debug, PartialEq, Eq, Error)]
 pub enum InputFault {
     /// The input has more than 16,777,216 bytes.
+    #[error("the input is too large")]
     TooLarge,
     /// The source failed.
+    #[error("the input failed")]
     ReadFault,
     /// Out of memory.
+    #[error("out of memory")]
     Memory,
 }
 

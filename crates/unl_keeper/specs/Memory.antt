@@ -12,8 +12,8 @@ pub record Counting : Type 0 where
   pub faults : ℕ
 
 -- `None` if call number `call` succeeds; if it fails, whether it leaves its text
-abbrev pub named : List KeepFail → ℕ → Option Bool
-named failing call = option_map (λ fail. fail.leaves) (find (λ fail. fail.call == call) failing)
+abbrev pub planned_failure : List KeepFail → ℕ → Option Bool
+planned_failure failing call = option_map (λ fail. fail.leaves) (find (λ fail. fail.call == call) failing)
 
 -- the number plus one, saturating at 2^64 - 1
 abbrev pub raised : ℕ → ℕ
@@ -24,30 +24,30 @@ abbrev pub after_call : Counting → Counting
 after_call counting = record {
   failing = counting.failing;
   calls = raised counting.calls;
-  faults = if is_some (named counting.failing counting.calls) then raised counting.faults else counting.faults;
+  faults = if is_some (planned_failure counting.failing counting.calls) then raised counting.faults else counting.faults;
 }
 
 -- a keeper: whether it is open, its kept rows, the row that a failed put left after them, and its counts
-pub record Keeping : Type 0 where
+pub record MemoryKeeperState : Type 0 where
   pub opened : Bool
   pub kept : List (List ℕ)
   pub past : Option (List ℕ)
   pub counting : Counting
 
 -- a new keeper whose calls listed in `failing` fail
-abbrev pub new_keeping : List KeepFail → Keeping
+abbrev pub new_keeping : List KeepFail → MemoryKeeperState
 new_keeping failing = record { opened = false; kept = []; past = None; counting = record { failing = failing; calls = 0; faults = 0 } }
 
 -- all rows: the kept ones, then the one that a failed put left
-abbrev pub rows_of : Keeping → List (List ℕ)
+abbrev pub rows_of : MemoryKeeperState → List (List ℕ)
 rows_of keeping = keeping.kept ++ option_to_list keeping.past
 
 -- the keeper after a successful `open`: the row that a failed put left is kept too
-abbrev pub opened_keeping : Keeping → Keeping
+abbrev pub opened_keeping : MemoryKeeperState → MemoryKeeperState
 opened_keeping keeping = record { opened = true; kept = rows_of keeping; past = None; counting = after_call keeping.counting }
 
 -- the keeper after a successful `put`: one more kept row, and no row after it
-abbrev pub put_keeping : List ℕ → Keeping → Keeping
+abbrev pub put_keeping : List ℕ → MemoryKeeperState → MemoryKeeperState
 put_keeping text keeping = record {
   opened = keeping.opened;
   kept = keeping.kept ++ text ∷ [];
@@ -56,23 +56,23 @@ put_keeping text keeping = record {
 }
 
 -- the keeper after a `read`, or a failed `open`: only the counts change
-abbrev pub read_keeping : Keeping → Keeping
+abbrev pub read_keeping : MemoryKeeperState → MemoryKeeperState
 read_keeping keeping = record { opened = keeping.opened; kept = keeping.kept; past = keeping.past; counting = after_call keeping.counting }
 
 -- the keeper after a failed `put`: it leaves the text if the failing call says so
-abbrev pub left_keeping : List ℕ → Keeping → Keeping
+abbrev pub left_keeping : List ℕ → MemoryKeeperState → MemoryKeeperState
 left_keeping text keeping = record {
   opened = keeping.opened;
   kept = keeping.kept;
-  past = if unwrap_or (named keeping.counting.failing keeping.counting.calls) false then Some text else keeping.past;
+  past = if unwrap_or (planned_failure keeping.counting.failing keeping.counting.calls) false then Some text else keeping.past;
   counting = after_call keeping.counting;
 }
 
 -- How a call ends: success if the call is not listed as failing, `Fault` if it is. After `Memory` nothing has changed.
-abbrev pub Does : {T : Type 0} → Keeping → Keeping → Keeping → Keeping → Result T KeepRefusal → Type 0
-Does well failed old new (Ok answer) = (named old.counting.failing old.counting.calls ≡ None) × (new ≡ well)
-Does well failed old new (Err Fault) = IsSome (named old.counting.failing old.counting.calls) × (new ≡ failed)
-Does well failed old new (Err Memory) = new ≡ old
+abbrev pub CallOutcome : {T : Type 0} → MemoryKeeperState → MemoryKeeperState → MemoryKeeperState → MemoryKeeperState → Result T KeepRefusal → Type 0
+CallOutcome well failed old new (Ok answer) = (planned_failure old.counting.failing old.counting.calls ≡ None) × (new ≡ well)
+CallOutcome well failed old new (Err Fault) = IsSome (planned_failure old.counting.failing old.counting.calls) × (new ≡ failed)
+CallOutcome well failed old new (Err Memory) = new ≡ old
 
 -- a maker: the rows kept by the keeper that was returned last, and how many returned keepers had failed
 pub record Making : Type 0 where

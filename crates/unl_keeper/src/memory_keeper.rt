@@ -3,7 +3,7 @@ ghost use Rattle.std.specs.Prelude.{◌<◌, true, ◌+◌, ◌≡◌, [], ◌�
 ghost use Rattle.std.specs.Prelude.{OnOk, is_some, if◌then◌else◌};
 ghost use Rattle.unl_keeper.specs.Faults.{HasCause, HasRisen};
 ghost use Rattle.unl_keeper.specs.Rows.{IsSameAtMemory, Leaves, with_row};
-ghost use Rattle.unl_keeper.specs.Memory.{Does, after_call, left_keeping, named, new_keeping, opened_keeping, put_keeping, read_keeping};
+ghost use Rattle.unl_keeper.specs.Memory.{CallOutcome, after_call, left_keeping, planned_failure, new_keeping, opened_keeping, put_keeping, read_keeping};
 ghost use Rattle.unl_keeper.specs.Memory.{rows_of};
 ghost use Rattle.std.proofs.Common.{rules, length-append};
 
@@ -39,8 +39,8 @@ impl Model for Calls {
 }
 
 /// Returns `None` if call number `call` succeeds. If it fails, returns whether it leaves its text.
-fn named(failing: &[KeepFail], call: u64) -> Option<bool>
-    ensures { result ≡ named failing.now call }
+fn planned_failure(failing: &[KeepFail], call: u64) -> Option<bool>
+    ensures { result ≡ planned_failure failing.now call }
 {
     failing
         .iter()
@@ -51,14 +51,14 @@ fn named(failing: &[KeepFail], call: u64) -> Option<bool>
 impl Calls {
     /// Returns `None` if the next call succeeds. If it fails, returns whether it leaves its text.
     fn fails(&self) -> Option<bool>
-        ensures { result ≡ named self.now.failing self.now.calls }
+        ensures { result ≡ planned_failure self.now.failing self.now.calls }
     {
-        named(self.failing.as_slice(), self.calls)
+        planned_failure(self.failing.as_slice(), self.calls)
     }
 
     /// Counts one call, and one fault if the call `fails`.
     fn count(&mut self, fails: bool)
-        requires { fails ≡ is_some (named self.old.failing self.old.calls) }
+        requires { fails ≡ is_some (planned_failure self.old.failing self.old.calls) }
         ensures counted { self.new ≡ after_call self.old }
         ensures rose { fails ≡ true → HasRisen self.old.faults self.new.faults }
         ensures well { fails ≡ false → self.new.faults ≡ self.old.faults }
@@ -80,9 +80,9 @@ pub struct MemoryKeeper {
 }
 
 impl Model for MemoryKeeper {
-    ghost use Rattle.unl_keeper.specs.Memory.{Keeping};
+    ghost use Rattle.unl_keeper.specs.Memory.{MemoryKeeperState};
 
-    ghost Value = { Keeping };
+    ghost Value = { MemoryKeeperState };
 
     ghost view = { λ k. record { opened = k.opened; kept = k.kept.items; past = k.past; counting = k.calls } };
 }
@@ -186,7 +186,7 @@ impl Keeper for MemoryKeeper {
         ensures refused { IfErr result
             (λ e. (length self.new.kept ≡ length self.old.kept) × IsSameAtMemory self.old.opened self.new.opened e) }
         ensures cause { HasCause self.old.counting.faults self.new.counting.faults result }
-        ensures exact { Does (opened_keeping self.old) (read_keeping self.old) self.old self.new result }
+        ensures exact { CallOutcome (opened_keeping self.old) (read_keeping self.old) self.old self.new result }
     {
         if self.calls.fails().is_some() {
             self.calls.count(true);
@@ -212,7 +212,7 @@ impl Keeper for MemoryKeeper {
         ensures refused { IfErr result (λ e. (length self.new.kept ≡ length self.old.kept)
             × Leaves (length self.old.kept) text.now (Some (rows_of self.old)) (Some (rows_of self.new)) e) }
         ensures cause { HasCause self.old.counting.faults self.new.counting.faults result }
-        ensures exact { Does (put_keeping text.now self.old) (left_keeping text.now self.old) self.old self.new result }
+        ensures exact { CallOutcome (put_keeping text.now self.old) (left_keeping text.now self.old) self.old self.new result }
     {
         let row = Text::new(alloc, text.as_str())?;
         match self.calls.fails() {
@@ -238,7 +238,7 @@ impl Keeper for MemoryKeeper {
         ensures row { IfOk result (λ found. found ≡ slice_get (rows_of self.old) (place - 1)) }
         ensures there { IfOk result (λ found. found ≡ None → Some (rows_of self.old) ≡ None) }
         ensures cause { HasCause self.old.counting.faults self.new.counting.faults result }
-        ensures exact { Does (read_keeping self.old) (read_keeping self.old) self.old self.new result }
+        ensures exact { CallOutcome (read_keeping self.old) (read_keeping self.old) self.old self.new result }
     {
         if self.calls.fails().is_some() {
             self.calls.count(true);

@@ -36,9 +36,9 @@ impl<D: Alter + Drop> Drop for SqliteKeeper<D> {
 }
 
 impl<D: Alter> Model for SqliteKeeper<D> {
-    ghost use Rattle.unl_keeper.specs.Standing.{Standing};
+    ghost use Rattle.unl_keeper.specs.Standing.{SqliteKeeperState};
 
-    ghost Value = { Standing };
+    ghost Value = { SqliteKeeperState };
 
     ghost view = { λ k. record { opened = k.opened; count = k.count; faults = k.faults } };
 }

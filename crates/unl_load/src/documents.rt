@@ -10,7 +10,7 @@ use rand_pcg::Lcg64Xsh32;
 use std::alloc::{AllocError, Global};
 use unl_compiled::Snapshot;
 use unl_delta::{Batch, Event, Place, apply};
-use unl_documents::{Feature, List, Memory, Pair, Series, Shared, State, Strategy, Text};
+use unl_documents::{ChunkedList, Feature, List, Memory, Pair, Shared, State, Strategy, Text};
 
 /// The number of features.
 pub(crate) const FEATURES: u32 = 1000;
@@ -23,7 +23,7 @@ pub(crate) fn state(alloc: Global, words: &mut Lcg64Xsh32) -> Result<State, Memo
 {
     let features = features(alloc, words)?;
     Ok(State {
-        features: Series::of_list(alloc, &features)?,
+        features: ChunkedList::of_list(alloc, &features)?,
         segments: List::new(alloc),
     })
 }

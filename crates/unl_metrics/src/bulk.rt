@@ -8,7 +8,7 @@ ghost use Rattle.unl_metrics.specs.Bulk.{bulk, bulk_of_items, counted_data, room
 use crate::row::Row;
 use serde_json::{Map, Value};
 use std::alloc::Global;
-use unl_documents::written::{Written, put, put_value};
+use unl_documents::to_value::{ToValue, put, put_value};
 use unl_documents::{Field, List, Memory, Shared, Text};
 
 /// The longest bulk report, in bytes.
@@ -35,7 +35,7 @@ fn rows_of(
 }
 
 /// The JSON of the rows, from the first, as many as fit into one bulk report.
-fn front_of(alloc: Global, rows: &[Shared<Row>]) -> Result<Vec<Value>, Memory>
+fn fitting_values(alloc: Global, rows: &[Shared<Row>]) -> Result<Vec<Value>, Memory>
     requires { All IsCounted rows.now }
     ensures values { IfOk result (λ values. map view values.items ≡ map counted_data (take (room_for rows.now) rows.now)) }
     ensures count { IfOk result (λ values. length values.items ≡ room_for rows.now) }
@@ -95,7 +95,7 @@ pub(crate) fn bulk(
     if rows.is_empty() {
         return Ok(None);
     }
-    let values = front_of(alloc, rows.as_slice())?;
+    let values = fitting_values(alloc, rows.as_slice())?;
     let count = values.len();
     Ok(Some((bulk_value(alloc, values)?, count)))
 }

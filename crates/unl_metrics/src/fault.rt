@@ -3,21 +3,27 @@ ghost use Rattle.std.specs.Prelude.{◌≡◌};
 ghost use Rattle.unl_metrics.specs.Reports.{report_fault};
 ghost use Rattle.unl_metrics.specs.declared.fault.BadReport.TheVariants.{Memory as memory};
 
+use thiserror::Error;
 use unl_documents::{BadDocument, Field, Memory};
 
 /// Why bytes are not a report: the first fault, or out of memory.
-#[derive(Clone, Copy, Debug, PartialEq, Eq)]
+#[derive(Clone, Copy, Debug, PartialEq, Eq, Error)]
 pub enum BadReport {
     /// Not JSON, or not an object.
+    #[error("the report is not JSON")]
     NotJson,
     /// The key is required and absent, or a name at it is empty.
+    #[error("a required key is missing")]
     Missing(Field),
     /// The value at the key is of the wrong kind. Includes a count that is no whole number from 0 on, and a text that is no
     /// instant in the years 1970 to 9999.
+    #[error("a value is of the wrong kind")]
     WrongKind(Field),
     /// The length or count at the key is above its limit. Carries that length or count.
+    #[error("a length or a number is too large: {1}")]
     TooLarge(Field, u64),
     /// It ran out of memory.
+    #[error("out of memory")]
     Memory,
 }
 

@@ -28,7 +28,7 @@ pub fn sums_are_sums_at_each_key()
 {}
 
 /// Acknowledging drops the first keys of the environment, and no keys of others.
-pub fn acknowledged_keys_go()
+pub fn acknowledged_keys_are_dropped()
     ensures these { (environment : List ℕ) (count : ℕ) (book : Book) → counted_in environment (acknowledge environment count book)
         ≡ drop count (counted_in environment book) }
     ensures others { (environment other : List ℕ) (count : ℕ) (book : Book) → environment ≢ other
@@ -36,7 +36,7 @@ pub fn acknowledged_keys_go()
 {}
 
 /// Nothing is sent exactly if there is no key. Otherwise the longest prefix of the keys is sent whose text fits.
-pub fn the_longest_front_is_sent()
+pub fn the_longest_prefix_is_sent()
     ensures none { (environment : List ℕ) (book : Book) → (bulk environment book ≡ None) ↔ (counted_in environment book ≡ []) }
     ensures fits { (book : Book) → bulk_length (take (room_for book) book) ≤ longest_bulk }
     ensures longest { (book : Book) (n : ℕ) → room_for book < n → n ≤ length book → longest_bulk < bulk_length (take n book) }

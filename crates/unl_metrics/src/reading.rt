@@ -18,7 +18,7 @@ use unl_documents::document::{Document, Object};
 use unl_documents::items::ListOf;
 use unl_documents::keys::{defaulted, required, value_at};
 use unl_documents::kind::{AnyWhole, Kind, Name, name_of};
-use unl_documents::{BadDocument, Copied, Field, List, Text};
+use unl_documents::{BadDocument, Field, List, Text, TryClone};
 
 /// A document value with the count of each variant: an object of whole numbers.
 struct Variants;

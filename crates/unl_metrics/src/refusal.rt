@@ -3,14 +3,17 @@ ghost use Rattle.std.specs.Prelude.{◌≡◌};
 ghost use Rattle.unl_metrics.specs.declared.refusal.AddRefusal.TheVariants.{Memory as memory};
 
 use std::alloc::{AllocError, AllocFailed};
+use thiserror::Error;
 use unl_documents::Memory;
 
 /// Why nothing was added to a book.
-#[derive(Clone, Copy, Debug, PartialEq, Eq)]
+#[derive(Clone, Copy, Debug, PartialEq, Eq, Error)]
 pub enum AddRefusal {
     /// The sum would have more than 10,000 keys, or more than 100 variant names at one key.
+    #[error("the book is full")]
     Full,
     /// It ran out of memory.
+    #[error("out of memory")]
     Memory,
 }
 

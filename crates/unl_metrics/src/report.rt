@@ -9,7 +9,7 @@ use crate::fault::BadReport;
 use crate::reading::{read_bulk, read_single};
 use std::alloc::Global;
 use unl_documents::parsing::read_object;
-use unl_documents::{Copied, List, Memory, Text};
+use unl_documents::{List, Memory, Text, TryClone};
 
 /// How many times a variant was given.
 #[derive(Debug, Drop, PartialEq)]
@@ -102,7 +102,7 @@ fn bulk_report(alloc: Global, bytes: &[u8]) -> Result<Report, BadReport>
     Ok(read_bulk(alloc, &value)?)
 }
 
-impl Copied for VariantCount {
+impl TryClone for VariantCount {
     fn copy(&self, alloc: Global) -> Result<VariantCount, Memory> {
         Ok(VariantCount {
             name: self.name.copy(alloc)?,
@@ -111,7 +111,7 @@ impl Copied for VariantCount {
     }
 }
 
-impl Copied for MetricEntry {
+impl TryClone for MetricEntry {
     fn copy(&self, alloc: Global) -> Result<MetricEntry, Memory> {
         Ok(MetricEntry {
             app: self.app.copy(alloc)?,
@@ -124,7 +124,7 @@ impl Copied for MetricEntry {
     }
 }
 
-impl Copied for Report {
+impl TryClone for Report {
     fn copy(&self, alloc: Global) -> Result<Report, Memory> {
         Ok(Report {
             entries: self.entries.copy(alloc)?,

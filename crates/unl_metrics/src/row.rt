@@ -16,8 +16,8 @@ use serde_json::{Map, Value};
 use std::alloc::Global;
 use std::cmp::Ordering;
 use std::marker::Model;
-use unl_documents::written::{Written, put, put_value};
-use unl_documents::{Copied, Field, List, Memory, Text};
+use unl_documents::to_value::{ToValue, put, put_value};
+use unl_documents::{Field, List, Memory, Text, TryClone};
 
 /// A key of the book and its tally, stored as a report entry and the environment it is for.
 #[derive(Drop)]

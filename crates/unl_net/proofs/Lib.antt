@@ -1,3 +1,4 @@
+mod Accounting
+mod LoggedText
 mod Moving
-mod Telling
 mod Trying

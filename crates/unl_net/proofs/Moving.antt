@@ -1,33 +1,39 @@
--- Bytes that move from a stream into a buffer, or out of one.
-use Rattle.std.proofs.Common.{◌≡◌, ◌∙◌, ◌≤◌, ℕ, List, [], ◌++◌, Option, None, Some, Result, Ok, Err, IfOk, OnErr, MatchResult, take, drop, sym, ap, refl, subst}
-use Rattle.std.proofs.Common.{append_assoc, append-nil, take-append-drop}
+-- Bytes that move between a stream and a buffer.
+use Rattle.std.proofs.Common.{◌≡◌, ◌∙◌, ◌≤◌, ℕ, List, [], ◌++◌, Option, None, Some, Result}
+use Rattle.std.proofs.Common.{Ok, Err, IfOk, OnErr, MatchResult, take, drop, sym, ap, refl, subst}
+use Rattle.std.proofs.Common.{append_assoc, append-nil, take-append-drop, length, min, arith}
 use Rattle.std.proofs.KnownBytes.{Appends-trans, Keeps-trans}
-use Rattle.std.proofs.lemmas.List.{take-take}
+use Rattle.std.proofs.Math.Seq.{take-append_seam, take-length}
+use Rattle.std.proofs.lemmas.List.{length-take, take-take}
 use Rattle.std.specs.Io.KnownBytes.{Appends, Consumes, Keeps, WriteAppends, append_known, prepend_known}
-use Rattle.unl_net.proofs.Trying.{appended_then, consumed_then, stays}
-use Rattle.unl_net.specs.Buffers.{Gives}
+use Rattle.unl_net.proofs.Trying.{appended_then, consumed_then, none_consumed, stays, stays_on}
+use Rattle.unl_net.specs.Buffers.{BeginsWith, Gives}
 
--- what came is read behind what was received
-pub received_keeps : (a b : Option (List ℕ)) (held bytes : List ℕ) → Consumes a b bytes → Keeps (prepend_known held a) (prepend_known (held ++ bytes) b)
+-- a read appends to the received bytes
+pub received_keeps : (a b : Option (List ℕ)) (held bytes : List ℕ) → Consumes a b bytes
+    → Keeps (prepend_known held a) (prepend_known (held ++ bytes) b)
 received_keeps None b held bytes read = tt
 received_keeps (Some x) None held bytes read = absurd read
 received_keeps (Some x) (Some y) held bytes read = append_assoc held bytes y ∙ ap (λ (l : List ℕ). held ++ l) (sym read)
 
--- nothing came
+-- a read of nothing
 pub waited_keeps : (a b : Option (List ℕ)) (held : List ℕ) → Keeps a b → Keeps (prepend_known held a) (prepend_known held b)
 waited_keeps None b held kept = tt
 waited_keeps (Some x) None held kept = absurd kept
 waited_keeps (Some x) (Some y) held kept = ap (λ (l : List ℕ). held ++ l) kept
 
--- what is to be sent goes to the stream
-pub sent_keeps : (a b : Option (List ℕ)) (held : List ℕ) (n : ℕ) → Appends a b (take n held) → Keeps (append_known a held) (append_known b (drop n held))
+-- a write takes its bytes from those to be sent
+pub sent_keeps : (a b : Option (List ℕ)) (held : List ℕ) (n : ℕ) → Appends a b (take n held)
+    → Keeps (append_known a held) (append_known b (drop n held))
 sent_keeps None b held n sent = tt
 sent_keeps (Some x) None held n sent = absurd sent
 sent_keeps (Some x) (Some y) held n sent =
-    ap (λ (l : List ℕ). l ++ drop n held) sent ∙ append_assoc x (take n held) (drop n held) ∙ ap (λ (l : List ℕ). x ++ l) (take-append-drop n held)
+    ap (λ (l : List ℕ). l ++ drop n held) sent ∙ append_assoc x (take n held) (drop n held)
+    ∙ ap (λ (l : List ℕ). x ++ l) (take-append-drop n held)
 
--- bytes of the buffer are handed out
-pub handed_out : (a : Option (List ℕ)) (old new bytes : List ℕ) → old ≡ bytes ++ new → Consumes (prepend_known old a) (prepend_known new a) bytes
+-- a link takes bytes from the received ones
+pub handed_out : (a : Option (List ℕ)) (old new bytes : List ℕ) → old ≡ bytes ++ new
+    → Consumes (prepend_known old a) (prepend_known new a) bytes
 handed_out None old new bytes same = tt
 handed_out (Some x) old new bytes same = ap (λ (l : List ℕ). l ++ x) same ∙ append_assoc bytes new x
 
@@ -36,12 +42,12 @@ pub none_read : (a : Option (List ℕ)) → Consumes a a []
 none_read None = tt
 none_read (Some x) = refl
 
--- a read behind what kept the bytes to come
+-- a step that reads nothing, then a read
 pub gives_then : {E : Type 0} (a b c : Option (List ℕ)) (r : Result ℕ E) (room : List ℕ) → Keeps a b → Gives b c r room → Gives a c r room
 gives_then a b c (Ok n) room kept given = consumed_then a b c (take n room) kept given
 gives_then a b c (Err e) room kept given = Keeps-trans a b c kept given
 
--- a read of the stream, where nothing that was received is left
+-- a read of the stream if no received byte is left
 pub read_behind : {E : Type 0} (a b : Option (List ℕ)) (held : List ℕ) (r : Result ℕ E) (room : List ℕ) → held ≡ [] → Gives a b r room
     → Gives (prepend_known held a) (prepend_known held b) r room
 read_behind a b held (Ok n) room none given = by a b given
@@ -57,20 +63,21 @@ pub none_written : (a : Option (List ℕ)) → Appends a a []
 none_written None = tt
 none_written (Some x) = sym (append-nil x)
 
--- what was kept grew by nothing
+-- a step that writes nothing is a write of no bytes
 pub kept_appends : (a b : Option (List ℕ)) → Keeps a b → Appends a b []
 kept_appends None b kept = tt
 kept_appends (Some x) None kept = absurd kept
 kept_appends (Some x) (Some y) kept = kept ∙ sym (append-nil x)
 
--- what grew by nothing was kept
+-- a write of no bytes changes nothing
 pub appends_kept : (a b : Option (List ℕ)) → Appends a b [] → Keeps a b
 appends_kept None b grew = tt
 appends_kept (Some x) None grew = absurd grew
 appends_kept (Some x) (Some y) grew = grew ∙ append-nil x
 
--- a write to the stream, where nothing is to be sent before it
-pub write_first : {E : Type 0} (a b : Option (List ℕ)) (held : List ℕ) (r : Result ℕ E) (piece : List ℕ) → held ≡ [] → WriteAppends a b r piece
+-- a write to the stream if no other bytes are to be sent first
+pub write_first : {E : Type 0} (a b : Option (List ℕ)) (held : List ℕ) (r : Result ℕ E) (piece : List ℕ) → held ≡ []
+    → WriteAppends a b r piece
     → WriteAppends (append_known a held) (append_known b held) r piece
 write_first a b held (Ok n) piece none wrote = by a b wrote
   where
@@ -78,7 +85,8 @@ write_first a b held (Ok n) piece none wrote = by a b wrote
     by None b grew = tt
     by (Some x) None grew = absurd grew
     by (Some x) (Some y) grew =
-        ap (λ (l : List ℕ). y ++ l) none ∙ append-nil y ∙ grew ∙ ap (λ (l : List ℕ). l ++ take n piece) (sym (append-nil x) ∙ ap (λ (l : List ℕ). x ++ l) (sym none))
+        ap (λ (l : List ℕ). y ++ l) none ∙ append-nil y ∙ grew
+        ∙ ap (λ (l : List ℕ). l ++ take n piece) (sym (append-nil x) ∙ ap (λ (l : List ℕ). x ++ l) (sym none))
 write_first a b held (Err e) piece none wrote = by a b wrote
   where
     by : (a b : Option (List ℕ)) → Keeps a b → Keeps (append_known a held) (append_known b held)
@@ -86,12 +94,13 @@ write_first a b held (Err e) piece none wrote = by a b wrote
     by (Some x) None kept = absurd kept
     by (Some x) (Some y) kept = ap (λ (l : List ℕ). l ++ held) kept
 
--- bytes are held behind those that are to be sent
-pub held_behind : (a : Option (List ℕ)) (old new bytes : List ℕ) → new ≡ old ++ bytes → Appends (append_known a old) (append_known a new) bytes
+-- bytes are appended to those to be sent
+pub held_behind : (a : Option (List ℕ)) (old new bytes : List ℕ) → new ≡ old ++ bytes
+    → Appends (append_known a old) (append_known a new) bytes
 held_behind None old new bytes same = tt
 held_behind (Some x) old new bytes same = ap (λ (l : List ℕ). x ++ l) same ∙ sym (append_assoc x old bytes)
 
--- the rest of a piece, of which the first bytes were written
+-- the first bytes of a piece were written, then the rest
 pub rest_then : (a b c : Option (List ℕ)) (piece : List ℕ) (sent n : ℕ) → sent ≤ n → Appends a b (take sent piece)
     → Appends b c (drop sent (take n piece)) → Appends a c (take n piece)
 rest_then a b c piece sent n within first rest =
@@ -100,10 +109,49 @@ rest_then a b c piece sent n within first rest =
     whole : take sent piece ++ drop sent (take n piece) ≡ take n piece
     whole = ap (λ (l : List ℕ). l ++ drop sent (take n piece)) (sym (take-take sent n piece within)) ∙ take-append-drop sent (take n piece)
 
--- the same, of a write of the rest that may have failed, which it does only where nothing was written before it
+-- the same for a write of the rest that may fail, which it does only if nothing was written before
 pub rest_after : {E : Type 0} (a b c : Option (List ℕ)) (r : Result ℕ E) (piece : List ℕ) (sent : ℕ)
     → IfOk r (λ n. sent ≤ n) → OnErr r (sent ≡ 0) → Appends a b (take sent piece)
     → MatchResult r (λ n. Appends b c (drop sent (take n piece))) (λ _. Keeps b c) → WriteAppends a c r piece
 rest_after a b c (Ok n) piece sent more failed first rest = rest_then a b c piece sent n more first rest
 rest_after a b c (Err e) piece sent more failed first rest =
     Keeps-trans a b c (appends_kept a b (subst (λ (k : ℕ). Appends a b (take k piece)) failed first)) rest
+
+-- bytes are a prefix of themselves
+pub begins_same : (front bytes : List ℕ) → bytes ≡ front → BeginsWith front bytes
+unfolding BeginsWith
+begins_same front bytes same = ap (take (length front)) same ∙ take-length front
+
+-- bytes are a prefix of themselves with more appended
+pub begins_more : (front more bytes : List ℕ) → bytes ≡ front ++ more → BeginsWith front bytes
+unfolding BeginsWith
+begins_more front more bytes same = ap (take (length front)) same ∙ take-append_seam front more
+
+-- a prefix stays one of bytes that are the same
+pub begins_kept : (front bytes same : List ℕ) → same ≡ bytes → BeginsWith front bytes → BeginsWith front same
+unfolding BeginsWith
+begins_kept front bytes same still begins = ap (take (length front)) still ∙ begins
+
+-- a prefix of a prefix is a prefix
+pub begins_then : (a b c : List ℕ) → BeginsWith a b → BeginsWith b c → BeginsWith a c
+unfolding BeginsWith
+begins_then a b c first second =
+    sym (take-take (length a) (length b) c within) ∙ ap (take (length a)) second ∙ first
+  where
+    size : min (length a) (length b) ≡ length a
+    size = sym (length-take (length a) b) ∙ ap length first
+
+    within : length a ≤ length b
+    within = omega (arith, size)
+
+-- for a piece that is received
+pub ruleset receive_rules = (received_keeps, begins_same, begins_more)
+
+-- for pieces that are received one after another
+pub ruleset pieces_rules = (stays, stays_on, begins_same, begins_then)
+
+-- for a read of the stream that waits
+pub ruleset read_rules = (stays, stays_on, none_read, none_consumed, consumed_then)
+
+-- for a write to the stream that waits
+pub ruleset write_rules = (stays, stays_on, appended_then, appends_kept)

@@ -1,10 +1,14 @@
 -- What a connection waits for while no link serves it.
-use Rattle.std.specs.Prelude.{Bool, true, false, ℕ, if◌then◌else◌}
+use Rattle.std.specs.Prelude.{Bool, true, false, ℕ, ◌||◌, if◌then◌else◌}
 use Rattle.unl_net.specs.declared.phase.Facts.{Facts}
 use Rattle.unl_net.specs.declared.phase.Phase.{Phase}
+use Rattle.unl_net.specs.declared.served.Fate.{Fate}
+use Rattle.unl_net.specs.declared.served.Fate.TheVariants.{GoesOn, Ends, Closed}
+use Rattle.unl_net.specs.declared.served.Stage.{Stage}
+use Rattle.unl_net.specs.declared.served.Stage.TheVariants.{Answered, Asked, Open, Parked, Failed}
 use Rattle.unl_net.specs.declared.phase.Phase.TheVariants.{Idle, Receiving, Ready, Sending, Draining, Over}
 
--- what is on its way goes first, then the end; a request is served that is whole, and waited for that is none yet
+-- bytes to be sent come first, then the end; then a whole request is served, and an unfinished one is waited for
 abbrev pub phase_of : Facts → Phase
 phase_of known =
     if known.owes then Sending else
@@ -13,7 +17,7 @@ phase_of known =
     if known.ended then Over else
     if known.began then Receiving else Idle
 
--- it waits for its client
+-- whether a connection in this phase waits for its client
 abbrev pub waits : Phase → Bool
 waits Idle = true
 waits Receiving = true
@@ -22,7 +26,7 @@ waits Sending = true
 waits Draining = true
 waits Over = false
 
--- for how many seconds
+-- for how many seconds at most
 abbrev pub limit_of : Phase → ℕ
 limit_of Idle = 75
 limit_of Receiving = 30
@@ -30,3 +34,12 @@ limit_of Ready = 0
 limit_of Sending = 30
 limit_of Draining = 2
 limit_of Over = 0
+
+-- What becomes of a connection whose link ends at this stage: it goes back unless it failed, and is closed behind its last answer
+-- unless the link ended between two requests. `owes`: bytes are to be sent; `unread`: the client may have sent what no link has read.
+abbrev pub fate_of : Stage → Bool → Bool → Fate
+fate_of Answered owes unread = if owes || unread then Ends else Closed
+fate_of Asked owes unread = if owes || unread then Ends else Closed
+fate_of Open owes unread = if owes || unread then Ends else Closed
+fate_of Parked owes unread = GoesOn
+fate_of Failed owes unread = Closed

@@ -1,16 +1,16 @@
-//! Bytes that came and are not read yet, and bytes that are not sent yet.
+//! The buffers of a connection: bytes that were received and not read yet, and bytes that are still to be sent.
 ghost use Rattle.std.specs.Prelude.{◌≡◌, ◌≢◌, ◌+◌, ◌-◌, ◌==◌, ◌<◌, ◌≤◌, ◌++◌, [], OnErr, OnOk, length, drop, take, vec_capacity, vec_len};
 
 use std::alloc::{AllocError, Global};
 use unl_http_api::{Frame, request_frame};
 
-/// Bytes that came.
+/// Received bytes.
 #[derive(Drop)]
 pub(crate) struct ReceiveBuffer {
     bytes: Vec<u8>,
-    /// How many at the front are read.
+    /// How many of them were read, from the front.
     taken: usize,
-    /// How many behind these may be read: those of one request.
+    /// How many after these may be read: those of one request.
     opened: usize,
     ghost within: { taken + opened ≤ vec_len bytes },
 }
@@ -31,21 +31,21 @@ impl ReceiveBuffer {
         }
     }
 
-    /// How many bytes are not read.
+    /// The number of bytes that were not read yet.
     pub fn len(&self) -> usize
         ensures { result ≡ length (unread self.now) }
     {
         self.bytes.len() - self.taken
     }
 
-    /// Whether all was read.
+    /// Whether all bytes were read.
     pub fn is_empty(&self) -> bool
         ensures { result ≡ (length (unread self.now) == 0) }
     {
         self.len() == 0
     }
 
-    /// How many bytes of a request may be read.
+    /// The number of bytes that may be read, all of one request.
     pub fn opened_len(&self) -> usize
         ensures { result ≡ self.now.opened }
     {
@@ -65,7 +65,7 @@ impl ReceiveBuffer {
         self.bytes.reserve(more)
     }
 
-    /// Adds bytes that came, for which there is room.
+    /// Appends received bytes, for which there is room.
     pub fn add(&mut self, bytes: &[u8])
         requires { vec_len self.old.bytes + length bytes.now ≤ vec_capacity self.old.bytes }
         ensures { unread self.new ≡ unread self.old ++ bytes.now }
@@ -73,8 +73,7 @@ impl ReceiveBuffer {
         self.bytes.extend_from_slice(bytes).unwrap();
     }
 
-    /// What the bytes that are not read begin with. Where memory runs out, which is so with very long heads alone, more bytes are
-    /// waited for.
+    /// What the unread bytes begin with. If an allocation fails, which only very long heads need, the request counts as unfinished.
     fn front(&self, alloc: Global) -> Frame
         ensures { result ≢ Frame.More → IsFrame (unread self.now) result }
     {
@@ -84,7 +83,8 @@ impl ReceiveBuffer {
         }
     }
 
-    /// Opens the request at the front, if one is whole there, or bytes that are refused. Returns what is there.
+    /// Opens the request that the unread bytes begin with, if it is whole, or all of them if they are refused. Returns which of these
+    /// it found.
     pub fn open(&mut self, alloc: Global) -> Frame
         ensures same { unread self.new ≡ unread self.old }
         ensures frame { result ≢ Frame.More → IsFrame (unread self.new) result }
@@ -99,7 +99,7 @@ impl ReceiveBuffer {
         front
     }
 
-    /// Opens all that came.
+    /// Opens all unread bytes.
     pub fn open_all(&mut self)
         ensures same { unread self.new ≡ unread self.old }
         ensures opened { self.new.opened ≡ length (unread self.new) }
@@ -107,7 +107,7 @@ impl ReceiveBuffer {
         self.opened = self.len();
     }
 
-    /// Hands out bytes of the request that is open.
+    /// Moves opened bytes to `room`, and returns how many.
     pub fn give(&mut self, room: &mut [u8]) -> usize
         ensures fits { result ≤ length room.new }
         ensures some { 0 < length room.old → 0 < self.old.opened → 0 < result }
@@ -120,14 +120,14 @@ impl ReceiveBuffer {
         count
     }
 
-    /// The bytes that are not read.
+    /// The bytes that were not read yet.
     fn waiting(&self) -> &[u8]
         ensures { result.now ≡ unread self.now }
     {
         &self.bytes[self.taken..]
     }
 
-    /// Frees the room, where no bytes are held.
+    /// Frees the memory if all bytes were read.
     pub fn shrink(&mut self, alloc: Global)
         ensures { unread self.new ≡ unread self.old }
     {
@@ -136,7 +136,7 @@ impl ReceiveBuffer {
         }
     }
 
-    /// Drops what was received.
+    /// Drops all bytes.
     pub fn clear(&mut self, alloc: Global)
         ensures { unread self.new ≡ [] }
     {
@@ -144,7 +144,7 @@ impl ReceiveBuffer {
     }
 }
 
-/// Takes bytes away from the front.
+/// Removes the first `count` bytes.
 fn drop_front(bytes: &mut Vec<u8>, count: usize)
     requires { count ≤ vec_len bytes.old }
     ensures { bytes.new.items ≡ drop count bytes.old.items }
@@ -156,7 +156,7 @@ fn drop_front(bytes: &mut Vec<u8>, count: usize)
     }
 }
 
-/// Copies the first bytes to the front of a room.
+/// Copies the first `count` bytes to the beginning of `room`.
 fn copy_front(bytes: &[u8], room: &mut [u8], count: usize)
     requires held { count ≤ length bytes.now }
     requires fits { count ≤ length room.old }
@@ -166,11 +166,11 @@ fn copy_front(bytes: &[u8], room: &mut [u8], count: usize)
     room[..count].copy_from_slice(&bytes[..count]);
 }
 
-/// Bytes that are to be sent.
+/// Bytes that are still to be sent.
 #[derive(Drop)]
 pub(crate) struct SendBuffer {
     bytes: Vec<u8>,
-    /// How many at the front are sent.
+    /// How many of them were sent, from the front.
     sent: usize,
     ghost within: { sent ≤ vec_len bytes },
 }
@@ -188,31 +188,31 @@ impl SendBuffer {
         }
     }
 
-    /// How many bytes are to be sent.
+    /// The number of bytes still to be sent.
     pub fn len(&self) -> usize
         ensures { result ≡ length (unsent self.now) }
     {
         self.bytes.len() - self.sent
     }
 
-    /// Whether nothing is to be sent.
+    /// Whether all bytes were sent.
     pub fn is_empty(&self) -> bool
         ensures { result ≡ (length (unsent self.now) == 0) }
     {
         self.len() == 0
     }
 
-    /// The bytes that are to be sent.
+    /// The bytes still to be sent.
     pub fn rest(&self) -> &[u8]
         ensures { result.now ≡ unsent self.now }
     {
         &self.bytes[self.sent..]
     }
 
-    /// Adds bytes. It takes no more memory than these bytes need.
+    /// Appends bytes. It reserves no more memory than they need.
     ///
     /// # Errors
-    /// Out of memory: nothing was added.
+    /// An allocation failed: nothing was appended.
     pub fn add(&mut self, bytes: &[u8]) -> Result<(), AllocError>
         ensures ok { OnOk result (unsent self.new ≡ unsent self.old ++ bytes.now) }
         ensures err { OnErr result (unsent self.new ≡ unsent self.old) }
@@ -229,7 +229,7 @@ impl SendBuffer {
         self.sent += count;
     }
 
-    /// Drops what was to be sent, and frees the room.
+    /// Drops all bytes, and frees the memory.
     pub fn clear(&mut self, alloc: Global)
         ensures { unsent self.new ≡ [] }
     {

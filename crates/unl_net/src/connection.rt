@@ -1,11 +1,12 @@
-//! A connection, as the door and its links hold it.
-ghost use Rattle.std.specs.Prelude.{◌≡◌, ◌≤◌, [], false, length, IfOk, IfSome, OnOk};
+//! A connection of a door, which its reactor and its links hold in turn.
+ghost use Rattle.std.specs.Prelude.{◌≡◌, ◌≤◌, [], false, length, nat_le, IfOk, IfSome, OnOk};
 ghost use Rattle.std.specs.Io.KnownBytes.{Keeps, WriteAppends};
-ghost use Rattle.unl_net.specs.Buffers.{GivesIfAny, coming, facts_of, going, unread, unsent};
-ghost use Rattle.unl_net.specs.Phases.{phase_of};
+ghost use Rattle.unl_net.specs.Buffers.{BeginsWith, GivesIfAny, coming, facts_of, going, unread, unsent};
+ghost use Rattle.unl_net.specs.Moments.{seconds_between};
+ghost use Rattle.unl_net.specs.Phases.{limit_of, phase_of};
 
 use crate::buffers::{ReceiveBuffer, SendBuffer};
-use crate::moment::moment;
+use crate::moment::{moment, seconds_between};
 use crate::phase::{Facts, Phase, phase_of};
 use crate::retrying::{read_once, write_once};
 use std::alloc::Global;
@@ -15,13 +16,13 @@ use std::net::{OpenStream, Shutdown};
 use std::time::{Clock, Duration, Instant};
 use unl_http_api::Frame;
 
-/// How long a call of a stream that waits may wait, in milliseconds: time enough for a request that is under way already.
+/// How long a blocking call of a stream waits at most, in milliseconds: long enough for a request that is already on its way.
 const MOMENT: u64 = 10;
 
-/// How many bytes are read at a time.
+/// How many bytes are read at once.
 pub(crate) const PIECE: usize = 4_096;
 
-/// More pieces than the longest request has.
+/// More pieces than the longest request has. This bounds each loop of reads.
 const MOST_PIECES: usize = 300;
 
 /// A connection.
@@ -30,29 +31,30 @@ pub(crate) struct Connection<S: Read + Write + OpenStream + Drop> {
     pub stream: S,
     pub received: ReceiveBuffer,
     pub to_send: SendBuffer,
-    /// What came is no request, or one that is refused by its head.
+    /// The received bytes are no request, or one that is refused by its head.
     pub refused: bool,
-    /// The client has ended what it sends.
+    /// The client has ended its side: no more bytes come.
     pub ended: bool,
-    /// It is to be closed once all is sent.
+    /// The connection is to be closed once all bytes are sent.
     pub closing: bool,
-    /// When what it waits for began.
+    /// When its present phase began.
     pub since: Option<Instant>,
-    /// What is sent was ended.
+    /// Its own side was ended: nothing more is sent.
     is_shut: bool,
-    /// Whether the stream's calls wait.
+    /// Whether the stream's calls block.
     waits: bool,
+    /// Whether the stream has its time limits.
     is_limited: bool,
 }
 
 impl<S: Read + Write + OpenStream + Drop> Connection<S> {
-    /// That of a stream that was accepted.
+    /// The connection of a stream that was just accepted.
     ///
     /// # Errors
-    /// The stream can't be set not to wait.
+    /// The stream can't be set to non-blocking.
     pub fn new(alloc: Global, stream: S) -> io::Result<Self> {
         stream.set_nonblocking(true)?;
-        // A reply is written as a whole: none of its bytes is to wait for others.
+        // A reply is written as a whole, so no byte is to be delayed to be sent with others.
         let _ = stream.set_nodelay(true);
         Ok(Connection {
             stream,
@@ -68,7 +70,7 @@ impl<S: Read + Write + OpenStream + Drop> Connection<S> {
         })
     }
 
-    /// Lets the stream's calls wait for a moment.
+    /// Lets the stream's calls block, for a moment at most.
     ///
     /// # Errors
     /// That of the stream.
@@ -88,7 +90,7 @@ impl<S: Read + Write + OpenStream + Drop> Connection<S> {
         Ok(())
     }
 
-    /// Lets the stream's calls not wait.
+    /// Sets the stream to non-blocking.
     ///
     /// # Errors
     /// That of the stream.
@@ -102,7 +104,7 @@ impl<S: Read + Write + OpenStream + Drop> Connection<S> {
         Ok(())
     }
 
-    /// Opens the request at the front of what was received, if one is whole there. False: none is.
+    /// Opens the request that the received bytes begin with, and returns whether it is whole or refused.
     pub fn open(&mut self, alloc: Global) -> bool
         ensures same { unread self.new.received ≡ unread self.old.received }
         ensures others { (self.new.stream ≡ self.old.stream) × (self.new.to_send ≡ self.old.to_send) }
@@ -113,7 +115,7 @@ impl<S: Read + Write + OpenStream + Drop> Connection<S> {
         front != Frame::More
     }
 
-    /// What is known of it.
+    /// The facts that decide its phase.
     fn facts(&self) -> Facts
         ensures { result ≡ facts_of self.now.received self.now.to_send self.now.closing self.now.ended }
     {
@@ -126,14 +128,23 @@ impl<S: Read + Write + OpenStream + Drop> Connection<S> {
         }
     }
 
-    /// What it waits for.
+    /// Its phase: what it waits for.
     pub fn phase(&self) -> Phase
         ensures { result ≡ phase_of (facts_of self.now.received self.now.to_send self.now.closing self.now.ended) }
     {
         phase_of(self.facts())
     }
 
-    /// Reads from the stream, behind what was received. None: no byte came in time.
+    /// Whether its time is over: at this moment it has waited for as long as its phase allows.
+    pub fn is_late(&self, now: Option<Instant>) -> bool
+        ensures { result ≡ nat_le
+            (limit_of (phase_of (facts_of self.now.received self.now.to_send self.now.closing self.now.ended)))
+            (seconds_between self.now.since now) }
+    {
+        self.phase().limit() <= seconds_between(self.since, now)
+    }
+
+    /// Reads from the stream once. `None`: no byte came in time.
     ///
     /// # Errors
     /// That of the stream.
@@ -150,12 +161,13 @@ impl<S: Read + Write + OpenStream + Drop> Connection<S> {
         }
     }
 
-    /// Reads a piece behind what was received: false where no byte came in time.
+    /// Reads from the stream once, and appends that to the received bytes. Returns false if no byte came in time.
     ///
     /// # Errors
     /// That of the stream, or out of memory.
-    #[tactic(auto, using(crate::proofs::Moving::received_keeps))]
+    #[tactic(auto, using(crate::proofs::Moving::receive_rules))]
     pub fn receive(&mut self, room: &mut [u8; PIECE]) -> io::Result<bool>
+        ensures begins { BeginsWith (unread self.old.received) (unread self.new.received) }
         ensures kept { Keeps (coming self.old.received (S.remaining self.old.stream))
             (coming self.new.received (S.remaining self.new.stream)) }
         ensures others { (self.new.to_send ≡ self.old.to_send) × (self.new.closing ≡ self.old.closing) }
@@ -173,7 +185,7 @@ impl<S: Read + Write + OpenStream + Drop> Connection<S> {
         }
     }
 
-    /// Writes to the stream, and returns how many bytes that took: 0 where none were taken in time.
+    /// Writes to the stream once, and returns how many bytes it took: 0 if it took none in time.
     ///
     /// # Errors
     /// That of the stream.
@@ -189,7 +201,7 @@ impl<S: Read + Write + OpenStream + Drop> Connection<S> {
         }
     }
 
-    /// Sends what is to be sent, as far as the stream takes it, and returns how many bytes that were.
+    /// Writes the bytes to be sent once, and returns how many the stream took.
     ///
     /// # Errors
     /// That of the stream.
@@ -209,10 +221,12 @@ impl<S: Read + Write + OpenStream + Drop> Connection<S> {
         }
     }
 
-    /// Goes on with a connection that no link serves: sends what is to be sent, then reads what came.
+    /// Does what is to be done for a connection that no link serves: sends the bytes to be sent, then reads what came. No received
+    /// byte is lost, unless the connection is to be closed. Returns its new phase.
     ///
     /// # Errors
     /// That of the stream, or out of memory.
+    #[tactic(auto, using(crate::proofs::Moving::begins_same))]
     pub fn advance<C: Clock>(
         &mut self,
         alloc: Global,
@@ -222,6 +236,7 @@ impl<S: Read + Write + OpenStream + Drop> Connection<S> {
         ensures phase { IfOk result (λ phase. phase
             ≡ phase_of (facts_of self.new.received self.new.to_send self.new.closing self.new.ended)) }
         ensures closing { self.new.closing ≡ self.old.closing }
+        ensures begins { self.old.closing ≡ false → BeginsWith (unread self.old.received) (unread self.new.received) }
         ensures received { self.old.closing ≡ false → unsent self.old.to_send ≡ []
             → Keeps (coming self.old.received (S.remaining self.old.stream)) (coming self.new.received (S.remaining self.new.stream)) }
     {
@@ -229,16 +244,57 @@ impl<S: Read + Write + OpenStream + Drop> Connection<S> {
         if !self.to_send.is_empty() {
             return Ok(Phase::Sending);
         }
+        self.advance_reading(alloc, clock, room)
+    }
+
+    /// Reads what came, after all bytes were sent.
+    ///
+    /// # Errors
+    /// That of the stream, or out of memory.
+    fn advance_reading<C: Clock>(
+        &mut self,
+        alloc: Global,
+        clock: &C,
+        room: &mut [u8; PIECE],
+    ) -> io::Result<Phase>
+        ensures phase { IfOk result (λ phase. phase
+            ≡ phase_of (facts_of self.new.received self.new.to_send self.new.closing self.new.ended)) }
+        ensures closing { self.new.closing ≡ self.old.closing }
+        ensures begins { self.old.closing ≡ false → BeginsWith (unread self.old.received) (unread self.new.received) }
+        ensures received { self.old.closing ≡ false
+            → Keeps (coming self.old.received (S.remaining self.old.stream)) (coming self.new.received (S.remaining self.new.stream)) }
+    {
         if self.closing {
             return self.drain(alloc, clock, room);
         }
+        self.advance_receiving(alloc, clock, room)
+    }
+
+    /// Opens the received request if it is whole, and else reads what came.
+    ///
+    /// # Errors
+    /// That of the stream, or out of memory.
+    #[tactic(auto, using(crate::proofs::Moving::begins_same, crate::proofs::Moving::begins_then))]
+    fn advance_receiving<C: Clock>(
+        &mut self,
+        alloc: Global,
+        clock: &C,
+        room: &mut [u8; PIECE],
+    ) -> io::Result<Phase>
+        ensures phase { IfOk result (λ phase. phase
+            ≡ phase_of (facts_of self.new.received self.new.to_send self.new.closing self.new.ended)) }
+        ensures closing { self.new.closing ≡ self.old.closing }
+        ensures begins { BeginsWith (unread self.old.received) (unread self.new.received) }
+        ensures received { Keeps (coming self.old.received (S.remaining self.old.stream))
+            (coming self.new.received (S.remaining self.new.stream)) }
+    {
         if self.open(alloc) {
             return Ok(self.phase());
         }
         self.receive_request(alloc, clock, room)
     }
 
-    /// Sends what is to be sent, as far as the stream takes it.
+    /// Sends the bytes to be sent, as far as the stream takes them.
     ///
     /// # Errors
     /// That of the stream.
@@ -261,11 +317,11 @@ impl<S: Read + Write + OpenStream + Drop> Connection<S> {
         Ok(())
     }
 
-    /// Reads what came, until a request is whole.
+    /// Reads what came, until a request is whole or nothing is left.
     ///
     /// # Errors
     /// That of the stream, or out of memory.
-    #[tactic(auto, using(crate::proofs::Trying::stays, crate::proofs::Trying::stays_on))]
+    #[tactic(auto, using(crate::proofs::Trying::stays, crate::proofs::Trying::stays_on, crate::proofs::Moving::begins_kept))]
     fn receive_request<C: Clock>(
         &mut self,
         alloc: Global,
@@ -275,16 +331,12 @@ impl<S: Read + Write + OpenStream + Drop> Connection<S> {
         ensures phase { IfOk result (λ phase. phase
             ≡ phase_of (facts_of self.new.received self.new.to_send self.new.closing self.new.ended)) }
         ensures closing { self.new.closing ≡ self.old.closing }
+        ensures begins { BeginsWith (unread self.old.received) (unread self.new.received) }
         ensures kept { Keeps (coming self.old.received (S.remaining self.old.stream))
             (coming self.new.received (S.remaining self.new.stream)) }
     {
         let was_empty = self.received.is_empty();
-        'pieces: for _piece in 0..MOST_PIECES {
-            // Of a request that is not whole the client's end may be there too, of which no further event comes.
-            if self.ended || !self.receive(room)? || self.open(alloc) {
-                break;
-            }
-        }
+        self.receive_pieces(alloc, room)?;
         if was_empty && !self.received.is_empty() {
             self.since = moment(clock);
         }
@@ -292,7 +344,47 @@ impl<S: Read + Write + OpenStream + Drop> Connection<S> {
         Ok(self.phase())
     }
 
-    /// Ends what is sent, and throws away what comes, until the client ends too.
+    /// Reads piece after piece, until a request is whole or nothing is left.
+    ///
+    /// # Errors
+    /// That of the stream, or out of memory.
+    #[tactic(auto, using(crate::proofs::Moving::pieces_rules))]
+    fn receive_pieces(&mut self, alloc: Global, room: &mut [u8; PIECE]) -> io::Result<()>
+        ensures closing { self.new.closing ≡ self.old.closing }
+        ensures begins { BeginsWith (unread self.old.received) (unread self.new.received) }
+        ensures kept { Keeps (coming self.old.received (S.remaining self.old.stream))
+            (coming self.new.received (S.remaining self.new.stream)) }
+    {
+        'pieces: for _piece in 0..MOST_PIECES {
+            if !self.receive_piece(alloc, room)? {
+                break;
+            }
+        }
+        Ok(())
+    }
+
+    /// Reads a piece, and opens the request if it is whole then. Returns whether more is to be read.
+    ///
+    /// # Errors
+    /// That of the stream, or out of memory.
+    #[tactic(auto, using(crate::proofs::Trying::stays, crate::proofs::Moving::begins_same, crate::proofs::Moving::begins_kept))]
+    fn receive_piece(&mut self, alloc: Global, room: &mut [u8; PIECE]) -> io::Result<bool>
+        ensures closing { self.new.closing ≡ self.old.closing }
+        ensures begins { BeginsWith (unread self.old.received) (unread self.new.received) }
+        ensures kept { Keeps (coming self.old.received (S.remaining self.old.stream))
+            (coming self.new.received (S.remaining self.new.stream)) }
+    {
+        // After an unfinished request the client's end may be there already, and no further event reports it.
+        if self.ended {
+            return Ok(false);
+        }
+        if !self.receive(room)? {
+            return Ok(false);
+        }
+        Ok(!self.open(alloc))
+    }
+
+    /// Ends its own side, and throws away what comes until the client ends its side too.
     ///
     /// # Errors
     /// That of the stream.
@@ -326,7 +418,7 @@ impl<S: Read + Write + OpenStream + Drop> Connection<S> {
     }
 }
 
-/// Whether a call of a stream ended because it would have waited.
+/// Whether a call of a stream failed because nothing came in time.
 fn is_wait(fault: &io::Error) -> bool {
     let kind = fault.kind();
     kind == ErrorKind::WouldBlock || kind == ErrorKind::TimedOut

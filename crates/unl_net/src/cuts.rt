@@ -1,9 +1,13 @@
-//! The connections that were cut off, and the answers of faults, which are logged once a minute at most.
+//! Why connections end, and the counts of those that were cut off. These and the answers with a status of 500 or more are logged once
+//! a minute at most.
+ghost use Rattle.std.specs.Prelude.{◌≡◌};
+ghost use Rattle.unl_net.specs.Ends.{after_cut, counted, cut_of, late_cut};
 
 use crate::moment::seconds_between;
-use std::fmt;
+use crate::phase::Phase;
 use std::fmt::Display;
 use std::time::Instant;
+use std::{fmt, io};
 
 /// How many seconds lie between two lines at least.
 const PAUSE: u64 = 60;
@@ -13,12 +17,48 @@ const PAUSE: u64 = 60;
 pub(crate) enum Cut {
     /// A request was not whole in time.
     SlowRequest,
-    /// Nothing was taken of an answer in time.
+    /// The client took nothing of an answer in time.
     SlowReader,
-    /// Others needed its descriptor.
+    /// Its descriptor was needed.
     Room,
-    /// Others needed its memory.
+    /// Its memory was needed, or an allocation failed.
     Memory,
+}
+
+/// Why a connection ends that no link serves.
+#[derive(Clone, Copy)]
+pub(crate) enum EndReason {
+    /// It is over: its client ended it, and nothing is to be sent.
+    Done,
+    /// A call of its stream failed.
+    Failed(io::Error),
+    /// At this moment it has waited longer than its phase allows.
+    Late(Option<Instant>),
+    /// It is cut off.
+    CutOff(Cut),
+}
+
+/// What is counted of a connection in this phase whose time is over: that a client asks nothing more is no cut.
+fn late_cut(phase: Phase) -> Option<Cut>
+    ensures { result ≡ late_cut phase }
+{
+    match phase {
+        Phase::Receiving => Some(Cut::SlowRequest),
+        Phase::Sending => Some(Cut::SlowReader),
+        _ => None,
+    }
+}
+
+/// What is counted of a connection that ends for this reason in this phase.
+pub(crate) fn cut_of(reason: EndReason, phase: Phase) -> Option<Cut>
+    ensures { result ≡ cut_of reason phase }
+{
+    match reason {
+        EndReason::Done => None,
+        EndReason::Failed(_) => None,
+        EndReason::Late(_) => late_cut(phase),
+        EndReason::CutOff(cut) => Some(cut),
+    }
 }
 
 /// How many connections were cut off, by why.
@@ -41,15 +81,31 @@ impl Cuts {
         }
     }
 
+    /// Counts one more, where there is one.
+    pub fn count(&mut self, cut: Option<Cut>)
+        ensures { self.new ≡ after_cut cut self.old }
+    {
+        match cut {
+            Some(cut) => self.count_one(cut),
+            None => {}
+        }
+    }
+
     /// Counts one more.
-    pub fn count(&mut self, cut: Cut) {
-        let counted = match cut {
-            Cut::SlowRequest => &mut self.slow_requests,
-            Cut::SlowReader => &mut self.slow_readers,
-            Cut::Room => &mut self.room,
-            Cut::Memory => &mut self.memory,
-        };
-        *counted = counted.saturating_add(1);
+    fn count_one(&mut self, cut: Cut)
+        ensures { self.new ≡ counted cut self.old }
+    {
+        match cut {
+            Cut::SlowRequest => self.slow_requests = self.slow_requests.saturating_add(1),
+            Cut::SlowReader => self.slow_readers = self.slow_readers.saturating_add(1),
+            Cut::Room => self.room = self.room.saturating_add(1),
+            Cut::Memory => self.memory = self.memory.saturating_add(1),
+        }
+    }
+
+    /// Counts connections for which there was no memory.
+    pub fn count_memory(&mut self, count: u64) {
+        self.memory = self.memory.saturating_add(count);
     }
 
     /// How many were counted.

@@ -1,14 +1,14 @@
 //! A door over the network.
-ghost use Rattle.std.specs.Prelude.{◌≡◌, ◌≤◌, ◌-◌, ◌^◌, IfOk, IfSome, None, OnErr, OnOk, option_map, true, unwrap_or};
+ghost use Rattle.std.specs.Prelude.{◌≡◌, ◌≤◌, ◌-◌, ◌^◌, IfNone, IfOk, IfSome, None, OnErr, OnOk, option_map, true, unwrap_or};
 ghost use Rattle.unl_base.specs.Doors.{Accepts, IsFresh};
 ghost use Rattle.unl_base.specs.Faults.{HasCause};
-ghost use Rattle.unl_net.specs.Doors.{IsLast, door_state};
+ghost use Rattle.unl_net.specs.Doors.{IsLast, IsServed, door_state};
 
 use crate::counts::Counts;
 use crate::cuts::EachMinute;
 use crate::limits::most_connections;
-use crate::link::NetLink;
-use crate::listener::{Accepting, accept_some, open_at};
+use crate::link::RealLink;
+use crate::listener::{Accepting, Listening, accept_some, open_at};
 use crate::moment::moment;
 use crate::reactor::Reactor;
 use std::alloc::{AllocError, Global};
@@ -18,22 +18,22 @@ use std::net::{Net, OpenListener, OpenStream};
 use std::os::fd::AsRawFd;
 use std::sync::{Arc, Wait};
 use std::time::Clock;
-use unl_base::{Door, Failed, Listening};
+use unl_base::{Door, Failed};
 
-/// How many links are handed out before it is looked whether others wait.
+/// How many links are handed out before the door looks for further events.
 const MOST_IN_A_ROW: u64 = 32;
 
-/// How long a wait takes at most, in milliseconds.
+/// How long the door waits for an event at most, in milliseconds.
 const SECOND: u64 = 1_000;
 
-/// The same where a connection waits that can't be accepted yet.
+/// The same while a connection is to be accepted for which there is no room yet.
 const MOMENT: u64 = 10;
 
-/// A door over the network. It listens on each IPv6 and each IPv4 address of this machine where one socket can do both, and else
-/// on each IPv4 address. It holds the connections that wait for their clients, and hands one out as a link once a whole request of
-/// it came. A connection may be several links, one after another.
+/// A door over the network. It listens on all IPv6 and IPv4 addresses of this machine if one socket can do both, and else on all IPv4
+/// addresses. It holds the connections that wait for their clients, and hands one out as a link once a whole request was received. A
+/// connection may be several links, one after another.
 #[derive(Drop)]
-pub struct NetDoor<N: Net + Clock + Eprint + Wait + Copy + Drop> {
+pub struct RealDoor<N: Net + Clock + Eprint + Wait + Copy + Drop> {
     net: N,
     alloc: Global,
     listening: Option<Listening<N::Listener>>,
@@ -52,12 +52,12 @@ struct Reports {
     faults: EachMinute,
     /// How many answers had a status of 500 or more since that was last logged.
     failed: u64,
-    /// How many links were handed out since it was last looked whether others wait.
+    /// How many links were handed out since the door last looked for events.
     in_a_row: u64,
 }
 
 impl Reports {
-    /// Nothing was logged.
+    /// Nothing was logged yet.
     fn new() -> Self {
         Reports {
             cuts: EachMinute::new(),
@@ -68,10 +68,10 @@ impl Reports {
     }
 }
 
-impl<N: Net + Clock + Eprint + Wait + Copy + Drop> NetDoor<N> {
-    /// A door that doesn't listen yet and has counted no error. It accepts `bound` connections, and closes with the last link of
-    /// these; without a bound, it accepts more than can ever come. `workers` links are served at once, each by another thread than
-    /// the one that accepts; none where the one that accepts serves them.
+impl<N: Net + Clock + Eprint + Wait + Copy + Drop> RealDoor<N> {
+    /// A door that doesn't listen yet and has counted no fault. It accepts `bound` connections and closes with their last link; without
+    /// a bound it accepts 2^64 - 1. `workers` is how many links are served at once by threads other than the one that accepts, or 0 if
+    /// that one serves them.
     ///
     /// # Errors
     /// Out of memory.
@@ -80,7 +80,7 @@ impl<N: Net + Clock + Eprint + Wait + Copy + Drop> NetDoor<N> {
         ensures bound { IfOk result (λ door. door.accepting.bound ≡ unwrap_or bound (2 ^ 64 - 1)) }
         ensures workers { IfOk result (λ door. door.workers ≡ workers) }
     {
-        Ok(NetDoor {
+        Ok(RealDoor {
             net,
             alloc,
             listening: None,
@@ -99,6 +99,9 @@ impl<N: Net + Clock + Eprint + Wait + Copy + Drop> NetDoor<N> {
 }
 
 /// Waits for the next link, and returns whether it is the last one.
+///
+/// # Errors
+/// That of the system, or the one with which accepting failed for good, which is returned once all connections were served.
 fn next_link<N: Net + Clock + Eprint + Wait + Copy + Drop>(
     alloc: Global,
     net: N,
@@ -106,25 +109,28 @@ fn next_link<N: Net + Clock + Eprint + Wait + Copy + Drop>(
     reactor: &mut Option<Reactor<N::Stream>>,
     accepting: &mut Accepting,
     reports: &mut Reports,
-) -> io::Result<(NetLink<N::Stream, N>, bool)>
+) -> io::Result<(RealLink<N::Stream, N>, bool)>
     ensures faultless { IfOk result (λ next. next.0.faults ≡ 0) }
     ensures last { IfOk result (λ next. next.1 ≡ true
         → IfSome reactor.new (λ reactor. IsLast accepting.new reactor.waiting reactor.ready.items)) }
 {
     match (listening, reactor) {
-        (Some(listening), Some(reactor)) => next_of(
-            alloc,
-            net,
-            &listening.listener,
-            reactor,
-            accepting,
-            reports,
-        ),
+        (Some(listening), Some(reactor)) => {
+            let next = next_of(alloc, net, &listening.listener, reactor, accepting, reports)?;
+            match next {
+                Some(next) => Ok(next),
+                None => Err(accepting.end()),
+            }
+        }
         _ => Err(io::Error::from(ErrorKind::NotConnected)),
     }
 }
 
-/// Waits for the next link of a reactor.
+/// Waits for the next link of a reactor, and returns whether it is the last one. `None`: no connection is left and no more are
+/// accepted.
+///
+/// # Errors
+/// That of the system.
 fn next_of<N: Net + Clock + Eprint + Wait + Copy + Drop>(
     alloc: Global,
     net: N,
@@ -132,30 +138,35 @@ fn next_of<N: Net + Clock + Eprint + Wait + Copy + Drop>(
     reactor: &mut Reactor<N::Stream>,
     accepting: &mut Accepting,
     reports: &mut Reports,
-) -> io::Result<(NetLink<N::Stream, N>, bool)>
-    ensures faultless { IfOk result (λ next. next.0.faults ≡ 0) }
-    ensures last { IfOk result (λ next. next.1 ≡ true → IsLast accepting.new reactor.new.waiting reactor.new.ready.items) }
+) -> io::Result<Option<(RealLink<N::Stream, N>, bool)>>
+    ensures faultless { IfOk result (λ next. IfSome next (λ next. next.0.faults ≡ 0)) }
+    ensures last { IfOk result (λ next. IfSome next (λ next. next.1 ≡ true
+        → IsLast accepting.new reactor.new.waiting reactor.new.ready.items)) }
+    ensures none { IfOk result (λ next. IfNone next (IsServed accepting.new reactor.new.waiting reactor.new.ready.items)) }
 {
     for _ in 0..u64::MAX {
         reactor.take_back(&net);
         if reports.in_a_row < MOST_IN_A_ROW {
             if let Some(next) = hand_out(alloc, net, reactor, accepting)? {
                 reports.in_a_row = reports.in_a_row.saturating_add(1);
-                return Ok(next);
+                return Ok(Some(next));
             }
         }
         reports.in_a_row = 0;
         if accepting.is_done() && reactor.is_empty() && reactor.has_no_links() {
-            break;
+            return Ok(None);
         }
-        accept_some(alloc, net, listener, reactor, accepting)?;
+        accept_some(alloc, net, listener, reactor, accepting);
+        // Links wake the door from here on. Those that gave a connection back before did not, so it is taken back now.
+        reactor.shared.note_sleep(true);
+        reactor.take_back(&net);
         reactor.wait(&net, wait_of(reactor, accepting))?;
         look_after(net, reactor, accepting, reports);
     }
     Err(io::Error::from(ErrorKind::NotConnected))
 }
 
-/// How long is waited for something to happen, in milliseconds.
+/// How long the door waits for an event, in milliseconds.
 fn wait_of<S: Read + Write + OpenStream + AsRawFd + Drop>(
     reactor: &Reactor<S>,
     accepting: &Accepting,
@@ -172,12 +183,15 @@ fn wait_of<S: Read + Write + OpenStream + AsRawFd + Drop>(
 }
 
 /// Hands out a connection that is ready, if there is one, and returns whether it is the last link.
+///
+/// # Errors
+/// Out of memory.
 fn hand_out<N: Net + Clock + Eprint + Wait + Copy + Drop>(
     alloc: Global,
     net: N,
     reactor: &mut Reactor<N::Stream>,
     accepting: &Accepting,
-) -> io::Result<Option<(NetLink<N::Stream, N>, bool)>>
+) -> io::Result<Option<(RealLink<N::Stream, N>, bool)>>
     ensures faultless { IfOk result (λ next. IfSome next (λ next. next.0.faults ≡ 0)) }
     ensures last { IfOk result (λ next. IfSome next (λ next. next.1 ≡ true
         → IsLast accepting.now reactor.new.waiting reactor.new.ready.items)) }
@@ -186,13 +200,13 @@ fn hand_out<N: Net + Clock + Eprint + Wait + Copy + Drop>(
         return Ok(None);
     };
     let is_alone = reactor.is_empty();
-    let is_last = is_alone && accepting.is_done();
+    let is_last = is_alone && accepting.is_full();
     let shared = Arc::try_clone(&reactor.shared)?;
-    let link = NetLink::new(alloc, net, shared, connection, is_alone);
+    let link = RealLink::new(alloc, net, shared, connection, is_alone);
     Ok(Some((link, is_last)))
 }
 
-/// Ends the connections whose time is over, and logs what was cut off.
+/// Ends the connections whose time is over, and logs the counts that are due.
 fn look_after<N: Net + Clock + Eprint + Wait + Copy + Drop>(
     net: N,
     reactor: &mut Reactor<N::Stream>,
@@ -201,6 +215,7 @@ fn look_after<N: Net + Clock + Eprint + Wait + Copy + Drop>(
 ) {
     let now = moment(&net);
     reactor.sweep(now);
+    reactor.cuts.count_memory(reactor.shared.take_lost());
     if let Some(cuts) = reports.cuts.due_cuts(now, &mut reactor.cuts) {
         accepting.log.line(&net, cuts);
     }
@@ -213,8 +228,8 @@ fn look_after<N: Net + Clock + Eprint + Wait + Copy + Drop>(
     }
 }
 
-impl<N: Net + Clock + Eprint + Wait + Copy + Drop> Door for NetDoor<N> {
-    type L = NetLink<N::Stream, N>;
+impl<N: Net + Clock + Eprint + Wait + Copy + Drop> Door for RealDoor<N> {
+    type L = RealLink<N::Stream, N>;
 
     ghost state = { λ door. door_state (option_map (λ one. one.port) door.listening) door.counts };
 
@@ -246,7 +261,8 @@ impl<N: Net + Clock + Eprint + Wait + Copy + Drop> Door for NetDoor<N> {
         }
     }
 
-    /// Hands out a connection of which a whole request came. The door closes only with the last one of those that it may accept.
+    /// Hands out a connection of which a whole request was received. The door closes only with the last link of the connections that
+    /// its bound allows. After an accept that failed for good, it fails once the connections that are there were served.
     fn accept(&mut self) -> Result<Option<Self::L>, Failed>
         ensures accepts { IfOk result (λ link. Accepts link (door_state (option_map (λ one. one.port) self.old.listening) self.old.counts)
             (door_state (option_map (λ one. one.port) self.new.listening) self.new.counts)) }

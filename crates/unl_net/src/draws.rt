@@ -10,28 +10,27 @@ use std::random::RandomSource;
 use std::time::Clock;
 use unl_base::{Draw, Draws, RealDraws};
 
-/// Draws with the moments of a clock. The words come from a small generator, which is none for secrets, and which random bytes of
-/// the system seed, so that programs that start in one millisecond draw different words. Where the system gives none, the clock
-/// seeds it.
+/// Draws with the moments of a clock. The words come from a small generator, which is unfit for secrets. Random bytes of the system
+/// seed it, so that programs that start in the same millisecond draw different words. If the system gives none, the clock seeds it.
 #[derive(Drop)]
-pub struct NetDraws<C: Clock + Copy + Drop> {
+pub struct SystemDraws<C: Clock + Copy + Drop> {
     moments: RealDraws<C>,
     words: Lcg64Xsh32,
 }
 
-impl<C: Clock + RandomSource + Copy + Drop> NetDraws<C> {
-    /// Draws by this clock and these random bytes.
+impl<C: Clock + RandomSource + Copy + Drop> SystemDraws<C> {
+    /// Draws with the clock and the random bytes of this system.
     pub fn new(system: C) -> Self {
         let mut moments = RealDraws::new(system);
         let words = match seeds_of(&system) {
             Ok((state, stream)) => Lcg64Xsh32::new(state, stream),
             Err(_) => Lcg64Xsh32::new(moments.draw().now, 0),
         };
-        NetDraws { moments, words }
+        SystemDraws { moments, words }
     }
 }
 
-/// Two random numbers of the system.
+/// Two random numbers of the system, to seed a generator.
 fn seeds_of<R: RandomSource>(system: &R) -> io::Result<(u64, u64)> {
     let mut state = [0; 8];
     let mut stream = [0; 8];
@@ -40,10 +39,10 @@ fn seeds_of<R: RandomSource>(system: &R) -> io::Result<(u64, u64)> {
     Ok((u64::from_le_bytes(state), u64::from_le_bytes(stream)))
 }
 
-impl<C: Clock + Copy + Drop> Draws for NetDraws<C> {
+impl<C: Clock + Copy + Drop> Draws for SystemDraws<C> {
     ghost coming = { λ _. None };
 
-    /// The moment of the clock, and the generator's next word.
+    /// Returns the present moment, and the generator's next word.
     fn draw(&mut self) -> Draw
         ensures limit { IsInLimit result }
         ensures word { (result.word, ⟦<Lcg64Xsh32 as Rng>⟧.stream self.new.words)
@@ -56,11 +55,11 @@ impl<C: Clock + Copy + Drop> Draws for NetDraws<C> {
         }
     }
 
-    /// Draws by the same clock, whose words are others.
+    /// Draws with the same clock and other words.
     fn split(&mut self) -> Self {
         let state = self.words.next_u64();
         let stream = self.words.next_u64();
-        NetDraws {
+        SystemDraws {
             moments: self.moments.split(),
             words: Lcg64Xsh32::new(state, stream),
         }

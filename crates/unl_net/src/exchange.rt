@@ -1,17 +1,17 @@
-//! The time that an exchange with a server may take, from the connect to the last byte.
+//! The time limit of an exchange with a server, from the connect to the last byte.
 ghost use Rattle.std.specs.Prelude.{◌≡◌, ◌==◌, if◌then◌else◌};
 ghost use Rattle.unl_net.specs.Exchanges.{rests, seconds_left};
 
 use crate::moment::seconds_between;
 use std::time::Instant;
 
-/// How long an exchange may take, in seconds. How long the system looks a name up is its own.
+/// How long an exchange may take, in seconds. How long the system takes to look up a name is not bounded.
 pub(crate) const MOST: u64 = 30;
 
-/// How long a server is not asked that took all of this time, in seconds.
+/// For how many seconds a server that used up its time is not asked.
 const REST: u64 = 5;
 
-/// When an exchange began, and when one took all of its time. Where the clock can't be read no time counts as passed.
+/// When an exchange began, and when the last one that used up its time ended. If the clock can't be read, no time counts as passed.
 #[derive(Clone, Copy)]
 pub(crate) struct Exchange {
     begun: Option<Instant>,
@@ -19,7 +19,7 @@ pub(crate) struct Exchange {
 }
 
 impl Exchange {
-    /// No exchange.
+    /// No exchange has begun.
     pub fn new() -> Self {
         Exchange {
             begun: None,
@@ -34,14 +34,14 @@ impl Exchange {
         self.begun = now;
     }
 
-    /// How many seconds are left of it.
+    /// How many seconds of it are left.
     pub fn left(&self, now: Option<Instant>) -> u64
         ensures { result ≡ seconds_left self.now now }
     {
         MOST.saturating_sub(seconds_between(self.begun, now))
     }
 
-    /// Notes that a call failed: where no time is left, the server took all of it.
+    /// Notes that a call failed: if no time is left, the server used it up.
     pub fn note_fault(&mut self, now: Option<Instant>)
         ensures { self.new ≡ record self.old { over = if seconds_left self.old now == 0 then now else self.old.over } }
     {
@@ -50,7 +50,7 @@ impl Exchange {
         }
     }
 
-    /// Whether the server is not asked now.
+    /// Whether the server is not to be asked now.
     pub fn rests(&self, now: Option<Instant>) -> bool
         ensures { result ≡ rests self.now now }
     {

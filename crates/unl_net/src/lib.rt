@@ -1,7 +1,7 @@
-//! The adapters over the real network: a door ([`NetDoor`]), its links ([`NetLink`]) and a peer ([`NetPeer`]). The door waits for
-//! all connections at once and hands one out as a link once a whole request of it came, so that nobody who serves links waits for a
-//! slow client. An error that passes by itself counts as no fault, and what changed is logged on the error stream, a line each.
-//! Beside them are moments and random words of the system ([`NetDraws`]).
+//! The adapters over the real network: a door ([`RealDoor`]), its links ([`RealLink`]) and a peer ([`RealPeer`]). One thread waits for
+//! all connections of a door. It hands a connection out as a link once a whole request was received, so that a slow client blocks no
+//! worker. Temporary errors count as no fault. Changes are logged on the error stream, one line each. [`SystemDraws`] draws moments and
+//! random words of the system.
 #![tactic(auto)]
 
 mod buffers;
@@ -10,6 +10,7 @@ mod counts;
 mod cuts;
 mod door;
 mod draws;
+mod ending;
 mod exchange;
 mod limits;
 mod link;
@@ -25,7 +26,8 @@ mod served;
 mod shared;
 mod status_log;
 
-pub use crate::door::NetDoor;
-pub use crate::draws::NetDraws;
-pub use crate::link::NetLink;
-pub use crate::peer::NetPeer;
+pub use crate::door::RealDoor;
+pub use crate::draws::SystemDraws;
+pub use crate::link::RealLink;
+pub use crate::log::Log;
+pub use crate::peer::RealPeer;

@@ -1,4 +1,4 @@
-//! How many connections a door may hold.
+//! The number of connections that a door may hold.
 ghost use Rattle.std.specs.Prelude.{◌≤◌, ◌<◌};
 
 use libc::types::rlimit;
@@ -7,10 +7,11 @@ use libc::{RLIMIT_NOFILE, getrlimit};
 /// The most connections that a door holds.
 const MOST: u64 = 16_384;
 
-/// How many descriptors are left to the rest of the program.
+/// How many descriptors are reserved for the rest of the program.
 const REST: u64 = 64;
 
-/// How many connections a door may hold: as many as the system gives the process descriptors, less those for the rest of it.
+/// How many connections a door may hold: the process's limit of descriptors, less those for the rest of the program. 512 if the limit
+/// can't be read.
 pub(crate) fn most_connections() -> usize
     ensures some { 0 < result }
     ensures most { result ≤ 16384 }
@@ -25,7 +26,7 @@ pub(crate) fn most_connections() -> usize
     most_of(limit.rlim_cur)
 }
 
-/// The same, by the system's limit. Of few descriptors the door has half.
+/// The same for this limit of descriptors. If it is small, the door gets half of it.
 fn most_of(limit: u64) -> usize
     ensures some { 0 < result }
     ensures most { result ≤ 16384 }

@@ -1,4 +1,4 @@
-//! A link over a connection.
+//! A link over a connection of a door.
 ghost use Rattle.std.specs.Prelude.{◌≡◌, ◌<◌, ◌≤◌, length, IfOk, None};
 ghost use Rattle.std.specs.Io.KnownBytes.{WriteAppends};
 ghost use Rattle.unl_base.specs.Faults.{HasExactCause};
@@ -15,16 +15,16 @@ use std::sync::{Arc, Wait};
 use std::time::Clock;
 use unl_base::{Failed, Link, Sink, Source};
 
-/// A link over a connection. It gives whole requests alone, and ends behind their answers where no more is there: its connection
-/// then goes back to the door, which hands it out again as another link.
+/// A link over a connection. It reads whole requests only. Once these are answered and no further one is there, it ends, and its
+/// connection goes back to the door, which hands it out again as another link.
 #[derive(Drop)]
-pub struct NetLink<S: Read + Write + OpenStream + Drop, C: Clock + Wait + Drop> {
+pub struct RealLink<S: Read + Write + OpenStream + Drop, C: Clock + Wait + Drop> {
     served: Served<S, C>,
     faults: u64,
 }
 
-impl<S: Read + Write + OpenStream + Drop, C: Clock + Wait + Drop> NetLink<S, C> {
-    /// A link that has counted no error yet. `alone`: the door has no other connection.
+impl<S: Read + Write + OpenStream + Drop, C: Clock + Wait + Drop> RealLink<S, C> {
+    /// A link that has counted no fault yet. `alone`: the door has no other connection.
     pub(crate) fn new(
         alloc: Global,
         clock: C,
@@ -34,25 +34,25 @@ impl<S: Read + Write + OpenStream + Drop, C: Clock + Wait + Drop> NetLink<S, C> 
     ) -> Self
         ensures { result.faults ≡ 0 }
     {
-        NetLink {
+        RealLink {
             served: Served::new(alloc, clock, shared, connection, alone),
             faults: 0,
         }
     }
 }
 
-impl<S: Read + Write + OpenStream + Drop, C: Clock + Wait + Drop> Source for NetLink<S, C> {
+impl<S: Read + Write + OpenStream + Drop, C: Clock + Wait + Drop> Source for RealLink<S, C> {
     ghost left = { λ _. None };
 
     ghost faults = { λ link. link.faults };
 
     ghost beside = { λ _. nothing_beside };
 
-    /// Gives the bytes of whole requests, and none where the link has ended.
+    /// Reads bytes of whole requests. Returns 0 once the link has ended.
     fn read(&mut self, room: &mut [u8]) -> Result<usize, Failed>
         requires { 0 < length room.old }
         ensures fits { IfOk result (λ n. n ≤ length room.new) }
-        ensures hands_on { Gives
+        ensures forwards { Gives
             (coming self.old.served.connection.received (S.remaining self.old.served.connection.stream))
             (coming self.new.served.connection.received (S.remaining self.new.served.connection.stream)) result room.new }
         ensures cause { HasExactCause self.old.faults self.new.faults result }
@@ -67,19 +67,19 @@ impl<S: Read + Write + OpenStream + Drop, C: Clock + Wait + Drop> Source for Net
     }
 }
 
-impl<S: Read + Write + OpenStream + Drop, C: Clock + Wait + Drop> Sink for NetLink<S, C> {
+impl<S: Read + Write + OpenStream + Drop, C: Clock + Wait + Drop> Sink for RealLink<S, C> {
     ghost sent = { λ _. None };
 
     ghost faults = { λ link. link.faults };
 
     ghost beside = { λ _. nothing_beside };
 
-    /// Sends the piece, and holds for the client what it doesn't take yet.
+    /// Sends the piece, and keeps what the client doesn't take yet to be sent later.
     fn write(&mut self, piece: &[u8]) -> Result<usize, Failed>
         requires { 0 < length piece.now }
         ensures some { IfOk result (λ n. 0 < n) }
         ensures fits { IfOk result (λ n. n ≤ length piece.now) }
-        ensures hands_on { WriteAppends
+        ensures forwards { WriteAppends
             (going (S.contents self.old.served.connection.stream) self.old.served.connection.to_send)
             (going (S.contents self.new.served.connection.stream) self.new.served.connection.to_send) result piece.now }
         ensures cause { HasExactCause self.old.faults self.new.faults result }
@@ -94,7 +94,7 @@ impl<S: Read + Write + OpenStream + Drop, C: Clock + Wait + Drop> Sink for NetLi
     }
 }
 
-impl<S: Read + Write + OpenStream + Drop, C: Clock + Wait + Drop> Link for NetLink<S, C> {
+impl<S: Read + Write + OpenStream + Drop, C: Clock + Wait + Drop> Link for RealLink<S, C> {
     ghost use Rattle.std.proofs.Common.{refl};
 
     ghost one_count = { λ link. refl };

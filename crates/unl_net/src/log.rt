@@ -1,4 +1,4 @@
-//! The log on the error stream: a line for what changed. None has a token or a secret. A line that can't be written at once is
+//! The log on the error stream: a line for each change. No line has a token or a secret. A line that can't be written at once is
 //! dropped, so that nothing waits for the reader of the log.
 ghost use Rattle.std.specs.Prelude.{◌≡◌, ◌==◌, not};
 
@@ -12,7 +12,7 @@ pub(crate) const WELL: u16 = 0;
 /// The descriptor of the error stream.
 const ERRORS: i32 = 2;
 
-/// How something is, as it was last logged: all is well at first, and that is not logged.
+/// The state of something as it was last logged. At first all is well, which is not logged.
 #[derive(Clone, Copy)]
 pub(crate) struct Logged {
     pub last: u16,
@@ -26,7 +26,7 @@ impl Logged {
         Logged { last: WELL }
     }
 
-    /// Notes how it is now, and returns whether that is to be logged.
+    /// Notes the present state, and returns whether it is to be logged.
     pub fn is_news(&mut self, now: u16) -> bool
         ensures news { result ≡ not (now == self.old.last) }
         ensures noted { self.new.last ≡ now }
@@ -37,7 +37,7 @@ impl Logged {
     }
 }
 
-/// Whether the error stream takes a line without a wait. Of a pipe that is so while a page of it is free, which is more than a line.
+/// Whether the error stream takes a line without blocking. A pipe does while a page of it is free, which is more than a line.
 fn takes_line() -> bool {
     let mut asked = [pollfd {
         fd: ERRORS,
@@ -49,7 +49,7 @@ fn takes_line() -> bool {
 
 /// The log, which counts the lines that were dropped.
 #[derive(Clone, Copy)]
-pub(crate) struct Log {
+pub struct Log {
     dropped: u64,
 }
 
@@ -59,7 +59,7 @@ impl Log {
         Log { dropped: 0 }
     }
 
-    /// Writes a line, or drops it where the error stream would have it wait.
+    /// Writes a line, or drops it if the error stream would block.
     pub fn line<E: Eprint, D: Display + Drop>(&mut self, to: &E, line: D) {
         if self.dropped > 0 && takes_line() {
             let dropped = self.dropped;

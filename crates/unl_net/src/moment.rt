@@ -1,15 +1,15 @@
-//! Moments, and the time between them. A moment is none where the clock can't be read: no time counts as passed then.
+//! Moments, and the time between them. A moment is `None` if the clock can't be read: no time counts as passed then.
 ghost use Rattle.std.specs.Prelude.{◌≡◌};
 ghost use Rattle.unl_net.specs.Moments.{seconds_between};
 
 use std::time::{Clock, Instant};
 
-/// The moment.
+/// The present moment.
 pub(crate) fn moment<C: Clock>(clock: &C) -> Option<Instant> {
     Instant::now(clock).ok()
 }
 
-/// How many whole seconds lie between two moments.
+/// The whole seconds between two moments: 0 if either is unknown.
 pub(crate) fn seconds_between(begun: Option<Instant>, now: Option<Instant>) -> u64
     ensures { result ≡ seconds_between begun now }
 {

@@ -17,19 +17,19 @@ use std::net::{Net, OpenStream, TcpStream, ToSocketAddrs};
 use std::time::{Clock, Duration};
 use unl_base::{Failed, Link, Peer, Sink, Source};
 
-/// That a peer can't be reached.
+/// Stands for a peer that can't be reached.
 const UNREACHABLE: u16 = 1;
 
-/// A peer over the network. Each connect makes a new connection, to the first of its addresses that answers. All of an exchange,
-/// from the connect to the last byte, takes thirty seconds at most. Behind one that took all of that, connects fail at once for
-/// five seconds, so that a server that hangs is waited for once by those who ask it in turn.
+/// A peer over the network. Each connect makes a new connection, to the first of its addresses that accepts one. An exchange takes 30
+/// seconds at most, from the connect to the last byte. After one that used them up, connects fail at once for 5 seconds, so that
+/// callers that ask a hanging server one after another wait for it once.
 #[derive(Drop)]
-pub struct NetPeer<N: Net + Clock + Eprint + Drop, A: ToSocketAddrs + Display> {
+pub struct RealPeer<N: Net + Clock + Eprint + Drop, A: ToSocketAddrs + Display> {
     net: N,
     address: A,
     stream: Option<N::Stream>,
     exchange: Exchange,
-    /// The limit of time that the stream's calls have, in seconds.
+    /// The time limit that is set for the stream's calls, in seconds.
     limit: u64,
     logged: Logged,
     log: Log,
@@ -37,12 +37,12 @@ pub struct NetPeer<N: Net + Clock + Eprint + Drop, A: ToSocketAddrs + Display> {
     faults: u64,
 }
 
-impl<N: Net + Clock + Eprint + Drop, A: ToSocketAddrs + Display> NetPeer<N, A> {
-    /// A peer at an address, as `HOST:PORT`, that isn't connected yet and has counted no error.
+impl<N: Net + Clock + Eprint + Drop, A: ToSocketAddrs + Display> RealPeer<N, A> {
+    /// A peer at an address (`HOST:PORT`) that isn't connected yet and has counted no fault.
     pub fn new(net: N, address: A) -> Self
         ensures { (result.stream ≡ None) × (result.faults ≡ 0) }
     {
-        NetPeer {
+        RealPeer {
             net,
             address,
             stream: None,
@@ -56,7 +56,10 @@ impl<N: Net + Clock + Eprint + Drop, A: ToSocketAddrs + Display> NetPeer<N, A> {
     }
 }
 
-/// Gives the calls of a stream as many seconds as are left, where they have another limit. They fail where none is left.
+/// Sets the time limit of a stream's calls to the seconds that are left, if it is another.
+///
+/// # Errors
+/// No second is left, or that of the stream.
 fn set_limit<S: OpenStream>(stream: &S, left: u64, limit: &mut u64) -> io::Result<()> {
     if left == 0 {
         return Err(io::Error::from(ErrorKind::TimedOut));
@@ -70,7 +73,7 @@ fn set_limit<S: OpenStream>(stream: &S, left: u64, limit: &mut u64) -> io::Resul
     Ok(())
 }
 
-/// Connects to the first of an address's addresses that answers, in the time of the exchange.
+/// Connects to the first address of a name that accepts a connection, within the time of the exchange.
 fn connected<N: Net + Clock, A: ToSocketAddrs>(
     net: &N,
     address: &A,
@@ -84,7 +87,7 @@ fn connected<N: Net + Clock, A: ToSocketAddrs>(
         }
         match TcpStream::connect_timeout(net, &address, Duration::from_secs(left)) {
             Ok(stream) => {
-                // A request is written as a whole: none of its bytes is to wait for others.
+                // A request is written as a whole, so no byte is to be delayed to be sent with others.
                 let _ = stream.set_nodelay(true);
                 return Ok(stream);
             }
@@ -94,7 +97,7 @@ fn connected<N: Net + Clock, A: ToSocketAddrs>(
     Err(last)
 }
 
-/// Reads once, in the time of the exchange.
+/// Reads once, within the time of the exchange.
 fn read_in_time<N: Clock, S: Read + OpenStream>(
     clock: &N,
     stream: &mut S,
@@ -109,7 +112,7 @@ fn read_in_time<N: Clock, S: Read + OpenStream>(
     read_once(stream, room)
 }
 
-/// Writes once, in the time of the exchange.
+/// Writes once, within the time of the exchange.
 fn write_in_time<N: Clock, S: Write + OpenStream>(
     clock: &N,
     stream: &mut S,
@@ -145,7 +148,7 @@ fn log_unreachable<N: Eprint, A: Display>(
     }
 }
 
-/// Logs how a kind of request is answered.
+/// Logs the status of a reply, if it is news.
 fn log_answer<N: Eprint, A: Display>(
     net: &N,
     address: &A,
@@ -159,7 +162,7 @@ fn log_answer<N: Eprint, A: Display>(
     }
 }
 
-impl<N: Net + Clock + Eprint + Drop, A: ToSocketAddrs + Display> Source for NetPeer<N, A> {
+impl<N: Net + Clock + Eprint + Drop, A: ToSocketAddrs + Display> Source for RealPeer<N, A> {
     ghost use Rattle.std.specs.Prelude.{is_some};
     ghost use Rattle.unl_base.specs.Peers.{nothing_beside};
 
@@ -169,11 +172,11 @@ impl<N: Net + Clock + Eprint + Drop, A: ToSocketAddrs + Display> Source for NetP
 
     ghost beside = { λ peer. record nothing_beside { connected = is_some peer.stream } };
 
-    /// Reads what the last connection gives. Where there is none, nothing is to come.
+    /// Reads from the last connection. Returns 0 if there is none.
     fn read(&mut self, room: &mut [u8]) -> Result<usize, Failed>
         requires { 0 < length room.old }
         ensures fits { IfOk result (λ n. n ≤ length room.new) }
-        ensures hands_on { ReadsConnection ⟦<N::Stream as Read>⟧.remaining self.old.stream self.new.stream result room.new }
+        ensures forwards { ReadsConnection ⟦<N::Stream as Read>⟧.remaining self.old.stream self.new.stream result room.new }
         ensures beside { is_some self.new.stream ≡ is_some self.old.stream }
         ensures cause { HasExactCause self.old.faults self.new.faults result }
     {
@@ -209,7 +212,7 @@ impl<N: Net + Clock + Eprint + Drop, A: ToSocketAddrs + Display> Source for NetP
     }
 }
 
-impl<N: Net + Clock + Eprint + Drop, A: ToSocketAddrs + Display> Sink for NetPeer<N, A> {
+impl<N: Net + Clock + Eprint + Drop, A: ToSocketAddrs + Display> Sink for RealPeer<N, A> {
     ghost use Rattle.std.specs.Prelude.{is_some};
     ghost use Rattle.unl_base.specs.Peers.{nothing_beside};
 
@@ -219,12 +222,12 @@ impl<N: Net + Clock + Eprint + Drop, A: ToSocketAddrs + Display> Sink for NetPee
 
     ghost beside = { λ peer. record nothing_beside { connected = is_some peer.stream } };
 
-    /// Writes the piece to the last connection, and returns how much that took. Where there is none, the whole piece is dropped.
+    /// Writes to the last connection, and returns how many bytes it took. If there is none, the whole piece is dropped.
     fn write(&mut self, piece: &[u8]) -> Result<usize, Failed>
         requires { 0 < length piece.now }
         ensures some { IfOk result (λ n. 0 < n) }
         ensures fits { IfOk result (λ n. n ≤ length piece.now) }
-        ensures hands_on { WritesConnection ⟦<N::Stream as Write>⟧.contents self.old.stream self.new.stream result piece.now }
+        ensures forwards { WritesConnection ⟦<N::Stream as Write>⟧.contents self.old.stream self.new.stream result piece.now }
         ensures beside { is_some self.new.stream ≡ is_some self.old.stream }
         ensures cause { HasExactCause self.old.faults self.new.faults result }
     {
@@ -258,7 +261,7 @@ impl<N: Net + Clock + Eprint + Drop, A: ToSocketAddrs + Display> Sink for NetPee
     }
 }
 
-impl<N: Net + Clock + Eprint + Drop, A: ToSocketAddrs + Display> Link for NetPeer<N, A> {
+impl<N: Net + Clock + Eprint + Drop, A: ToSocketAddrs + Display> Link for RealPeer<N, A> {
     ghost use Rattle.std.proofs.Common.{refl};
 
     ghost one_count = { λ peer. refl };
@@ -268,7 +271,7 @@ impl<N: Net + Clock + Eprint + Drop, A: ToSocketAddrs + Display> Link for NetPee
     ghost writes_beside = { λ peer. refl };
 }
 
-impl<N: Net + Clock + Eprint + Drop, A: ToSocketAddrs + Display> Peer for NetPeer<N, A> {
+impl<N: Net + Clock + Eprint + Drop, A: ToSocketAddrs + Display> Peer for RealPeer<N, A> {
     ghost use Rattle.std.specs.Prelude.{is_some};
     ghost use Rattle.std.proofs.Common.{refl};
     ghost use Rattle.unl_base.specs.Peers.{nothing_beside};

@@ -6,43 +6,43 @@ ghost use Rattle.unl_net.specs.declared.phase.Phase.TheVariants.{Over, Ready};
 /// What a connection waits for.
 #[derive(Clone, Copy, PartialEq)]
 pub(crate) enum Phase {
-    /// Its next request, of which nothing came.
+    /// The next request, of which nothing was received yet.
     Idle,
     /// The rest of a request.
     Receiving,
-    /// A link: a whole request came, or bytes that are refused.
+    /// A link: a whole request was received, or bytes that are refused.
     Ready,
-    /// The client, which is to take the rest of an answer.
+    /// The client, to take the rest of an answer.
     Sending,
-    /// The client's end, behind the last answer.
+    /// The client's end, after the last answer.
     Draining,
-    /// Nothing: it has ended.
+    /// Nothing: the connection is over.
     Over,
 }
 
-/// What is known of a connection.
+/// The facts that decide what a connection waits for.
 #[derive(Clone, Copy)]
 pub(crate) struct Facts {
-    /// A whole request came, or bytes that are refused.
+    /// A whole request was received, or bytes that are refused.
     pub asked: bool,
-    /// Some byte came that no link has read.
+    /// Some byte was received that no link has read.
     pub began: bool,
-    /// Some byte of an answer is not sent.
+    /// Some byte of an answer is still to be sent.
     pub owes: bool,
-    /// It ends once all is sent.
+    /// The connection is to be closed once all bytes are sent.
     pub closing: bool,
-    /// The client has ended what it sends.
+    /// The client has ended its side.
     pub ended: bool,
 }
 
-/// What a connection of which this is known waits for.
+/// What a connection with these facts waits for.
 pub(crate) fn phase_of(known: Facts) -> Phase
     ensures exact { result ≡ phase_of known }
 
-    // Nobody is cut off: a connection is over only where its client has ended what it sends, and no answer is on its way.
+    // No client is cut off: a connection is over only if its client has ended its side and no answer is on its way.
     ensures over { result ≡ Over → (known.ended ≡ true) × (known.owes ≡ false) }
 
-    // A request is served where it is whole, whatever the client does behind it.
+    // A whole request is served, whatever the client does after it.
     ensures served { known.asked ≡ true → known.owes ≡ false → known.closing ≡ false → result ≡ Ready }
 {
     if known.owes {
@@ -65,7 +65,7 @@ pub(crate) fn phase_of(known: Facts) -> Phase
 }
 
 impl Phase {
-    /// Whether a connection waits for its client.
+    /// Whether a connection in this phase waits for its client.
     pub fn waits(self) -> bool
         ensures { result ≡ waits self }
     {
@@ -75,7 +75,7 @@ impl Phase {
         }
     }
 
-    /// For how many seconds a connection may wait for its client.
+    /// For how many seconds a connection may be in this phase.
     pub fn limit(self) -> u64
         ensures { result ≡ limit_of self }
     {

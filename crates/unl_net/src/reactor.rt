@@ -1,10 +1,14 @@
-//! Where connections wait for their clients.
+//! Waits for all connections that no link serves, and decides what becomes of each.
 ghost use Rattle.slab.specs.Slab.{slab_len};
-ghost use Rattle.std.specs.Prelude.{◌≡◌, [], true};
+ghost use Rattle.std.specs.Prelude.{◌≡◌, ◌+◌, ◌++◌, [], true, IfNone, OnSome, option_to_list};
+ghost use Rattle.std.specs.VecDeque.{deque_len};
+ghost use Rattle.unl_net.specs.Buffers.{facts_of};
+ghost use Rattle.unl_net.specs.Ends.{Accounts, MayEnd, after_cut, cut_of};
+ghost use Rattle.unl_net.specs.Phases.{phase_of};
 
 use crate::connection::{Connection, PIECE};
-use crate::cuts::{Cut, Cuts};
-use crate::moment::{moment, seconds_between};
+use crate::cuts::{Cut, Cuts, EndReason, cut_of};
+use crate::moment::moment;
 use crate::phase::Phase;
 use crate::shared::Shared;
 use mio::unix::SourceFd;
@@ -15,54 +19,55 @@ use std::collections::VecDeque;
 use std::io;
 use std::io::{Read, Write};
 use std::net::OpenStream;
-use std::os::fd::AsRawFd;
+use std::os::fd::{AsRawFd, RawFd};
 use std::sync::{Arc, Wait};
 use std::time::{Clock, Duration, Instant};
 
-/// How many events are taken at once.
+/// How many events are taken at once at most.
 const MOST_EVENTS: usize = 256;
 
-/// The most bytes of requests that are not whole, of all connections together.
-const MOST_RECEIVED: u64 = 67_108_864;
-
-/// How many connections are closed at once where the system gives no descriptor.
+/// How many connections are closed at once if the system gives no more descriptors.
 const CLOSED_AT_ONCE: usize = 8;
 
 /// The token of the listener.
 const LISTENER: usize = 0;
 
-/// The token of what wakes the door.
+/// The token of the waker.
 const WAKER: usize = 1;
 
 /// The token of the first connection.
 const FIRST: usize = 2;
 
-/// Where connections wait.
+/// The connections of a door that no link serves: those that wait for their clients, and those that are ready for a link.
 #[derive(Drop)]
 pub(crate) struct Reactor<S: Read + Write + OpenStream + AsRawFd + Drop> {
     alloc: Global,
     poll: Poll,
     events: Events,
-    /// The keys of connections that something is done with next.
-    keys: Vec<usize>,
+    /// The keys of the connections that are dealt with next.
+    pub(crate) keys: Vec<usize>,
     pub shared: Arc<Shared<S>>,
-    waiting: Slab<Connection<S>>,
-    ready: VecDeque<Connection<S>>,
+    pub(crate) waiting: Slab<Connection<S>>,
+    pub(crate) ready: VecDeque<Connection<S>>,
     room: [u8; PIECE],
-    /// When connections were last looked through for those whose time is over.
-    swept: Option<Instant>,
+    /// When the connections whose time is over were last ended.
+    pub(crate) swept: Option<Instant>,
     /// How many bytes the connections that wait have received.
-    received: u64,
-    /// How many connections may live.
+    pub(crate) received: u64,
+    /// How many connections there may be, with those of links.
     most: usize,
-    /// Whether a connection may be accepted without a wait.
+    /// How many connections have ended here. It stops at the largest number.
+    pub(crate) ended: u64,
+    /// Whether the door closes with the last connection that is served.
+    pub(crate) closes: bool,
+    /// Whether a connection may be there to be accepted.
     pub may_accept: bool,
-    /// The connections that were cut off and not logged.
+    /// The counts of the connections that were cut off and not logged yet.
     pub cuts: Cuts,
 }
 
 impl<S: Read + Write + OpenStream + AsRawFd + Drop> Reactor<S> {
-    /// That of a listener, with no connections, of which `most` may live.
+    /// The reactor of a listener, without connections. At most `most` may be there at once.
     ///
     /// # Errors
     /// That of the system, or out of memory.
@@ -90,19 +95,23 @@ impl<S: Read + Write + OpenStream + AsRawFd + Drop> Reactor<S> {
             swept: None,
             received: 0,
             most,
+            ended: 0,
+            closes: false,
             may_accept: true,
             cuts: Cuts::new(),
         })
     }
 
-    /// A connection of which a whole request came.
+    /// Takes the next connection that is ready for a link.
     pub fn next_ready(&mut self) -> Option<Connection<S>>
-        ensures { self.new.waiting ≡ self.old.waiting }
+        ensures waiting { self.new.waiting ≡ self.old.waiting }
+        ensures ready { self.old.ready.items ≡ option_to_list result ++ self.new.ready.items }
+        ensures ended { self.new.ended ≡ self.old.ended }
     {
         self.ready.pop_front()
     }
 
-    /// Whether one is ready.
+    /// Whether a connection is ready for a link.
     pub fn has_ready(&self) -> bool {
         !self.ready.is_empty()
     }
@@ -115,22 +124,29 @@ impl<S: Read + Write + OpenStream + AsRawFd + Drop> Reactor<S> {
         self.waiting.is_empty() && self.ready.is_empty()
     }
 
-    /// Whether no link lives.
+    /// Whether there is no link.
     pub fn has_no_links(&self) -> bool {
         Arc::strong_count(&self.shared) <= 1
     }
 
-    /// Whether as many live as may.
+    /// Whether there are as many connections as may be.
     pub fn is_full(&self) -> bool {
         self.live() >= self.most
     }
 
-    /// Makes room for one more connection: false where all that live have a request.
-    pub fn make_room(&mut self) -> bool {
-        !self.is_full() || self.close_oldest()
+    /// Makes room for one more connection. Returns false if no connection waits that could be closed.
+    #[tactic(auto, using(crate::proofs::Accounting::same))]
+    pub fn make_room(&mut self) -> bool
+        ensures accounts { Accounts 0 (slab_len self.old.waiting + deque_len self.old.ready) self.old.ended
+            (slab_len self.new.waiting + deque_len self.new.ready) self.new.ended }
+    {
+        if !self.is_full() {
+            return true;
+        }
+        self.close_oldest()
     }
 
-    /// How many connections live.
+    /// How many connections there are, with those of links.
     fn live(&self) -> usize {
         self.waiting
             .len()
@@ -138,119 +154,210 @@ impl<S: Read + Write + OpenStream + AsRawFd + Drop> Reactor<S> {
             .saturating_add(Arc::strong_count(&self.shared))
     }
 
-    /// Notes that the system gives no more descriptors: some connections are closed, and fewer may live from now on. False: none
-    /// waits that could be closed.
-    pub fn note_shortage(&mut self) -> bool {
+    /// Notes that the system gives no more descriptors: some connections are closed, and fewer may be there from now on. Returns false
+    /// if none waits that could be closed.
+    pub fn note_shortage(&mut self) -> bool
+        ensures accounts { Accounts 0 (slab_len self.old.waiting + deque_len self.old.ready) self.old.ended
+            (slab_len self.new.waiting + deque_len self.new.ready) self.new.ended }
+    {
         self.most = self.live().saturating_sub(CLOSED_AT_ONCE).max(1);
-        let closes = self.close_oldest();
-        for _closed in 1..CLOSED_AT_ONCE {
-            self.close_oldest();
-        }
+        let closes = self.oldest().is_some();
+        self.close_some();
         closes
     }
 
+    /// Closes the connections that have waited longest, as many as are closed at once.
+    #[tactic(auto, using(crate::proofs::Accounting::same, crate::proofs::Accounting::step))]
+    fn close_some(&mut self)
+        ensures accounts { Accounts 0 (slab_len self.old.waiting + deque_len self.old.ready) self.old.ended
+            (slab_len self.new.waiting + deque_len self.new.ready) self.new.ended }
+    {
+        'closed: for _closed in 0..CLOSED_AT_ONCE {
+            self.close_oldest();
+        }
+    }
+
     /// Takes in a connection that was just accepted.
-    pub fn take_in<C: Clock>(&mut self, clock: &C, connection: Connection<S>) {
+    pub fn take_in<C: Clock>(&mut self, clock: &C, connection: Connection<S>)
+        ensures accounts { Accounts 1 (slab_len self.old.waiting + deque_len self.old.ready) self.old.ended
+            (slab_len self.new.waiting + deque_len self.new.ready) self.new.ended }
+    {
         let mut connection = connection;
         connection.since = moment(clock);
         self.go_on(clock, connection);
     }
 
-    /// Takes back the connections that links gave back.
-    pub fn take_back<C: Clock + Wait>(&mut self, clock: &C) {
-        for _ in 0..u64::MAX {
+    /// Takes back the connections that links gave back, and returns how many these were. Each of them waits, is ready or has ended.
+    #[tactic(auto, using(crate::proofs::Accounting::same, crate::proofs::Accounting::step_one))]
+    pub fn take_back<C: Clock + Wait>(&mut self, clock: &C) -> u64
+        ensures accounts { Accounts result (slab_len self.old.waiting + deque_len self.old.ready) self.old.ended
+            (slab_len self.new.waiting + deque_len self.new.ready) self.new.ended }
+    {
+        'returned: for taken in 0..u64::MAX {
             let Some(connection) = self.shared.take(clock) else {
-                return;
+                return taken;
             };
-            let mut connection = connection;
-            connection.since = moment(clock);
-            if connection.set_not_waiting().is_ok() {
-                self.place_back(clock, connection);
-            } else {
-                self.finish(connection);
-            }
+            self.place_back(clock, connection);
         }
+        u64::MAX
     }
 
-    /// Places a connection that a link gave back: it is looked at again only where it has something to do.
-    fn place_back<C: Clock>(&mut self, clock: &C, connection: Connection<S>) {
+    /// Places a connection that a link gave back. Only one that is to be closed is read at once.
+    fn place_back<C: Clock>(&mut self, clock: &C, connection: Connection<S>)
+        ensures accounts { Accounts 1 (slab_len self.old.waiting + deque_len self.old.ready) self.old.ended
+            (slab_len self.new.waiting + deque_len self.new.ready) self.new.ended }
+    {
         let mut connection = connection;
+        connection.since = moment(clock);
+        if let Err(fault) = connection.set_not_waiting() {
+            return self.finish(connection, EndReason::Failed(fault));
+        }
         connection.open(self.alloc);
         connection.received.shrink(self.alloc);
         match connection.phase() {
             Phase::Draining => self.go_on(clock, connection),
-            phase => self.place(connection, phase),
+            _ => self.place(connection),
         }
     }
 
-    /// Goes on with a connection that doesn't wait yet.
-    fn go_on<C: Clock>(&mut self, clock: &C, connection: Connection<S>) {
+    /// Does what is to be done for a connection, and places it.
+    fn go_on<C: Clock>(&mut self, clock: &C, connection: Connection<S>)
+        ensures accounts { Accounts 1 (slab_len self.old.waiting + deque_len self.old.ready) self.old.ended
+            (slab_len self.new.waiting + deque_len self.new.ready) self.new.ended }
+    {
         let mut connection = connection;
         let unsent = connection.to_send.len();
         let advanced = connection.advance(self.alloc, clock, &mut self.room);
         self.shared
             .note_sent(unsent.saturating_sub(connection.to_send.len()));
         match advanced {
-            Ok(phase) => self.place(connection, phase),
-            Err(_) => self.finish(connection),
+            Ok(_) => self.place(connection),
+            Err(fault) => self.finish(connection, EndReason::Failed(fault)),
         }
     }
 
-    /// Places a connection where its phase has it.
-    fn place(&mut self, connection: Connection<S>, phase: Phase) {
-        let is_served = phase == Phase::Ready
-            || (self.shared.is_last_call() && (phase == Phase::Idle || phase == Phase::Receiving));
-        if is_served {
-            if self.ready.push_back(connection).is_err() {
-                self.cuts.count(Cut::Memory);
-            }
-        } else if phase == Phase::Over {
-            self.finish(connection);
-        } else {
-            self.wait_for(connection);
+    /// Places a connection by its phase: it is ended, ready for a link, or waits.
+    pub(crate) fn place(&mut self, connection: Connection<S>)
+        ensures accounts { Accounts 1 (slab_len self.old.waiting + deque_len self.old.ready) self.old.ended
+            (slab_len self.new.waiting + deque_len self.new.ready) self.new.ended }
+    {
+        let phase = connection.phase();
+        if let Phase::Over = phase {
+            return self.finish(connection, EndReason::Done);
+        }
+        if self.is_served(phase) {
+            return self.make_ready(connection);
+        }
+        self.wait_for(connection)
+    }
+
+    /// Whether a connection in this phase is handed out as a link. Once no more connections are accepted, one without a whole request
+    /// is too.
+    fn is_served(&self, phase: Phase) -> bool {
+        phase == Phase::Ready
+            || (self.shared.is_last_call() && (phase == Phase::Idle || phase == Phase::Receiving))
+    }
+
+    /// Adds a connection to those that are ready for a link.
+    #[tactic(auto, using(crate::proofs::Accounting::pushed, crate::proofs::Accounting::reserved))]
+    fn make_ready(&mut self, connection: Connection<S>)
+        ensures accounts { Accounts 1 (slab_len self.old.waiting + deque_len self.old.ready) self.old.ended
+            (slab_len self.new.waiting + deque_len self.new.ready) self.new.ended }
+    {
+        match self.ready.reserve(1) {
+            Ok(_) => self.ready.push_back_reserved(connection),
+            Err(_) => self.finish(connection, EndReason::CutOff(Cut::Memory)),
         }
     }
 
-    /// Drops a connection that has ended. The last one of all is served all the same, as one of which nothing comes: only so
-    /// is it known that no link comes any more.
-    fn finish(&mut self, connection: Connection<S>) {
-        let mut connection = connection;
+    /// Drops a connection for a reason that holds for it, and counts it. If the door closes with the last link and this is the last
+    /// connection, it is served instead: the door must hand out one more link to close.
+    #[tactic(auto, using(crate::proofs::Accounting::ended))]
+    pub(crate) fn finish(&mut self, connection: Connection<S>, reason: EndReason)
+        requires { MayEnd reason (phase_of (facts_of connection.received connection.to_send connection.closing connection.ended))
+            connection.since }
+        ensures accounts { Accounts 1 (slab_len self.old.waiting + deque_len self.old.ready) self.old.ended
+            (slab_len self.new.waiting + deque_len self.new.ready) self.new.ended }
+        ensures cuts { self.new.cuts ≡ after_cut
+            (cut_of reason (phase_of (facts_of connection.received connection.to_send connection.closing connection.ended))) self.old.cuts }
+    {
+        let phase = connection.phase();
+        self.cuts.count(cut_of(reason, phase));
         self.shared.note_sent(connection.to_send.len());
-        if self.shared.is_last_call() && self.is_empty() {
-            connection.ended = true;
-            connection.to_send.clear(self.alloc);
-            connection.received.clear(self.alloc);
-            let _ = self.ready.push_back(connection);
+        if self.closes && self.is_empty() {
+            return self.serve_last(connection);
+        }
+        self.ended = self.ended.saturating_add(1);
+    }
+
+    /// Makes the last connection ready for a link, which reads nothing.
+    #[tactic(auto, using(crate::proofs::Accounting::pushed, crate::proofs::Accounting::ended))]
+    fn serve_last(&mut self, connection: Connection<S>)
+        ensures accounts { Accounts 1 (slab_len self.old.waiting + deque_len self.old.ready) self.old.ended
+            (slab_len self.new.waiting + deque_len self.new.ready) self.new.ended }
+        ensures cuts { self.new.cuts ≡ self.old.cuts }
+    {
+        let mut connection = connection;
+        connection.ended = true;
+        connection.to_send.clear(self.alloc);
+        connection.received.clear(self.alloc);
+        match self.ready.reserve(1) {
+            Ok(_) => self.ready.push_back_reserved(connection),
+            Err(_) => self.ended = self.ended.saturating_add(1),
         }
     }
 
     /// Lets a connection wait for its client.
-    fn wait_for(&mut self, connection: Connection<S>) {
+    #[tactic(auto, using(crate::proofs::Accounting::waits, crate::proofs::Accounting::same))]
+    fn wait_for(&mut self, connection: Connection<S>)
+        ensures accounts { Accounts 1 (slab_len self.old.waiting + deque_len self.old.ready) self.old.ended
+            (slab_len self.new.waiting + deque_len self.new.ready) self.new.ended }
+    {
         let fd = connection.stream.as_raw_fd();
         let interest = interest_of(&connection);
         let received = connection.received.len() as u64;
-        let unsent = connection.to_send.len();
-        let Ok(key) = self.waiting.insert(connection) else {
-            self.shared.note_sent(unsent);
-            self.cuts.count(Cut::Memory);
-            return;
-        };
-        self.received = self.received.saturating_add(received);
-        let token = Token(key.saturating_add(FIRST));
-        let registry = self.poll.registry();
-        if registry
-            .register(&mut SourceFd(&fd), token, interest)
-            .is_err()
-        {
-            self.cut_off(key, Cut::Memory);
-        }
-        if self.received > MOST_RECEIVED {
-            self.cut_largest();
+        match self.waiting.insert(connection) {
+            Ok(key) => {
+                self.received = self.received.saturating_add(received);
+                self.watch(key, fd, interest)
+            }
+            Err(refused) => self.finish(refused.value, EndReason::CutOff(Cut::Memory)),
         }
     }
 
-    /// Takes a connection from those that wait.
-    fn take(&mut self, key: usize) -> Option<Connection<S>> {
+    /// Registers a connection that waits, and keeps to the bound of what all have received.
+    #[tactic(auto, using(crate::proofs::Accounting::step))]
+    fn watch(&mut self, key: usize, fd: RawFd, interest: Interest)
+        ensures accounts { Accounts 0 (slab_len self.old.waiting + deque_len self.old.ready) self.old.ended
+            (slab_len self.new.waiting + deque_len self.new.ready) self.new.ended }
+    {
+        self.register(key, fd, interest);
+        self.bound_received()
+    }
+
+    /// Registers a connection that waits for events. If that fails, which it does only out of memory, the connection is cut off.
+    #[tactic(auto, using(crate::proofs::Accounting::same))]
+    fn register(&mut self, key: usize, fd: RawFd, interest: Interest)
+        ensures accounts { Accounts 0 (slab_len self.old.waiting + deque_len self.old.ready) self.old.ended
+            (slab_len self.new.waiting + deque_len self.new.ready) self.new.ended }
+    {
+        let token = Token(key.saturating_add(FIRST));
+        let registered = self
+            .poll
+            .registry()
+            .register(&mut SourceFd(&fd), token, interest);
+        if registered.is_err() {
+            self.cut_off(key, Cut::Memory);
+        }
+    }
+
+    /// Removes a connection from those that wait.
+    pub(crate) fn take(&mut self, key: usize) -> Option<Connection<S>>
+        ensures some { OnSome result (slab_len self.new.waiting + 1 ≡ slab_len self.old.waiting) }
+        ensures none { IfNone result (slab_len self.new.waiting ≡ slab_len self.old.waiting) }
+        ensures ready { deque_len self.new.ready ≡ deque_len self.old.ready }
+        ensures ended { self.new.ended ≡ self.old.ended }
+    {
         let connection = self.waiting.try_remove(key)?;
         let received = connection.received.len() as u64;
         self.received = self.received.saturating_sub(received);
@@ -259,42 +366,62 @@ impl<S: Read + Write + OpenStream + AsRawFd + Drop> Reactor<S> {
         Some(connection)
     }
 
-    /// Waits until something happens, for `most` milliseconds at most, and does what is to be done.
+    /// Waits for events, for `most` milliseconds at most, and handles them. A link that gives a connection back ends the wait, if
+    /// [`Shared::note_sleep`] was called before.
     ///
     /// # Errors
     /// That of the system.
-    pub fn wait<C: Clock + Wait>(&mut self, clock: &C, most: u64) -> io::Result<()> {
-        self.shared.note_sleep(true);
-        // One that was given back before that woke nobody.
-        self.take_back(clock);
-        let most = if self.has_ready() { 0 } else { most };
+    #[tactic(auto, using(crate::proofs::Accounting::same))]
+    pub fn wait<C: Clock>(&mut self, clock: &C, most: u64) -> io::Result<()>
+        ensures accounts { Accounts 0 (slab_len self.old.waiting + deque_len self.old.ready) self.old.ended
+            (slab_len self.new.waiting + deque_len self.new.ready) self.new.ended }
+    {
         let polled = self
             .poll
             .poll(&mut self.events, Some(Duration::from_millis(most)));
         self.shared.note_sleep(false);
-        self.keys.truncate(0);
-        // A signal ends the wait with no event, and no error.
+        // A signal ends the wait without an event or an error.
         polled?;
-        for event in self.events.iter() {
-            let Token(token) = event.token();
-            if token == LISTENER {
-                self.may_accept = true;
-            }
-            // There is room for as many as are taken at once.
-            if token >= FIRST && self.keys.push(token - FIRST).is_err() {
-                break;
-            }
-        }
-        for at in 0..self.keys.len() {
-            if let Some(key) = self.keys.as_slice().get(at).copied() {
-                self.serve(clock, key);
-            }
-        }
+        let may_accept = note_tokens(&self.events, &mut self.keys);
+        self.may_accept = may_accept || self.may_accept;
+        self.serve_noted(clock);
         Ok(())
     }
 
-    /// Does what an event of a connection asks for.
-    fn serve<C: Clock>(&mut self, clock: &C, key: usize) {
+    /// Handles the events of the noted connections.
+    #[tactic(auto, using(crate::proofs::Accounting::same, crate::proofs::Accounting::step))]
+    fn serve_noted<C: Clock>(&mut self, clock: &C)
+        ensures accounts { Accounts 0 (slab_len self.old.waiting + deque_len self.old.ready) self.old.ended
+            (slab_len self.new.waiting + deque_len self.new.ready) self.new.ended }
+    {
+        'noted: for at in 0..self.keys.len() {
+            self.serve(clock, at);
+        }
+    }
+
+    /// The noted key at this index.
+    pub(crate) fn key(&self, at: usize) -> Option<usize> {
+        self.keys.as_slice().get(at).copied()
+    }
+
+    /// Handles the event of the noted connection at this index.
+    #[tactic(auto, using(crate::proofs::Accounting::same, crate::proofs::Accounting::step))]
+    fn serve<C: Clock>(&mut self, clock: &C, at: usize)
+        ensures accounts { Accounts 0 (slab_len self.old.waiting + deque_len self.old.ready) self.old.ended
+            (slab_len self.new.waiting + deque_len self.new.ready) self.new.ended }
+    {
+        if let Some(key) = self.key(at) {
+            self.serve_key(clock, key);
+            self.bound_received();
+        }
+    }
+
+    /// Handles the event of a connection.
+    #[tactic(auto, using(crate::proofs::Accounting::same, crate::proofs::Accounting::placed, crate::proofs::Accounting::waits_again))]
+    fn serve_key<C: Clock>(&mut self, clock: &C, key: usize)
+        ensures accounts { Accounts 0 (slab_len self.old.waiting + deque_len self.old.ready) self.old.ended
+            (slab_len self.new.waiting + deque_len self.new.ready) self.new.ended }
+    {
         let Some(connection) = self.waiting.try_remove(key) else {
             return;
         };
@@ -318,131 +445,33 @@ impl<S: Read + Write + OpenStream + AsRawFd + Drop> Reactor<S> {
                 }
                 self.waiting.insert_reserved(connection);
             }
-            Ok(phase) => {
+            Ok(_) => {
                 let _ = self.poll.registry().deregister(&mut SourceFd(&fd));
-                self.place(connection, phase);
+                self.place(connection);
             }
-            Err(_) => self.finish(connection),
-        }
-        if self.received > MOST_RECEIVED {
-            self.cut_largest();
-        }
-    }
-
-    /// Cuts a connection off that waits.
-    fn cut_off(&mut self, key: usize, cut: Cut) {
-        if let Some(connection) = self.take(key) {
-            self.cuts.count(cut);
-            self.finish(connection);
-        }
-    }
-
-    /// Cuts off the connection that has received most.
-    fn cut_largest(&mut self) {
-        let mut largest: Option<(usize, usize)> = None;
-        for (key, connection) in self.waiting.iter() {
-            let received = connection.received.len();
-            if is_more(received, &largest) {
-                largest = Some((received, key));
-            }
-        }
-        if let Some((_, key)) = largest {
-            self.cut_off(key, Cut::Memory);
-        }
-    }
-
-    /// Closes the connection that has waited longest, those between two requests before others. False: none waits.
-    fn close_oldest(&mut self) -> bool {
-        let mut oldest: Option<(bool, Instant, usize)> = None;
-        for (key, connection) in self.waiting.iter() {
-            if let Some(since) = connection.since {
-                let is_busy = connection.phase() != Phase::Idle;
-                if is_older(is_busy, since, &oldest) {
-                    oldest = Some((is_busy, since, key));
-                }
-            }
-        }
-        match oldest {
-            Some((_, _, key)) => {
-                self.cut_off(key, Cut::Room);
-                true
-            }
-            None => false,
-        }
-    }
-
-    /// Ends the connections whose time is over, once a second. Those for which memory is short are ended later.
-    pub fn sweep(&mut self, now: Option<Instant>) {
-        if self.swept.is_some() && seconds_between(self.swept, now) < 1 {
-            return;
-        }
-        self.swept = now;
-        self.keys.truncate(0);
-        for (key, connection) in self.waiting.iter() {
-            let is_over = seconds_between(connection.since, now) >= connection.phase().limit();
-            if is_over && self.keys.push(key).is_err() {
-                break;
-            }
-        }
-        for at in 0..self.keys.len() {
-            if let Some(key) = self.keys.as_slice().get(at).copied() {
-                self.end(key);
-            }
-        }
-    }
-
-    /// Ends a connection whose time is over. That its client asked for nothing more is no cut.
-    fn end(&mut self, key: usize) {
-        if let Some(connection) = self.take(key) {
-            match connection.phase() {
-                Phase::Receiving => self.cuts.count(Cut::SlowRequest),
-                Phase::Sending => self.cuts.count(Cut::SlowReader),
-                _ => {}
-            }
-            self.finish(connection);
-        }
-    }
-
-    /// No more connections are accepted: those of which a request may come are served one after the other, to their ends. Those for
-    /// which memory is short are served once a request came.
-    pub fn call_last(&mut self) {
-        self.shared.call_last();
-        self.keys.truncate(0);
-        for (key, _) in self.waiting.iter() {
-            if self.keys.push(key).is_err() {
-                break;
-            }
-        }
-        for at in 0..self.keys.len() {
-            if let Some(key) = self.keys.as_slice().get(at).copied() {
-                if let Some(connection) = self.take(key) {
-                    let phase = connection.phase();
-                    self.place(connection, phase);
-                }
-            }
+            Err(fault) => self.finish(connection, EndReason::Failed(fault)),
         }
     }
 }
 
-/// Whether a connection has received more than the one that is known.
-fn is_more(received: usize, largest: &Option<(usize, usize)>) -> bool {
-    match largest {
-        None => true,
-        Some((most, _)) => received > *most,
-    }
-}
-
-/// Whether a connection is to be closed before the one that is known.
-fn is_older(is_busy: bool, since: Instant, oldest: &Option<(bool, Instant, usize)>) -> bool {
-    match oldest {
-        None => true,
-        Some((others_busy, others, _)) => {
-            (*others_busy && !is_busy) || (*others_busy == is_busy && since < *others)
+/// Notes the keys of the connections that have events, and returns whether the listener has one.
+fn note_tokens(events: &Events, keys: &mut Vec<usize>) -> bool {
+    let mut may_accept = false;
+    keys.truncate(0);
+    for event in events.iter() {
+        let Token(token) = event.token();
+        if token == LISTENER {
+            may_accept = true;
+        }
+        // There is room for all events that are taken at once.
+        if token >= FIRST && keys.push(token - FIRST).is_err() {
+            break;
         }
     }
+    may_accept
 }
 
-/// What a connection waits for.
+/// The event that a connection waits for.
 fn interest_of<S: Read + Write + OpenStream + Drop>(connection: &Connection<S>) -> Interest {
     if connection.to_send.is_empty() {
         Interest::READABLE

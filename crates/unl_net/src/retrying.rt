@@ -1,4 +1,4 @@
-//! Calls that are tried again where a signal came between.
+//! Reads and writes that are tried again if a signal interrupted them.
 ghost use Rattle.std.specs.Prelude.{◌≡◌, true, is_err};
 ghost use Rattle.std.specs.Io.{ReadsAtMost, WritesAtMost};
 ghost use Rattle.std.specs.Io.KnownBytes.{ReadConsumes, WriteAppends};
@@ -6,10 +6,10 @@ ghost use Rattle.std.specs.Io.KnownBytes.{ReadConsumes, WriteAppends};
 use std::io;
 use std::io::{ErrorKind, Read, Write};
 
-/// How often such a call is made. No process gets so many signals while one call is made.
+/// How often a call is tried. No process gets that many signals during one call.
 const MOST_TRIES: usize = 1_000;
 
-/// Whether a signal came between.
+/// Whether a signal interrupted the call.
 fn is_interrupted<T>(tried: &io::Result<T>) -> bool
     ensures { result ≡ true → is_err tried.now ≡ true }
 {
@@ -19,7 +19,7 @@ fn is_interrupted<T>(tried: &io::Result<T>) -> bool
     }
 }
 
-/// Reads once.
+/// Reads once, again after signals.
 #[tactic(auto, using(crate::proofs::Trying::stays, crate::proofs::Trying::read_then, crate::proofs::Trying::read_failed))]
 pub(crate) fn read_once<R: Read>(reader: &mut R, room: &mut [u8]) -> io::Result<usize>
     ensures bound { ReadsAtMost result room.new }
@@ -34,7 +34,7 @@ pub(crate) fn read_once<R: Read>(reader: &mut R, room: &mut [u8]) -> io::Result<
     Err(io::Error::from(ErrorKind::Interrupted))
 }
 
-/// Writes once.
+/// Writes once, again after signals.
 #[tactic(auto, using(crate::proofs::Trying::stays, crate::proofs::Trying::write_then, crate::proofs::Trying::write_failed))]
 pub(crate) fn write_once<W: Write>(writer: &mut W, piece: &[u8]) -> io::Result<usize>
     ensures bound { WritesAtMost result piece.now }

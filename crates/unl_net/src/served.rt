@@ -2,6 +2,7 @@
 ghost use Rattle.std.specs.Prelude.{◌≡◌, ◌≤◌, ◌++◌, drop, false, length, take, true, IfOk, MatchResult, OnErr};
 ghost use Rattle.std.specs.Io.KnownBytes.{Appends, Keeps, WriteAppends};
 ghost use Rattle.unl_net.specs.Buffers.{Gives, coming, going, unsent};
+ghost use Rattle.unl_net.specs.Phases.{fate_of};
 
 use crate::connection::{Connection, PIECE};
 use crate::shared::Shared;
@@ -12,46 +13,47 @@ use std::net::OpenStream;
 use std::sync::{Arc, Wait};
 use std::time::Clock;
 
-/// How many moments a read or a write that waits takes at most: 30 seconds of them.
+/// How many times a read or a write waits for 10 milliseconds at most: 30 seconds in all.
 const MOST_WAITS: u64 = 3_000;
 
-/// How many moments such a read takes while others wait.
+/// How many times such a read waits at most while other links wait for a worker.
 const FEW_WAITS: u64 = 10;
 
-/// How many moments a link waits for further requests where it holds its door up.
+/// How many times a link waits for a further request while its door waits for it.
 const MOST_HELD: u64 = 64;
 
-/// How many pieces are read of a request that is not whole.
+/// How many pieces are read of an unfinished request.
 const MOST_LOOKS: u64 = 300;
 
-/// How far a link has come.
+/// The stage of a link.
 #[derive(Clone, Copy, PartialEq)]
 enum Stage {
     /// Each request that was read is answered.
     Answered,
-    /// A request is read, and not answered.
+    /// A request was read, and is not answered yet.
     Asked,
-    /// All that comes is read as it comes, and the connection ends with the link.
+    /// All bytes are read as they come, and the connection ends with the link.
     Open,
-    /// It has ended between two requests, and the connection goes back.
+    /// The link has ended between two requests, and its connection goes back to the door.
     Parked,
-    /// A call of it failed.
+    /// A read or a write failed.
     Failed,
 }
 
-/// A connection while a link serves it. The link gives whole requests alone, and ends behind their answers where no more is there.
+/// A connection while a link serves it. The link reads whole requests only, and ends once they are answered and no further one is
+/// there.
 pub(crate) struct Served<S: Read + Write + OpenStream + Drop, C: Clock + Wait + Drop> {
     connection: Connection<S>,
     shared: Arc<Shared<S>>,
     alloc: Global,
     clock: C,
     stage: Stage,
-    /// How many moments it may wait for further requests where the thread that serves it accepts too.
+    /// How many times it may still wait for a further request, if the thread that serves it is the one that accepts.
     held: u64,
 }
 
 impl<S: Read + Write + OpenStream + Drop, C: Clock + Wait + Drop> Served<S, C> {
-    /// That of a connection. `alone`: the door has no other one.
+    /// Begins to serve a connection. `alone`: the door has no other one.
     pub fn new(
         alloc: Global,
         clock: C,
@@ -70,7 +72,7 @@ impl<S: Read + Write + OpenStream + Drop, C: Clock + Wait + Drop> Served<S, C> {
         }
     }
 
-    /// Reads once: nothing where the link has ended.
+    /// Reads once. Returns 0 once the link has ended.
     ///
     /// # Errors
     /// That of the stream, or that no byte came in time.
@@ -102,13 +104,13 @@ impl<S: Read + Write + OpenStream + Drop, C: Clock + Wait + Drop> Served<S, C> {
         taken
     }
 
-    /// Whether more links live than are served at once, so that one waits.
+    /// Whether there are more links than workers, so that a link waits for one.
     fn is_crowded(&self) -> bool {
         let links = Arc::strong_count(&self.shared).saturating_sub(1);
         links > self.shared.workers as usize
     }
 
-    /// Whether the link may wait for a moment.
+    /// Whether the link may wait for a further request.
     fn may_wait(&self) -> bool {
         if self.shared.workers == 0 {
             self.held > 0
@@ -117,7 +119,7 @@ impl<S: Read + Write + OpenStream + Drop, C: Clock + Wait + Drop> Served<S, C> {
         }
     }
 
-    /// Reads what the link's stage lets it.
+    /// Reads what the stage of the link allows.
     #[tactic(auto, using(crate::proofs::Moving::handed_out, crate::proofs::Moving::gives_then, crate::proofs::Trying::none_consumed))]
     fn read_some(&mut self, room: &mut [u8]) -> io::Result<usize>
         ensures fits { IfOk result (λ n. n ≤ length room.new) }
@@ -133,7 +135,7 @@ impl<S: Read + Write + OpenStream + Drop, C: Clock + Wait + Drop> Served<S, C> {
         Ok(self.connection.received.give(room))
     }
 
-    /// Whether there is something to read: where all that was read is answered, the next request is opened.
+    /// Whether there is something to read. If all requests are answered, this opens the next one.
     ///
     /// # Errors
     /// That of the stream, or out of memory.
@@ -153,7 +155,7 @@ impl<S: Read + Write + OpenStream + Drop, C: Clock + Wait + Drop> Served<S, C> {
                 return self.next_request();
             }
             Stage::Asked => {
-                // A reader that goes on takes the request to be longer than the door does: it gets what comes, as it comes.
+                // A reader that reads on expects a longer request than the door does: it gets all bytes as they come.
                 if self.connection.received.opened_len() == 0 {
                     self.stage = Stage::Open;
                 }
@@ -191,7 +193,7 @@ impl<S: Read + Write + OpenStream + Drop, C: Clock + Wait + Drop> Served<S, C> {
         Ok(false)
     }
 
-    /// Reads a piece that is there, or comes in a moment where the link may wait. False: none is.
+    /// Reads a piece that is there, or comes in time if the link may wait. Returns whether there was one.
     ///
     /// # Errors
     /// That of the stream, or out of memory.
@@ -205,7 +207,7 @@ impl<S: Read + Write + OpenStream + Drop, C: Clock + Wait + Drop> Served<S, C> {
         self.connection.receive(&mut room)
     }
 
-    /// Lets the calls of the stream wait for a moment, or not.
+    /// Sets the stream to blocking for a moment if the link may wait, and else to non-blocking.
     fn set_pace(&mut self) -> io::Result<()>
         ensures received { self.new.connection.received ≡ self.old.connection.received }
         ensures stream { self.new.connection.stream ≡ self.old.connection.stream }
@@ -218,7 +220,7 @@ impl<S: Read + Write + OpenStream + Drop, C: Clock + Wait + Drop> Served<S, C> {
         }
     }
 
-    /// Reads what was received, and then what comes. Where others wait it has ended once nothing comes for a while.
+    /// Reads the received bytes, and then what comes. While other links wait for a worker, the link ends once nothing came for a while.
     ///
     /// # Errors
     /// That of the stream, or that no byte came in time.
@@ -235,8 +237,8 @@ impl<S: Read + Write + OpenStream + Drop, C: Clock + Wait + Drop> Served<S, C> {
         self.read_stream(room)
     }
 
-    /// Reads what comes.
-    #[tactic(auto, using(crate::proofs::Trying::stays, crate::proofs::Trying::stays_on, crate::proofs::Moving::none_read, crate::proofs::Trying::none_consumed, crate::proofs::Trying::consumed_then))]
+    /// Reads from the stream.
+    #[tactic(auto, using(crate::proofs::Moving::read_rules))]
     fn read_stream(&mut self, room: &mut [u8]) -> io::Result<usize>
         ensures fits { IfOk result (λ n. n ≤ length room.new) }
         ensures gives { Gives (S.remaining self.old.connection.stream) (S.remaining self.new.connection.stream) result room.new }
@@ -257,12 +259,12 @@ impl<S: Read + Write + OpenStream + Drop, C: Clock + Wait + Drop> Served<S, C> {
         Err(io::Error::from(ErrorKind::TimedOut))
     }
 
-    /// Whether others wait while nothing came for a while.
+    /// Whether the link ends, since nothing came for a while and other links wait for a worker.
     fn gives_up(&self, waits: u64) -> bool {
         waits >= FEW_WAITS && !self.shared.is_last_call() && self.is_crowded()
     }
 
-    /// Sends a piece, or holds it for the client.
+    /// Sends a piece, or keeps it to be sent later.
     #[tactic(auto, using(crate::proofs::Moving::rest_after))]
     fn write_some(&mut self, piece: &[u8]) -> io::Result<usize>
         ensures fits { IfOk result (λ n. n ≤ length piece.now) }
@@ -289,7 +291,7 @@ impl<S: Read + Write + OpenStream + Drop, C: Clock + Wait + Drop> Served<S, C> {
         }
     }
 
-    /// Writes a piece to the stream, where nothing is to be sent before it.
+    /// Writes a piece to the stream, unless other bytes are to be sent first.
     #[tactic(auto, using(crate::proofs::Moving::none_written, crate::proofs::Moving::write_first))]
     fn write_first(&mut self, piece: &[u8]) -> io::Result<usize>
         ensures fits { IfOk result (λ n. n ≤ length piece.now) }
@@ -303,7 +305,7 @@ impl<S: Read + Write + OpenStream + Drop, C: Clock + Wait + Drop> Served<S, C> {
         }
     }
 
-    /// Holds for the client what it did not take of a piece, of which the first `sent` bytes are sent.
+    /// Keeps the rest of a piece, whose first `sent` bytes are sent, to be sent later.
     #[tactic(auto, using(crate::proofs::Moving::none_written, crate::proofs::Moving::held_behind))]
     fn hold(&mut self, piece: &[u8], sent: usize) -> io::Result<usize>
         requires { sent ≤ length piece.now }
@@ -326,7 +328,7 @@ impl<S: Read + Write + OpenStream + Drop, C: Clock + Wait + Drop> Served<S, C> {
         self.write_waiting(piece)
     }
 
-    /// Holds bytes for the client: false where no more are held.
+    /// Keeps bytes to be sent later, and returns whether there was room for them.
     fn holds(&mut self, rest: &[u8]) -> bool
         ensures stream { self.new.connection.stream ≡ self.old.connection.stream }
         ensures held { result ≡ true → unsent self.new.connection.to_send ≡ unsent self.old.connection.to_send ++ rest.now }
@@ -342,11 +344,11 @@ impl<S: Read + Write + OpenStream + Drop, C: Clock + Wait + Drop> Served<S, C> {
         false
     }
 
-    /// Sends a piece behind what is held. Where others wait the link has failed.
+    /// Sends a piece after the bytes that are kept. While other links wait for a worker, this fails.
     ///
     /// # Errors
     /// That of the stream, or that no room came in time.
-    #[tactic(auto, using(crate::proofs::Trying::stays, crate::proofs::Trying::stays_on, crate::proofs::Trying::appended_then, crate::proofs::Moving::appends_kept))]
+    #[tactic(auto, using(crate::proofs::Moving::write_rules))]
     fn write_waiting(&mut self, piece: &[u8]) -> io::Result<usize>
         ensures fits { IfOk result (λ n. n ≤ length piece.now) }
         ensures appends { WriteAppends (going (S.contents self.old.connection.stream) self.old.connection.to_send)
@@ -365,7 +367,7 @@ impl<S: Read + Write + OpenStream + Drop, C: Clock + Wait + Drop> Served<S, C> {
         Err(io::Error::from(ErrorKind::TimedOut))
     }
 
-    /// Sends what is held, or else of a piece what is taken of it.
+    /// Sends bytes that are kept, or if there are none, of the piece.
     #[tactic(auto, using(crate::proofs::Moving::kept_appends, crate::proofs::Moving::write_first))]
     fn write_behind(&mut self, piece: &[u8]) -> io::Result<usize>
         ensures fits { IfOk result (λ n. n ≤ length piece.now) }
@@ -381,7 +383,7 @@ impl<S: Read + Write + OpenStream + Drop, C: Clock + Wait + Drop> Served<S, C> {
     }
 }
 
-/// How far a link is whose connection has opened the request at its front, or nothing.
+/// The stage at which a link of a connection begins.
 fn stage_of<S: Read + Write + OpenStream + Drop>(connection: &Connection<S>) -> Stage {
     if connection.refused {
         Stage::Open
@@ -392,9 +394,38 @@ fn stage_of<S: Read + Write + OpenStream + Drop>(connection: &Connection<S>) -> 
     }
 }
 
-/// Whether an answer that begins so has a status of 500 or more.
+/// Whether an answer with these first bytes has a status of 500 or more.
 fn is_fault(answer: &[u8]) -> bool {
     answer.starts_with(b"HTTP/1.1 5")
+}
+
+/// What becomes of a connection whose link ends.
+#[derive(Clone, Copy, PartialEq)]
+enum Fate {
+    /// The connection goes back to the door, which waits for its next request.
+    GoesOn,
+    /// The connection goes back to the door, which closes it once all bytes are sent and the client has ended its side.
+    Ends,
+    /// The connection is closed at once.
+    Closed,
+}
+
+/// What becomes of a connection whose link ends at this stage. `owes`: bytes are still to be sent; `unread`: the client may have sent
+/// bytes that no link has read.
+fn fate_of(stage: Stage, owes: bool, unread: bool) -> Fate
+    ensures { result ≡ fate_of stage owes unread }
+{
+    match stage {
+        Stage::Parked => Fate::GoesOn,
+        Stage::Failed => Fate::Closed,
+        _ => {
+            if owes || unread {
+                Fate::Ends
+            } else {
+                Fate::Closed
+            }
+        }
+    }
 }
 
 impl<S: Read + Write + OpenStream + Drop, C: Clock + Wait + Drop> Drop for Served<S, C> {
@@ -408,17 +439,16 @@ impl<S: Read + Write + OpenStream + Drop, C: Clock + Wait + Drop> Drop for Serve
             held: _,
         } = self;
         let mut connection = connection;
-        if stage == Stage::Failed {
-            shared.note_sent(connection.to_send.len());
-            connection.to_send.clear(alloc);
-            return;
-        }
-        // Bytes that came and were not read make the system cut the connection off, so they are read first.
-        let drains = !connection.ended
+        // The system resets a connection that is closed with unread bytes, so the door reads these first.
+        let unread = !connection.ended
             && !shared.is_last_call()
             && (stage == Stage::Open || !connection.received.is_empty());
-        connection.closing = stage != Stage::Parked;
-        if stage == Stage::Parked || drains || !connection.to_send.is_empty() {
+        let fate = fate_of(stage, !connection.to_send.is_empty(), unread);
+        if fate == Fate::Closed {
+            shared.note_sent(connection.to_send.len());
+            connection.to_send.clear(alloc);
+        } else {
+            connection.closing = fate == Fate::Ends;
             shared.give_back(&clock, connection);
         }
     }

@@ -9,27 +9,31 @@ use std::net::OpenStream;
 use std::sync::atomic::{AtomicBool, AtomicU64, Ordering};
 use std::sync::{Mutex, Wait};
 
-/// The most bytes of answers that are held for clients who don't take them.
+/// The most bytes of answers that are kept to be sent later.
 const MOST_UNSENT: u64 = 268_435_456;
 
-/// What a door shares with its links. The door holds it once, and each link as long as it lives.
+/// What a door shares with its links. The door and each link hold it, so its count of owners is the number of links plus 1.
 #[derive(Drop)]
 pub(crate) struct Shared<S: Read + Write + OpenStream + Drop> {
+    /// The connections that links gave back.
     returned: Mutex<VecDeque<Connection<S>>>,
     waker: Waker,
-    /// Whether the door waits, so that it is to be woken.
+    /// Whether the door waits, and is to be woken.
     sleeps: AtomicBool,
-    /// Whether no more connections are accepted, so that none comes back.
+    /// Whether no more connections are accepted: each is then served to its end by one link.
     is_last_call: AtomicBool,
+    /// How many bytes of answers are kept to be sent later.
     unsent: AtomicU64,
     /// How many answers had a status of 500 or more.
     faults: AtomicU64,
-    /// How many links are served at once, each beside the thread that accepts them.
+    /// How many connections were closed as links gave them back, since an allocation failed.
+    lost: AtomicU64,
+    /// How many links are served at once by threads other than the one that accepts: 0 if that one serves them.
     pub workers: u32,
 }
 
 impl<S: Read + Write + OpenStream + Drop> Shared<S> {
-    /// That of a door with no connections.
+    /// What a door without connections shares.
     pub fn new(alloc: Global, waker: Waker, workers: u32) -> Result<Self, AllocError> {
         Ok(Shared {
             returned: Mutex::new(VecDeque::with_capacity(alloc, 256)?),
@@ -38,32 +42,37 @@ impl<S: Read + Write + OpenStream + Drop> Shared<S> {
             is_last_call: AtomicBool::new(false),
             unsent: AtomicU64::new(0),
             faults: AtomicU64::new(0),
+            lost: AtomicU64::new(0),
             workers,
         })
     }
 
-    /// Gives a connection back to the door.
+    /// Gives a connection back to the door. If an allocation fails, the connection is closed and counted.
     pub fn give_back<R: Wait>(&self, rt: &R, connection: Connection<S>) {
+        let unsent = connection.to_send.len();
         let mut returned = self.returned.lock(rt);
-        // Where memory runs out the connection is closed.
-        let _ = returned.push_back(connection);
+        let pushed = returned.push_back(connection);
         drop(returned);
+        if pushed.is_err() {
+            self.note_sent(unsent);
+            self.lost.fetch_add(1, Ordering::SeqCst);
+        }
         if self.sleeps.swap(false, Ordering::SeqCst) {
             let _ = self.waker.wake();
         }
     }
 
-    /// A connection that was given back.
+    /// Takes a connection that was given back.
     pub fn take<R: Wait>(&self, rt: &R) -> Option<Connection<S>> {
         self.returned.lock(rt).pop_front()
     }
 
-    /// Notes whether the door waits from now on.
+    /// Notes whether the door waits, so that a link wakes it that gives a connection back.
     pub fn note_sleep(&self, sleeps: bool) {
         self.sleeps.store(sleeps, Ordering::SeqCst);
     }
 
-    /// No more connections are accepted from now on.
+    /// Notes that no more connections are accepted.
     pub fn call_last(&self) {
         self.is_last_call.store(true, Ordering::SeqCst);
     }
@@ -73,7 +82,7 @@ impl<S: Read + Write + OpenStream + Drop> Shared<S> {
         self.is_last_call.load(Ordering::SeqCst)
     }
 
-    /// Whether `count` more bytes may be held for clients. They count as held then.
+    /// Whether `count` more bytes may be kept. If so, they are counted.
     pub fn may_hold(&self, count: usize) -> bool {
         let before = self.unsent.fetch_add(count as u64, Ordering::SeqCst);
         if before < MOST_UNSENT {
@@ -83,7 +92,7 @@ impl<S: Read + Write + OpenStream + Drop> Shared<S> {
         false
     }
 
-    /// Notes that `count` bytes are not held any more.
+    /// Notes that `count` bytes are no longer kept.
     pub fn note_sent(&self, count: usize) {
         if count > 0 {
             self.unsent.fetch_sub(count as u64, Ordering::SeqCst);
@@ -95,8 +104,13 @@ impl<S: Read + Write + OpenStream + Drop> Shared<S> {
         self.faults.fetch_add(1, Ordering::SeqCst);
     }
 
-    /// How many answers had such a status since this was last asked.
+    /// How many answers had a status of 500 or more since this was last asked.
     pub fn take_faults(&self) -> u64 {
         self.faults.swap(0, Ordering::SeqCst)
+    }
+
+    /// How many connections were closed as links gave them back, since this was last asked.
+    pub fn take_lost(&self) -> u64 {
+        self.lost.swap(0, Ordering::SeqCst)
     }
 }

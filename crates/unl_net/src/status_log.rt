@@ -1,22 +1,22 @@
-//! What a server answers to each kind of request, and when that changes.
+//! The status of a server's replies to each kind of request, and when it changes.
 ghost use Rattle.std.specs.Prelude.{◌≡◌, ◌<◌, ◌&&◌, All, IfSome, nat_eq, replicate, take, true};
-ghost use Rattle.unl_net.specs.Telling.{is_told};
+ghost use Rattle.unl_net.specs.LoggedText.{is_loggable};
 ghost use Rattle.unl_net.specs.declared.status_log.Stage.TheVariants.{Fresh};
-ghost use Rattle.unl_net.specs.Watching.{NotesRead, NotesWritten, after_answer, after_request, class_of, digits_of, is_digit, is_news};
-ghost use Rattle.unl_net.specs.Watching.{next_class, nothing_known, place_of, status_of, taken_class, taken_status, told_request};
+ghost use Rattle.unl_net.specs.StatusLogs.{NotesRead, NotesWritten, after_answer, after_request, class_of, digits_of, is_digit, is_news};
+ghost use Rattle.unl_net.specs.StatusLogs.{next_class, nothing_known, place_of, status_of, taken_class, taken_status, logged_request};
 
 use crate::log::{Logged, WELL};
 use crate::request_kind::RequestKind;
 use std::fmt;
 use std::fmt::Display;
 
-/// How many kinds of requests are kept apart: more than a server is asked, one for the book and two for each of eight tokens.
+/// How many kinds of requests are distinguished: more than are used, one for the book and two for each of eight tokens.
 const MOST_KINDS: usize = 32;
 
-/// That no status came.
+/// Stands for a reply without a status.
 const NO_ANSWER: u16 = 1;
 
-/// That a feed was answered 200, and the answer was not taken: the next request for it brings no tag.
+/// Stands for a feed with status 200 that was not taken: the next request for it has no tag.
 const NOT_TAKEN: u16 = 1_000;
 
 /// Whether a byte is a digit.
@@ -26,7 +26,7 @@ fn is_digit(byte: u8) -> bool
     byte >= b'0' && byte <= b'9'
 }
 
-/// The number of three digits.
+/// The number with these three digits.
 fn digits_of(first: u8, second: u8, third: u8) -> Option<u16>
     ensures { result ≡ digits_of first second third }
 {
@@ -48,7 +48,7 @@ fn status_of(reply: &[u8]) -> Option<u16>
     digits_of(reply[9], reply[10], reply[11])
 }
 
-/// What is logged of a status: the class 2 and 304 are all well.
+/// The class of a status: 200 to 299 and 304 all mean that all is well.
 fn class_of(status: u16) -> u16
     ensures { result ≡ class_of status }
 {
@@ -59,7 +59,7 @@ fn class_of(status: u16) -> u16
     }
 }
 
-/// What a server answered.
+/// The status of a reply, as it is logged.
 #[derive(Clone, Copy)]
 pub(crate) struct Answer {
     status: u16,
@@ -67,7 +67,7 @@ pub(crate) struct Answer {
 
 impl Display for Answer {
     ghost use Rattle.std.specs.Prelude.{Some};
-    ghost use Rattle.unl_net.specs.Watching.{answer_text};
+    ghost use Rattle.unl_net.specs.StatusLogs.{answer_text};
 
     ghost output = { λ answer. Some (answer_text answer.status) };
 
@@ -83,12 +83,12 @@ impl Display for Answer {
     }
 }
 
-/// A kind that was asked, by its number, and what was last logged of its answers. The number 0 is of none.
+/// A kind that was asked, by its number, and the class last logged for it. The number 0 stands for no kind.
 #[derive(Clone, Copy)]
 struct Known {
     key: u64,
-    told: Logged,
-    /// Whether its last answer was a feed with the status 200: the next request shows whether it was taken.
+    logged: Logged,
+    /// Whether its last reply was a feed with status 200: the next request shows whether it was taken.
     fed: bool,
 }
 
@@ -97,13 +97,13 @@ struct Known {
 enum Stage {
     /// Nothing was written.
     Fresh,
-    /// A request was written, and nothing came.
+    /// A request was written, and nothing was read.
     Asked,
-    /// Something came.
+    /// Something was read.
     Answered,
 }
 
-/// What a peer was asked on its connection, and how it answered each kind of request before.
+/// What a peer was asked on its connection, and how it replied to each kind of request before.
 #[derive(Clone, Copy)]
 pub(crate) struct StatusLog {
     stage: Stage,
@@ -119,7 +119,7 @@ impl StatusLog {
     {
         let none = Known {
             key: 0,
-            told: Logged::new(),
+            logged: Logged::new(),
             fed: false,
         };
         StatusLog {
@@ -136,8 +136,8 @@ impl StatusLog {
         self.stage = Stage::Fresh;
     }
 
-    /// Notes what was written: what comes first on a connection has the request's first line, its token and its tag. Returns what
-    /// that shows of the answer before it, where it is news.
+    /// Notes a write. The first one on a connection has the request's first line, its token and its tag. Returns what the tag shows
+    /// of the reply before it, if that is news.
     pub fn note_written(&mut self, piece: &[u8]) -> Option<Answer>
         ensures { NotesWritten self.old piece.now result self.new }
     {
@@ -149,7 +149,7 @@ impl StatusLog {
         note_tag(&mut self.known, self.kind.key, self.kind.has_tag)
     }
 
-    /// Notes what came, none where nothing will: what comes first has the status. Answers that, where it is news.
+    /// Notes a read, with no bytes if it failed. The first one after a request has the status. Returns the status if it is news.
     pub fn note_read(&mut self, bytes: &[u8]) -> Option<Answer>
         ensures { NotesRead self.old bytes.now result self.new }
     {
@@ -169,13 +169,13 @@ impl StatusLog {
     /// What is logged of the request.
     pub fn kind(&self) -> &str
         ensures exact { result.now ≡ take self.now.kind.len self.now.kind.text }
-        ensures told { All (λ byte. is_told byte ≡ true) result.now }
+        ensures logged { All (λ byte. is_loggable byte ≡ true) result.now }
     {
         self.kind.as_str()
     }
 }
 
-/// Where the answers to a kind are noted: at the first entry that is its own or free, and nowhere once others have taken all.
+/// Where the replies to a kind are noted: the first entry that is its own or free. `None` if other kinds have all entries.
 fn place_of(known: &[Known; MOST_KINDS], key: u64) -> Option<usize>
     ensures place { result ≡ place_of key known.now }
     ensures inside { IfSome result (λ at. at < 32) }
@@ -185,53 +185,51 @@ fn place_of(known: &[Known; MOST_KINDS], key: u64) -> Option<usize>
         .position(|entry| entry.key == key || entry.key == 0)
 }
 
-/// Notes how a kind is answered, and returns whether that is to be logged. Where more kinds are asked than have room the others are
-/// not logged.
+/// Notes the class of a reply to a kind, and returns whether it is to be logged. Kinds for which there is no entry are not logged.
 fn is_news(known: &mut [Known; MOST_KINDS], key: u64, now: u16, fed: bool) -> bool
     ensures noted { known.new ≡ after_answer key now fed known.old }
     ensures news { result ≡ is_news key now fed known.old }
 {
     match place_of(known, key) {
         Some(at) => {
-            let mut told = known[at].told;
-            let last = told.last;
-            let is_news = told.is_news(next_class(last, now, fed));
-            known[at] = Known { key, told, fed };
+            let mut logged = known[at].logged;
+            let last = logged.last;
+            let is_news = logged.is_news(next_class(last, now, fed));
+            known[at] = Known { key, logged, fed };
             is_news
         }
         None => false,
     }
 }
 
-/// Whether an answer with this status is a feed, which may be taken.
+/// Whether a reply with this status is a feed, which may be taken.
 fn is_fed(is_feed: bool, status: u16) -> bool
     ensures { result ≡ (is_feed && nat_eq status 200) }
 {
     is_feed && status == 200
 }
 
-/// How a kind is answered, where it was answered so before: that a feed is taken again is known behind the next request alone.
+/// The class to note, after the last one that was noted: only the next request shows that a feed is taken again.
 fn next_class(last: u16, now: u16, fed: bool) -> u16
     ensures { result ≡ next_class last now fed }
 {
     if fed && last == NOT_TAKEN { last } else { now }
 }
 
-/// Notes a request that has a tag or none: where the last answer was a feed, the tag shows that it was taken. Returns that, where
-/// it is news.
+/// Notes a request with or without a tag: if the last reply was a feed, the tag shows that it was taken. Returns that, if it is news.
 fn note_tag(known: &mut [Known; MOST_KINDS], key: u64, has_tag: bool) -> Option<Answer>
     ensures noted { known.new ≡ after_request key has_tag known.old }
-    ensures news { result ≡ told_request key has_tag known.old }
+    ensures news { result ≡ logged_request key has_tag known.old }
 {
     let at = place_of(known, key)?;
     if !known[at].fed {
         return None;
     }
-    let mut told = known[at].told;
-    let is_news = told.is_news(taken_class(has_tag));
+    let mut logged = known[at].logged;
+    let is_news = logged.is_news(taken_class(has_tag));
     known[at] = Known {
         key,
-        told,
+        logged,
         fed: false,
     };
     if is_news {
@@ -243,14 +241,14 @@ fn note_tag(known: &mut [Known; MOST_KINDS], key: u64, has_tag: bool) -> Option<
     }
 }
 
-/// What is logged of a feed that was taken or not.
+/// The class of a feed that was taken, or not.
 fn taken_class(is_taken: bool) -> u16
     ensures { result ≡ taken_class is_taken }
 {
     if is_taken { WELL } else { NOT_TAKEN }
 }
 
-/// The status that is logged of it.
+/// The status that is logged for it.
 fn taken_status(is_taken: bool) -> u16
     ensures { result ≡ taken_status is_taken }
 {

@@ -5,7 +5,7 @@ use Rattle.unl_delta.specs.declared.batch.Batch.{Batch}
 use Rattle.unl_delta.specs.declared.version.EnvVersion.{EnvVersion}
 use Rattle.unl_delta.specs.declared.version.Place.{Place}
 use Rattle.unl_delta.specs.Batch.{verdict_of}
-use Rattle.unl_delta.specs.History.{Era, IsLine, IsNotBelow, PlaceStandsFor}
+use Rattle.unl_delta.specs.History.{Era, IsLine, IsNotBelow, PlaceRepresents}
 use Rattle.unl_delta.specs.Installing.{Installed, place_of}
 use Rattle.unl_delta.specs.View.{Sees}
 use Rattle.unl_delta.proofs.Delivery.{not_below_itself, one_taken}
@@ -63,20 +63,20 @@ refreshed_leaves P (Err e) slot ask before after tag coming takes fault leaves =
 
 -- The place represents the line, and its revision is not older than before.
 abbrev Stands : List Era → Sees → Place → Place → Type 0
-Stands line sees before after = PlaceStandsFor line sees after × IsNotBelow before.version after.version
+Stands line sees before after = PlaceRepresents line sees after × IsNotBelow before.version after.version
 
 -- If the server sends batches from a line, the slot represents that line after a refresh, with no older revision.
 pub delivered : (result : Result Outcome RefreshFault) (slot : ℕ) (ask : Ask) (before after : Installed) (tag coming : Option (List ℕ))
     (line : List Era) (sees : Sees) → slot < length before.places
     → IfOk result (λ outcome. Refreshes slot ask before coming (record { outcome = outcome; installed = after; tag = tag }))
-    → OnErr result (after ≡ before) → IsLine line → PlaceStandsFor line sees (place_of before slot)
+    → OnErr result (after ≡ before) → IsLine line → PlaceRepresents line sees (place_of before slot)
     → Brings line sees ask.delta (place_of before slot) coming
-    → PlaceStandsFor line sees (place_of after slot) × IsNotBelow (place_of before slot).version (place_of after slot).version
-delivered result slot ask before after tag coming line sees low takes fault is_line stands brings =
+    → PlaceRepresents line sees (place_of after slot) × IsNotBelow (place_of before slot).version (place_of after slot).version
+delivered result slot ask before after tag coming line sees low takes fault is_line represents brings =
     refreshed_leaves (λ (now : Installed). Stands line sees (place_of before slot) (place_of now slot)) result slot ask before after tag coming takes fault
     (record {
-      stays = (stands, not_below_itself (place_of before slot).version);
+      stays = (represents, not_below_itself (place_of before slot).version);
       takes = λ got batch is status reads.
           subst (Stands line sees (place_of before slot)) (sym (batch_placed (verdict_of (place_of before slot) batch) slot batch before low))
-          (one_taken line sees (place_of before slot) batch is_line stands (brings got batch is status reads));
+          (one_taken line sees (place_of before slot) batch is_line represents (brings got batch is status reads));
     })

@@ -1,3 +1,6 @@
 pub mod Leaving
 mod Receiving
 mod Telling
+pub mod Connecting
+mod SlotParameters
+mod TurnsTaken

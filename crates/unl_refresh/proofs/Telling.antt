@@ -17,7 +17,7 @@ use Rattle.unl_refresh.specs.declared.outcome.Outcome.TheVariants.{Published, Un
 use Rattle.unl_refresh.specs.declared.outcome.RefreshFault.{RefreshFault}
 use Rattle.unl_refresh.specs.declared.outcome.RefreshFault.TheVariants.{PeerFault, Memory}
 use Rattle.unl_refresh.specs.Exchange.{Asks}
-use Rattle.unl_refresh.specs.Metrics.{IsToldOf, SendsBulk, sent_by}
+use Rattle.unl_refresh.specs.Metrics.{OutcomeFromReply, SendsBulk, sent_by}
 use Rattle.unl_refresh.specs.Refresh.{Refreshed, Refreshes, after_batch, after_reading, after_verdict, batch_in, number_held}
 use Rattle.unl_refresh.specs.Tokens.{Installs, RefreshesTokens, book_in_reply}
 use Rattle.unl_refresh.proofs.Receiving.{same_reading}
@@ -88,7 +88,7 @@ installed_told (Err fault) texts before after replies list reading takes told is
 pub sent_told : (result : Result MetricsOutcome RefreshFault) (found : Option (Data × ℕ))
     (replies : Option (List (List ℕ))) (list : List (List ℕ)) (reading : Result Got BadReply)
     → IfOk result (SendsBulk found (option_map next_of replies))
-    → replies ≡ Some list → IsReply (next_of list) reading → IfOk result (IsToldOf found reading)
+    → replies ≡ Some list → IsReply (next_of list) reading → IfOk result (OutcomeFromReply found reading)
 sent_told (Ok outcome) None replies list reading sends told is = sends
 sent_told (Ok outcome) (Some (report, count)) replies list reading sends told is =
     sends.gives ∙ ap (sent_by count) (same_reading replies list sends.reading reading sends.is_read told is)

@@ -3,3 +3,7 @@ pub mod Metrics
 pub mod Named
 pub mod Refresh
 pub mod Tokens
+pub mod Connects
+pub mod SlotParameters
+pub mod Handing
+pub mod Turns

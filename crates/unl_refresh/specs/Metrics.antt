@@ -23,9 +23,9 @@ sent_by count (Ok got) = if got.status == 200 || got.status == 202 then Sent cou
 sent_by count (Err bad) = BadAnswer bad
 
 -- the outcome is determined by what there was to send and by the reply that was read
-abbrev pub IsToldOf : Option (Data × ℕ) → Result Got BadReply → MetricsOutcome → Type 0
-IsToldOf None reading outcome = outcome ≡ Nothing
-IsToldOf (Some (report, count)) reading outcome = outcome ≡ sent_by count reading
+abbrev pub OutcomeFromReply : Option (Data × ℕ) → Result Got BadReply → MetricsOutcome → Type 0
+OutcomeFromReply None reading outcome = outcome ≡ Nothing
+OutcomeFromReply (Some (report, count)) reading outcome = outcome ≡ sent_by count reading
 
 -- A reply is read from the bytes to come (from some bytes, if they are not observable).
 -- It determines the outcome of `count` keys.

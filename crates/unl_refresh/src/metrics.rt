@@ -10,7 +10,7 @@ ghost use Rattle.unl_http_api.specs.declared.got.Got.{Got};
 ghost use Rattle.unl_http_api.specs.Received.{IsReply};
 ghost use Rattle.unl_http_api.specs.RequestText.{fits_line};
 ghost use Rattle.unl_metrics.specs.Bulk.{bulk as bulk_of};
-ghost use Rattle.unl_refresh.specs.Metrics.{AsksBulk, AsksBulkAtMostOnce, IsNamedMetrics, IsToldOf, SendsBulk, book_after};
+ghost use Rattle.unl_refresh.specs.Metrics.{AsksBulk, AsksBulkAtMostOnce, IsNamedMetrics, OutcomeFromReply, SendsBulk, book_after};
 ghost use Rattle.unl_refresh.specs.Metrics.{metrics_request, sent_by};
 
 use crate::exchange::exchange;
@@ -46,7 +46,7 @@ pub fn send_metrics<P: Peer>(
     // If the peer's replies are observable, the reply is the next one of them.
     ensures told { (list : List (List ℕ)) (reading : Result Got BadReply) → (P.state peer.old).replies ≡ Some list
         → IsReply (next_of list) reading
-        → IfOk result (IsToldOf (bulk_of environment.now book.old) reading) }
+        → IfOk result (OutcomeFromReply (bulk_of environment.now book.old) reading) }
 
     // No outcome reports an allocation failure.
     ensures named { IfOk result IsNamedMetrics }

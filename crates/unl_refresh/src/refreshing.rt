@@ -6,7 +6,7 @@ ghost use Rattle.unl_base.specs.Faults.{Rose};
 ghost use Rattle.unl_delta.specs.declared.batch.Batch.{Batch};
 ghost use Rattle.unl_delta.specs.declared.batch.Verdict.TheVariants.{Apply};
 ghost use Rattle.unl_delta.specs.Batch.{verdict_of};
-ghost use Rattle.unl_delta.specs.History.{Era, IsLine, IsNotBelow, PlaceStandsFor};
+ghost use Rattle.unl_delta.specs.History.{Era, IsLine, IsNotBelow, PlaceRepresents};
 ghost use Rattle.unl_delta.specs.Installing.{after_install, place_of};
 ghost use Rattle.unl_delta.specs.View.{Sees};
 ghost use Rattle.unl_http_api.specs.declared.got.BadReply.{BadReply};
@@ -67,9 +67,9 @@ pub fn refresh_once<I: Installer, P: Peer>(
 
     // Batches may be lost, duplicated or out of order: if the server sends batches from a line of histories, the slot has one
     // revision of that line, as seen through the projects, and its epoch and number don't fall.
-    ensures delivery { (line : List Era) (sees : Sees) → IsLine line → PlaceStandsFor line sees (place_of (I.installed to.old) slot)
+    ensures delivery { (line : List Era) (sees : Sees) → IsLine line → PlaceRepresents line sees (place_of (I.installed to.old) slot)
         → Brings line sees ask.old.delta (place_of (I.installed to.old) slot) (option_map next_of (P.state peer.old).replies)
-        → PlaceStandsFor line sees (place_of (I.installed to.new) slot)
+        → PlaceRepresents line sees (place_of (I.installed to.new) slot)
         × IsNotBelow (place_of (I.installed to.old) slot).version (place_of (I.installed to.new) slot).version }
 
     // No outcome reports an allocation failure.

@@ -16,7 +16,7 @@ use unl_http_api::{BadReply, Bytes, Got};
 
 /// The outcome of a reply, and the tag for the next request.
 #[derive(Drop)]
-pub(crate) struct Taken {
+pub(crate) struct AppliedReply {
     pub(crate) outcome: Outcome,
     pub(crate) tag: Option<Bytes>,
 }
@@ -29,7 +29,7 @@ pub(crate) fn take_reading<I: Installer>(
     delta: bool,
     tag: Option<Bytes>,
     reading: Result<Got, BadReply>,
-) -> Result<Taken, Memory>
+) -> Result<AppliedReply, Memory>
     requires slot { slot < length (I.installed to.old).places }
     requires front { (I.installed to.old).front < 2 ^ 64 - 1 }
     requires tag { IsTrue (fits_if_any tag) }
@@ -48,10 +48,10 @@ pub(crate) fn take_reading<I: Installer>(
 }
 
 /// Returns the result of a reply that can't be parsed: nothing is applied, and the next request has no tag.
-fn unread(bad: Bad) -> Taken
+fn unread(bad: Bad) -> AppliedReply
     ensures { result ≡ record { outcome = Outcome.BadAnswer bad; tag = None } }
 {
-    Taken {
+    AppliedReply {
         outcome: Outcome::BadAnswer(bad),
         tag: None,
     }
@@ -65,7 +65,7 @@ fn take_reply<I: Installer>(
     delta: bool,
     tag: Option<Bytes>,
     got: Got,
-) -> Result<Taken, Memory>
+) -> Result<AppliedReply, Memory>
     requires slot { slot < length (I.installed to.old).places }
     requires front { (I.installed to.old).front < 2 ^ 64 - 1 }
     requires tag { IsTrue (fits_if_any tag) }
@@ -77,13 +77,13 @@ fn take_reply<I: Installer>(
     ensures memory { OnErr result (I.installed to.new ≡ I.installed to.old) }
 {
     if got.status == 304 {
-        return Ok(Taken {
+        return Ok(AppliedReply {
             outcome: Outcome::Unchanged,
             tag,
         });
     }
     if got.status != 200 {
-        return Ok(Taken {
+        return Ok(AppliedReply {
             outcome: Outcome::Refused(got.status),
             tag,
         });
@@ -114,7 +114,7 @@ fn follow_batch<I: Installer>(
     slot: usize,
     batch: &Batch,
     tag: Option<Bytes>,
-) -> Result<Taken, Memory>
+) -> Result<AppliedReply, Memory>
     requires slot { slot < length (I.installed to.old).places }
     requires front { (I.installed to.old).front < 2 ^ 64 - 1 }
     requires batch { IsValidBatch batch.now }
@@ -126,7 +126,7 @@ fn follow_batch<I: Installer>(
     ensures memory { OnErr result (I.installed to.new ≡ I.installed to.old) }
 {
     let verdict = take_batch(alloc, to, slot, batch)?;
-    Ok(Taken {
+    Ok(AppliedReply {
         outcome: outcome_of(verdict, to.front()),
         tag: tag_after(verdict, tag),
     })

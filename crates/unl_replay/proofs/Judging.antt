@@ -2,7 +2,7 @@
 use Rattle.std.proofs.Common.{◌≡◌, ℕ, Result, Ok, ap, sym, subst, ◌∙◌}
 use Rattle.std.specs.Prelude.{Vec}
 use Rattle.std.specs.declared.alloc.Global.{Global}
-use Rattle.unl_core.specs.Standing.{Standing, installed_by, with_batch, with_hold}
+use Rattle.unl_core.specs.DeskStates.{DeskState, installed_by, with_batch, with_hold}
 use Rattle.unl_delta.specs.Batch.{verdict_of}
 use Rattle.unl_delta.specs.Installing.{ByVerdict, place_of}
 use Rattle.unl_delta.specs.declared.batch.Batch.{Batch}
@@ -12,7 +12,7 @@ use Rattle.unl_replay.specs.Replay.{Answered, after_verdict, judged, judged_as, 
 use Rattle.unl_replay.specs.Steps.{Steps}
 use Rattle.unl_replay.specs.declared.refusal.Refusal.{Refusal}
 
-stands_after : (v : Verdict) (slot : ℕ) (batch : Batch) (d after : Standing)
+stands_after : (v : Verdict) (slot : ℕ) (batch : Batch) (d after : DeskState)
     → ByVerdict v (after ≡ with_batch slot batch d) (after ≡ with_hold slot d) (after ≡ d) → after ≡ after_verdict v slot batch d
 stands_after Apply slot batch d after is = is
 stands_after Gap slot batch d after is = is
@@ -21,7 +21,7 @@ stands_after Old slot batch d after is = is
 stands_after Held slot batch d after is = is
 
 -- the line of a verdict is printed over the desk after the batch
-pub judged_so : (said : Result (Vec ℕ Global) Refusal) (k slot : ℕ) (batch : Batch) (d after : Standing) (v : Verdict)
+pub judged_so : (said : Result (Vec ℕ Global) Refusal) (k slot : ℕ) (batch : Batch) (d after : DeskState) (v : Verdict)
     → v ≡ verdict_of (place_of (installed_by d) slot) batch
     → ByVerdict v (after ≡ with_batch slot batch d) (after ≡ with_hold slot d) (after ≡ d)
     → Steps said after (Ok (judged_as k (word_of v) slot after))

@@ -8,11 +8,11 @@ use Rattle.unl_tokens.specs.declared.fault.BadBook.{BadBook}
 use Rattle.unl_tokens.specs.declared.fault.BadBook.TheVariants as book
 use Rattle.unl_replay.specs.declared.refusal.Refusal.{Refusal}
 use Rattle.unl_replay.specs.declared.refusal.Refusal.TheVariants.{Memory}
-use Rattle.unl_lines.specs.Taken.{Taken}
-use Rattle.unl_lines.specs.Taking.{TakesLine}
-use Rattle.unl_lines.specs.declared.line.LineRefusal.{LineRefusal}
-use Rattle.unl_lines.specs.declared.line.LineRefusal.TheVariants.{Cause}
-use Rattle.unl_lines.specs.declared.line.LineRefusal.TheVariants as line
+use Rattle.unl_input.specs.Taken.{Taken}
+use Rattle.unl_input.specs.Taking.{TakesLine}
+use Rattle.unl_input.specs.declared.line.LineRefusal.{LineRefusal}
+use Rattle.unl_input.specs.declared.line.LineRefusal.TheVariants.{Cause}
+use Rattle.unl_input.specs.declared.line.LineRefusal.TheVariants as line
 use Rattle.unl_replay.specs.Refusals.{Causes, LineReading, refusal_text, refusing, refusal_for, refusal_for_batch, refusal_for_book}
 
 -- a fault that is passed on, where one of the faults is out of memory

@@ -2,18 +2,18 @@
 use Rattle.std.specs.Prelude.{◌≡◌, ⊤, ℕ, ◌+◌, List, [], ◌∷◌, codes, Option, Some, None, IfOk, IfSome, Ok, Err, ok_or, if◌then◌else◌}
 use Rattle.std.specs.Str.{bytes_eq}
 use Rattle.serde_json.specs.Data.{Data}
-use Rattle.unl_core.specs.Histories.{AllStand, AreLines, Histories, ShowsRevisions}
-use Rattle.unl_core.specs.Standing.{Standing}
+use Rattle.unl_core.specs.Histories.{AllRepresented, AreLines, Histories, ShowsRevisions}
+use Rattle.unl_core.specs.DeskStates.{DeskState}
 use Rattle.unl_delta.specs.declared.batch.Batch.{Batch}
 use Rattle.unl_delta.specs.History.{IsSent}
 use Rattle.unl_documents.specs.declared.fault.BadDocument.TheVariants.{NotJson, WrongKind}
 use Rattle.unl_documents.specs.declared.field.Field.TheVariants as field
 use Rattle.unl_documents.specs.Kinds.{any_text, required}
 use Rattle.unl_documents.specs.Results.{object_in}
-use Rattle.unl_lines.specs.Lines.{lines}
-use Rattle.unl_lines.specs.Taken.{take_line}
+use Rattle.unl_input.specs.Lines.{lines}
+use Rattle.unl_input.specs.Taken.{take_line}
 use Rattle.unl_replay.specs.declared.ask.Ask.{Ask}
-use Rattle.unl_replay.specs.declared.bench.Bench.{Bench}
+use Rattle.unl_replay.specs.declared.bench.ReplayState.{ReplayState}
 use Rattle.unl_replay.specs.declared.refusal.Refusal.TheVariants.{Document}
 use Rattle.unl_replay.specs.Forms.{ask_of, batch_in, feed_in}
 use Rattle.unl_replay.specs.Refusals.{LineReading, and_then, documented}
@@ -31,16 +31,16 @@ abbrev pub for_environment : List ℕ → LineReading Batch → LineReading Deli
 for_environment environment reading = and_then reading (λ batch. Ok (record { environment = environment; batch = batch }))
 
 -- what a line with a batch brings; a batch without `after` follows the number that its environment has
-abbrev pub batch_brought : Standing → Data → LineReading Delivery
+abbrev pub batch_brought : DeskState → Data → LineReading Delivery
 batch_brought d line = and_then (environment_in d line) (λ environment.
     for_environment environment (batch_in (number_in environment d.board) line))
 
 -- what a line with a feed brings: a hydration
-abbrev pub feed_brought : Standing → Data → LineReading Delivery
+abbrev pub feed_brought : DeskState → Data → LineReading Delivery
 feed_brought d line = and_then (environment_in d line) (λ environment. for_environment environment (feed_in line))
 
 -- what a line with this op brings
-abbrev pub brought_by : Standing → Data → List ℕ → LineReading Delivery
+abbrev pub brought_by : DeskState → Data → List ℕ → LineReading Delivery
 brought_by d line op =
     if bytes_eq op (codes "tokens") then Err (Document (WrongKind field.Op))
     else (if bytes_eq op (codes "batch") then batch_brought d line
@@ -63,7 +63,7 @@ abbrev pub by_object : {T : Type 0} → (Data → List ℕ → LineReading T) �
 by_object read bytes = and_then (ok_or (object_in bytes) (Document NotJson)) (by_op read)
 
 -- what a line brings
-unfoldable pub brought : Bench → List ℕ → LineReading Delivery
+unfoldable pub brought : ReplayState → List ℕ → LineReading Delivery
 brought b bytes = by_object (brought_by b.desk) bytes
 
 -- the ask of a line
@@ -73,24 +73,24 @@ asked bytes = by_object asked_by bytes
 -- ---- all lines
 
 -- The batch was sent from the line of histories of its environment.
-abbrev pub IsToldOf : Histories → Delivery → Type 0
-IsToldOf told delivery = IsSent (told.line delivery.environment) (told.sees delivery.environment) delivery.batch
+abbrev pub IsSentFromHistory : Histories → Delivery → Type 0
+IsSentFromHistory told delivery = IsSent (told.line delivery.environment) (told.sees delivery.environment) delivery.batch
 
 -- The same for everything that the lines bring, from line `k` on, up to one that is refused.
-abbrev pub AllSent : Histories → ℕ → Bench → List (List ℕ) → Type 0
+abbrev pub AllSent : Histories → ℕ → ReplayState → List (List ℕ) → Type 0
 AllSent told k b [] = ⊤
 AllSent told k b (line ∷ more) =
-    IfOk (brought b line) (IsToldOf told) × IfOk (take_line line_answer k b line) (λ taken. AllSent told (k + 1) taken.desk more)
+    IfOk (brought b line) (IsSentFromHistory told) × IfOk (take_line line_answer k b line) (λ taken. AllSent told (k + 1) taken.desk more)
 
 -- The ask is answered over a board whose slots each represent the line of histories of their environment, and what a token is
 -- shown of it is one revision.
-pub record AnswersFromHistories (told : Histories) (k : ℕ) (b : Bench) (line : List ℕ) (ask : Ask) : Type 0 where
+pub record AnswersFromHistories (told : Histories) (k : ℕ) (b : ReplayState) (line : List ℕ) (ask : Ask) : Type 0 where
   pub answers : answer_read k b line ≡ Ok (put_ask k b ask)
-  pub stand : AllStand told b.desk.board.slots
+  pub stand : AllRepresented told b.desk.board.slots
   pub shows : ShowsRevisions told b.desk.board
 
 -- The same for each ask of the lines, from line `k` on, up to one that is refused.
-abbrev pub AsksFromHistories : Histories → ℕ → Bench → List (List ℕ) → Type 0
+abbrev pub AsksFromHistories : Histories → ℕ → ReplayState → List (List ℕ) → Type 0
 AsksFromHistories told k b [] = ⊤
 AsksFromHistories told k b (line ∷ more) =
     IfOk (asked line) (AnswersFromHistories told k b line)

@@ -6,8 +6,8 @@ use Rattle.unl_documents.specs.declared.fault.BadDocument.{BadDocument}
 use Rattle.unl_documents.specs.declared.fault.BadDocument.TheVariants as document
 use Rattle.unl_documents.specs.FaultText.{fault_text}
 use Rattle.unl_documents.specs.Reading.{Reading}
-use Rattle.unl_lines.specs.declared.line.LineRefusal.{LineRefusal}
-use Rattle.unl_lines.specs.declared.line.LineRefusal.TheVariants as line
+use Rattle.unl_input.specs.declared.line.LineRefusal.{LineRefusal}
+use Rattle.unl_input.specs.declared.line.LineRefusal.TheVariants as line
 use Rattle.unl_tokens.specs.declared.fault.BadBook.{BadBook}
 use Rattle.unl_tokens.specs.declared.fault.BadBook.TheVariants as book
 use Rattle.unl_replay.specs.declared.refusal.Refusal.{Refusal}

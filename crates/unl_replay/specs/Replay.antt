@@ -8,9 +8,9 @@ use Rattle.unl_core.specs.Answer.{answer_of}
 use Rattle.unl_core.specs.Board.{place_in, snapshot_in}
 use Rattle.unl_core.specs.Same.{same_book}
 use Rattle.unl_core.specs.declared.desk.Answer.{Answer}
-use Rattle.unl_core.specs.Settling.{final_book, final_reply}
+use Rattle.unl_core.specs.Recording.{final_book, final_reply}
 use Rattle.unl_core.specs.Tag.{with_epoch}
-use Rattle.unl_core.specs.Standing.{Standing, has_room, installed_by, with_name, with_batch, with_hold, with_book}
+use Rattle.unl_core.specs.DeskStates.{DeskState, has_room, installed_by, with_name, with_batch, with_hold, with_book}
 use Rattle.unl_delta.specs.declared.batch.Batch.{Batch}
 use Rattle.unl_delta.specs.declared.batch.Verdict.{Verdict}
 use Rattle.unl_delta.specs.declared.batch.Verdict.TheVariants.{Apply, Repeat, Old, Gap, Held}
@@ -22,13 +22,13 @@ use Rattle.unl_documents.specs.declared.field.Field.TheVariants as field
 use Rattle.unl_documents.specs.Kinds.{any_text, name, required}
 use Rattle.unl_documents.specs.Results.{object_in}
 use Rattle.unl_http_api.specs.declared.reply.Reply.{Reply}
-use Rattle.unl_lines.specs.Taken.{Taken, LineResult, Outcome, outcome_of}
+use Rattle.unl_input.specs.Taken.{Taken, LineResult, Outcome, outcome_of}
 use Rattle.unl_metrics.specs.Book.{Book, acknowledge}
 use Rattle.unl_metrics.specs.Bulk.{bulk}
 use Rattle.unl_tokens.specs.declared.token.Token.{Token}
 use Rattle.unl_tokens.specs.Books.{book_of}
 use Rattle.unl_replay.specs.declared.ask.Ask.{Ask}
-use Rattle.unl_replay.specs.declared.bench.Bench.{Bench}
+use Rattle.unl_replay.specs.declared.bench.ReplayState.{ReplayState}
 use Rattle.unl_replay.specs.declared.refusal.Refusal.TheVariants.{Document, TooManyEnvironments}
 use Rattle.unl_replay.specs.Forms.{batch_in, feed_in, ask_of}
 use Rattle.unl_replay.specs.Refusals.{LineReading, and_then, documented, refusing, refusal_for_book, refusal_text}
@@ -73,10 +73,10 @@ ask_line k front reply = ask_start k front reply.status (tag_or_dash reply.tag) 
 
 -- the text that a line prints, and the desk after it
 abbrev pub Answered : Type 0
-Answered = Taken Standing
+Answered = Taken DeskState
 
 -- publishes a book, unless it is the current one
-abbrev pub put_tokens : ℕ → List Token → Standing → Answered
+abbrev pub put_tokens : ℕ → List Token → DeskState → Answered
 put_tokens k tokens d =
     if same_book tokens d.board.book then record { text = same_line k; desk = d }
     else record { text = tokens_line k (with_book tokens d).board.generation (with_book tokens d).front; desk = with_book tokens d }
@@ -86,11 +86,11 @@ abbrev pub number_in : List ℕ → Board → Option ℕ
 number_in environment board = option_map (λ version. version.number) (snapshot_in environment board.slots)
 
 -- the revision of a slot, if it has a version
-abbrev pub revision_at : ℕ → Standing → Option Revision
+abbrev pub revision_at : ℕ → DeskState → Option Revision
 revision_at slot d = option_map revision_of (place_of (installed_by d) slot).version
 
 -- the line for a verdict, with the desk after it
-abbrev pub judged_as : ℕ → List ℕ → ℕ → Standing → Answered
+abbrev pub judged_as : ℕ → List ℕ → ℕ → DeskState → Answered
 judged_as k word slot after = record { text = verdict_line k word (revision_text (revision_at slot after)) after.front; desk = after }
 
 -- the word for a verdict
@@ -102,7 +102,7 @@ word_of Gap = codes "gap"
 word_of Held = codes "held"
 
 -- the desk after a batch, by its verdict
-abbrev pub after_verdict : Verdict → ℕ → Batch → Standing → Standing
+abbrev pub after_verdict : Verdict → ℕ → Batch → DeskState → DeskState
 after_verdict Apply slot batch d = with_batch slot batch d
 after_verdict Gap slot batch d = with_hold slot d
 after_verdict Repeat slot batch d = d
@@ -110,50 +110,50 @@ after_verdict Old slot batch d = d
 after_verdict Held slot batch d = d
 
 -- the line and the desk for a batch, by its verdict
-abbrev pub judged : ℕ → ℕ → Batch → Standing → Verdict → Answered
+abbrev pub judged : ℕ → ℕ → Batch → DeskState → Verdict → Answered
 judged k slot batch d v = judged_as k (word_of v) slot (after_verdict v slot batch d)
 
 -- applies a batch to a slot; an error if there is no slot
-abbrev pub arrive : ℕ → Batch → Standing → Option ℕ → LineReading Answered
+abbrev pub arrive : ℕ → Batch → DeskState → Option ℕ → LineReading Answered
 arrive k batch d None = Err TooManyEnvironments
 arrive k batch d (Some slot) = Ok (judged k slot batch d (verdict_of (place_of (installed_by d) slot) batch))
 
 -- applies a batch to an environment; a new one gets its slot, whatever the verdict
-abbrev pub put_batch : ℕ → List ℕ → Standing → Batch → LineReading Answered
+abbrev pub put_batch : ℕ → List ℕ → DeskState → Batch → LineReading Answered
 put_batch k environment d batch = arrive k batch (with_name environment d) (place_in environment (with_name environment d).board.slots)
 
 -- the effect of a line of tokens
-abbrev pub tokens_of_line : ℕ → Standing → Data → LineReading Answered
+abbrev pub tokens_of_line : ℕ → DeskState → Data → LineReading Answered
 tokens_of_line k d line = and_then (refusing refusal_for_book (book_of line)) (λ tokens. Ok (put_tokens k tokens d))
 
 -- the environment of a line; it has a slot already, or there is room for one
-abbrev pub environment_in : Standing → Data → LineReading (List ℕ)
+abbrev pub environment_in : DeskState → Data → LineReading (List ℕ)
 environment_in d line = and_then (documented (required name field.Environment line)) (λ environment.
     if has_room environment d.board.slots then Ok environment else Err TooManyEnvironments)
 
 -- the effect of a line with a batch
-abbrev pub batch_of_line : ℕ → Standing → Data → LineReading Answered
+abbrev pub batch_of_line : ℕ → DeskState → Data → LineReading Answered
 batch_of_line k d line = and_then (environment_in d line) (λ environment.
     and_then (batch_in (number_in environment d.board) line) (put_batch k environment d))
 
 -- the effect of a line with a feed
-abbrev pub feed_of_line : ℕ → Standing → Data → LineReading Answered
+abbrev pub feed_of_line : ℕ → DeskState → Data → LineReading Answered
 feed_of_line k d line = and_then (environment_in d line) (λ environment.
     and_then (feed_in line) (put_batch k environment d))
 
 -- ---- one line, with the metrics book
 
 -- the text that a line prints, and the desk and metrics book after it
-abbrev pub Turned : Type 0
-Turned = Taken Bench
+abbrev pub LineEffect : Type 0
+LineEffect = Taken ReplayState
 
 -- an effect on the desk that leaves the metrics book unchanged
-abbrev pub beside : Book → LineReading Answered → LineReading Turned
-beside book (Ok answered) = Ok (record { text = answered.text; desk = record { desk = answered.desk; book = book } })
-beside book (Err cause) = Err cause
+abbrev pub leaving_book : Book → LineReading Answered → LineReading LineEffect
+leaving_book book (Ok answered) = Ok (record { text = answered.text; desk = record { desk = answered.desk; book = book } })
+leaving_book book (Err cause) = Err cause
 
 -- an effect on the metrics book that leaves the desk unchanged
-abbrev pub at_desk : Standing → Taken Book → Turned
+abbrev pub at_desk : DeskState → Taken Book → LineEffect
 at_desk d taken = record { text = taken.text; desk = record { desk = d; book = taken.desk } }
 
 -- prints an answer and records its report
@@ -161,11 +161,11 @@ abbrev pub settled : ℕ → ℕ → Book → Answer → Taken Book
 settled k front book answer = record { text = ask_line k front (final_reply book answer); desk = final_book book answer }
 
 -- answers a request
-abbrev pub put_ask : ℕ → Bench → Ask → Turned
+abbrev pub put_ask : ℕ → ReplayState → Ask → LineEffect
 put_ask k b ask = at_desk b.desk (settled k b.desk.front b.book (answer_of b.desk.board ask.request ask.draw))
 
 -- the effect of a line with an ask
-abbrev pub ask_of_line : ℕ → Bench → Data → LineReading Turned
+abbrev pub ask_of_line : ℕ → ReplayState → Data → LineReading LineEffect
 ask_of_line k b line = and_then (documented (ask_of line)) (λ ask. Ok (put_ask k b ask))
 
 -- the line for a bulk report
@@ -183,40 +183,40 @@ abbrev pub put_metrics : ℕ → List ℕ → Book → Taken Book
 put_metrics k environment book = sent_bulk k environment book (bulk environment book)
 
 -- the effect of a line that asks for metrics
-abbrev pub metrics_of_line : ℕ → Bench → Data → LineReading Turned
+abbrev pub metrics_of_line : ℕ → ReplayState → Data → LineReading LineEffect
 metrics_of_line k b line =
     and_then (documented (required name field.Environment line)) (λ environment. Ok (at_desk b.desk (put_metrics k environment b.book)))
 
 -- the effect of an object, by its op
-abbrev pub answer_op : ℕ → Bench → Data → List ℕ → LineReading Turned
+abbrev pub answer_op : ℕ → ReplayState → Data → List ℕ → LineReading LineEffect
 answer_op k b line op =
-    if bytes_eq op (codes "tokens") then beside b.book (tokens_of_line k b.desk line)
-    else (if bytes_eq op (codes "batch") then beside b.book (batch_of_line k b.desk line)
-    else (if bytes_eq op (codes "feed") then beside b.book (feed_of_line k b.desk line)
+    if bytes_eq op (codes "tokens") then leaving_book b.book (tokens_of_line k b.desk line)
+    else (if bytes_eq op (codes "batch") then leaving_book b.book (batch_of_line k b.desk line)
+    else (if bytes_eq op (codes "feed") then leaving_book b.book (feed_of_line k b.desk line)
     else (if bytes_eq op (codes "ask") then ask_of_line k b line
     else (if bytes_eq op (codes "metrics") then metrics_of_line k b line else Err (Document (WrongKind field.Op))))))
 
 -- the effect of an object, which must name its op
-abbrev pub answer_object : ℕ → Bench → Data → LineReading Turned
+abbrev pub answer_object : ℕ → ReplayState → Data → LineReading LineEffect
 answer_object k b line = and_then (documented (required any_text field.Op line)) (answer_op k b line)
 
 -- the effect of the bytes of a line
-unfoldable pub answer_read : ℕ → Bench → List ℕ → LineReading Turned
+unfoldable pub answer_read : ℕ → ReplayState → List ℕ → LineReading LineEffect
 answer_read k b bytes = and_then (ok_or (object_in bytes) (Document NotJson)) (answer_object k b)
 
 -- the effect of a line, with the text of the cause if it is refused
-abbrev pub line_answer : ℕ → Bench → List ℕ → LineResult Bench
+abbrev pub line_answer : ℕ → ReplayState → List ℕ → LineResult ReplayState
 line_answer k b bytes = refusing refusal_text (answer_read k b bytes)
 
 -- ---- all lines
 
 -- no environments, no tokens, no publications, and no metrics
-abbrev pub opening : Bench
+abbrev pub opening : ReplayState
 opening = record {
   desk = record { board = record { boot = 0; host = []; generation = 0; book = []; slots = [] }; places = []; front = 0 };
   book = [];
 }
 
 -- the replay of a whole input: the text, and how it ends
-abbrev pub replay_of : List ℕ → Outcome Bench
+abbrev pub replay_of : List ℕ → Outcome ReplayState
 replay_of bytes = outcome_of line_answer opening bytes

@@ -1,7 +1,7 @@
 -- What processing one line does.
 use Rattle.std.specs.Prelude.{◌≡◌, ◌≢◌, ℕ, Result, Ok, Err, Vec}
 use Rattle.std.specs.declared.alloc.Global.{Global}
-use Rattle.unl_lines.specs.Taken.{Taken}
+use Rattle.unl_input.specs.Taken.{Taken}
 use Rattle.unl_replay.specs.declared.refusal.Refusal.{Refusal}
 use Rattle.unl_replay.specs.declared.refusal.Refusal.TheVariants.{Memory}
 use Rattle.unl_replay.specs.Refusals.{LineReading}

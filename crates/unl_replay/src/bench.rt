@@ -11,7 +11,7 @@ use crate::refusal::Refusal;
 use crate::step::{batch_of_line, feed_of_line, tokens_of_line};
 use serde_json::Value;
 use std::alloc::{AllocError, Global};
-use unl_core::{Answer, Desk, OneDesk, settle};
+use unl_core::{Answer, Desk, OneDesk, record_report};
 use unl_documents::keys::required;
 use unl_documents::kind::{AnyText, Name};
 use unl_documents::parsing::read_object;
@@ -21,7 +21,7 @@ use unl_metrics::MetricsBook;
 
 /// The state that the lines change.
 #[derive(Drop)]
-pub struct Bench {
+pub struct ReplayState {
     pub desk: OneDesk,
     /// The metrics that the asks report.
     pub book: MetricsBook,
@@ -62,7 +62,7 @@ fn ask_line(alloc: Global, number: u64, front: u64, reply: &Reply) -> Result<Vec
 #[tactic(auto, using(crate::proofs::RefusalLemmas::refused))]
 fn ask_of_line(
     alloc: Global,
-    bench: &mut Bench,
+    bench: &mut ReplayState,
     number: u64,
     line: &Value,
 ) -> Result<Vec<u8>, Refusal>
@@ -73,7 +73,12 @@ fn ask_of_line(
     put_ask(alloc, bench, number, &ask)
 }
 
-fn put_ask(alloc: Global, bench: &mut Bench, number: u64, ask: &Ask) -> Result<Vec<u8>, Refusal>
+fn put_ask(
+    alloc: Global,
+    bench: &mut ReplayState,
+    number: u64,
+    ask: &Ask,
+) -> Result<Vec<u8>, Refusal>
     ensures given { Steps result bench.new (Ok (put_ask number bench.old ask.now)) }
     ensures same { bench.new.desk ≡ bench.old.desk }
 {
@@ -92,14 +97,14 @@ fn settled(
     requires { IfSome answer.report IsReport }
     ensures { Steps result book.new (Ok (settled number front book.old answer)) }
 {
-    let reply = settle(alloc, book, answer)?;
+    let reply = record_report(alloc, book, answer)?;
     Ok(ask_line(alloc, number, front, &reply)?)
 }
 
 #[tactic(auto, using(crate::proofs::RefusalLemmas::refused))]
 fn metrics_of_line(
     alloc: Global,
-    bench: &mut Bench,
+    bench: &mut ReplayState,
     number: u64,
     line: &Value,
 ) -> Result<Vec<u8>, Refusal>
@@ -139,7 +144,7 @@ fn metrics_line(alloc: Global, number: u64, body: &str) -> Result<String, AllocE
 /// Processes a line by its op.
 fn answer_op(
     alloc: Global,
-    bench: &mut Bench,
+    bench: &mut ReplayState,
     number: u64,
     line: Value,
     op: &str,
@@ -161,7 +166,7 @@ fn answer_op(
 #[tactic(auto, using(crate::proofs::RefusalLemmas::refused))]
 fn answer_object(
     alloc: Global,
-    bench: &mut Bench,
+    bench: &mut ReplayState,
     number: u64,
     line: Value,
 ) -> Result<Vec<u8>, Refusal>
@@ -177,7 +182,7 @@ fn answer_object(
 #[tactic(auto, unfolding(crate::specs::Replay::answer_read))]
 pub fn answer_line(
     alloc: Global,
-    bench: &mut Bench,
+    bench: &mut ReplayState,
     number: u64,
     bytes: &[u8],
 ) -> Result<Vec<u8>, Refusal>

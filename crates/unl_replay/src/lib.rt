@@ -11,4 +11,4 @@ mod step;
 
 pub use replaying::replay;
 /// Why a replay ended before the end of its input.
-pub use unl_lines::LinesFault as ReplayFault;
+pub use unl_input::LinesFault as ReplayFault;

@@ -3,23 +3,30 @@ ghost use Rattle.std.specs.Prelude.{◌≡◌, IfOk, string_bytes};
 ghost use Rattle.unl_replay.specs.Refusals.{batch_text, book_text, numbered, refusal_text};
 
 use std::alloc::{AllocError, Global};
+use thiserror::Error;
 use unl_delta::BadBatch;
 use unl_documents::{BadDocument, Memory, fault_text};
 use unl_tokens::BadBook;
 
 /// Why a line is refused; or `Memory`, which refuses no line.
-#[derive(Debug, Drop)]
+#[derive(Debug, Drop, Error)]
 pub enum Refusal {
     /// The first fault of a document in the line, or of the line itself.
+    #[error("a document is not accepted")]
     Document(BadDocument),
     /// The tokens can't be read.
+    #[error("the tokens are not accepted")]
     Book(BadBook),
     /// The batch can't be read.
+    #[error("the batch is not accepted")]
     Batch(BadBatch),
     /// The feed has no number.
+    #[error("the tag has no number")]
     NoNumber,
     /// The environment is new, and there are eight already.
+    #[error("there are too many environments")]
     TooManyEnvironments,
+    #[error("out of memory")]
     Memory,
 }
 

@@ -2,26 +2,26 @@
 ghost use Rattle.std.specs.Prelude.{◌≡◌, ◌<◌, ◌≤◌, ℕ, List, OnOk, IsErrOf};
 ghost use Rattle.unl_base.specs.Faults.{Rose};
 ghost use Rattle.unl_base.specs.Streams.{HasEnded};
-ghost use Rattle.unl_lines.specs.Whole.{TakesLines};
+ghost use Rattle.unl_input.specs.Whole.{TakesLines};
 ghost use Rattle.unl_replay.specs.Delivery.{DeliversRevisions};
 ghost use Rattle.unl_replay.specs.Refusals.{Causes};
 ghost use Rattle.unl_replay.specs.Replay.{line_answer, opening};
 
-use crate::bench::{Bench, answer_line};
+use crate::bench::{ReplayState, answer_line};
 use crate::laws;
 use crate::refusal::Refusal;
 use std::alloc::Global;
 use unl_base::{Sink, Source};
 use unl_core::{Board, OneDesk};
 use unl_documents::{List, Text};
-use unl_lines::{LineRefusal, LineTaking, LinesFault, take_lines};
+use unl_input::{LineProcessor, LineRefusal, LinesFault, process_lines};
 use unl_metrics::MetricsBook;
 
 /// Processes each line over the desk and the book that the lines before it leave.
 struct Answers;
 
-impl LineTaking for Answers {
-    type Desk = Bench;
+impl LineProcessor for Answers {
+    type Desk = ReplayState;
 
     ghost taken = { line_answer };
 
@@ -31,7 +31,7 @@ impl LineTaking for Answers {
     #[tactic(auto, using(crate::proofs::RefusalLemmas::refused_line))]
     fn take(
         alloc: Global,
-        desk: &mut Bench,
+        desk: &mut ReplayState,
         number: u64,
         line: &[u8],
     ) -> Result<Vec<u8>, LineRefusal> {
@@ -83,9 +83,9 @@ pub fn replay<S: Source, K: Sink>(
 {
     laws::asks_are_of_one_revision();
     let board = Board::new(alloc, 0, "", &List::new(alloc))?;
-    let mut bench = Bench {
+    let mut bench = ReplayState {
         desk: OneDesk::new(alloc, board)?,
         book: MetricsBook::new(alloc),
     };
-    take_lines::<Answers, S, K>(alloc, &mut bench, source, sink)
+    process_lines::<Answers, S, K>(alloc, &mut bench, source, sink)
 }

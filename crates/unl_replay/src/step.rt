@@ -1,7 +1,7 @@
 //! Processing lines of tokens, batches and feeds, over the desk.
 ghost use Rattle.std.specs.Prelude.{◌≡◌, ◌+◌, ◌-◌, ◌^◌, ◌<◌, ◌≤◌, Ok, IfOk, string_bytes, length, decimal};
 ghost use Rattle.serde_json.specs.View.{view};
-ghost use Rattle.unl_core.specs.Standing.{installed_by};
+ghost use Rattle.unl_core.specs.DeskStates.{installed_by};
 ghost use Rattle.unl_core.specs.Tag.{with_epoch};
 ghost use Rattle.unl_delta.specs.Batch.{verdict_of};
 ghost use Rattle.unl_delta.specs.Installing.{place_of};

@@ -19,7 +19,7 @@ use unl_context::Context;
 use unl_documents::document::{Document, Object, read_document};
 use unl_documents::items::{Item, each_item, list};
 use unl_documents::keys::{defaulted, optional, required};
-use unl_documents::kind::{AnyText, Kind, Name, Truth, UpTo};
+use unl_documents::kind::{AnyText, Boolean, Kind, Name, UpTo};
 use unl_documents::parsing::read_json;
 use unl_documents::{BadDocument, Field, List, Payload, State, Text};
 use unl_input::context_in;
@@ -73,7 +73,7 @@ impl Expects for ResultTest {
 
     #[tactic(auto, unfolding(crate::specs::TestFile::expected_result))]
     fn read_expected(alloc: Global, test: &Value) -> Result<Expected, BadDocument> {
-        let on = required::<Truth>(alloc, Field::ExpectedResult, test)?;
+        let on = required::<Boolean>(alloc, Field::ExpectedResult, test)?;
         Ok(Expected::Result(on))
     }
 }
@@ -99,7 +99,7 @@ impl Document for ExpectedVariant {
     #[tactic(auto, unfolding(crate::specs::TestFile::expected_variant_of))]
     fn read_object(alloc: Global, value: &Value) -> Result<ExpectedVariant, BadDocument> {
         let name = required::<Name>(alloc, Field::Name, value)?;
-        let enabled = required::<Truth>(alloc, Field::Enabled, value)?;
+        let enabled = required::<Boolean>(alloc, Field::Enabled, value)?;
         let payload = optional::<Object<Payload>>(alloc, Field::Payload, value)?;
         let feature_enabled = feature_enabled_in(alloc, value)?;
         Ok(ExpectedVariant {
@@ -116,8 +116,8 @@ impl Document for ExpectedVariant {
 fn feature_enabled_in(alloc: Global, value: &Value) -> Result<Option<bool>, BadDocument>
     ensures { Gives result (feature_enabled_in (view value.now)) }
 {
-    let first = optional::<Truth>(alloc, Field::FeatureEnabled, value)?;
-    let second = optional::<Truth>(alloc, Field::FeatureEnabledCamelCase, value)?;
+    let first = optional::<Boolean>(alloc, Field::FeatureEnabled, value)?;
+    let second = optional::<Boolean>(alloc, Field::FeatureEnabledCamelCase, value)?;
     Ok(first.or(second))
 }
 

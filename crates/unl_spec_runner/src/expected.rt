@@ -8,8 +8,8 @@ ghost use Rattle.unl_spec_runner.specs.Expected.{variant_data, expected_data, ex
 use serde_json::{Map, Value};
 use std::alloc::Global;
 use unl_dependencies::Evaluation;
-use unl_documents::written::{put, put_some};
-use unl_documents::{Copied, Field, Memory, Payload, Text};
+use unl_documents::to_value::{put, put_some};
+use unl_documents::{Field, Memory, Payload, Text, TryClone};
 
 /// The expected or actual result of a test.
 #[derive(Debug, Drop)]

@@ -3,7 +3,7 @@ ghost use Rattle.std.specs.Prelude.{◌≡◌, option_map};
 ghost use Rattle.unl_strategies.specs.Addresses.{around_gap};
 
 /// Splits the text at the first two colons in a row.
-pub(crate) fn cut_at_gap(text: &str) -> Option<(&str, &str)>
+pub(crate) fn split_at_gap(text: &str) -> Option<(&str, &str)>
     ensures { option_map (λ sides. (sides.0.now, sides.1.now)) result ≡ around_gap text.now }
 {
     text.split_once("::")

@@ -74,9 +74,9 @@ partitioned tokens text places rising i j d le lt below =
 
 -- if a text is in the index at all, it is at its point
 only_there : (tokens : List Token) (text : List ℕ) (places : List ℕ) (at i place : ℕ) → AllPairs (ComesBefore tokens) places → IsPointOf tokens text places at → slice_get places i ≡ Some place → text_at tokens place ≡ text → i ≡ at
-only_there tokens text places at i place rising point stands same =
-    let inside : i < length places = slice_get_within places i place stands in
-    let here : text_at tokens (get_or places i 0) ≡ text = ap (text_at tokens) (get_or_from_slice_get places i place 0 stands) ∙ same in
+only_there tokens text places at i place rising point represents same =
+    let inside : i < length places = slice_get_within places i place represents in
+    let here : text_at tokens (get_or places i 0) ≡ text = ap (text_at tokens) (get_or_from_slice_get places i place 0 represents) ∙ same in
     elim (cases_lt i at) [
       | inl before ↦
           let below : is_lt (slice_cmp nat_cmp text text) ≡ true = ap (λ t. is_lt (slice_cmp nat_cmp t text)) (sym here) ∙ point.0 i 0 (omega arith) before in
@@ -97,9 +97,9 @@ found_there : (tokens : List Token) (text : List ℕ) (places : List ℕ) (at pl
 found_there tokens text places at place index point lt same =
     let listed = index.whole place lt in
     let there : listed.0 ≡ at = only_there tokens text places at listed.0 place index.rising point listed.1 same in
-    let stands : slice_get places at ≡ Some place = ap (slice_get places) (sym there) ∙ listed.1 in
+    let represents : slice_get places at ≡ Some place = ap (slice_get places) (sym there) ∙ listed.1 in
     let told : bytes_eq (text_at tokens place) text ≡ true = rw same (text_refl text) in
-    rw (stands, told) refl
+    rw (represents, told) refl
 
 -- a position that the lookup returns was at the point, and its token has the text
 picked : (tokens : List Token) (text : List ℕ) (stood : Option ℕ) (place : ℕ) → option_and_then (if_text tokens text) stood ≡ Some place → (stood ≡ Some place) × (text_at tokens place ≡ text)

@@ -14,9 +14,9 @@ use Rattle.unl_tokens.specs.declared.fault.BadBook.TheVariants.{TooMany}
 use Rattle.unl_tokens.specs.declared.token.Token.{Token}
 use Rattle.unl_tokens.specs.Books.{has_text, put_at, with_token, gathered, book_of, within_limit}
 use Rattle.unl_tokens.specs.Laws.{each_once, texts_of, last_of, LatestAreGathered, LatestAreRead, KnownOnce}
-use Rattle.unl_tokens.specs.Names.{stands_in}
+use Rattle.unl_tokens.specs.Names.{is_one_of}
 use Rattle.unl_tokens.specs.Requests.{token_of, answered, known_after, known}
-use Rattle.unl_tokens.specs.Valid.{HaveOtherTexts}
+use Rattle.unl_tokens.specs.Valid.{HaveDistinctTexts}
 use Rattle.unl_tokens.proofs.Different.{stays_different, nothing_differs}
 use Rattle.unl_tokens.proofs.Same.{text_refl}
 
@@ -25,7 +25,7 @@ Texts = List (List ℕ)
 
 -- the texts that are not among the earlier ones
 abbrev others : Texts → Texts → Texts
-others before texts = filter (λ text. not (stands_in text before)) texts
+others before texts = filter (λ text. not (is_one_of text before)) texts
 
 -- the texts other than this one
 abbrev apart : List ℕ → Texts → Texts
@@ -58,18 +58,18 @@ not_or false false = refl
 
 one_more : (text : List ℕ) (before texts : Texts) → others (before ++ text ∷ []) texts ≡ others before (apart text texts)
 one_more text before texts =
-    filter_same _ _ (λ (s : List ℕ). ap not (list_any-append (λ other. bytes_eq other s) before (text ∷ [])) ∙ not_or (stands_in s before) (bytes_eq text s)) texts
-    ∙ sym (filter_both (λ s. not (stands_in s before)) (λ other. not (bytes_eq text other)) texts)
+    filter_same _ _ (λ (s : List ℕ). ap not (list_any-append (λ other. bytes_eq other s) before (text ∷ [])) ∙ not_or (is_one_of s before) (bytes_eq text s)) texts
+    ∙ sym (filter_both (λ s. not (is_one_of s before)) (λ other. not (bytes_eq text other)) texts)
 
 -- a text that is among the earlier ones already
-no_more : (text : List ℕ) (before texts : Texts) → stands_in text before ≡ true → others before texts ≡ others before (apart text texts)
-no_more text before texts stands =
-    filter_same _ _ (λ (s : List ℕ). each s) texts ∙ sym (filter_both (λ s. not (stands_in s before)) (λ other. not (bytes_eq text other)) texts)
+no_more : (text : List ℕ) (before texts : Texts) → is_one_of text before ≡ true → others before texts ≡ others before (apart text texts)
+no_more text before texts represents =
+    filter_same _ _ (λ (s : List ℕ). each s) texts ∙ sym (filter_both (λ s. not (is_one_of s before)) (λ other. not (bytes_eq text other)) texts)
   where
-    each : (s : List ℕ) → not (stands_in s before) ≡ (not (bytes_eq text s) && not (stands_in s before))
+    each : (s : List ℕ) → not (is_one_of s before) ≡ (not (bytes_eq text s) && not (is_one_of s before))
     each s =
         elim (cases_Bool (bytes_eq text s)) [
-          | inl told ↦ let here : stands_in s before ≡ true = rw ((bytes_eq-Decides text s).0 told) at stands in rw (told, here) refl
+          | inl told ↦ let here : is_one_of s before ≡ true = rw ((bytes_eq-Decides text s).0 told) at represents in rw (told, here) refl
           | inr told ↦ rw told refl
         ]
 
@@ -95,7 +95,7 @@ known_so tokens before (text ∷ texts) =
     let later : known_after tokens (before ++ text ∷ []) texts ≡ filter_map (λ text. token_of text tokens) (others before (apart text (each_once texts))) =
     known_so tokens (before ++ text ∷ []) texts ∙ ap (filter_map (λ text. token_of text tokens)) (one_more text before (each_once texts)) in
     ap (λ (ts : List Token). option_to_list (answered tokens before text) ++ ts) later
-    ∙ answered_one (λ text. token_of text tokens) text (others before (apart text (each_once texts))) (stands_in text before)
+    ∙ answered_one (λ text. token_of text tokens) text (others before (apart text (each_once texts))) (is_one_of text before)
 
 pub known_once : KnownOnce
 unfolding known
@@ -122,12 +122,12 @@ with_first : (x : Token) → with_token [] x ≡ x ∷ []
 unfolding with_token
 with_first x = refl
 
-texts_put : (book : List Token) (x : Token) → texts_of (with_token book x) ≡ (if stands_in x.text (texts_of book) then texts_of book else texts_of book ++ x.text ∷ [])
+texts_put : (book : List Token) (x : Token) → texts_of (with_token book x) ≡ (if is_one_of x.text (texts_of book) then texts_of book else texts_of book ++ x.text ∷ [])
 texts_put [] x = rw (with_first x) refl
 texts_put (a ∷ book) x =
     ap texts_of (with_next a book x) ∙ elim (cases_Bool (bytes_eq a.text x.text)) [
       | inl told ↦ let same : a.text ≡ x.text = (bytes_eq-Decides a.text x.text).0 told in rw told (ap (λ (t : List ℕ). t ∷ texts_of book) (sym same))
-      | inr told ↦ rw (told, texts_put book x) (by (stands_in x.text (texts_of book)))
+      | inr told ↦ rw (told, texts_put book x) (by (is_one_of x.text (texts_of book)))
     ]
   where
     by : (b : Bool) → a.text ∷ (if b then texts_of book else texts_of book ++ x.text ∷ []) ≡ (if b then a.text ∷ texts_of book else a.text ∷ texts_of book ++ x.text ∷ [])
@@ -164,7 +164,7 @@ unfolding each_once
 fold_texts [] book = sym (append-nil (texts_of book))
 fold_texts (x ∷ tokens) book =
     fold_texts tokens (with_token book x) ∙ ap (λ (ts : Texts). ts ++ others ts (each_once (texts_of tokens))) (texts_put book x) ∙
-    elim (cases_Bool (stands_in x.text (texts_of book))) [
+    elim (cases_Bool (is_one_of x.text (texts_of book))) [
       | inl told ↦ rw told (ap (λ (ts : Texts). texts_of book ++ ts) (no_more x.text (texts_of book) (each_once (texts_of tokens)) told))
       | inr told ↦ rw told (append_assoc (texts_of book) (x.text ∷ []) _ ∙ ap (λ (ts : Texts). texts_of book ++ x.text ∷ ts) (one_more x.text (texts_of book) (each_once (texts_of tokens))))
     ]
@@ -205,7 +205,7 @@ same_later x book (t ∷ tokens) other =
           | inr told ↦ told
         ]
 
-told_by_texts : (book : List Token) → HaveOtherTexts book → filter_map (λ text. token_of text book) (texts_of book) ≡ book
+told_by_texts : (book : List Token) → HaveDistinctTexts book → filter_map (λ text. token_of text book) (texts_of book) ≡ book
 told_by_texts [] different = refl
 told_by_texts (x ∷ book) different =
     let later = same_later x book book (λ k d lt. different 0 (suc k) d (omega arith) (omega arith)) in

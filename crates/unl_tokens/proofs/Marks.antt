@@ -16,16 +16,16 @@ use Rattle.json.specs.Token.{Token as JsonToken}
 use Rattle.unl_documents.specs.Tokens.{tokens_of, all_tokens}
 use Rattle.unl_tokens.specs.declared.token.Token.{Token}
 use Rattle.unl_tokens.specs.Books.{has_text}
-use Rattle.unl_tokens.specs.Names.{stands_in}
+use Rattle.unl_tokens.specs.Names.{is_one_of}
 use Rattle.unl_tokens.specs.Requests.{answered, unmarked, marked, token_of, token_data, token_tokens, known_after}
-use Rattle.unl_tokens.specs.Valid.{HaveOtherTexts}
+use Rattle.unl_tokens.specs.Valid.{HaveDistinctTexts}
 use Rattle.unl_tokens.proofs.Different.{different_text, none_passes, no_place}
 use Rattle.unl_tokens.proofs.Same.{text_refl}
 
 -- exactly the tokens whose texts were asked for before are marked
 pub record Marked (tokens : List Token) (before : List (List ℕ)) (marks : List Bool) : Type 0 where
   pub count : length marks ≡ length tokens
-  pub each : (k : ℕ) (d : Token) (e : Bool) → k < length tokens → get_or marks k e ≡ stands_in (get_or tokens k d).text before
+  pub each : (k : ℕ) (d : Token) (e : Bool) → k < length tokens → get_or marks k e ≡ is_one_of (get_or tokens k d).text before
 
 pub nothing_marked : (tokens : List Token) → Marked tokens [] (map (λ (t : Token). false) tokens)
 nothing_marked tokens = record { count = length-map tokens (λ (t : Token). false); each = λ k d e lt. get_or-map (λ (t : Token). false) tokens k d e lt }
@@ -47,20 +47,20 @@ other_text a b differ =
       | inr unequal ↦ unequal
     ]
 
-as_before : (text asked : List ℕ) (before : List (List ℕ)) → text ≢ asked → stands_in text (before ++ asked ∷ []) ≡ stands_in text before
-as_before text asked before other = list_any-append (λ (t : List ℕ). bytes_eq t text) before (asked ∷ []) ∙ or_false (stands_in text before) (bytes_eq asked text) (other_text text asked other)
+as_before : (text asked : List ℕ) (before : List (List ℕ)) → text ≢ asked → is_one_of text (before ++ asked ∷ []) ≡ is_one_of text before
+as_before text asked before other = list_any-append (λ (t : List ℕ). bytes_eq t text) before (asked ∷ []) ∙ or_false (is_one_of text before) (bytes_eq asked text) (other_text text asked other)
 
-stands_now : (text asked : List ℕ) (before : List (List ℕ)) → text ≡ asked → stands_in text (before ++ asked ∷ []) ≡ true
-stands_now text asked before same = list_any-append (λ (t : List ℕ). bytes_eq t text) before (asked ∷ []) ∙ or_true (stands_in text before) (bytes_eq asked text) (rw same (text_refl asked))
+stands_now : (text asked : List ℕ) (before : List (List ℕ)) → text ≡ asked → is_one_of text (before ++ asked ∷ []) ≡ true
+stands_now text asked before same = list_any-append (λ (t : List ℕ). bytes_eq t text) before (asked ∷ []) ∙ or_true (is_one_of text before) (bytes_eq asked text) (rw same (text_refl asked))
 
-other_place : (tokens : List Token) (place k : ℕ) (d : Token) (text : List ℕ) → HaveOtherTexts tokens → place < length tokens → k < length tokens → k ≢ place → (get_or tokens place d).text ≡ text → (get_or tokens k d).text ≢ text
+other_place : (tokens : List Token) (place k : ℕ) (d : Token) (text : List ℕ) → HaveDistinctTexts tokens → place < length tokens → k < length tokens → k ≢ place → (get_or tokens place d).text ≡ text → (get_or tokens k d).text ≢ text
 other_place tokens place k d text different within below apart same = λ equal.
     elim (cases_lt k place) [
       | inl before ↦ different k place d before within (equal ∙ sym same)
       | inr after ↦ different place k d (omega arith) below (same ∙ sym equal)
     ]
 
-mark_found : (place : ℕ) (tokens : List Token) (before : List (List ℕ)) (marks : List Bool) (text : List ℕ) → position (has_text text) tokens ≡ Some place → HaveOtherTexts tokens → Marked tokens before marks → (k : ℕ) (d : Token) (e : Bool) → k < length tokens → get_or (slice_set marks place true) k e ≡ stands_in (get_or tokens k d).text (before ++ text ∷ [])
+mark_found : (place : ℕ) (tokens : List Token) (before : List (List ℕ)) (marks : List Bool) (text : List ℕ) → position (has_text text) tokens ≡ Some place → HaveDistinctTexts tokens → Marked tokens before marks → (k : ℕ) (d : Token) (e : Bool) → k < length tokens → get_or (slice_set marks place true) k e ≡ is_one_of (get_or tokens k d).text (before ++ text ∷ [])
 mark_found place tokens before marks text at different old k d e lt =
     let found = position-Some (has_text text) tokens place d at in
     let same : (get_or tokens place d).text ≡ text = same_text _ _ (sym found.1) in
@@ -69,7 +69,7 @@ mark_found place tokens before marks text at different old k d e lt =
       | inr apart ↦ get_or-set_other marks place k true e apart ∙ old.each k d e lt ∙ sym (as_before (get_or tokens k d).text text before (other_place tokens place k d text different found.0 lt apart same))
     ]
 
-next_marks : (found : Option ℕ) (tokens : List Token) (before : List (List ℕ)) (marks : List Bool) (text : List ℕ) → position (has_text text) tokens ≡ found → HaveOtherTexts tokens → Marked tokens before marks → Marked tokens (before ++ text ∷ []) (option_map_or (λ place. slice_set marks place true) found marks)
+next_marks : (found : Option ℕ) (tokens : List Token) (before : List (List ℕ)) (marks : List Bool) (text : List ℕ) → position (has_text text) tokens ≡ found → HaveDistinctTexts tokens → Marked tokens before marks → Marked tokens (before ++ text ∷ []) (option_map_or (λ place. slice_set marks place true) found marks)
 next_marks None tokens before marks text at different old = record {
   count = old.count;
   each = λ k d e lt. old.each k d e lt ∙ sym (as_before (get_or tokens k d).text text before (different_text (get_or tokens k d).text text (none_passes (has_text text) tokens k d at lt)));
@@ -93,23 +93,23 @@ that_place : (b : Bool) (n m : ℕ) → cond b (Some n) None ≡ Some m → n �
 that_place true n m same = cc
 that_place false n m same = absurd (cc)
 
-answered_at : (place : ℕ) (tokens : List Token) (before : List (List ℕ)) (marks : List Bool) (text : List ℕ) (d : Token) → position (has_text text) tokens ≡ Some place → Marked tokens before marks → chosen (get_or marks place true) (slice_get tokens place) ≡ chosen (stands_in text before) (token_of text tokens)
+answered_at : (place : ℕ) (tokens : List Token) (before : List (List ℕ)) (marks : List Bool) (text : List ℕ) (d : Token) → position (has_text text) tokens ≡ Some place → Marked tokens before marks → chosen (get_or marks place true) (slice_get tokens place) ≡ chosen (is_one_of text before) (token_of text tokens)
 answered_at place tokens before marks text d at old =
     let found = position-Some (has_text text) tokens place d at in
     let same : (get_or tokens place d).text ≡ text = same_text _ _ (sym found.1) in
-    let mark : get_or marks place true ≡ stands_in text before = old.each place d true found.0 ∙ ap (λ (t : List ℕ). stands_in t before) same in
+    let mark : get_or marks place true ≡ is_one_of text before = old.each place d true found.0 ∙ ap (λ (t : List ℕ). is_one_of t before) same in
     let there : slice_get tokens place ≡ token_of text tokens = sym (find_at (has_text text) tokens ∙ ap (slice_get tokens) (that_place _ _ _ at)) in
-    ap (λ (b : Bool). chosen b (slice_get tokens place)) mark ∙ ap (chosen (stands_in text before)) there
+    ap (λ (b : Bool). chosen b (slice_get tokens place)) mark ∙ ap (chosen (is_one_of text before)) there
 
 next_answer : (found : Option ℕ) (tokens : List Token) (before : List (List ℕ)) (marks : List Bool) (text : List ℕ) → position (has_text text) tokens ≡ found → Marked tokens before marks → option_and_then (λ place. if get_or marks place true then None else slice_get tokens place) found ≡ answered tokens before text
 unfolding chosen
 next_answer None tokens before marks text at old =
-    none_chosen (stands_in text before) (token_of text tokens) (find_at (has_text text) tokens ∙ slice_get_past tokens (position_or_len (has_text text) tokens) (ltb-false _ _ (no_place _ _ at)))
+    none_chosen (is_one_of text before) (token_of text tokens) (find_at (has_text text) tokens ∙ slice_get_past tokens (position_or_len (has_text text) tokens) (ltb-false _ _ (no_place _ _ at)))
 next_answer (Some place) [] before marks text at old = absurd (cc)
 next_answer (Some place) (t ∷ ts) before marks text at old = answered_at place (t ∷ ts) before marks text t at old
 
 -- one more text: the token answered for it, and the marks afterwards
-pub marks_go_on : (tokens : List Token) (before : List (List ℕ)) (marks : List Bool) (text : List ℕ) → HaveOtherTexts tokens → Marked tokens before marks → (unmarked tokens marks text ≡ answered tokens before text) × Marked tokens (before ++ text ∷ []) (marked tokens marks text)
+pub marks_go_on : (tokens : List Token) (before : List (List ℕ)) (marks : List Bool) (text : List ℕ) → HaveDistinctTexts tokens → Marked tokens before marks → (unmarked tokens marks text ≡ answered tokens before text) × Marked tokens (before ++ text ∷ []) (marked tokens marks text)
 marks_go_on tokens before marks text different old = (
   next_answer (position (has_text text) tokens) tokens before marks text refl old,
   next_marks (position (has_text text) tokens) tokens before marks text refl different old,
@@ -123,7 +123,7 @@ tokens_apart one rest = ap all_tokens (map-append token_data one rest) ∙ flat_
 regrouped : (front : List JsonToken) (one rest : List Token) → front ++ token_tokens (one ++ rest) ≡ (front ++ token_tokens one) ++ token_tokens rest
 regrouped front one rest = ap (λ ts. front ++ ts) (tokens_apart one rest) ∙ sym (append_assoc front (token_tokens one) (token_tokens rest))
 
-pub prints_on : (tokens : List Token) (asked : List (List ℕ)) (i : ℕ) (text : List ℕ) (front : List JsonToken) (marks : List Bool) → i < length asked → text ≡ get_or asked i text → HaveOtherTexts tokens → Marked tokens (take i asked) marks → (front ++ token_tokens (option_to_list (unmarked tokens marks text))) ++ token_tokens (known_after tokens (take (i + 1) asked) (drop (i + 1) asked)) ≡ front ++ token_tokens (known_after tokens (take i asked) (drop i asked))
+pub prints_on : (tokens : List Token) (asked : List (List ℕ)) (i : ℕ) (text : List ℕ) (front : List JsonToken) (marks : List Bool) → i < length asked → text ≡ get_or asked i text → HaveDistinctTexts tokens → Marked tokens (take i asked) marks → (front ++ token_tokens (option_to_list (unmarked tokens marks text))) ++ token_tokens (known_after tokens (take (i + 1) asked) (drop (i + 1) asked)) ≡ front ++ token_tokens (known_after tokens (take i asked) (drop i asked))
 prints_on tokens asked i text front marks lt at different old =
     let before = take i asked in
     let later = drop (i + 1) asked in
@@ -132,7 +132,7 @@ prints_on tokens asked i text front marks lt at different old =
     let same = (marks_go_on tokens before marks text different old).0 in
     rw same (rw more (rw whole (sym (regrouped front (option_to_list (answered tokens before text)) (known_after tokens (before ++ text ∷ []) later)))))
 
-pub marks_on : (tokens : List Token) (asked : List (List ℕ)) (i : ℕ) (text : List ℕ) (marks : List Bool) → i < length asked → text ≡ get_or asked i text → HaveOtherTexts tokens → Marked tokens (take i asked) marks → Marked tokens (take (i + 1) asked) (marked tokens marks text)
+pub marks_on : (tokens : List Token) (asked : List (List ℕ)) (i : ℕ) (text : List ℕ) (marks : List Bool) → i < length asked → text ≡ get_or asked i text → HaveDistinctTexts tokens → Marked tokens (take i asked) marks → Marked tokens (take (i + 1) asked) (marked tokens marks text)
 marks_on tokens asked i text marks lt at different old =
     let front : take (i + 1) asked ≡ take i asked ++ text ∷ [] = take_more asked i text lt ∙ ap (λ (t : List ℕ). take i asked ++ t ∷ []) (sym at) in
     rw front ((marks_go_on tokens (take i asked) marks text different old).1)

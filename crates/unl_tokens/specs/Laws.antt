@@ -9,7 +9,7 @@ use Rattle.unl_documents.specs.Kinds.{at}
 use Rattle.unl_tokens.specs.declared.token.Token.{Token}
 use Rattle.unl_tokens.specs.Books.{has_text, tokens_from, gathered, book_of}
 use Rattle.unl_tokens.specs.Requests.{token_of, known}
-use Rattle.unl_tokens.specs.Valid.{HaveOtherTexts}
+use Rattle.unl_tokens.specs.Valid.{HaveDistinctTexts}
 
 -- the list without repetitions: each text once, where it first occurs
 unfoldable pub each_once : List (List ℕ) → List (List ℕ)
@@ -45,4 +45,4 @@ KnownOnce = (book : List Token) (asked : List (List ℕ)) → known book asked �
 
 -- a list of tokens with different texts becomes a book with all of them, in the same order
 abbrev pub DifferentAreKept : Type 0
-DifferentAreKept = (tokens : List Token) → HaveOtherTexts tokens → gathered tokens ≡ tokens
+DifferentAreKept = (tokens : List Token) → HaveDistinctTexts tokens → gathered tokens ≡ tokens

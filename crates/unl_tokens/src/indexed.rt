@@ -7,7 +7,7 @@ ghost use Rattle.unl_tokens.specs.Index.{text_at, if_text, IsPointOf, IsTextInde
 use crate::token::Token;
 use std::alloc::Global;
 use std::marker::Model;
-use unl_documents::{Copied, List, Memory};
+use unl_documents::{List, Memory, TryClone};
 
 /// Up to this many tokens, a lookup compares the texts one by one: comparing two texts for equality is cheaper than
 /// comparing their order.
@@ -97,7 +97,7 @@ impl Indexed {
     }
 }
 
-impl Copied for Indexed {
+impl TryClone for Indexed {
     fn copy(&self, alloc: Global) -> Result<Indexed, Memory> {
         Ok(Indexed {
             tokens: self.tokens.copy(alloc)?,
@@ -164,7 +164,7 @@ fn text_at(tokens: &List<Token>, place: usize) -> &[u8]
 /// Replaces the token that has the same text.
 fn with_other(tokens: List<Token>, places: List<usize>, place: usize, token: Token) -> Indexed
     requires index { IsTextIndex tokens places }
-    requires stands { place_of_text token.text tokens ≡ Some place }
+    requires represents { place_of_text token.text tokens ≡ Some place }
     requires below { place < length tokens }
     ensures { result ≡ slice_set tokens place token }
 {

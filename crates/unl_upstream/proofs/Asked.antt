@@ -3,9 +3,9 @@ use Rattle.std.proofs.Common.{◌≡◌, ℕ, ◌+◌, ◌⊎◌, inl, inr, List
 use Rattle.std.proofs.lemmas.List.{drop-drop}
 use Rattle.unl_base.specs.declared.draws.Draw.{Draw}
 use Rattle.unl_base.specs.Draws.{TakesDraw}
-use Rattle.unl_exchange.specs.Answering.{Answerer, Answers, Coming, LacksMemory, answerer}
-use Rattle.unl_exchange.specs.Conversation.{Answered as AnsweredAll, Concludes, GivesUp}
-use Rattle.unl_exchange.proofs.AskedLemmas.{Asks, asks}
+use Rattle.unl_server.specs.Handling.{HandlerState, Answers, Coming, RunsOutOfMemory, answerer}
+use Rattle.unl_server.specs.Conversation.{Answered as AnsweredAll, Concludes, GivesUp}
+use Rattle.unl_server.proofs.AskedLemmas.{Asks, asks}
 use Rattle.unl_http_api.specs.declared.end.End.{End}
 use Rattle.unl_http_api.specs.declared.end.End.TheVariants as ends
 use Rattle.unl_http_api.specs.declared.reply.Reply.{Reply}
@@ -17,11 +17,11 @@ use Rattle.unl_upstream.specs.Served.{draws_after}
 abbrev Giving : Type 0 → Type 1
 Giving S = S → Request → Draw → Reply → S → Type 0
 
-answered_counts : {S : Type 0} (gives : Giving S) (count : ℕ) (qs : List Request) (text : List ℕ) (before after : Answerer S)
+answered_counts : {S : Type 0} (gives : Giving S) (count : ℕ) (qs : List Request) (text : List ℕ) (before after : HandlerState S)
     → AnsweredAll (Answers gives) count before qs text after → after.count ≡ before.count + length qs
-answered_counts {S} gives count [] text before after answered = ap (λ (s : Answerer S). s.count) answered.1 ∙ omega arith
+answered_counts {S} gives count [] text before after answered = ap (λ (s : HandlerState S). s.count) answered.1 ∙ omega arith
 answered_counts {S} gives count (q ∷ qs) text before after answered =
-    let middle : Answerer S = answered.1 in
+    let middle : HandlerState S = answered.1 in
     let step : Answers gives before q answered.0 middle = answered.3 in
     answered_counts gives (count + 1) qs answered.2 middle after answered.5 ∙ ap (λ n. n + length qs) step.counted ∙ omega arith
 
@@ -41,11 +41,11 @@ draws_one None draw coming_after taken = taken
 draws_one (Some ([], last)) draw coming_after taken = taken.1
 draws_one (Some (first ∷ rest, last)) draw coming_after taken = taken.1
 
-answered_draws : {S : Type 0} (gives : Giving S) (count : ℕ) (qs : List Request) (text : List ℕ) (before after : Answerer S)
+answered_draws : {S : Type 0} (gives : Giving S) (count : ℕ) (qs : List Request) (text : List ℕ) (before after : HandlerState S)
     → AnsweredAll (Answers gives) count before qs text after → after.coming ≡ draws_after (length qs) before.coming
-answered_draws {S} gives count [] text before after answered = ap (λ (s : Answerer S). s.coming) answered.1 ∙ draws_none before.coming
+answered_draws {S} gives count [] text before after answered = ap (λ (s : HandlerState S). s.coming) answered.1 ∙ draws_none before.coming
 answered_draws {S} gives count (q ∷ qs) text before after answered =
-    let middle : Answerer S = answered.1 in
+    let middle : HandlerState S = answered.1 in
     let step : Answers gives before q answered.0 middle = answered.3 in
     let longer : 1 + length qs ≡ length (q ∷ qs) = omega arith in
     answered_draws gives (count + 1) qs answered.2 middle after answered.5
@@ -68,7 +68,7 @@ pub record Took
   pub reads : Reads bytes requests rest
   pub counted : length requests ≡ count
   pub text : List ℕ
-  pub reached : Answerer S
+  pub reached : HandlerState S
   pub answered : AnsweredAll (Answers gives) 0 (answerer before 0 coming) requests text reached
   pub state : after ≡ reached.state
   pub taken : ℕ
@@ -78,11 +78,11 @@ pub record Took
 pub took : {S : Type 0} (gives : Giving S) (bytes : List ℕ) (back : List ℕ × ℕ) (before : S) (coming : Coming) (end : End) (count : ℕ) (after : S)
     (coming_after : Coming) (left_after : Option (List ℕ))
     → Concludes (Answers gives) bytes (Some []) (answerer before 0 coming) end (answerer after count coming_after) left_after (Some back.0)
-    → (end ≡ ends.Memory → GivesUp (Answers gives) (LacksMemory Stays) bytes (Some []) 0 (answerer before 0 coming) (answerer after count coming_after) (Some back.0) back.1)
+    → (end ≡ ends.Memory → GivesUp (Answers gives) (RunsOutOfMemory Stays) bytes (Some []) 0 (answerer before 0 coming) (answerer after count coming_after) (Some back.0) back.1)
     → Took gives bytes before coming end count after coming_after
 took {S} gives bytes back before coming end count after coming_after left_after conversation memory = by_next asked.next
   where
-    asked : Asks (Answers gives) (LacksMemory Stays) bytes (answerer before 0 coming) end (answerer after count coming_after)
+    asked : Asks (Answers gives) (RunsOutOfMemory Stays) bytes (answerer before 0 coming) end (answerer after count coming_after)
     asked = asks bytes (answerer before 0 coming) (answerer after count coming_after) end (Some []) left_after (Some back.0) 0 back.1 conversation memory
 
     counts : asked.reached.count ≡ 0 + length asked.requests
@@ -108,11 +108,11 @@ took {S} gives bytes back before coming end count after coming_after left_after 
     }
 
     by_next : (answerer after count coming_after ≡ asked.reached)
-        ⊎ ((end ≡ ends.Memory) × (request : Request) × LacksMemory Stays asked.reached request (answerer after count coming_after))
+        ⊎ ((end ≡ ends.Memory) × (request : Request) × RunsOutOfMemory Stays asked.reached request (answerer after count coming_after))
         → Took gives bytes before coming end count after coming_after
     by_next (inl same) =
-        let notes : count ≡ asked.reached.count = ap (λ (s : Answerer S). s.count) same in
-        so_many (length asked.requests) (ap (λ (s : Answerer S). s.state) same) notes (ap (λ (s : Answerer S). s.coming) same ∙ draws) (inl (omega (arith, notes, counts)))
+        let notes : count ≡ asked.reached.count = ap (λ (s : HandlerState S). s.count) same in
+        so_many (length asked.requests) (ap (λ (s : HandlerState S). s.state) same) notes (ap (λ (s : HandlerState S). s.coming) same ∙ draws) (inl (omega (arith, notes, counts)))
     by_next (inr lacks) =
         let notes : count ≡ asked.reached.count = lacks.2.counted in
         so_many (length asked.requests + 1) lacks.2.given_up notes

@@ -16,21 +16,21 @@ use Rattle.unl_upstream.specs.declared.refusal.KeepCommandRefusal.{KeepCommandRe
 use Rattle.unl_upstream.specs.declared.refusal.KeepCommandRefusal.TheVariants.{NoSuchEnvironment, NoSuchFeature, NoSuchSegment, TooMany, KeeperFull, KeeperFault, Memory}
 use Rattle.unl_upstream.specs.Command.{command_in}
 use Rattle.unl_upstream.specs.History.{accepted, after_commands, if_accepted, up_after}
-use Rattle.unl_upstream.specs.Kept.{Acknowledges, AreLeft, Carries, FailsToKeep, HasKept, HoldsOn, IsFailed, IsLeft, IsWritten, KeeperState, Keeps, KeepsAll, KeepsSome, KeptState, LeadTo, LeavesOne, Moves, Puts, Tried, acknowledged, commands_in, failed_after, faults_among, if_kept, keepable, kept_commands, kept_rows, most_rows, past_rows, with_room}
-use Rattle.unl_upstream.specs.Upstream.{Obeyed, Obeying, Prepared, UpstreamState, commanded, committed, prepared, refused_as}
+use Rattle.unl_upstream.specs.Kept.{Acknowledges, AreLeft, Carries, FailsToKeep, HasKept, AttemptsPreserve, IsFailed, IsLeft, IsWritten, KeeperState, Keeps, AttemptsInOrder, SomeAttempts, KeptState, LeadTo, LeavesOne, Moves, Puts, KeepAttempt, acknowledged, commands_in, failed_after, faults_among, if_kept, keepable, kept_commands, kept_rows, most_rows, past_rows, with_room}
+use Rattle.unl_upstream.specs.Upstream.{AppliedCommand, CommandResult, Prepared, UpstreamState, apply_command, committed, prepared, refused_as}
 use Rattle.unl_upstream.specs.Writing.{command_text}
 use Rattle.unl_upstream.proofs.Leading.{command_one, commands_both, lead_more}
 use Rattle.unl_upstream.proofs.Served.{after_both}
-use Rattle.unl_upstream.proofs.Standing.{accepted_both, are_added}
+use Rattle.unl_upstream.proofs.VersionLemmas.{accepted_both, are_added}
 
 -- ---- prepared commands
 
 -- the result of committing a prepared command
-abbrev obeyed_with : Prepared → UpstreamState → Obeyed
+abbrev obeyed_with : Prepared → UpstreamState → AppliedCommand
 obeyed_with ready up = record { up = committed ready up; number = ready.number }
 
 -- a prepared command for which there is room is accepted with this result
-room_obeyed : (count : ℕ) (r : Obeying Prepared) (up : UpstreamState) (ready : Prepared) → with_room count r ≡ Ok ready
+room_obeyed : (count : ℕ) (r : CommandResult Prepared) (up : UpstreamState) (ready : Prepared) → with_room count r ≡ Ok ready
     → with_room count (r >>= λ made. Ok (obeyed_with made up)) ≡ Ok (obeyed_with ready up)
 room_obeyed count (Err refusal) up ready is = absurd cc
 room_obeyed count (Ok made) up ready is = decided (nat_lt count most_rows) is
@@ -42,7 +42,7 @@ room_obeyed count (Ok made) up ready is = decided (nat_lt count most_rows) is
 
 pub keepable_is : (command : Command) (before : KeptState) (ready : Prepared) → with_room before.keeper.count (prepared command before.up) ≡ Ok ready
     → keepable command before ≡ Ok (record { up = committed ready before.up; number = ready.number })
-unfolding commanded
+unfolding apply_command
 keepable_is command before ready is = room_obeyed before.keeper.count (prepared command before.up) before.up ready is
 
 -- below the maximum there is room
@@ -58,27 +58,27 @@ pub awaited : (count : ℕ) (command : Command) (up : UpstreamState) (ready : Pr
 awaited count command up ready is low = ap (with_room count) is ∙ room count ready low
 
 pub full : (count : ℕ) (command : Command) (up : UpstreamState) (ready : Prepared) → prepared command up ≡ Ok ready → 10000000 ≤ count
-    → with_room count (commanded command up) ≡ Err (KeeperFull count)
-unfolding commanded
+    → with_room count (apply_command command up) ≡ Err (KeeperFull count)
+unfolding apply_command
 full count command up ready is high =
-    ap (λ (r : Obeying Prepared). with_room count (r >>= λ made. Ok (obeyed_with made up))) is ∙ no_room count (obeyed_with ready up) high
+    ap (λ (r : CommandResult Prepared). with_room count (r >>= λ made. Ok (obeyed_with made up))) is ∙ no_room count (obeyed_with ready up) high
 
 pub refused_so : (count : ℕ) (command : Command) (up : UpstreamState) (refusal : CommandRefusal) (e : KeepCommandRefusal) → e ≡ refused_as refusal
-    → (refusal ≢ command_refusal.Memory → prepared command up ≡ Err refusal) → e ≢ Memory → with_room count (commanded command up) ≡ Err e
-unfolding commanded
+    → (refusal ≢ command_refusal.Memory → prepared command up ≡ Err refusal) → e ≢ Memory → with_room count (apply_command command up) ≡ Err e
+unfolding apply_command
 refused_so count command up refusal e is told some =
     let here : prepared command up ≡ Err refusal = told (λ wanting. some (is ∙ ap refused_as wanting)) in
-    ap (λ (r : Obeying Prepared). with_room count (r >>= λ made. Ok (obeyed_with made up))) here ∙ ap Err (sym is)
+    ap (λ (r : CommandResult Prepared). with_room count (r >>= λ made. Ok (obeyed_with made up))) here ∙ ap Err (sym is)
 
 -- the same for a refusal that was converted and returned
 pub passed_on : {T : Type 0} (r : Result T KeepCommandRefusal) (count : ℕ) (command : Command) (up : UpstreamState) (refusal : CommandRefusal)
     → IsErrAnd r (λ e. e ≡ refused_as refusal) → (refusal ≢ command_refusal.Memory → prepared command up ≡ Err refusal)
-    → IfErr r (λ e. e ≢ Memory → with_room count (commanded command up) ≡ Err e)
+    → IfErr r (λ e. e ≢ Memory → with_room count (apply_command command up) ≡ Err e)
 passed_on (Ok x) count command up refusal is told = absurd is
 passed_on (Err e) count command up refusal is told = refused_so count command up refusal e is told
 
 -- a keeper's fault is not a refusal of a command
-no_fault : (count : ℕ) (r : Obeying Obeyed) → with_room count r ≡ Err KeeperFault → ⊥
+no_fault : (count : ℕ) (r : CommandResult AppliedCommand) → with_room count r ≡ Err KeeperFault → ⊥
 no_fault count (Ok obeyed) is = decided (nat_lt count most_rows) is
   where
     decided : (t : Bool) → cond t (Ok obeyed) (Err (KeeperFull count)) ≡ Err KeeperFault → ⊥
@@ -97,7 +97,7 @@ refuses_so command state NoSuchFeature told = record { cause = told (λ m. cc); 
 refuses_so command state NoSuchSegment told = record { cause = told (λ m. cc); same = refl }
 refuses_so command state (TooMany n) told = record { cause = told (λ m. cc); same = refl }
 refuses_so command state (KeeperFull n) told = record { cause = told (λ m. cc); same = refl }
-refuses_so command state KeeperFault told = absurd (no_fault state.keeper.count (commanded command state.up) (told (λ m. cc)))
+refuses_so command state KeeperFault told = absurd (no_fault state.keeper.count (apply_command command state.up) (told (λ m. cc)))
 refuses_so command state Memory told = refl
 
 -- the result of storing a text, as that of keeping its command
@@ -129,14 +129,14 @@ kept_so command before after ready text (Err fault.Fault) awaits is spelled puts
 kept_so command before after ready text (Err fault.Memory) awaits is spelled puts = puts
 
 -- a command that can be kept is accepted
-pub accepted_kept : (command : Command) (before : KeptState) (obeyed : Obeyed) → keepable command before ≡ Ok obeyed → commanded command before.up ≡ Ok obeyed
-accepted_kept command before obeyed is = decided (commanded command before.up) refl is
+pub accepted_kept : (command : Command) (before : KeptState) (obeyed : AppliedCommand) → keepable command before ≡ Ok obeyed → apply_command command before.up ≡ Ok obeyed
+accepted_kept command before obeyed is = decided (apply_command command before.up) refl is
   where
-    same : (made : Obeyed) (t : Bool) → cond t (Ok made) (Err (KeeperFull before.keeper.count)) ≡ Ok obeyed → made ≡ obeyed
+    same : (made : AppliedCommand) (t : Bool) → cond t (Ok made) (Err (KeeperFull before.keeper.count)) ≡ Ok obeyed → made ≡ obeyed
     same made true is = cc
     same made false is = absurd cc
 
-    decided : (r : Obeying Obeyed) → commanded command before.up ≡ r → with_room before.keeper.count r ≡ Ok obeyed → commanded command before.up ≡ Ok obeyed
+    decided : (r : CommandResult AppliedCommand) → apply_command command before.up ≡ r → with_room before.keeper.count r ≡ Ok obeyed → apply_command command before.up ≡ Ok obeyed
     decided (Ok made) here is = here ∙ ap Ok (same made (nat_lt before.keeper.count most_rows) is)
     decided (Err refusal) here is = absurd cc
 
@@ -205,7 +205,7 @@ has_failed text before after has row = by_rows row.rows
 -- ---- what changed
 
 -- the acknowledged commands, all accepted, are all that changed the upstream, and the keeper counts them
-moves_by : (tried : List Tried) (before after : KeptState) → after.up ≡ after_commands (acknowledged tried) before.up
+moves_by : (tried : List KeepAttempt) (before after : KeptState) → after.up ≡ after_commands (acknowledged tried) before.up
     → accepted (acknowledged tried) before.up ≡ acknowledged tried → after.keeper.count ≡ before.keeper.count + length (acknowledged tried)
     → Moves tried before after
 moves_by tried before after leads all counted = record {
@@ -215,7 +215,7 @@ moves_by tried before after leads all counted = record {
   counted = counted;
 }
 
-moves_same : (one : Tried) → acknowledged (one ∷ []) ≡ [] → (before after : KeptState) → after ≡ before → Moves (one ∷ []) before after
+moves_same : (one : KeepAttempt) → acknowledged (one ∷ []) ≡ [] → (before after : KeptState) → after ≡ before → Moves (one ∷ []) before after
 moves_same one none before after same =
     let zero_more : length (acknowledged (one ∷ [])) ≡ 0 = ap (λ (cs : List Command). length cs) none in
     subst (λ (s : KeptState). Moves (one ∷ []) before s) (sym same)
@@ -225,10 +225,10 @@ moves_same one none before after same =
 moves_written : (command : Command) (before : KeptState) (number : ℕ) (after : KeptState) → Acknowledges command before number after
     → Moves (record { command = command; result = Ok number } ∷ []) before after
 moves_written command before number after told =
-    let accepts : commanded command before.up ≡ Ok (record { up = after.up; number = number }) =
+    let accepts : apply_command command before.up ≡ Ok (record { up = after.up; number = number }) =
     accepted_kept command before (record { up = after.up; number = number }) told.obeyed in
     moves_by (record { command = command; result = Ok number } ∷ []) before after (sym (ap (up_after before.up) accepts))
-    (ap (λ (r : Obeying Obeyed). if_accepted command r []) accepts) told.row.counted
+    (ap (λ (r : CommandResult AppliedCommand). if_accepted command r []) accepts) told.row.counted
 
 moves_failed : (command : Command) (before after : KeptState) → FailsToKeep command before after
     → Moves (record { command = command; result = Err KeeperFault } ∷ []) before after
@@ -250,7 +250,7 @@ if_kept_both : (command : Command) (result : Result ℕ KeepCommandRefusal) (oth
 if_kept_both command (Ok number) others = refl
 if_kept_both command (Err refusal) others = refl
 
-moves_more : (one : Tried) (others : List Tried) (before middle after : KeptState) → Moves (one ∷ []) before middle → Moves others middle after
+moves_more : (one : KeepAttempt) (others : List KeepAttempt) (before middle after : KeptState) → Moves (one ∷ []) before middle → Moves others middle after
     → Moves (one ∷ others) before after
 moves_more one others before middle after first second =
     let both : acknowledged (one ∷ []) ++ acknowledged others ≡ acknowledged (one ∷ others) = if_kept_both one.command one.result (acknowledged others) in
@@ -266,7 +266,7 @@ moves_more one others before middle after first second =
     (omega (arith, first.counted, second.counted, lengths))
 
 -- what attempts to keep commands, in order, change
-pub moves_all : (tried : List Tried) (before after : KeptState) → KeepsAll tried before after → Moves tried before after
+pub moves_all : (tried : List KeepAttempt) (before after : KeptState) → AttemptsInOrder tried before after → Moves tried before after
 moves_all [] before after keeps = subst (λ (s : KeptState). Moves [] before s) (sym keeps) (moves_by [] before before refl refl (omega arith))
 moves_all (one ∷ others) before after keeps =
     moves_more one others before keeps.0 after (moves_one one.command before one.result keeps.0 keeps.1) (moves_all others keeps.0 after keeps.2)
@@ -278,11 +278,11 @@ append_none : (o : Option (List Command)) → option_map (λ commands. commands 
 append_none None = refl
 append_none (Some commands) = ap Some (append-nil commands)
 
-carries_same : (one : Tried) → acknowledged (one ∷ []) ≡ [] → faults_among (one ∷ []) ≡ 0 → ((failed : List Command) → failed_after failed (one ∷ []) ≡ failed)
+carries_same : (one : KeepAttempt) → acknowledged (one ∷ []) ≡ [] → faults_among (one ∷ []) ≡ 0 → ((failed : List Command) → failed_after failed (one ∷ []) ≡ failed)
     → (before after : KeptState) → after ≡ before → Carries (one ∷ []) before after
 carries_same one none calm as_before before after same =
     subst (λ (s : KeptState). Carries (one ∷ []) before s) (sym same) (record {
-      stands = λ opening holds. holds;
+      represents = λ opening holds. holds;
       moves = moves_same one none before before refl;
       appended = sym (append_none (kept_commands before.keeper))
           ∙ ap (λ (cs : List Command). option_map (λ commands. commands ++ cs) (kept_commands before.keeper)) (sym none);
@@ -291,8 +291,8 @@ carries_same one none calm as_before before after same =
     })
 
 -- one more row, of an accepted command, still leads to the upstream
-lead_further : (opening : UpstreamState) (text : List ℕ) (command : Command) (up : UpstreamState) (obeyed : Obeyed) → command_in text ≡ Ok command
-    → commanded command up ≡ Ok obeyed → (o : Option (List (List ℕ))) → IfSome o (λ texts. LeadTo opening texts up)
+lead_further : (opening : UpstreamState) (text : List ℕ) (command : Command) (up : UpstreamState) (obeyed : AppliedCommand) → command_in text ≡ Ok command
+    → apply_command command up ≡ Ok obeyed → (o : Option (List (List ℕ))) → IfSome o (λ texts. LeadTo opening texts up)
     → IfSome (option_map (λ list. list ++ text ∷ []) o) (λ texts. LeadTo opening texts obeyed.up)
 lead_further opening text command up obeyed spelled accepts None holds = tt
 lead_further opening text command up obeyed spelled accepts (Some texts) holds = lead_more texts text opening up command obeyed spelled accepts holds
@@ -311,11 +311,11 @@ carries_written : (command : Command) (before : KeptState) (number : ℕ) (after
     → Carries (record { command = command; result = Ok number } ∷ []) before after
 carries_written command before number after has told =
     let text : List ℕ = command_text command in
-    let obeyed : Obeyed = record { up = after.up; number = number } in
-    let accepts : commanded command before.up ≡ Ok obeyed = accepted_kept command before obeyed told.obeyed in
+    let obeyed : AppliedCommand = record { up = after.up; number = number } in
+    let accepts : apply_command command before.up ≡ Ok obeyed = accepted_kept command before obeyed told.obeyed in
     let rows : kept_rows after.keeper ≡ option_map (λ list. list ++ text ∷ []) (kept_rows before.keeper) =
     rows_written text before.keeper after.keeper has told.row in record {
-      stands = λ opening holds. subst (λ (o : Option (List (List ℕ))). IfSome o (λ texts. LeadTo opening texts after.up)) (sym rows)
+      represents = λ opening holds. subst (λ (o : Option (List (List ℕ))). IfSome o (λ texts. LeadTo opening texts after.up)) (sym rows)
           (lead_further opening text command before.up obeyed told.spelled accepts (kept_rows before.keeper) holds);
       moves = moves_written command before number after told;
       appended = ap (option_map commands_in) rows ∙ commands_more text command told.spelled (kept_rows before.keeper);
@@ -338,10 +338,10 @@ this_left : (up : UpstreamState) (failed : List Command) (text : List ℕ) (rows
 this_left up failed text None left = tt
 this_left up failed text (Some list) left = left
 
-could_be : (command : Command) (before : KeptState) → IsOk (keepable command before) → IsOk (commanded command before.up)
-could_be command before is = decided (commanded command before.up) is
+could_be : (command : Command) (before : KeptState) → IsOk (keepable command before) → IsOk (apply_command command before.up)
+could_be command before is = decided (apply_command command before.up) is
   where
-    decided : (r : Obeying Obeyed) → IsOk (with_room before.keeper.count r) → IsOk r
+    decided : (r : CommandResult AppliedCommand) → IsOk (with_room before.keeper.count r) → IsOk r
     decided (Ok obeyed) is = refl
     decided (Err refusal) is = is
 
@@ -350,7 +350,7 @@ carries_failed : (command : Command) (before after : KeptState) → HasKept befo
 carries_failed command before after has told =
     let text : List ℕ = command_text command in
     let rows : kept_rows after.keeper ≡ kept_rows before.keeper = rows_failed text before.keeper after.keeper has told.row in record {
-      stands = λ opening holds. subst (λ (o : Option (List (List ℕ))). IfSome o (λ texts. LeadTo opening texts after.up)) (sym rows)
+      represents = λ opening holds. subst (λ (o : Option (List (List ℕ))). IfSome o (λ texts. LeadTo opening texts after.up)) (sym rows)
           (subst (λ (u : UpstreamState). IfSome (kept_rows before.keeper) (λ texts. LeadTo opening texts u)) (sym told.up) holds);
       moves = moves_failed command before after told;
       appended = ap (option_map commands_in) rows ∙ sym (append_none (kept_commands before.keeper));
@@ -406,10 +406,10 @@ pub both_behind : (first second : List Command) (o : Option (List Command))
 both_behind first second None = refl
 both_behind first second (Some commands) = ap Some (append_assoc commands first second)
 
-carries_more : (one : Tried) (others : List Tried) (before middle after : KeptState) → Carries (one ∷ []) before middle → Carries others middle after
+carries_more : (one : KeepAttempt) (others : List KeepAttempt) (before middle after : KeptState) → Carries (one ∷ []) before middle → Carries others middle after
     → Carries (one ∷ others) before after
 carries_more one others before middle after first second = record {
-  stands = λ opening holds. second.stands opening (first.stands opening holds);
+  represents = λ opening holds. second.represents opening (first.represents opening holds);
   moves = moves_more one others before middle after first.moves second.moves;
   appended = second.appended ∙ ap (option_map (λ commands. commands ++ acknowledged others)) first.appended
       ∙ both_behind (acknowledged (one ∷ [])) (acknowledged others) (kept_commands before.keeper)
@@ -422,7 +422,7 @@ carries_more one others before middle after first second = record {
 carries_nothing : (before after : KeptState) → after ≡ before → Carries [] before after
 carries_nothing before after same =
     subst (λ (s : KeptState). Carries [] before s) (sym same) (record {
-      stands = λ opening holds. holds;
+      represents = λ opening holds. holds;
       moves = moves_by [] before before refl refl (omega arith);
       appended = sym (append_none (kept_commands before.keeper));
       left = λ failed left. left;
@@ -430,20 +430,20 @@ carries_nothing before after same =
     })
 
 -- what attempts to keep commands, in order, preserve and change
-pub carries_all : (tried : List Tried) (before after : KeptState) → HasKept before.keeper → KeepsAll tried before after → Carries tried before after
+pub carries_all : (tried : List KeepAttempt) (before after : KeptState) → HasKept before.keeper → AttemptsInOrder tried before after → Carries tried before after
 carries_all [] before after has keeps = carries_nothing before after keeps
 carries_all (one ∷ others) before after has keeps =
     let middle : KeptState = keeps.0 in
     carries_more one others before middle after (carries_one one.command before one.result middle has keeps.1)
     (carries_all others middle after (has_one one.command before one.result middle has keeps.1) keeps.2)
 
-pub keeps_both : (first second : List Tried) (before middle after : KeptState) → KeepsAll first before middle → KeepsAll second middle after
-    → KeepsAll (first ++ second) before after
-keeps_both [] second before middle after one two = subst (λ (s : KeptState). KeepsAll second s after) one two
+pub keeps_both : (first second : List KeepAttempt) (before middle after : KeptState) → AttemptsInOrder first before middle → AttemptsInOrder second middle after
+    → AttemptsInOrder (first ++ second) before after
+keeps_both [] second before middle after one two = subst (λ (s : KeptState). AttemptsInOrder second s after) one two
 keeps_both (t ∷ first) second before middle after one two = (one.0, one.1, keeps_both first second one.0 middle after one.2 two)
 
 -- the acknowledged ones of two lists of attempts
-pub acknowledged_both : (first second : List Tried) → acknowledged (first ++ second) ≡ acknowledged first ++ acknowledged second
+pub acknowledged_both : (first second : List KeepAttempt) → acknowledged (first ++ second) ≡ acknowledged first ++ acknowledged second
 acknowledged_both [] second = refl
 acknowledged_both (one ∷ first) second = decided one.result (acknowledged_both first second)
   where
@@ -453,25 +453,25 @@ acknowledged_both (one ∷ first) second = decided one.result (acknowledged_both
     decided (Err refusal) others = others
 
 -- the failures of the keeper in two lists of attempts
-pub faults_both : (first second : List Tried) → faults_among (first ++ second) ≡ faults_among first + faults_among second
+pub faults_both : (first second : List KeepAttempt) → faults_among (first ++ second) ≡ faults_among first + faults_among second
 faults_both [] second = omega arith
 faults_both (one ∷ first) second = let others : faults_among (first ++ second) ≡ faults_among first + faults_among second = faults_both first second in omega (arith, others)
 
 -- ---- any attempts
 
 -- attempts that lead to a state, and more from there on
-pub keeps_more : (start before after : KeptState) (tried : List Tried) → KeepsSome start before → KeepsAll tried before after → KeepsSome start after
+pub keeps_more : (start before after : KeptState) (tried : List KeepAttempt) → SomeAttempts start before → AttemptsInOrder tried before after → SomeAttempts start after
 keeps_more start before after tried led keeps =
     record { tried = led.tried ++ tried; keeps = keeps_both led.tried tried start before after led.keeps keeps }
 
-pub holds_on : (before after : KeptState) → HasKept before.keeper → KeepsSome before after → HoldsOn before after
+pub holds_on : (before after : KeptState) → HasKept before.keeper → SomeAttempts before after → AttemptsPreserve before after
 holds_on before after has some = record { some = some; carries = carries_all some.tried before after has some.keeps }
 
 -- no attempt at all
-pub holds_still : (state : KeptState) → HasKept state.keeper → HoldsOn state state
+pub holds_still : (state : KeptState) → HasKept state.keeper → AttemptsPreserve state state
 holds_still state has = holds_on state state has (record { tried = []; keeps = refl })
 
 -- the same, ending in an equal state
-pub holds_same : (before after : KeptState) (up : UpstreamState) (keeper : KeeperState) → HoldsOn before after → after.up ≡ up → after.keeper ≡ keeper
-    → HoldsOn before (record { up = up; keeper = keeper })
-holds_same before after up keeper holds first second = subst (HoldsOn before) (λ i. record { up = first i; keeper = second i }) holds
+pub holds_same : (before after : KeptState) (up : UpstreamState) (keeper : KeeperState) → AttemptsPreserve before after → after.up ≡ up → after.keeper ≡ keeper
+    → AttemptsPreserve before (record { up = up; keeper = keeper })
+holds_same before after up keeper holds first second = subst (AttemptsPreserve before) (λ i. record { up = first i; keeper = second i }) holds

@@ -5,19 +5,19 @@ use Rattle.unl_core.specs.Board.{place_in, snapshot_in, taking}
 use Rattle.unl_upstream.specs.declared.command.Command.{Command}
 use Rattle.unl_upstream.specs.Command.{environment_of}
 use Rattle.unl_upstream.specs.Reopening.{rows_after}
-use Rattle.unl_upstream.specs.Upstream.{Obeyed, UpstreamState, commanded, prepared, version_after}
+use Rattle.unl_upstream.specs.Upstream.{AppliedCommand, UpstreamState, apply_command, prepared, version_after}
 use Rattle.unl_upstream.proofs.Leading.{Begins, IsTaken, begins, taken, takes}
-use Rattle.unl_upstream.proofs.Standing.{IsObeyed, obeyed_by, obeyed_with, ready_with}
+use Rattle.unl_upstream.proofs.VersionLemmas.{IsObeyed, obeyed_by, obeyed_with, ready_with}
 
 -- the command is accepted there too, and results in the same slots
 pub record Obeys (command : Command) (up after other : UpstreamState) : Type 0 where
-  pub obeyed : Obeyed
-  pub accepts : commanded command other ≡ Ok obeyed
+  pub obeyed : AppliedCommand
+  pub accepts : apply_command command other ≡ Ok obeyed
   pub same : obeyed.up.board.slots ≡ after.board.slots
 
-pub obeys : (command : Command) (up other : UpstreamState) (obeyed : Obeyed) → other.board.slots ≡ up.board.slots → commanded command up ≡ Ok obeyed
+pub obeys : (command : Command) (up other : UpstreamState) (obeyed : AppliedCommand) → other.board.slots ≡ up.board.slots → apply_command command up ≡ Ok obeyed
     → Obeys command up obeyed.up other
-unfolding commanded prepared
+unfolding apply_command prepared
 obeys command up other obeyed same accepts =
     let o : IsObeyed command up obeyed = obeyed_by command up obeyed accepts in
     let found : place_in (environment_of command) other.board.slots ≡ Some o.slot = ap (place_in (environment_of command)) same ∙ o.at in

@@ -6,7 +6,7 @@ use Rattle.unl_delta.specs.declared.event.Event.{Event}
 use Rattle.unl_delta.specs.declared.event.Event.TheVariants.{Hydration, FeatureUpdated, FeatureRemoved, SegmentUpdated, SegmentRemoved}
 use Rattle.unl_delta.specs.declared.version.EnvVersion.{EnvVersion}
 use Rattle.unl_delta.specs.Batch.{empty_at, go_on}
-use Rattle.unl_delta.specs.History.{IsHistory, IsTrueOf, StandsFor, everything, revision}
+use Rattle.unl_delta.specs.History.{IsHistory, FitsState, Represents, everything, revision}
 use Rattle.unl_delta.specs.State.{empty_state, fold_events, is_change, later, number_of, project_of, step, up_to}
 use Rattle.unl_delta.specs.Valid.{NeverFall}
 use Rattle.unl_delta.proofs.Every.{every_weaker}
@@ -20,7 +20,7 @@ use Rattle.unl_upstream.specs.declared.command.Command.{Command}
 use Rattle.unl_upstream.specs.declared.command.Command.TheVariants.{PutFeature, RemoveFeature, PutSegment, RemoveSegment}
 use Rattle.unl_upstream.specs.declared.refusal.CommandRefusal.{CommandRefusal}
 use Rattle.unl_upstream.specs.declared.refusal.CommandRefusal.TheVariants.{NoSuchFeature, NoSuchSegment, TooMany}
-use Rattle.unl_upstream.specs.Upstream.{Obeying, event_of, feature_put, feature_removed, has_feature, has_segment, last_number, most_features, most_segments, number_after, segment_put, segment_removed, version_after}
+use Rattle.unl_upstream.specs.Upstream.{CommandResult, event_of, feature_put, feature_removed, has_feature, has_segment, last_number, most_features, most_segments, number_after, segment_put, segment_removed, version_after}
 use Rattle.unl_upstream.specs.History.{IsHistoryOf, event_at, events_from, history_of}
 
 -- ---- one event
@@ -30,7 +30,7 @@ pub record ComesTo (v : EnvVersion) (command : Command) (event : Event) : Type 0
   pub is : event ≡ event_at (v.number + 1) v.state command
   pub change : is_change event ≡ true
   pub number : number_of event ≡ v.number + 1
-  pub is_true : IsTrueOf v.state event
+  pub is_true : FitsState v.state event
 
 -- the event has the next number
 numbered : (n : ℕ) (event : ℕ → Event) (e : Event) → (number_after n >>= λ m. Ok (event m)) ≡ Ok e → e ≡ event (n + 1)
@@ -41,7 +41,7 @@ numbered n event e is = decided (n == last_number) is
     decided false told = cc
 
 -- the result after a test that passed
-after_test : (t : Bool) (refusal : CommandRefusal) (rest : Obeying Event) (e : Event) → (cond t (Ok tt) (Err refusal) >>= λ (u : Unit {0}). rest) ≡ Ok e → rest ≡ Ok e
+after_test : (t : Bool) (refusal : CommandRefusal) (rest : CommandResult Event) (e : Event) → (cond t (Ok tt) (Err refusal) >>= λ (u : Unit {0}). rest) ≡ Ok e → rest ≡ Ok e
 after_test true refusal rest e is = is
 after_test false refusal rest e is = absurd cc
 
@@ -74,9 +74,9 @@ remove_feature_comes environment name v e is = decided (project_of name v.state.
         → (ok_or o NoSuchFeature >>= λ (project : List ℕ). number_after v.number >>= λ (n : ℕ). Ok (FeatureRemoved n name project)) ≡ Ok e
         → ComesTo v (RemoveFeature environment name) e
     decided None none refused = absurd cc
-    decided (Some project) stands more =
+    decided (Some project) represents more =
         let told : e ≡ FeatureRemoved (v.number + 1) name project = numbered v.number (λ n. FeatureRemoved n name project) e more in
-        subst (ComesTo v (RemoveFeature environment name)) (sym told) (record { is = rw stands refl; change = refl; number = refl; is_true = stands })
+        subst (ComesTo v (RemoveFeature environment name)) (sym told) (record { is = rw represents refl; change = refl; number = refl; is_true = represents })
 
 pub comes_to : (command : Command) (v : EnvVersion) (e : Event) → event_of command v ≡ Ok e → ComesTo v command e
 comes_to (PutFeature environment feature) v e is = put_feature_comes environment feature v e is
@@ -134,7 +134,7 @@ one_more n s (d ∷ ds) c =
 
 pub nothing_stands : (epoch : ℕ) → IsHistoryOf epoch [] (empty_at epoch)
 unfolding later up_to
-nothing_stands epoch = record { era = refl; stands = record { moment = inl refl; state = refl; base = omega arith; entries = refl }; number = refl }
+nothing_stands epoch = record { era = refl; represents = record { moment = inl refl; state = refl; base = omega arith; entries = refl }; number = refl }
 
 -- no event of its history has a higher number
 none_later : (epoch : ℕ) (commands : List Command) (v : EnvVersion) → IsHistoryOf epoch commands v → Every (λ x. number_of x ≤ v.number) (history_of commands)
@@ -149,7 +149,7 @@ all_seen (feature ∷ features) = ap (λ (fs : List Feature). feature ∷ fs) (a
 state_is : (epoch : ℕ) (commands : List Command) (v : EnvVersion) → IsHistoryOf epoch commands v → v.state ≡ fold_events (history_of commands) empty_state
 state_is epoch commands v is =
     let whole : State = revision (history_of commands) v.number in
-    is.stands.state
+    is.represents.state
     ∙ ap (λ (fs : List Feature). record { features = fs; segments = whole.segments }) (all_seen whole.features)
     ∙ ap (λ (es : List Event). fold_events es empty_state) (up_to_all number_of v.number (history_of commands) (none_later epoch commands v is))
 
@@ -171,10 +171,10 @@ one_stands epoch commands c v e is told =
     ∙ ap (λ (s : State). event_at (v.number + 1) s c) (sym (state_is epoch commands v is)) ∙ sym comes.is) in
     let news : v.number < number_of e = omega (arith, comes.number) in
     let whole : IsHistory (history_of commands ++ e ∷ []) = subst IsHistory grown (is_history (commands ++ c ∷ [])) in
-    let stands : StandsFor (history_of commands ++ e ∷ []) everything (go_on v (e ∷ [])) =
-    stands_after_one (history_of commands) v e whole is.stands (none_later epoch commands v is) news comes.is_true in
+    let represents : Represents (history_of commands ++ e ∷ []) everything (go_on v (e ∷ [])) =
+    stands_after_one (history_of commands) v e whole is.represents (none_later epoch commands v is) news comes.is_true in
     subst (IsHistoryOf epoch (commands ++ c ∷ [])) (sym (goes_on v e comes.change)) (record {
       era = is.era;
-      stands = subst (λ (h : List Event). StandsFor h everything (go_on v (e ∷ []))) (sym grown) stands;
+      represents = subst (λ (h : List Event). Represents h everything (go_on v (e ∷ []))) (sym grown) represents;
       number = comes.number ∙ omega (arith, length-append commands (c ∷ []));
     })

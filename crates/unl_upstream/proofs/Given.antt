@@ -8,24 +8,24 @@ use Rattle.unl_documents.specs.Reading.{Reading}
 use Rattle.unl_http_api.specs.declared.request.Request.{Request}
 use Rattle.unl_http_api.specs.Route.{is_post, route_of}
 use Rattle.unl_upstream.specs.declared.command.Command.{Command}
-use Rattle.unl_upstream.specs.declared.order.Order.{Order}
-use Rattle.unl_upstream.specs.declared.order.Order.TheVariants.{Obey, Reply}
-use Rattle.unl_upstream.specs.Answer.{done, names_commands, order_at, order_in, order_of, order_with, told, upstream_answer}
+use Rattle.unl_upstream.specs.declared.command_or_reply.CommandOrReply.{CommandOrReply}
+use Rattle.unl_upstream.specs.declared.command_or_reply.CommandOrReply.TheVariants.{Execute, Reply}
+use Rattle.unl_upstream.specs.Answer.{done, is_commands_route, order_at, order_in, order_of, order_with, told, upstream_answer}
 use Rattle.unl_upstream.specs.Command.{command_in}
 use Rattle.unl_upstream.specs.History.{after_commands, up_after}
 use Rattle.unl_upstream.specs.Requests.{command_given, if_read, shown_with}
-use Rattle.unl_upstream.specs.Upstream.{Obeyed, Obeying, UpstreamState, commanded}
+use Rattle.unl_upstream.specs.Upstream.{AppliedCommand, CommandResult, UpstreamState, apply_command}
 
 -- the command of an order, if any
-abbrev pub ordered : Order → Option Command
-ordered (Obey command) = Some command
+abbrev pub ordered : CommandOrReply → Option Command
+ordered (Execute command) = Some command
 ordered (Reply reply) = None
 
 -- the order has this command, or none
-Has : Order → Option Command → Type 0
+Has : CommandOrReply → Option Command → Type 0
 Has order given = ordered order ≡ given
 
-either : (t : Bool) (x y : Order) (c d : Option Command) → Has x c → Has y d → Has (cond t x y) (cond t c d)
+either : (t : Bool) (x y : CommandOrReply) (c d : Option Command) → Has x c → Has y d → Has (cond t x y) (cond t c d)
 either true x y c d p q = p
 either false x y c d p q = q
 
@@ -46,19 +46,19 @@ command_has up q = either (is_post q.method) _ _ (shown_with up.secret q q.token
 -- a request's order has the command that the request gives
 pub order_has : (up : UpstreamState) (q : Request) (draw : Draw) → ordered (order_of up q draw) ≡ command_given up.secret q
 unfolding order_of Has
-order_has up q draw = decided (names_commands (route_of q.target)) (command_has up q)
+order_has up q draw = decided (is_commands_route (route_of q.target)) (command_has up q)
   where
     decided : (t : Bool) → Has (order_at up q) (cond (is_post q.method) (shown_with up.secret q q.token) None)
         → Has (cond t (order_at up q) (Reply (answer_of up.board q draw).reply)) (cond (t && is_post q.method) (shown_with up.secret q q.token) None)
     decided true has = has
     decided false has = refl
 
-told_leads : (up : UpstreamState) (obeying : Obeying Obeyed) → (told up obeying).up ≡ up_after up obeying
+told_leads : (up : UpstreamState) (obeying : CommandResult AppliedCommand) → (told up obeying).up ≡ up_after up obeying
 told_leads up (Ok obeyed) = refl
 told_leads up (Err cause) = refl
 
-done_leads : (up : UpstreamState) (order : Order) → (done up order).up ≡ after_commands (option_to_list (ordered order)) up
-done_leads up (Obey command) = told_leads up (commanded command up)
+done_leads : (up : UpstreamState) (order : CommandOrReply) → (done up order).up ≡ after_commands (option_to_list (ordered order)) up
+done_leads up (Execute command) = told_leads up (apply_command command up)
 done_leads up (Reply reply) = refl
 
 pub answer_leads : (up : UpstreamState) (q : Request) (draw : Draw) → (upstream_answer up q draw).up ≡ after_commands (option_to_list (command_given up.secret q)) up

@@ -1,10 +1,10 @@
 -- The state after served links, described by the kept commands and by the number of draws taken.
 use Rattle.std.proofs.Common.{◌≡◌, ℕ, ◌+◌, List, [], ◌∷◌, ◌++◌, length, length-append, append_assoc, append-nil, refl, sym, ap, ◌∙◌, subst, arith}
-use Rattle.unl_exchange.specs.Answering.{Coming}
+use Rattle.unl_server.specs.Handling.{Coming}
 use Rattle.unl_upstream.specs.declared.command.Command.{Command}
 use Rattle.unl_upstream.specs.History.{after_commands}
-use Rattle.unl_upstream.specs.Kept.{KeepsAll, KeptState, Moves, Tried, acknowledged, faults_among}
-use Rattle.unl_upstream.specs.KeptHosting.{IsNamed, KeptLinksNameCommands, LinkNames, LinkServed, Linked, LinksName}
+use Rattle.unl_upstream.specs.Kept.{AttemptsInOrder, KeptState, Moves, KeepAttempt, acknowledged, faults_among}
+use Rattle.unl_upstream.specs.KeptHosting.{IsNamed, KeptLinksNameCommands, LinkEffect, LinkServed, Linked, AllLinksEffect}
 use Rattle.unl_upstream.specs.KeptServing.{Gives, NoKeeperFault, serving, tried_in}
 use Rattle.unl_upstream.specs.Served.{draws_after}
 use Rattle.unl_upstream.specs.Upstream.{UpstreamState}
@@ -17,15 +17,15 @@ use Rattle.unl_upstream.proofs.Served.{after_both}
 
 -- a link is described by those of these commands that were kept; if the keeper failed at none, no reply is 503 `KeeperFault`
 record NamesCalmly
-    (before : KeptState) (coming : Coming) (bytes : List ℕ) (back : List ℕ × ℕ) (tried : List Tried) (taken : ℕ) (after : KeptState)
+    (before : KeptState) (coming : Coming) (bytes : List ℕ) (back : List ℕ × ℕ) (tried : List KeepAttempt) (taken : ℕ) (after : KeptState)
     (coming_after : Coming) : Type 0 where
-  pub names : LinkNames before coming bytes back (acknowledged tried) taken after coming_after
+  pub names : LinkEffect before coming bytes back (acknowledged tried) taken after coming_after
   pub calm : faults_among tried ≡ 0 → NoKeeperFault 0 (serving before 0 coming) names.requests names.text names.reached names.answered
 
 -- one served link is described by its commands and its draws
 record HasNames (before : KeptState) (coming : Coming) (bytes : List ℕ) (back : List ℕ × ℕ) (after : KeptState) (coming_after : Coming) : Type 0 where
-  pub tried : List Tried
-  pub keeps : KeepsAll tried before after
+  pub tried : List KeepAttempt
+  pub keeps : AttemptsInOrder tried before after
   pub taken : ℕ
   pub named : NamesCalmly before coming bytes back tried taken after coming_after
   pub draws : coming_after ≡ draws_after taken coming
@@ -35,9 +35,9 @@ link_names : (before : KeptState) (coming : Coming) (bytes : List ℕ) (back : L
 link_names before coming bytes back after coming_after served =
     let one : Took Gives bytes before coming served.end served.count after coming_after =
     took Gives bytes back before coming served.end served.count after coming_after served.left_after served.conversation served.memory in
-    let tried : List Tried = tried_in 0 (serving before 0 coming) one.requests one.text one.reached one.answered in record {
+    let tried : List KeepAttempt = tried_in 0 (serving before 0 coming) one.requests one.text one.reached one.answered in record {
       tried = tried;
-      keeps = subst (KeepsAll tried before) (sym one.state) (keeps_in 0 one.requests one.text (serving before 0 coming) one.reached one.answered);
+      keeps = subst (AttemptsInOrder tried before) (sym one.state) (keeps_in 0 one.requests one.text (serving before 0 coming) one.reached one.answered);
       taken = one.taken;
       named = record {
         names = record {
@@ -61,7 +61,7 @@ link_names before coming bytes back after coming_after served =
 
 links_name : (links : List (List ℕ)) (backs : List (List ℕ × ℕ)) (start : UpstreamState) (reopened : ℕ) (coming : Coming) (commands : List Command) (gone : ℕ)
     (state last : KeptState) (coming_last : Coming) → IsNamed start reopened commands state → Linked state (draws_after gone coming) links backs last coming_last
-    → LinksName start reopened coming commands gone state links backs last coming_last
+    → AllLinksEffect start reopened coming commands gone state links backs last coming_last
 links_name [] [] start reopened coming commands gone state last coming_last named linked = record {
   commands_after = commands;
   gone_after = gone;
@@ -89,7 +89,7 @@ links_name (bytes ∷ links) (back ∷ backs) start reopened coming commands gon
     let draws : linked.1 ≡ draws_after (gone + one.taken) coming = one.draws ∙ draws_both one.taken gone coming in
     let first : NamesCalmly state (draws_after gone coming) bytes back one.tried one.taken middle (draws_after (gone + one.taken) coming) =
     subst (λ (c : Coming). NamesCalmly state (draws_after gone coming) bytes back one.tried one.taken middle c) draws one.named in
-    let others : LinksName start reopened coming (commands ++ more) (gone + one.taken) middle links backs last coming_last =
+    let others : AllLinksEffect start reopened coming (commands ++ more) (gone + one.taken) middle links backs last coming_last =
     links_name links backs start reopened coming (commands ++ more) (gone + one.taken) middle last coming_last next
     (subst (λ (c : Coming). Linked middle c links backs last coming_last) draws linked.3) in
     let faults : faults_among (one.tried ++ others.tried) ≡ faults_among one.tried + faults_among others.tried = faults_both one.tried others.tried in

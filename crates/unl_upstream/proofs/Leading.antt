@@ -9,16 +9,16 @@ use Rattle.unl_upstream.specs.History.{accepted, after_commands, if_accepted, up
 use Rattle.unl_upstream.specs.Kept.{LeadTo, commands_in}
 use Rattle.unl_upstream.specs.Requests.{if_read}
 use Rattle.unl_upstream.specs.Reopening.{after_reading, if_obeyed, row_after, rows_after}
-use Rattle.unl_upstream.specs.Upstream.{Obeyed, Obeying, UpstreamState, commanded}
+use Rattle.unl_upstream.specs.Upstream.{AppliedCommand, CommandResult, UpstreamState, apply_command}
 
 -- ---- one row
 
 -- a row that is applied spells a command that is accepted
 pub record IsTaken (text : List ℕ) (up after : UpstreamState) : Type 0 where
   pub command : Command
-  pub obeyed : Obeyed
+  pub obeyed : AppliedCommand
   pub spelled : command_in text ≡ Ok command
-  pub accepts : commanded command up ≡ Ok obeyed
+  pub accepts : apply_command command up ≡ Ok obeyed
   pub is : obeyed.up ≡ after
 
 same_some : {A : Type 0} (x y : A) → ◌≡◌ {A = Option A} (Some x) (Some y) → x ≡ y
@@ -28,15 +28,15 @@ pub taken : (text : List ℕ) (up after : UpstreamState) → row_after text up �
 unfolding row_after
 taken text up after is = decided (command_in text) refl is
   where
-    obeys : (command : Command) (o : Obeying Obeyed) → command_in text ≡ Ok command → commanded command up ≡ o → if_obeyed o ≡ Some after → IsTaken text up after
+    obeys : (command : Command) (o : CommandResult AppliedCommand) → command_in text ≡ Ok command → apply_command command up ≡ o → if_obeyed o ≡ Some after → IsTaken text up after
     obeys command (Ok obeyed) spelled accepts is = record { command = command; obeyed = obeyed; spelled = spelled; accepts = accepts; is = same_some obeyed.up after is }
     obeys command (Err refusal) spelled accepts is = absurd cc
 
     decided : (r : Reading Command) → command_in text ≡ r → after_reading up r ≡ Some after → IsTaken text up after
-    decided (Ok command) spelled is = obeys command (commanded command up) spelled refl is
+    decided (Ok command) spelled is = obeys command (apply_command command up) spelled refl is
     decided (Err fault) spelled is = absurd cc
 
-pub takes : (text : List ℕ) (up : UpstreamState) (command : Command) (obeyed : Obeyed) → command_in text ≡ Ok command → commanded command up ≡ Ok obeyed
+pub takes : (text : List ℕ) (up : UpstreamState) (command : Command) (obeyed : AppliedCommand) → command_in text ≡ Ok command → apply_command command up ≡ Ok obeyed
     → row_after text up ≡ Some obeyed.up
 unfolding row_after
 takes text up command obeyed spelled accepts = ap (after_reading up) spelled ∙ ap if_obeyed accepts
@@ -84,17 +84,17 @@ others_of [] = []
 others_of (x ∷ xs) = xs
 
 -- one accepted command before others that are spelled and accepted
-lead_first : (text : List ℕ) (texts : List (List ℕ)) (opening after : UpstreamState) (command : Command) (obeyed : Obeyed) → command_in text ≡ Ok command
-    → commanded command opening ≡ Ok obeyed → LeadTo obeyed.up texts after → LeadTo opening (text ∷ texts) after
+lead_first : (text : List ℕ) (texts : List (List ℕ)) (opening after : UpstreamState) (command : Command) (obeyed : AppliedCommand) → command_in text ≡ Ok command
+    → apply_command command opening ≡ Ok obeyed → LeadTo obeyed.up texts after → LeadTo opening (text ∷ texts) after
 lead_first text texts opening after command obeyed spelled accepts others =
     let commands : commands_in (text ∷ texts) ≡ command ∷ commands_in texts =
     ap (λ (r : Reading Command). cons_option (if_read r) (commands_in texts)) spelled in record {
       spelled = (λ i. spelled i ∷ others.spelled i) ∙ ap all_ok (sym commands);
       all_accepted = ap (λ (cs : List Command). accepted cs opening) commands
-          ∙ ap (λ (o : Obeying Obeyed). if_accepted command o (accepted (commands_in texts) (up_after opening o))) accepts
+          ∙ ap (λ (o : CommandResult AppliedCommand). if_accepted command o (accepted (commands_in texts) (up_after opening o))) accepts
           ∙ ap (λ (cs : List Command). command ∷ cs) others.all_accepted ∙ sym commands;
       leads = others.leads
-          ∙ sym (ap (λ (o : Obeying Obeyed). after_commands (commands_in texts) (up_after opening o)) accepts)
+          ∙ sym (ap (λ (o : CommandResult AppliedCommand). after_commands (commands_in texts) (up_after opening o)) accepts)
           ∙ sym (ap (λ (cs : List Command). after_commands cs opening) commands);
     }
 
@@ -114,9 +114,9 @@ no_fault (command ∷ commands) fault others is = cc
 -- no more commands are accepted than are given
 accepted_few : (commands : List Command) (up : UpstreamState) → length (accepted commands up) ≤ length commands
 accepted_few [] up = omega arith
-accepted_few (command ∷ commands) up = decided (commanded command up) (accepted_few commands)
+accepted_few (command ∷ commands) up = decided (apply_command command up) (accepted_few commands)
   where
-    decided : (o : Obeying Obeyed) → ((now : UpstreamState) → length (accepted commands now) ≤ length commands)
+    decided : (o : CommandResult AppliedCommand) → ((now : UpstreamState) → length (accepted commands now) ≤ length commands)
         → length (if_accepted command o (accepted commands (up_after up o))) ≤ length (command ∷ commands)
     decided (Ok obeyed) few = omega (arith, few obeyed.up)
     decided (Err refusal) few = omega (arith, few up)
@@ -130,7 +130,7 @@ lead_rows (text ∷ texts) opening after lead =
     Others : Type 0
     Others = (middle : UpstreamState) → LeadTo middle texts after → rows_after texts middle ≡ Some after
 
-    obeys : (command : Command) (o : Obeying Obeyed) → command_in text ≡ Ok command → commanded command opening ≡ o
+    obeys : (command : Command) (o : CommandResult AppliedCommand) → command_in text ≡ Ok command → apply_command command opening ≡ o
         → map command_in texts ≡ map Ok (commands_in texts)
         → if_accepted command o (accepted (commands_in texts) (up_after opening o)) ≡ command ∷ commands_in texts
         → after ≡ after_commands (commands_in texts) (up_after opening o) → Others → rows_after (text ∷ texts) opening ≡ Some after
@@ -145,12 +145,12 @@ lead_rows (text ∷ texts) opening after lead =
     decided : (r : Reading Command) → command_in text ≡ r → r ∷ map command_in texts ≡ map Ok (cons_option (if_read r) (commands_in texts))
         → accepted (cons_option (if_read r) (commands_in texts)) opening ≡ cons_option (if_read r) (commands_in texts)
         → after ≡ after_commands (cons_option (if_read r) (commands_in texts)) opening → Others → rows_after (text ∷ texts) opening ≡ Some after
-    decided (Ok command) spelled tail all leads others = obeys command (commanded command opening) spelled refl (ap others_of tail) all leads others
+    decided (Ok command) spelled tail all leads others = obeys command (apply_command command opening) spelled refl (ap others_of tail) all leads others
     decided (Err fault) spelled tail all leads others = absurd (no_fault (commands_in texts) fault (map command_in texts) tail)
 
 -- one more row, of an accepted command, after those that lead to `up`
-pub lead_more : (texts : List (List ℕ)) (text : List ℕ) (opening up : UpstreamState) (command : Command) (obeyed : Obeyed) → command_in text ≡ Ok command
-    → commanded command up ≡ Ok obeyed → LeadTo opening texts up → LeadTo opening (texts ++ text ∷ []) obeyed.up
+pub lead_more : (texts : List (List ℕ)) (text : List ℕ) (opening up : UpstreamState) (command : Command) (obeyed : AppliedCommand) → command_in text ≡ Ok command
+    → apply_command command up ≡ Ok obeyed → LeadTo opening texts up → LeadTo opening (texts ++ text ∷ []) obeyed.up
 lead_more texts text opening up command obeyed spelled accepts lead =
     rows_lead (texts ++ text ∷ []) opening obeyed.up
     (rows_more texts text opening up obeyed.up (lead_rows texts opening up lead) (takes text up command obeyed spelled accepts))

@@ -1,7 +1,7 @@
 pub mod Slots
 pub mod Next
 pub mod Events
-pub mod Standing
+pub mod VersionLemmas
 pub mod Given
 pub mod Statuses
 pub mod Served

@@ -8,7 +8,7 @@ use Rattle.unl_upstream.specs.declared.reopening.ReopenFault.{ReopenFault}
 use Rattle.unl_upstream.specs.declared.reopening.ReopenFault.TheVariants.{BadRow, NoRow, Fault, Memory}
 use Rattle.unl_upstream.specs.Kept.{AreLeft, KeeperState, KeptState, LeadTo, commands_in, kept_rows, kept_state}
 use Rattle.unl_upstream.specs.Reopening.{Applies, GivesBack, IsAtMostOne, Reopened, ReopeningGivesBack, Reopens, TakesRow, rows_after}
-use Rattle.unl_upstream.specs.Upstream.{Obeyed, UpstreamState, commanded}
+use Rattle.unl_upstream.specs.Upstream.{AppliedCommand, UpstreamState, apply_command}
 use Rattle.unl_upstream.proofs.Elsewhere.{Leads, Obeys, obeys, rows_lead_there}
 use Rattle.unl_upstream.proofs.Leading.{command_one, commands_both, lead_rows, no_stop, rows_lead, rows_more, takes}
 
@@ -64,7 +64,7 @@ reopened before after count opened counted whole applies = record {
   counted = counted;
   whole = whole;
   applied = applies;
-  stands = subst (λ (n : ℕ). IfSome (kept n after.keeper.rows) (λ texts. LeadTo before.up texts after.up)) counted
+  represents = subst (λ (n : ℕ). IfSome (kept n after.keeper.rows) (λ texts. LeadTo before.up texts after.up)) counted
       (all_kept before.up after.up count after.keeper.rows applies whole);
   left = subst (λ (n : ℕ). IfSome (option_map (λ list. drop n list) after.keeper.rows) (AreLeft after.up [])) counted
       (none_past after.up count after.keeper.rows whole);
@@ -92,9 +92,9 @@ whole_of opening fresh up front [] failed same lead left =
     }
 whole_of opening fresh up front (text ∷ []) failed same lead left =
     let there : Leads front up fresh = rows_lead_there front opening up fresh same (lead_rows front opening up lead) in
-    by_obeyed there (commanded left.command up) refl left.accepts
+    by_obeyed there (apply_command left.command up) refl left.accepts
   where
-    by_obeyed : Leads front up fresh → (r : Result Obeyed CommandRefusal) → commanded left.command up ≡ r → IsOk r → Whole fresh front (front ++ text ∷ []) failed
+    by_obeyed : Leads front up fresh → (r : Result AppliedCommand CommandRefusal) → apply_command left.command up ≡ r → IsOk r → Whole fresh front (front ++ text ∷ []) failed
     by_obeyed there (Err refusal) is accepts = absurd cc
     by_obeyed there (Ok obeyed) is accepts =
         let o : Obeys left.command up obeyed.up there.last = obeys left.command up there.last obeyed there.same is in record {
@@ -116,7 +116,7 @@ gives_back_of fresh before reopened keeper failed rows (Ok count) whole were are
   few = whole.few;
   commands = ap (option_map commands_in) kept_all ∙ ap Some whole.commands
       ∙ sym (ap (λ (o : Option (List (List ℕ))). option_map (λ kept. kept ++ whole.more) (option_map commands_in (kept before.keeper.count o))) were);
-  stands = opens.stands;
+  represents = opens.represents;
 }
   where
     counted : count ≡ length rows

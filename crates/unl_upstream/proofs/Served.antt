@@ -2,7 +2,7 @@
 use Rattle.std.proofs.Common.{◌≡◌, ℕ, ◌+◌, ◌⊎◌, inl, inr, List, [], ◌∷◌, ◌++◌, refl, sym, ap, ◌∙◌}
 use Rattle.std.specs.Prelude.{option_to_list}
 use Rattle.unl_base.specs.declared.draws.Draw.{Draw}
-use Rattle.unl_exchange.specs.Conversation.{Answered as AnsweredAll, Reaches}
+use Rattle.unl_server.specs.Conversation.{Answered as AnsweredAll, Reaches}
 use Rattle.unl_http_api.specs.declared.end.End.{End}
 use Rattle.unl_http_api.specs.declared.end.End.TheVariants as ends
 use Rattle.unl_http_api.specs.declared.reply.Reply.{Reply}
@@ -11,10 +11,10 @@ use Rattle.unl_upstream.specs.declared.command.Command.{Command}
 use Rattle.unl_upstream.specs.Answer.{Answered, upstream_answer}
 use Rattle.unl_upstream.specs.History.{AreAdded, accepted, after_command, after_commands}
 use Rattle.unl_upstream.specs.Requests.{command_given}
-use Rattle.unl_upstream.specs.Serving.{Lacks, Obeys, Serving, Step, commands_given}
+use Rattle.unl_upstream.specs.Serving.{RunsOutAtRequest, Obeys, Serving, Step, commands_given}
 use Rattle.unl_upstream.specs.Upstream.{UpstreamState}
 use Rattle.unl_upstream.proofs.Given.{answer_leads}
-use Rattle.unl_upstream.proofs.Standing.{secret_stays, some_added}
+use Rattle.unl_upstream.proofs.VersionLemmas.{secret_stays, some_added}
 
 -- the command of a request is added to the histories, if it is accepted
 pub answer_adds : (up after : UpstreamState) (q : Request) (draw : Draw) (reply : Reply) → upstream_answer up q draw ≡ record { reply = reply; up = after }
@@ -49,7 +49,7 @@ requests_up count (q ∷ qs) text before after answered =
     ∙ sym (after_both (option_to_list (command_given before.state.secret q)) (commands_given before.state.secret qs) before.state)
 
 -- the upstream after a connection is that after the commands of its requests
-pub obeys : (before after : Serving) (end : End) (count : ℕ) → Reaches Step Lacks before end after count → Obeys before.state count after.state
+pub obeys : (before after : Serving) (end : End) (count : ℕ) → Reaches Step RunsOutAtRequest before end after count → Obeys before.state count after.state
 obeys before after end count reaches = record {
   requests = reaches.requests;
   counted = reaches.counted;
@@ -60,7 +60,7 @@ obeys before after end count reaches = record {
     answered_up : reaches.reached.state ≡ after_commands (commands_given before.state.secret reaches.requests) before.state
     answered_up = requests_up 0 reaches.requests reaches.text before reaches.reached reaches.answered
 
-    by_next : (after ≡ reaches.reached) ⊎ ((end ≡ ends.Memory) × (request : Request) × Lacks reaches.reached request after)
+    by_next : (after ≡ reaches.reached) ⊎ ((end ≡ ends.Memory) × (request : Request) × RunsOutAtRequest reaches.reached request after)
         → after.state ≡ after_commands (commands_given before.state.secret reaches.requests) before.state
     by_next (inl same) = ap (λ (s : Serving). s.state) same ∙ answered_up
     by_next (inr lacks) = lacks.2.given_up ∙ answered_up

@@ -9,9 +9,9 @@ use Rattle.serde_json.proofs.OnLiterals.{serde_json_on_literals}
 use Rattle.unl_base.specs.declared.draws.Draw.{Draw}
 use Rattle.unl_core.specs.declared.board.Board.{Board}
 use Rattle.unl_core.specs.declared.desk.Answer.{Answer as DeskAnswer}
-use Rattle.unl_core.specs.declared.shown.Unseen.{Unseen}
-use Rattle.unl_core.specs.declared.shown.Unseen.TheVariants.{NoToken, UnknownToken, WrongKind, NotReady}
-use Rattle.unl_core.specs.Answer.{accepted_if, answer_of, asked_context, at_route, by_route, delta_reply, document_reply, feature_reply, feed_reply, feed_state, feed_tag, feed_with, has_tag, news, plain, refusal, registered, reported, seen, still_at, toggles_for, toggles_reply, unseen_reply, validated}
+use Rattle.unl_core.specs.declared.shown.TokenRefusal.{TokenRefusal}
+use Rattle.unl_core.specs.declared.shown.TokenRefusal.TheVariants.{NoToken, UnknownToken, WrongKind, NotReady}
+use Rattle.unl_core.specs.Answer.{accepted_if, answer_of, asked_context, at_route, by_route, delta_reply, document_reply, feature_reply, feed_reply, feed_state, feed_tag, feed_with, has_tag, news, plain, refusal, registered, reported, seen, not_modified_at, toggles_for, toggles_reply, token_refusal_reply, validated}
 use Rattle.unl_core.specs.Client.{knows_no_segments}
 use Rattle.unl_core.specs.Shown.{Shown, Ready, shown_by, ready_by}
 use Rattle.unl_core.specs.Tag.{since_of}
@@ -33,16 +33,16 @@ use Rattle.unl_tokens.specs.declared.kind.Kind.TheVariants.{Client, Frontend}
 use Rattle.unl_tokens.specs.Names.{sees}
 use Rattle.unl_tokens.specs.Requests.{asked_in}
 use Rattle.unl_upstream.specs.declared.command.Command.{Command}
-use Rattle.unl_upstream.specs.declared.order.Order.{Order}
+use Rattle.unl_upstream.specs.declared.command_or_reply.CommandOrReply.{CommandOrReply}
 use Rattle.unl_upstream.specs.declared.refusal.CommandRefusal.{CommandRefusal}
 use Rattle.unl_upstream.specs.declared.refusal.CommandRefusal.TheVariants as plainly
 use Rattle.unl_upstream.specs.declared.refusal.KeepCommandRefusal.{KeepCommandRefusal}
 use Rattle.unl_upstream.specs.declared.refusal.KeepCommandRefusal.TheVariants.{NoSuchEnvironment, NoSuchFeature, NoSuchSegment, TooMany, KeeperFull, KeeperFault, Memory}
-use Rattle.unl_upstream.specs.Answer.{Answered, done, names_commands, order_in, order_of, order_with, refused, told, upstream_answer}
+use Rattle.unl_upstream.specs.Answer.{Answered, done, is_commands_route, order_in, order_of, order_with, refused, told, upstream_answer}
 use Rattle.unl_upstream.specs.Command.{command_in}
 use Rattle.unl_upstream.specs.Kept.{fault_of}
 use Rattle.unl_upstream.specs.KeptServing.{kept_reply}
-use Rattle.unl_upstream.specs.Upstream.{Obeyed, Obeying, UpstreamState, commanded, refused_as}
+use Rattle.unl_upstream.specs.Upstream.{AppliedCommand, CommandResult, UpstreamState, apply_command, refused_as}
 
 -- the reply has a status from 100 to 500, or is a 503 with one of two error names
 abbrev IsPlain : AReply → Type 0
@@ -70,7 +70,7 @@ either : (b : Bool) (x y : AReply) → IsPlain x → IsPlain y → IsPlain (cond
 either true x y p q = p
 either false x y p q = q
 
-unseen : (why : Unseen) → IsPlain (unseen_reply why)
+unseen : (why : TokenRefusal) → IsPlain (token_refusal_reply why)
 unseen NoToken = inl (omega arith)
 unseen UnknownToken = inl (omega arith)
 unseen WrongKind = inl (omega arith)
@@ -84,7 +84,7 @@ object_taken : (found : Option Data) → IsPlain (accepted_if found)
 object_taken None = inl (omega arith)
 object_taken (Some value) = inl (omega arith)
 
-client_taken : (q : Request) (shown : Result Shown Unseen) → IsPlain (registered q shown)
+client_taken : (q : Request) (shown : Result Shown TokenRefusal) → IsPlain (registered q shown)
 client_taken q (Err why) = unseen why
 client_taken q (Ok shown) = object_taken (object_in q.body)
 
@@ -92,7 +92,7 @@ in_context : (board : Board) (draw : Draw) (all : Bool) (ready : Ready) (context
 in_context board draw all ready (Err fault) = inl (omega arith)
 in_context board draw all ready (Ok context) = inl (omega arith)
 
-toggles_told : (board : Board) (q : Request) (draw : Draw) (all : Bool) (ready : Result Ready Unseen) → IsPlain (toggles_reply board q draw all ready)
+toggles_told : (board : Board) (q : Request) (draw : Draw) (all : Bool) (ready : Result Ready TokenRefusal) → IsPlain (toggles_reply board q draw all ready)
 toggles_told board q draw all (Err why) = unseen why
 toggles_told board q draw all (Ok ready) = in_context board draw all ready (asked_context q)
 
@@ -100,7 +100,7 @@ document_told : (found : Option Feature) → IsPlain (document_reply found)
 document_told None = inl (omega arith)
 document_told (Some feature) = inl (omega arith)
 
-feature_told : (name : Option (List ℕ)) (ready : Result Ready Unseen) → IsPlain (feature_reply name ready)
+feature_told : (name : Option (List ℕ)) (ready : Result Ready TokenRefusal) → IsPlain (feature_reply name ready)
 feature_told name (Err why) = unseen why
 feature_told name (Ok ready) = document_told _
 
@@ -108,14 +108,14 @@ inlined_told : (ready : Ready) (tag : List ℕ) (state : Result State InlineRefu
 inlined_told ready tag (Err fault) = inr (inr refl)
 inlined_told ready tag (Ok state) = inl (omega arith)
 
-feed_told : (board : Board) (q : Request) (ready : Result Ready Unseen) → IsPlain (feed_reply board q ready)
+feed_told : (board : Board) (q : Request) (ready : Result Ready TokenRefusal) → IsPlain (feed_reply board q ready)
 feed_told board q (Err why) = unseen why
 feed_told board q (Ok ready) =
     let inlined : Bool = knows_no_segments q in
     either (has_tag (feed_tag board inlined ready) q.tag) _ _ (inl (omega arith))
     (inlined_told ready (feed_tag board inlined ready) (feed_state inlined (seen ready)))
 
-still_told : (board : Board) (ready : Ready) (since : Option ℕ) → IsPlain (still_at board ready since)
+still_told : (board : Board) (ready : Ready) (since : Option ℕ) → IsPlain (not_modified_at board ready since)
 still_told board ready None = inl (omega arith)
 still_told board ready (Some n) = inl (omega arith)
 
@@ -123,13 +123,13 @@ news_told : (board : Board) (ready : Ready) (since : Option ℕ) (answer : Delta
 news_told board ready since Same = still_told board ready since
 news_told board ready since (Sent batch) = inl (omega arith)
 
-delta_told : (board : Board) (q : Request) (ready : Result Ready Unseen) → IsPlain (delta_reply board q ready)
+delta_told : (board : Board) (q : Request) (ready : Result Ready TokenRefusal) → IsPlain (delta_reply board q ready)
 delta_told board q (Err why) = unseen why
 delta_told board q (Ok ready) =
     let since : Option ℕ = since_of board ready.place ready.version.epoch q.tag in
     news_told board ready since (delta_answer ready.version since (sees ready.token.projects))
 
-report_taken : (shown : Result Shown Unseen) (reading : ArgumentOf (reported shown)) → IsPlain (reported shown reading).reply
+report_taken : (shown : Result Shown TokenRefusal) (reading : ArgumentOf (reported shown)) → IsPlain (reported shown reading).reply
 report_taken (Err why) reading = unseen why
 report_taken (Ok shown) (Err fault) = inl (omega arith)
 report_taken (Ok shown) (Ok report) = inl (omega arith)
@@ -170,16 +170,16 @@ refused_plainly plainly.NoSuchSegment = inl (omega arith)
 refused_plainly (plainly.TooMany n) = inl (omega arith)
 refused_plainly plainly.Memory = inl (omega arith)
 
-command_told : (up : UpstreamState) (obeying : Obeying Obeyed) → IsPlain (told up obeying).reply
+command_told : (up : UpstreamState) (obeying : CommandResult AppliedCommand) → IsPlain (told up obeying).reply
 command_told up (Ok obeyed) = inl (omega arith)
 command_told up (Err cause) = refused_plainly cause
 
-either_order : (up : UpstreamState) (b : Bool) (x y : Order) → IsPlain (done up x).reply → IsPlain (done up y).reply → IsPlain (done up (cond b x y)).reply
+either_order : (up : UpstreamState) (b : Bool) (x y : CommandOrReply) → IsPlain (done up x).reply → IsPlain (done up y).reply → IsPlain (done up (cond b x y)).reply
 either_order up true x y p q = p
 either_order up false x y p q = q
 
 body_told : (up : UpstreamState) (reading : Reading Command) → IsPlain (done up (order_in reading)).reply
-body_told up (Ok command) = command_told up (commanded command up)
+body_told up (Ok command) = command_told up (apply_command command up)
 body_told up (Err fault) = inl (omega arith)
 
 token_told : (up : UpstreamState) (q : Request) (token : Option (List ℕ)) → IsPlain (done up (order_with up q token)).reply
@@ -189,7 +189,7 @@ token_told up q (Some token) = either_order up (bytes_eq token up.secret) _ _ (b
 answered_plainly : (up : UpstreamState) (q : Request) (draw : Draw) → IsPlain (upstream_answer up q draw).reply
 unfolding upstream_answer order_of
 answered_plainly up q draw =
-    either_order up (names_commands (route_of q.target)) _ _ (either_order up (is_post q.method) _ _ (token_told up q q.token) (inl (omega arith)))
+    either_order up (is_commands_route (route_of q.target)) _ _ (either_order up (is_post q.method) _ _ (token_told up q q.token) (inl (omega arith)))
     (board_told up.board q draw)
 
 -- so every reply has an HTTP status

@@ -3,7 +3,7 @@ use Rattle.std.specs.Prelude.{ℕ, List, codes, Bool, false, if◌then◌else◌
 use Rattle.std.specs.Str.{bytes_eq}
 use Rattle.serde_json.specs.Data.{object, no_members}
 use Rattle.unl_base.specs.declared.draws.Draw.{Draw}
-use Rattle.unl_core.specs.Answer.{answer_of, bad_method, bare, refusal, reply}
+use Rattle.unl_core.specs.Answer.{answer_of, bad_method, status_only, refusal, reply}
 use Rattle.unl_documents.specs.declared.field.Field.TheVariants as field
 use Rattle.unl_documents.specs.Reading.{Reading}
 use Rattle.unl_documents.specs.Writing.{count, with}
@@ -13,13 +13,13 @@ use Rattle.unl_http_api.specs.declared.route.Route.{Route}
 use Rattle.unl_http_api.specs.declared.route.Route.TheVariants as route
 use Rattle.unl_http_api.specs.Route.{is_commands, is_post, route_of}
 use Rattle.unl_upstream.specs.declared.command.Command.{Command}
-use Rattle.unl_upstream.specs.declared.order.Order.{Order}
-use Rattle.unl_upstream.specs.declared.order.Order.TheVariants.{Obey, Reply}
+use Rattle.unl_upstream.specs.declared.command_or_reply.CommandOrReply.{CommandOrReply}
+use Rattle.unl_upstream.specs.declared.command_or_reply.CommandOrReply.TheVariants.{Execute, Reply}
 use Rattle.unl_upstream.specs.declared.refusal.KeepCommandRefusal.{KeepCommandRefusal}
 use Rattle.unl_upstream.specs.declared.refusal.KeepCommandRefusal.TheVariants.{NoSuchEnvironment, NoSuchFeature}
 use Rattle.unl_upstream.specs.declared.refusal.KeepCommandRefusal.TheVariants.{NoSuchSegment, TooMany, KeeperFull, KeeperFault, Memory}
 use Rattle.unl_upstream.specs.Command.{IsValidCommand, command_in}
-use Rattle.unl_upstream.specs.Upstream.{UpstreamState, Obeying, Obeyed, commanded, refused_as}
+use Rattle.unl_upstream.specs.Upstream.{UpstreamState, CommandResult, AppliedCommand, apply_command, refused_as}
 
 -- a reply, and the upstream after it
 pub record Answered : Type 0 where
@@ -44,48 +44,48 @@ refused NoSuchSegment = refusal 404 (codes "NoSuchSegment")
 refused (TooMany n) = refusal 409 (codes "TooMany")
 refused (KeeperFull count) = refusal 409 (codes "TooMany")
 refused KeeperFault = refusal 503 (codes "KeeperFault")
-refused Memory = bare 500
+refused Memory = status_only 500
 
 -- the reply to a command with this result, and the upstream after it
-abbrev pub told : UpstreamState → Obeying Obeyed → Answered
+abbrev pub told : UpstreamState → CommandResult AppliedCommand → Answered
 told up (Ok obeyed) = record { reply = numbered obeyed.number; up = obeyed.up }
 told up (Err cause) = unchanged up (refused (refused_as cause))
 
 -- ---- all requests
 
 -- the command of a body, or the reply to a bad body
-abbrev pub order_in : Reading Command → Order
-order_in (Ok command) = Obey command
+abbrev pub order_in : Reading Command → CommandOrReply
+order_in (Ok command) = Execute command
 order_in (Err fault) = Reply (refusal 400 (codes "BadBody"))
 
 -- a command must come with the secret as its token
-abbrev pub order_with : UpstreamState → Request → Option (List ℕ) → Order
+abbrev pub order_with : UpstreamState → Request → Option (List ℕ) → CommandOrReply
 order_with up q None = Reply (refusal 401 (codes "NoToken"))
 order_with up q (Some token) =
     if bytes_eq token up.secret then order_in (command_in q.body) else Reply (refusal 403 (codes "UnknownToken"))
 
 -- what a request on the route of commands asks for: it must be a POST
-abbrev pub order_at : UpstreamState → Request → Order
+abbrev pub order_at : UpstreamState → Request → CommandOrReply
 order_at up q = if is_post q.method then order_with up q q.token else Reply (bad_method route.Commands)
 
 -- the route is known, and is that of commands
-abbrev pub names_commands : Option Route → Bool
-names_commands None = false
-names_commands (Some route) = is_commands route
+abbrev pub is_commands_route : Option Route → Bool
+is_commands_route None = false
+is_commands_route (Some route) = is_commands route
 
 -- what a request asks for: a command, or else the reply that Edge gives from the upstream's board; a report is answered but
 -- not kept
-unfoldable pub order_of : UpstreamState → Request → Draw → Order
-order_of up q draw = if names_commands (route_of q.target) then order_at up q else Reply (answer_of up.board q draw).reply
+unfoldable pub order_of : UpstreamState → Request → Draw → CommandOrReply
+order_of up q draw = if is_commands_route (route_of q.target) then order_at up q else Reply (answer_of up.board q draw).reply
 
 -- the feature or segment in a command is within its limits
-abbrev pub IsValidOrder : Order → Type 0
-IsValidOrder (Obey command) = IsValidCommand command
+abbrev pub IsValidOrder : CommandOrReply → Type 0
+IsValidOrder (Execute command) = IsValidCommand command
 IsValidOrder (Reply reply) = Unit {0}
 
 -- the reply to what a request asks for, and the upstream after it
-abbrev pub done : UpstreamState → Order → Answered
-done up (Obey command) = told up (commanded command up)
+abbrev pub done : UpstreamState → CommandOrReply → Answered
+done up (Execute command) = told up (apply_command command up)
 done up (Reply reply) = unchanged up reply
 
 -- the reply to a request, and the upstream after it

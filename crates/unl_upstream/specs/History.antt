@@ -4,24 +4,24 @@ use Rattle.unl_core.specs.Board.{same_text, snapshot_in}
 use Rattle.unl_delta.specs.declared.event.Event.{Event}
 use Rattle.unl_delta.specs.declared.event.Event.TheVariants.{FeatureUpdated, FeatureRemoved, SegmentUpdated, SegmentRemoved}
 use Rattle.unl_delta.specs.declared.version.EnvVersion.{EnvVersion}
-use Rattle.unl_delta.specs.History.{StandsFor, everything}
+use Rattle.unl_delta.specs.History.{Represents, everything}
 use Rattle.unl_delta.specs.State.{empty_state, project_of, step}
 use Rattle.unl_documents.specs.declared.state.State.{State}
 use Rattle.unl_upstream.specs.declared.command.Command.{Command}
 use Rattle.unl_upstream.specs.declared.command.Command.TheVariants.{PutFeature, RemoveFeature, PutSegment, RemoveSegment}
 use Rattle.unl_upstream.specs.Command.{environment_of}
-use Rattle.unl_upstream.specs.Upstream.{UpstreamState, Obeying, Obeyed, commanded}
+use Rattle.unl_upstream.specs.Upstream.{UpstreamState, CommandResult, AppliedCommand, apply_command}
 
 -- ---- the accepted commands
 
 -- the upstream after a command with this result; a refused command changes nothing
-abbrev pub up_after : UpstreamState → Obeying Obeyed → UpstreamState
+abbrev pub up_after : UpstreamState → CommandResult AppliedCommand → UpstreamState
 up_after up (Ok obeyed) = obeyed.up
 up_after up (Err refusal) = up
 
 -- the upstream after one command
 abbrev pub after_command : Command → UpstreamState → UpstreamState
-after_command command up = up_after up (commanded command up)
+after_command command up = up_after up (apply_command command up)
 
 -- the upstream after commands, applied in order
 abbrev pub after_commands : List Command → UpstreamState → UpstreamState
@@ -29,14 +29,14 @@ after_commands [] up = up
 after_commands (command ∷ commands) up = after_commands commands (after_command command up)
 
 -- the other commands, preceded by this one if it was accepted
-abbrev pub if_accepted : Command → Obeying Obeyed → List Command → List Command
+abbrev pub if_accepted : Command → CommandResult AppliedCommand → List Command → List Command
 if_accepted command (Ok obeyed) commands = command ∷ commands
 if_accepted command (Err refusal) commands = commands
 
 -- those commands that are accepted when all are applied in order
 abbrev pub accepted : List Command → UpstreamState → List Command
 accepted [] up = []
-accepted (command ∷ commands) up = if_accepted command (commanded command up) (accepted commands (after_command command up))
+accepted (command ∷ commands) up = if_accepted command (apply_command command up) (accepted commands (after_command command up))
 
 -- the commands for one environment
 abbrev pub for_environment : List ℕ → List Command → List Command
@@ -63,7 +63,7 @@ history_of commands = events_from 0 empty_state commands
 -- the version is of this epoch, represents the history of these commands, and its number is their count
 pub record IsHistoryOf (epoch : ℕ) (commands : List Command) (v : EnvVersion) : Type 0 where
   pub era : v.epoch ≡ epoch
-  pub stands : StandsFor (history_of commands) everything v
+  pub represents : Represents (history_of commands) everything v
   pub number : v.number ≡ length commands
 
 -- ---- what an upstream's versions represent

@@ -13,7 +13,7 @@ use Rattle.unl_upstream.specs.declared.refusal.KeepCommandRefusal.TheVariants.{N
 use Rattle.unl_upstream.specs.Command.{command_in}
 use Rattle.unl_upstream.specs.History.{AreAdded, accepted, after_commands}
 use Rattle.unl_upstream.specs.Requests.{if_read}
-use Rattle.unl_upstream.specs.Upstream.{Obeyed, Obeying, Prepared, UpstreamState, commanded, committed, refused_as}
+use Rattle.unl_upstream.specs.Upstream.{AppliedCommand, CommandResult, Prepared, UpstreamState, apply_command, committed, refused_as}
 use Rattle.unl_upstream.specs.Writing.{command_text}
 
 -- ---- an upstream and its keeper
@@ -70,13 +70,13 @@ abbrev pub most_rows : ℕ
 most_rows = 10000000
 
 -- the result of a command, or that a keeper with `count` rows is full
-abbrev pub with_room : {T : Type 0} → ℕ → Obeying T → Result T KeepCommandRefusal
+abbrev pub with_room : {T : Type 0} → ℕ → CommandResult T → Result T KeepCommandRefusal
 with_room count (Ok x) = if nat_lt count most_rows then Ok x else Err (KeeperFull count)
 with_room count (Err cause) = Err (refused_as cause)
 
 -- the result of keeping a command, unless the keeper fails or memory runs out
-abbrev pub keepable : Command → KeptState → Result Obeyed KeepCommandRefusal
-keepable command state = with_room state.keeper.count (commanded command state.up)
+abbrev pub keepable : Command → KeptState → Result AppliedCommand KeepCommandRefusal
+keepable command state = with_room state.keeper.count (apply_command command state.up)
 
 -- a put succeeded: the text is the last kept row, and no row follows it
 pub record IsWritten (text : List ℕ) (before after : KeeperState) : Type 0 where
@@ -100,14 +100,14 @@ pub record Publishes (ready : Prepared) (text : List ℕ) (before : KeptState) (
   pub row : IsWritten text before.keeper after.keeper
 
 -- the put of a text failed, and nothing was published
-pub record Leaves (text : List ℕ) (before after : KeptState) : Type 0 where
+pub record FailsToPut (text : List ℕ) (before after : KeptState) : Type 0 where
   pub up : after.up ≡ before.up
   pub row : IsFailed text before.keeper after.keeper
 
 -- the result of storing a text and publishing its command
 abbrev pub Puts : Prepared → List ℕ → KeptState → Result ℕ KeepRefusal → KeptState → Type 0
 Puts ready text before (Ok number) after = Publishes ready text before number after
-Puts ready text before (Err put_refusal.Fault) after = Leaves text before after
+Puts ready text before (Err put_refusal.Fault) after = FailsToPut text before after
 Puts ready text before (Err put_refusal.Memory) after = after ≡ before
 
 -- the command was accepted, and its text is the last kept row
@@ -142,15 +142,15 @@ Keeps command before (Err Memory) after = after ≡ before
 -- ---- one after another
 
 -- an attempt to keep a command, and its result
-pub record Tried : Type 0 where
+pub record KeepAttempt : Type 0 where
   pub command : Command
   pub result : Result ℕ KeepCommandRefusal
 
 -- these attempts were made in order
-abbrev pub KeepsAll : List Tried → KeptState → KeptState → Type 0
-KeepsAll [] before after = after ≡ before
-KeepsAll (one ∷ others) before after =
-    (middle : KeptState) × Keeps one.command before one.result middle × KeepsAll others middle after
+abbrev pub AttemptsInOrder : List KeepAttempt → KeptState → KeptState → Type 0
+AttemptsInOrder [] before after = after ≡ before
+AttemptsInOrder (one ∷ others) before after =
+    (middle : KeptState) × Keeps one.command before one.result middle × AttemptsInOrder others middle after
 
 -- the other commands, preceded by this one if it was acknowledged
 abbrev pub if_kept : Command → Result ℕ KeepCommandRefusal → List Command → List Command
@@ -158,7 +158,7 @@ if_kept command (Ok number) others = command ∷ others
 if_kept command (Err refusal) others = others
 
 -- the commands that were acknowledged
-abbrev pub acknowledged : List Tried → List Command
+abbrev pub acknowledged : List KeepAttempt → List Command
 acknowledged [] = []
 acknowledged (one ∷ others) = if_kept one.command one.result (acknowledged others)
 
@@ -174,7 +174,7 @@ fault_of (Err KeeperFault) = 1
 fault_of (Err Memory) = 0
 
 -- the number of attempts at which the keeper failed
-abbrev pub faults_among : List Tried → ℕ
+abbrev pub faults_among : List KeepAttempt → ℕ
 faults_among [] = 0
 faults_among (one ∷ others) = fault_of one.result + faults_among others
 
@@ -190,7 +190,7 @@ failed_by failed command (Err KeeperFault) = command ∷ failed
 failed_by failed command (Err Memory) = failed
 
 -- the same after these attempts in order
-abbrev pub failed_after : List Command → List Tried → List Command
+abbrev pub failed_after : List Command → List KeepAttempt → List Command
 failed_after failed [] = failed
 failed_after failed (one ∷ others) = failed_after (failed_by failed one.command one.result) others
 
@@ -209,7 +209,7 @@ IsOneOf command (other ∷ others) = (other ≡ command) ⊎ IsOneOf command oth
 pub record IsLeft (up : UpstreamState) (failed : List Command) (text : List ℕ) : Type 0 where
   pub command : Command
   pub spelled : command_in text ≡ Ok command
-  pub accepts : IsOk (commanded command up)
+  pub accepts : IsOk (apply_command command up)
   pub one : IsOneOf command failed
 
 -- there is no text, or one text of a command that the upstream accepts and that is in the list
@@ -230,16 +230,16 @@ RoseBy n before now = min (before + n) (2 ^ 64 - 1) ≤ now
 
 -- the acknowledged commands alone changed the upstream, all are accepted, its versions now represent them too, and the keeper
 -- counts them
-pub record Moves (tried : List Tried) (before after : KeptState) : Type 0 where
+pub record Moves (tried : List KeepAttempt) (before after : KeptState) : Type 0 where
   pub leads : after.up ≡ after_commands (acknowledged tried) before.up
   pub all_accepted : accepted (acknowledged tried) before.up ≡ acknowledged tried
   pub versions : AreAdded (acknowledged tried) before.up after.up
   pub counted : after.keeper.count ≡ before.keeper.count + length (acknowledged tried)
 
 -- What held for an upstream and its keeper still holds after these attempts.
-pub record Carries (tried : List Tried) (before after : KeptState) : Type 0 where
+pub record Carries (tried : List KeepAttempt) (before after : KeptState) : Type 0 where
   -- the upstream is still the initial one after the kept commands in order
-  pub stands : (opening : UpstreamState) → IsAfterKept opening before → IsAfterKept opening after
+  pub represents : (opening : UpstreamState) → IsAfterKept opening before → IsAfterKept opening after
   -- exactly the acknowledged commands changed it, and follow the earlier kept commands
   pub moves : Moves tried before after
   pub appended : kept_commands after.keeper ≡ option_map (λ commands. commands ++ acknowledged tried) (kept_commands before.keeper)
@@ -250,13 +250,13 @@ pub record Carries (tried : List Tried) (before after : KeptState) : Type 0 wher
   pub faults : RoseBy (faults_among tried) before.keeper.faults after.keeper.faults
 
 -- some attempts to keep commands were made in order, and nothing else changed the upstream and its keeper
-pub record KeepsSome (before after : KeptState) : Type 0 where
-  pub tried : List Tried
-  pub keeps : KeepsAll tried before after
+pub record SomeAttempts (before after : KeptState) : Type 0 where
+  pub tried : List KeepAttempt
+  pub keeps : AttemptsInOrder tried before after
 
 -- the same, and what held for the upstream and its keeper still holds
-pub record HoldsOn (before after : KeptState) : Type 0 where
-  pub some : KeepsSome before after
+pub record AttemptsPreserve (before after : KeptState) : Type 0 where
+  pub some : SomeAttempts before after
   pub carries : Carries some.tried before after
 
 -- there are at least as many rows as are kept
@@ -266,9 +266,9 @@ HasKept keeper = IfSome keeper.rows (λ list. keeper.count ≤ length list)
 -- any attempts to keep commands, with any faults, preserve what held for an upstream and its keeper
 abbrev pub KeepingCarries : Type 0
 KeepingCarries =
-    (tried : List Tried) (before after : KeptState) → HasKept before.keeper → KeepsAll tried before after → Carries tried before after
+    (tried : List KeepAttempt) (before after : KeptState) → HasKept before.keeper → AttemptsInOrder tried before after → Carries tried before after
 
 -- attempts after other attempts are attempts too
-abbrev pub KeepingGoesOn : Type 0
-KeepingGoesOn = (first second : List Tried) (before middle after : KeptState) → KeepsAll first before middle → KeepsAll second middle after
-    → KeepsAll (first ++ second) before after
+abbrev pub KeepingContinues : Type 0
+KeepingContinues = (first second : List KeepAttempt) (before middle after : KeptState) → AttemptsInOrder first before middle → AttemptsInOrder second middle after
+    → AttemptsInOrder (first ++ second) before after

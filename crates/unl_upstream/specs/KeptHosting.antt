@@ -2,16 +2,16 @@
 -- its links or of draws is `None`.
 use Rattle.std.specs.Prelude.{◌≡◌, ℕ, ◌+◌, ◌⊎◌, List, [], ◌∷◌, ◌++◌, length, Result, ⊤}
 use Rattle.unl_base.specs.declared.Failed.{Failed}
-use Rattle.unl_exchange.specs.Answering.{Coming}
-use Rattle.unl_exchange.specs.Conversation.{Answered}
-use Rattle.unl_exchange.specs.Linked.{HandsBack, Linked as LinkedBy, Linking}
+use Rattle.unl_server.specs.Handling.{Coming}
+use Rattle.unl_server.specs.Conversation.{Answered}
+use Rattle.unl_server.specs.Linked.{HandsBack, Linked as LinkedBy, Linking}
 use Rattle.unl_http_api.specs.declared.end.End.TheVariants.{Memory}
 use Rattle.unl_http_api.specs.declared.request.Request.{Request}
 use Rattle.unl_http_api.specs.Session.{Reads}
 use Rattle.unl_upstream.specs.declared.command.Command.{Command}
 use Rattle.unl_upstream.specs.History.{after_commands}
-use Rattle.unl_upstream.specs.Kept.{KeepsAll, KeepsSome, KeptState, Tried, acknowledged, faults_among}
-use Rattle.unl_upstream.specs.KeptServing.{KeepsOn, KeptServing, Lacks, NoKeeperFault, Step, serving, tried_in}
+use Rattle.unl_upstream.specs.Kept.{AttemptsInOrder, SomeAttempts, KeptState, KeepAttempt, acknowledged, faults_among}
+use Rattle.unl_upstream.specs.KeptServing.{ServesKept, KeptServing, RunsOutAtRequest, NoKeeperFault, Step, serving, tried_in}
 use Rattle.unl_upstream.specs.Served.{draws_after}
 use Rattle.unl_upstream.specs.Served.{HostsAllBy, LinkServedBy}
 use Rattle.unl_upstream.specs.Upstream.{UpstreamState}
@@ -19,13 +19,13 @@ use Rattle.unl_upstream.specs.Upstream.{UpstreamState}
 -- A link that gave these bytes was served; the pair is what it had sent, and its fault count. A number of its requests were
 -- answered, each with the next draw. Attempts to keep their commands are all that changed the upstream and its keeper.
 abbrev pub LinkServed : KeptState → Coming → List ℕ → List ℕ × ℕ → KeptState → Coming → Type 0
-LinkServed = LinkServedBy Step Lacks KeepsOn
+LinkServed = LinkServedBy Step RunsOutAtRequest ServesKept
 
 -- ---- links one after another
 
 -- from every state from which attempts to keep commands lead to `before`, attempts also lead to `after`
-abbrev pub GoesOn : KeptState → KeptState → Type 0
-GoesOn before after = (start : KeptState) → KeepsSome start before → KeepsSome start after
+abbrev pub ExtendsAttempts : KeptState → KeptState → Type 0
+ExtendsAttempts before after = (start : KeptState) → SomeAttempts start before → SomeAttempts start after
 
 -- Links that gave these bytes were served one after another; the pairs are what each had sent, and its fault count.
 abbrev pub Linked : KeptState → Coming → List (List ℕ) → List (List ℕ × ℕ) → KeptState → Coming → Type 0
@@ -53,7 +53,7 @@ pub record IsNamed (start : UpstreamState) (reopened : ℕ) (commands : List Com
 
 -- A link was served. `requests` are its first requests, as many as were answered. `commands` are those of their commands that
 -- were accepted and kept. One draw was taken for each answered request, and perhaps one more if memory ran out.
-pub record LinkNames
+pub record LinkEffect
     (before : KeptState) (coming : Coming) (bytes : List ℕ) (back : List ℕ × ℕ) (commands : List Command) (taken : ℕ)
     (after : KeptState) (coming_after : Coming) : Type 0 where
   pub served : LinkServed before coming bytes back after coming_after
@@ -77,7 +77,7 @@ LinkedByNames start reopened coming commands gone state [] (back ∷ backs) comm
 LinkedByNames start reopened coming commands gone state (bytes ∷ links) [] commands_after gone_after after = ⊥
 LinkedByNames start reopened coming commands gone state (bytes ∷ links) (back ∷ backs) commands_after gone_after after =
     (more : List Command) × (taken : ℕ) × (middle : KeptState)
-    × LinkNames state (draws_after gone coming) bytes back more taken middle (draws_after (gone + taken) coming)
+    × LinkEffect state (draws_after gone coming) bytes back more taken middle (draws_after (gone + taken) coming)
     × IsNamed start reopened (commands ++ more) middle
     × LinkedByNames start reopened coming (commands ++ more) (gone + taken) middle links backs commands_after gone_after after
 
@@ -96,7 +96,7 @@ NoKeeperFaults start reopened coming commands gone state (bytes ∷ links) (back
 -- Links were served, and the state after them is described by commands and draws from `start` on. Attempts to keep the
 -- commands of all their requests, in order, are all that changed the upstream and its keeper. If the keeper failed at none of
 -- them, no reply is 503 `KeeperFault`.
-pub record LinksName
+pub record AllLinksEffect
     (start : UpstreamState) (reopened : ℕ) (coming : Coming) (commands : List Command) (gone : ℕ) (state : KeptState)
     (links : List (List ℕ)) (backs : List (List ℕ × ℕ)) (after : KeptState) (coming_after : Coming) : Type 0 where
   pub commands_after : List Command
@@ -104,8 +104,8 @@ pub record LinksName
   pub linked : LinkedByNames start reopened coming commands gone state links backs commands_after gone_after after
   pub named : IsNamed start reopened commands_after after
   pub draws : coming_after ≡ draws_after gone_after coming
-  pub tried : List Tried
-  pub keeps : KeepsAll tried state after
+  pub tried : List KeepAttempt
+  pub keeps : AttemptsInOrder tried state after
   pub adds : commands_after ≡ commands ++ acknowledged tried
   pub calm : faults_among tried ≡ 0
       → NoKeeperFaults start reopened coming commands gone state links backs commands_after gone_after after linked
@@ -115,4 +115,4 @@ abbrev pub KeptLinksNameCommands : Type 0
 KeptLinksNameCommands = (start : UpstreamState) (reopened : ℕ) (coming : Coming) (commands : List Command) (gone : ℕ) (state : KeptState)
     (links : List (List ℕ)) (backs : List (List ℕ × ℕ)) (after : KeptState) (coming_after : Coming)
     → IsNamed start reopened commands state → Linked state (draws_after gone coming) links backs after coming_after
-    → LinksName start reopened coming commands gone state links backs after coming_after
+    → AllLinksEffect start reopened coming commands gone state links backs after coming_after

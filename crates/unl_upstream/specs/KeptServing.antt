@@ -1,9 +1,9 @@
 -- An upstream that keeps its commands, on a connection.
 use Rattle.std.specs.Prelude.{◌≡◌, ◌≢◌, ℕ, ◌+◌, List, [], ◌∷◌, ◌++◌, Option, Some, None, Result, Ok, Err, ⊤}
 use Rattle.unl_base.specs.declared.draws.Draw.{Draw}
-use Rattle.unl_exchange.specs.Answering.{Answerer, Answers, Coming, LacksMemory, answerer}
-use Rattle.unl_exchange.specs.Conversation.{Answered, Reaches}
-use Rattle.unl_exchange.specs.Links.{LinkState}
+use Rattle.unl_server.specs.Handling.{HandlerState, Answers, Coming, RunsOutOfMemory, answerer}
+use Rattle.unl_server.specs.Conversation.{Answered, Reaches}
+use Rattle.unl_server.specs.Links.{LinkState}
 use Rattle.unl_http_api.specs.declared.end.End.{End}
 use Rattle.unl_http_api.specs.declared.reply.Reply.{Reply}
 use Rattle.unl_http_api.specs.declared.request.Request.{Request}
@@ -11,7 +11,7 @@ use Rattle.unl_upstream.specs.declared.command.Command.{Command}
 use Rattle.unl_upstream.specs.declared.refusal.KeepCommandRefusal.{KeepCommandRefusal}
 use Rattle.unl_upstream.specs.declared.refusal.KeepCommandRefusal.TheVariants.{KeeperFault, Memory}
 use Rattle.unl_upstream.specs.Answer.{numbered, refused, unchanged, upstream_answer}
-use Rattle.unl_upstream.specs.Kept.{Carries, Keeps, KeepsAll, KeptState, Tried, faults_among}
+use Rattle.unl_upstream.specs.Kept.{Carries, Keeps, AttemptsInOrder, KeptState, KeepAttempt, faults_among}
 use Rattle.unl_upstream.specs.Requests.{command_given}
 use Rattle.unl_upstream.specs.Served.{ServesLinkBy}
 
@@ -44,7 +44,7 @@ GivesUp before q draw after = after ≡ before
 
 -- the attempt to keep the command of one request, if it gives one
 abbrev pub tried_of : (given : Option Command) (before : KeptState) (q : Request) (draw : Draw) (reply : Reply) (after : KeptState)
-    → Tells given before q draw reply after → List Tried
+    → Tells given before q draw reply after → List KeepAttempt
 tried_of None before q draw reply after tells = []
 tried_of (Some command) before q draw reply after tells = record { command = command; result = tells.result } ∷ []
 
@@ -52,7 +52,7 @@ tried_of (Some command) before q draw reply after tells = record { command = com
 -- the reply is not 503 `KeeperFault`.
 pub record CarriesAnswer (before : KeptState) (q : Request) (draw : Draw) (reply : Reply) (after : KeptState) : Type 0 where
   pub gives : Gives before q draw reply after
-  pub tried : List Tried
+  pub tried : List KeepAttempt
   pub are : tried ≡ tried_of (command_given before.up.secret q) before q draw reply after gives
   pub carries : Carries tried before after
   pub calm : faults_among tried ≡ 0 → reply ≢ refused KeeperFault
@@ -61,7 +61,7 @@ pub record CarriesAnswer (before : KeptState) (q : Request) (draw : Draw) (reply
 
 -- an upstream with its keeper, the number of requests of the connection that it has answered, and the upcoming draws
 abbrev pub KeptServing : Type 0
-KeptServing = Answerer KeptState
+KeptServing = HandlerState KeptState
 
 -- these three as one record
 abbrev pub serving : KeptState → ℕ → Coming → KeptServing
@@ -72,12 +72,12 @@ abbrev pub Step : KeptServing → Request → Reply → KeptServing → Type 0
 Step = Answers Gives
 
 -- a draw was taken, and then memory ran out
-abbrev pub Lacks : KeptServing → Request → KeptServing → Type 0
-Lacks = LacksMemory GivesUp
+abbrev pub RunsOutAtRequest : KeptServing → Request → KeptServing → Type 0
+RunsOutAtRequest = RunsOutOfMemory GivesUp
 
 -- the attempts to keep the commands of answered requests, in order
 abbrev pub tried_in : (count : ℕ) (before : KeptServing) (qs : List Request) (text : List ℕ) (after : KeptServing)
-    → Answered Step count before qs text after → List Tried
+    → Answered Step count before qs text after → List KeepAttempt
 tried_in count before [] text after answered = []
 tried_in count before (q ∷ qs) text after (reply, middle, more, step, split, rest) =
     tried_of (command_given before.state.up.secret q) before.state q step.draw reply middle.state step.given
@@ -92,14 +92,14 @@ NoKeeperFault count before (q ∷ qs) text after (reply, middle, more, step, spl
 
 -- In every case `count` requests were answered in order, and attempts to keep their commands are all that changed the
 -- upstream and its keeper. If the keeper failed at none of them, no reply is 503 `KeeperFault`.
-pub record KeepsOn (before : KeptServing) (end : End) (count : ℕ) (after : KeptServing) : Type 0 where
-  pub reaches : Reaches Step Lacks before end after count
-  pub tried : List Tried
+pub record ServesKept (before : KeptServing) (end : End) (count : ℕ) (after : KeptServing) : Type 0 where
+  pub reaches : Reaches Step RunsOutAtRequest before end after count
+  pub tried : List KeepAttempt
   pub are : tried ≡ tried_in 0 before reaches.requests reaches.text reaches.reached reaches.answered
-  pub keeps : KeepsAll tried before.state after.state
+  pub keeps : AttemptsInOrder tried before.state after.state
   pub carries : Carries tried before.state after.state
   pub calm : faults_among tried ≡ 0 → NoKeeperFault 0 before reaches.requests reaches.text reaches.reached reaches.answered
 
 -- a link was served
 abbrev pub ServesLink : KeptState → Coming → LinkState → LinkState → KeptState → Coming → Type 0
-ServesLink = ServesLinkBy Step Lacks KeepsOn
+ServesLink = ServesLinkBy Step RunsOutAtRequest ServesKept

@@ -3,7 +3,7 @@ use Rattle.std.specs.Prelude.{◌≡◌, ℕ, List, [], ◌∷◌, is_some}
 use Rattle.std.specs.List.{list_any}
 use Rattle.unl_core.specs.Board.{same_text, snapshot_in}
 use Rattle.unl_delta.specs.declared.version.EnvVersion.{EnvVersion}
-use Rattle.unl_delta.specs.History.{Era, IsLine, StandsIn, everything}
+use Rattle.unl_delta.specs.History.{Era, IsLine, RepresentsLine, everything}
 use Rattle.unl_tokens.specs.declared.token.Token.{Token}
 use Rattle.unl_upstream.specs.declared.command.Command.{Command}
 use Rattle.unl_upstream.specs.Upstream.{UpstreamState, opening}
@@ -14,16 +14,16 @@ abbrev pub line_of : ℕ → List Command → List Era
 line_of epoch commands = record { epoch = epoch; history = history_of commands } ∷ []
 
 -- each environment's version represents the history of its accepted commands, in the epoch that the upstream began with
-abbrev pub VersionsStand : Type 0
-VersionsStand =
+abbrev pub VersionsMatchHistory : Type 0
+VersionsMatchHistory =
     (boot : ℕ) (secret : List ℕ) (environments : List (List ℕ)) (book : List Token) (epoch : ℕ) (commands : List Command)
     → AreHistories epoch (accepted commands (opening boot secret environments book epoch))
     (after_commands commands (opening boot secret environments book epoch))
 
 -- a version that represents such a history belongs to that line, for a client that sees all projects
-abbrev pub VersionsStandInLines : Type 0
-VersionsStandInLines = (epoch : ℕ) (commands : List Command) (v : EnvVersion) → IsHistoryOf epoch commands v
-    → IsLine (line_of epoch commands) × StandsIn (line_of epoch commands) everything v
+abbrev pub VersionsBelongToLines : Type 0
+VersionsBelongToLines = (epoch : ℕ) (commands : List Command) (v : EnvVersion) → IsHistoryOf epoch commands v
+    → IsLine (line_of epoch commands) × RepresentsLine (line_of epoch commands) everything v
 
 -- an environment has a version exactly if the upstream began with it
 abbrev pub EnvironmentsStay : Type 0

@@ -11,7 +11,7 @@ use Rattle.unl_upstream.specs.declared.reopening.ReopenFault.{ReopenFault}
 use Rattle.unl_upstream.specs.declared.reopening.ReopenFault.TheVariants.{BadRow, NoRow, Fault, Memory}
 use Rattle.unl_upstream.specs.Command.{command_in}
 use Rattle.unl_upstream.specs.Kept.{IsAfterKept, IsOneOf, KeeperState, KeptState, LeavesOne, kept_commands, kept_state}
-use Rattle.unl_upstream.specs.Upstream.{Obeyed, Obeying, UpstreamState, commanded, opening}
+use Rattle.unl_upstream.specs.Upstream.{AppliedCommand, CommandResult, UpstreamState, apply_command, opening}
 
 -- it is an initial upstream, which has applied no command
 abbrev pub IsOpening : UpstreamState → Type 0
@@ -21,13 +21,13 @@ IsOpening up = (boot : ℕ) × (secret : List ℕ) × (environments : List (List
 -- ---- one row
 
 -- the upstream after a command, if the command is accepted
-abbrev pub if_obeyed : Obeying Obeyed → Option UpstreamState
+abbrev pub if_obeyed : CommandResult AppliedCommand → Option UpstreamState
 if_obeyed (Ok obeyed) = Some obeyed.up
 if_obeyed (Err cause) = None
 
 -- the upstream after the command that a text is read as, if it is one and is accepted
 abbrev pub after_reading : UpstreamState → Reading Command → Option UpstreamState
-after_reading up (Ok command) = if_obeyed (commanded command up)
+after_reading up (Ok command) = if_obeyed (apply_command command up)
 after_reading up (Err fault) = None
 
 -- the upstream after the command of a row; `None` if the row is no command or its command is refused
@@ -46,12 +46,12 @@ pub record TakesRow (before : ℕ) (rows : Option (List (List ℕ))) (up after :
   pub leads : row_after text up ≡ Some after
 
 -- why the row after the first `before` ones was not applied
-abbrev pub Bars : ℕ → Option (List (List ℕ)) → ℕ → ℕ → UpstreamState → ReopenFault → Type 0
-Bars before rows faults faults_after up (BadRow place text) = (place ≡ before + 1) × (row_after text up ≡ None)
+abbrev pub WhyRowFails : ℕ → Option (List (List ℕ)) → ℕ → ℕ → UpstreamState → ReopenFault → Type 0
+WhyRowFails before rows faults faults_after up (BadRow place text) = (place ≡ before + 1) × (row_after text up ≡ None)
     × IfSome rows (λ list. slice_get list before ≡ Some text)
-Bars before rows faults faults_after up (NoRow place) = (place ≡ before + 1) × (rows ≡ None)
-Bars before rows faults faults_after up Fault = Rose faults faults_after
-Bars before rows faults faults_after up Memory = ⊤
+WhyRowFails before rows faults faults_after up (NoRow place) = (place ≡ before + 1) × (rows ≡ None)
+WhyRowFails before rows faults faults_after up Fault = Rose faults faults_after
+WhyRowFails before rows faults faults_after up Memory = ⊤
 
 -- the fault that a refusal of the keeper becomes on reopening
 abbrev pub fault_of : KeepRefusal → ReopenFault
@@ -80,20 +80,20 @@ pub record Reopened (before : KeptState) (count : ℕ) (after : KeptState) : Typ
   pub counted : count ≡ after.keeper.count
   pub whole : IfSome after.keeper.rows (λ list. count ≡ length list)
   pub applied : Applies before.up after.keeper.rows count after.up
-  pub stands : IsAfterKept before.up after
+  pub represents : IsAfterKept before.up after
   pub left : LeavesOne after []
 
 -- the rows before row `place` were applied, and `At` holds for their number
-abbrev pub Before : KeptState → ℕ → KeptState → (ℕ → Type 0) → Type 0
-Before before place after At = (count : ℕ) × (place ≡ count + 1) × (place ≤ after.keeper.count)
+abbrev pub AppliesRowsBefore : KeptState → ℕ → KeptState → (ℕ → Type 0) → Type 0
+AppliesRowsBefore before place after At = (count : ℕ) × (place ≡ count + 1) × (place ≤ after.keeper.count)
     × Applies before.up after.keeper.rows count after.up × At count
 
 -- the result of reopening
 abbrev pub Reopens : KeptState → Result ℕ ReopenFault → KeptState → Type 0
 Reopens before (Ok count) after = Reopened before count after
-Reopens before (Err (BadRow place text)) after = Before before place after
+Reopens before (Err (BadRow place text)) after = AppliesRowsBefore before place after
     (λ count. (row_after text after.up ≡ None) × IfSome after.keeper.rows (λ list. slice_get list count ≡ Some text))
-Reopens before (Err (NoRow place)) after = Before before place after (λ count. after.keeper.rows ≡ None)
+Reopens before (Err (NoRow place)) after = AppliesRowsBefore before place after (λ count. after.keeper.rows ≡ None)
 Reopens before (Err Fault) after =
     Rose before.keeper.faults after.keeper.faults × (count : ℕ) × Applies before.up after.keeper.rows count after.up
 Reopens before (Err Memory) after = (count : ℕ) × Applies before.up after.keeper.rows count after.up
@@ -115,7 +115,7 @@ pub record GivesBack
   pub more : List Command
   pub few : IsAtMostOne more failed
   pub commands : kept_commands reopened.keeper ≡ option_map (λ kept. kept ++ more) (kept_commands before.keeper)
-  pub stands : IsAfterKept fresh reopened
+  pub represents : IsAfterKept fresh reopened
 
 -- If an upstream is the initial one after the kept commands, and at most one row of a failed put follows them, then reopening
 -- the keeper with an initial upstream of the same slots restores these.

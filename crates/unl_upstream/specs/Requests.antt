@@ -5,7 +5,7 @@ use Rattle.unl_documents.specs.Reading.{Reading}
 use Rattle.unl_http_api.specs.declared.request.Request.{Request}
 use Rattle.unl_http_api.specs.Route.{is_post, route_of}
 use Rattle.unl_upstream.specs.declared.command.Command.{Command}
-use Rattle.unl_upstream.specs.Answer.{names_commands}
+use Rattle.unl_upstream.specs.Answer.{is_commands_route}
 use Rattle.unl_upstream.specs.Command.{command_in}
 
 -- the command that was read, if any
@@ -20,4 +20,4 @@ shown_with secret q (Some token) = if bytes_eq token secret then if_read (comman
 
 -- the command that a request gives, if any
 abbrev pub command_given : List ℕ → Request → Option Command
-command_given secret q = if names_commands (route_of q.target) && is_post q.method then shown_with secret q q.token else None
+command_given secret q = if is_commands_route (route_of q.target) && is_post q.method then shown_with secret q q.token else None

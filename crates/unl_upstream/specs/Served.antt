@@ -2,10 +2,10 @@
 use Rattle.std.specs.Prelude.{◌≡◌, ℕ, List, [], Option, Some, Result, Ok, Err, drop, option_map}
 use Rattle.unl_base.specs.Faults.{Rose}
 use Rattle.unl_base.specs.declared.Failed.{Failed}
-use Rattle.unl_exchange.specs.Answering.{Answerer, Coming, answerer}
-use Rattle.unl_exchange.specs.Conversation.{Concludes, Converses, GivesUp}
-use Rattle.unl_exchange.specs.Linked.{HandsBack, Linking}
-use Rattle.unl_exchange.specs.Links.{LinkState}
+use Rattle.unl_server.specs.Handling.{HandlerState, Coming, answerer}
+use Rattle.unl_server.specs.Conversation.{Concludes, Converses, GivesUp}
+use Rattle.unl_server.specs.Linked.{HandsBack, Linking}
+use Rattle.unl_server.specs.Links.{LinkState}
 use Rattle.unl_http_api.specs.declared.end.End.{End}
 use Rattle.unl_http_api.specs.declared.end.End.TheVariants.{ReadFault, WriteFault, Memory}
 use Rattle.unl_http_api.specs.declared.reply.Reply.{Reply}
@@ -17,19 +17,19 @@ draws_after gone coming = option_map (λ told. (drop gone told.0, told.1)) comin
 
 -- a link was served: `count` of its requests were answered, with these changes
 pub record ServesLinkBy
-    {S : Type 0} (Step : Answerer S → Request → Reply → Answerer S → Type 0) (Lacks : Answerer S → Request → Answerer S → Type 0)
-    (Changes : Answerer S → End → ℕ → Answerer S → Type 0) (before : S) (coming : Coming) (link link_after : LinkState) (after : S)
+    {S : Type 0} (Step : HandlerState S → Request → Reply → HandlerState S → Type 0) (RunsOutAtRequest : HandlerState S → Request → HandlerState S → Type 0)
+    (Changes : HandlerState S → End → ℕ → HandlerState S → Type 0) (before : S) (coming : Coming) (link link_after : LinkState) (after : S)
     (coming_after : Coming) : Type 0 where
   pub count : ℕ
   pub end : End
-  pub conversation : Converses Step Lacks link (answerer before 0 coming) end (answerer after count coming_after) count link_after
+  pub conversation : Converses Step RunsOutAtRequest link (answerer before 0 coming) end (answerer after count coming_after) count link_after
   pub changes : Changes (answerer before 0 coming) end count (answerer after count coming_after)
 
 -- A link that gave these bytes was served; `back` is what it had sent, and its fault count. `count` of its requests were
 -- answered, each with the next draw, with these changes.
 pub record LinkServedBy
-    {S : Type 0} (Step : Answerer S → Request → Reply → Answerer S → Type 0) (Lacks : Answerer S → Request → Answerer S → Type 0)
-    (Changes : Answerer S → End → ℕ → Answerer S → Type 0) (before : S) (coming : Coming) (bytes : List ℕ) (back : List ℕ × ℕ)
+    {S : Type 0} (Step : HandlerState S → Request → Reply → HandlerState S → Type 0) (RunsOutAtRequest : HandlerState S → Request → HandlerState S → Type 0)
+    (Changes : HandlerState S → End → ℕ → HandlerState S → Type 0) (before : S) (coming : Coming) (bytes : List ℕ) (back : List ℕ × ℕ)
     (after : S) (coming_after : Coming) : Type 0 where
   pub count : ℕ
   pub end : End
@@ -37,7 +37,7 @@ pub record LinkServedBy
   pub conversation : Concludes Step bytes (Some []) (answerer before 0 coming) end (answerer after count coming_after) left_after
       (Some back.0)
   pub memory : end ≡ Memory
-      → GivesUp Step Lacks bytes (Some []) 0 (answerer before 0 coming) (answerer after count coming_after) (Some back.0) back.1
+      → GivesUp Step RunsOutAtRequest bytes (Some []) 0 (answerer before 0 coming) (answerer after count coming_after) (Some back.0) back.1
   pub changes : Changes (answerer before 0 coming) end count (answerer after count coming_after)
   pub read_cause : end ≡ ReadFault → Rose 0 back.1
   pub write_cause : end ≡ WriteFault → Rose 0 back.1

@@ -1,7 +1,7 @@
 -- An upstream on a connection: each request is answered, and its command, if it gives one, is applied, in order.
 use Rattle.std.specs.Prelude.{◌≡◌, ℕ, List, [], ◌∷◌, ◌++◌, length, option_to_list}
 use Rattle.unl_base.specs.declared.draws.Draw.{Draw}
-use Rattle.unl_exchange.specs.Answering.{Answerer, Answers, Coming, LacksMemory, answerer}
+use Rattle.unl_server.specs.Handling.{HandlerState, Answers, Coming, RunsOutOfMemory, answerer}
 use Rattle.unl_http_api.specs.declared.reply.Reply.{Reply}
 use Rattle.unl_http_api.specs.declared.request.Request.{Request}
 use Rattle.unl_upstream.specs.declared.command.Command.{Command}
@@ -22,7 +22,7 @@ GivesUp up q draw up_after = up_after ≡ up
 
 -- an upstream, the number of requests of the connection that it has answered, and the upcoming draws
 abbrev pub Serving : Type 0
-Serving = Answerer UpstreamState
+Serving = HandlerState UpstreamState
 
 -- these three as one record
 abbrev pub serving : UpstreamState → ℕ → Coming → Serving
@@ -33,8 +33,8 @@ abbrev pub Step : Serving → Request → Reply → Serving → Type 0
 Step = Answers Gives
 
 -- a draw was taken, and then memory ran out
-abbrev pub Lacks : Serving → Request → Serving → Type 0
-Lacks = LacksMemory GivesUp
+abbrev pub RunsOutAtRequest : Serving → Request → Serving → Type 0
+RunsOutAtRequest = RunsOutOfMemory GivesUp
 
 -- ---- the commands among requests
 

@@ -54,8 +54,8 @@ opening boot secret environments book epoch = record { board = opening_board boo
 -- ---- the event of a command
 
 -- the result of a command, or why it is refused
-abbrev pub Obeying : Type 0 → Type 0
-Obeying T = Result T CommandRefusal
+abbrev pub CommandResult : Type 0 → Type 0
+CommandResult T = Result T CommandRefusal
 
 -- the maximum number of features in an environment
 abbrev pub most_features : ℕ
@@ -82,47 +82,47 @@ abbrev pub has_segment : ℕ → List Segment → Bool
 has_segment id segments = list_any (λ segment. segment.id == id) segments
 
 -- there is room if the item exists already, or the count is below the maximum
-abbrev pub room_for : Bool → ℕ → ℕ → Obeying (Unit {0})
-room_for stands most count = if stands || nat_lt count most then Ok tt else Err (TooMany count)
+abbrev pub room_for : Bool → ℕ → ℕ → CommandResult (Unit {0})
+room_for represents most count = if represents || nat_lt count most then Ok tt else Err (TooMany count)
 
 -- the item to remove must exist
-abbrev pub found : Bool → CommandRefusal → Obeying (Unit {0})
-found stands refusal = if stands then Ok tt else Err refusal
+abbrev pub found : Bool → CommandRefusal → CommandResult (Unit {0})
+found represents refusal = if represents then Ok tt else Err refusal
 
 -- the next version number, or a refusal at the last one
-abbrev pub number_after : ℕ → Obeying ℕ
+abbrev pub number_after : ℕ → CommandResult ℕ
 number_after n = if n == last_number then Err (TooMany n) else Ok (n + 1)
 
 -- the event that adds a feature, or replaces the one with the same name
-unfoldable pub feature_put : Feature → EnvVersion → Obeying Event
+unfoldable pub feature_put : Feature → EnvVersion → CommandResult Event
 feature_put feature v = do
   room ← room_for (has_feature feature.name v.state.features) most_features (length v.state.features)
   number ← number_after v.number
   Ok (FeatureUpdated number feature)
 
 -- the event that removes a feature, with the project of that feature
-unfoldable pub feature_removed : List ℕ → EnvVersion → Obeying Event
+unfoldable pub feature_removed : List ℕ → EnvVersion → CommandResult Event
 feature_removed name v = do
   project ← ok_or (project_of name v.state.features) NoSuchFeature
   number ← number_after v.number
   Ok (FeatureRemoved number name project)
 
 -- the event that adds a segment, or replaces the one with the same id
-unfoldable pub segment_put : Segment → EnvVersion → Obeying Event
+unfoldable pub segment_put : Segment → EnvVersion → CommandResult Event
 segment_put segment v = do
   room ← room_for (has_segment segment.id v.state.segments) most_segments (length v.state.segments)
   number ← number_after v.number
   Ok (SegmentUpdated number segment)
 
 -- the event that removes a segment
-unfoldable pub segment_removed : ℕ → EnvVersion → Obeying Event
+unfoldable pub segment_removed : ℕ → EnvVersion → CommandResult Event
 segment_removed id v = do
-  stands ← found (has_segment id v.state.segments) NoSuchSegment
+  represents ← found (has_segment id v.state.segments) NoSuchSegment
   number ← number_after v.number
   Ok (SegmentRemoved number id)
 
 -- the event of a command at a version, numbered one above it
-abbrev pub event_of : Command → EnvVersion → Obeying Event
+abbrev pub event_of : Command → EnvVersion → CommandResult Event
 event_of (PutFeature environment feature) v = feature_put feature v
 event_of (RemoveFeature environment name) v = feature_removed name v
 event_of (PutSegment environment segment) v = segment_put segment v
@@ -156,7 +156,7 @@ pub record Prepared : Type 0 where
   pub from : List Slot
 
 -- the prepared command: the new version of its environment, not yet published
-unfoldable pub prepared : Command → UpstreamState → Obeying Prepared
+unfoldable pub prepared : Command → UpstreamState → CommandResult Prepared
 prepared command up = do
   slot ← ok_or (place_in (environment_of command) up.board.slots) NoSuchEnvironment
   version ← ok_or (snapshot_in (environment_of command) up.board.slots) NoSuchEnvironment
@@ -168,13 +168,13 @@ abbrev pub committed : Prepared → UpstreamState → UpstreamState
 committed ready up = record up { board = with_snapshot ready.slot ready.snapshot up.board }
 
 -- the upstream after a command, and the new version number of the command's environment
-pub record Obeyed : Type 0 where
+pub record AppliedCommand : Type 0 where
   pub up : UpstreamState
   pub number : ℕ
 
 -- the effect of a command: the first refusal that applies, or else its event is published
-unfoldable pub commanded : Command → UpstreamState → Obeying Obeyed
-commanded command up = do
+unfoldable pub apply_command : Command → UpstreamState → CommandResult AppliedCommand
+apply_command command up = do
   ready ← prepared command up
   Ok (record { up = committed ready up; number = ready.number })
 

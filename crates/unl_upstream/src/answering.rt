@@ -6,15 +6,15 @@ ghost use Rattle.unl_core.specs.Answer.{refusal};
 ghost use Rattle.unl_documents.specs.declared.field.Field.TheVariants as field;
 ghost use Rattle.unl_documents.specs.Writing.{count, with};
 ghost use Rattle.unl_http_api.specs.Route.{route_of};
-ghost use Rattle.unl_upstream.specs.Answer.{IsValidOrder, names_commands, numbered, order_at, order_in, order_of};
+ghost use Rattle.unl_upstream.specs.Answer.{IsValidOrder, is_commands_route, numbered, order_at, order_in, order_of};
 ghost use Rattle.unl_upstream.specs.Answer.{refused, told, upstream_answer};
 ghost use Rattle.unl_upstream.specs.Command.{IsValidCommand, command_in};
 ghost use Rattle.unl_upstream.specs.History.{AreAdded, accepted};
 ghost use Rattle.unl_upstream.specs.Requests.{command_given};
-ghost use Rattle.unl_upstream.specs.Upstream.{commanded};
+ghost use Rattle.unl_upstream.specs.Upstream.{apply_command};
 
 use crate::command::Command;
-use crate::order::Order;
+use crate::command_or_reply::CommandOrReply;
 use crate::reading::read_command_bytes;
 use crate::refusal::{CommandRefusal, KeepCommandRefusal};
 use crate::upstream::Upstream;
@@ -24,7 +24,7 @@ use std::alloc::Global;
 use unl_base::Draw;
 use unl_core::answer;
 use unl_core::reply::{made, refuse, refuse_method};
-use unl_documents::written::put;
+use unl_documents::to_value::put;
 use unl_documents::{BadDocument, Field, List, Memory};
 use unl_http_api::{Reply, Request, Route, is_post};
 
@@ -52,8 +52,8 @@ impl Upstream {
         ensures same { OnErr result (self.new ≡ self.old) }
     {
         match self.order_of(alloc, request, draw)? {
-            Order::Obey(command) => self.obey(alloc, &command),
-            Order::Reply(reply) => Ok(reply),
+            CommandOrReply::Execute(command) => self.obey(alloc, &command),
+            CommandOrReply::Reply(reply) => Ok(reply),
         }
     }
 
@@ -64,39 +64,39 @@ impl Upstream {
         alloc: Global,
         request: &Request,
         draw: &Draw,
-    ) -> Result<Order, Memory>
+    ) -> Result<CommandOrReply, Memory>
         ensures order { IfOk result (λ order. order ≡ order_of self.now request.now draw.entry.now) }
         ensures valid { IfOk result IsValidOrder }
     {
-        if names_commands(alloc, request.target.as_slice())? {
+        if is_commands_route(alloc, request.target.as_slice())? {
             return self.order_at(alloc, request);
         }
         let answer = answer(alloc, self.board(), request, draw)?;
-        Ok(Order::Reply(answer.reply))
+        Ok(CommandOrReply::Reply(answer.reply))
     }
 
     /// Returns what a request on the route of commands asks for.
-    fn order_at(&self, alloc: Global, request: &Request) -> Result<Order, Memory>
+    fn order_at(&self, alloc: Global, request: &Request) -> Result<CommandOrReply, Memory>
         ensures order { IfOk result (λ order. order ≡ order_at self.now request.now) }
         ensures valid { IfOk result IsValidOrder }
     {
         if !is_post(request.method) {
-            return Ok(Order::Reply(refuse_method(alloc, &Route::Commands)?));
+            return Ok(CommandOrReply::Reply(refuse_method(alloc, &Route::Commands)?));
         }
         let Some(token) = &request.token else {
-            return Ok(Order::Reply(refuse(alloc, StatusCode::UNAUTHORIZED, "NoToken")?));
+            return Ok(CommandOrReply::Reply(refuse(alloc, StatusCode::UNAUTHORIZED, "NoToken")?));
         };
         if !self.is_secret(token.as_slice()) {
-            return Ok(Order::Reply(refuse(alloc, StatusCode::FORBIDDEN, "UnknownToken")?));
+            return Ok(CommandOrReply::Reply(refuse(alloc, StatusCode::FORBIDDEN, "UnknownToken")?));
         }
         order_in(alloc, request.body.as_slice())
     }
 
     /// Applies a command. The reply is built before the command is committed, so that running out of memory changes nothing.
-    #[tactic(auto, unfolding(crate::specs::Upstream::commanded))]
+    #[tactic(auto, unfolding(crate::specs::Upstream::apply_command))]
     fn obey(&mut self, alloc: Global, command: &Command) -> Result<Reply, Memory>
         requires { IsValidCommand command.now }
-        ensures answer { IfOk result (λ reply. told self.old (commanded command.now self.old) ≡ record { reply = reply; up = self.new }) }
+        ensures answer { IfOk result (λ reply. told self.old (apply_command command.now self.old) ≡ record { reply = reply; up = self.new }) }
         ensures same { OnErr result (self.new ≡ self.old) }
     {
         match self.prepare(alloc, command) {
@@ -112,20 +112,20 @@ impl Upstream {
 }
 
 /// Returns what the body of a request asks for, after the request has shown the secret.
-fn order_in(alloc: Global, body: &[u8]) -> Result<Order, Memory>
+fn order_in(alloc: Global, body: &[u8]) -> Result<CommandOrReply, Memory>
     ensures order { IfOk result (λ order. order ≡ order_in (command_in body.now)) }
     ensures valid { IfOk result IsValidOrder }
 {
     match read_command_bytes(alloc, body) {
-        Ok(command) => Ok(Order::Obey(command)),
+        Ok(command) => Ok(CommandOrReply::Execute(command)),
         Err(BadDocument::Memory) => Err(Memory),
-        Err(_) => Ok(Order::Reply(refuse(alloc, StatusCode::BAD_REQUEST, "BadBody")?)),
+        Err(_) => Ok(CommandOrReply::Reply(refuse(alloc, StatusCode::BAD_REQUEST, "BadBody")?)),
     }
 }
 
 /// Returns whether a target is the route of commands.
-fn names_commands(alloc: Global, target: &[u8]) -> Result<bool, Memory>
-    ensures { IfOk result (λ is. is ≡ names_commands (route_of target.now)) }
+fn is_commands_route(alloc: Global, target: &[u8]) -> Result<bool, Memory>
+    ensures { IfOk result (λ is. is ≡ is_commands_route (route_of target.now)) }
 {
     match Route::of(alloc, target)? {
         Some(route) => Ok(route.is_commands()),

@@ -14,9 +14,9 @@ ghost use Rattle.unl_upstream.specs.Writing.{RemovesName};
 use crate::command::Command;
 use crate::refusal::CommandRefusal;
 use std::alloc::Global;
-use unl_delta::keyed::found_in_series;
+use unl_delta::keyed::find_in_chunks;
 use unl_delta::{EnvVersion, Event};
-use unl_documents::{Copied, Feature, Segment, Shared, Text};
+use unl_documents::{Feature, Segment, Shared, Text, TryClone};
 
 /// The maximum number of features in an environment.
 const MOST_FEATURES: usize = 10_000;
@@ -140,7 +140,7 @@ fn feature_named<'a>(name: &Text, version: &'a EnvVersion) -> Option<&'a Feature
     requires { IsValidVersion version.now }
     ensures { option_map (λ f. f.now) result ≡ find (is_named name.now) version.now.state.features }
 {
-    found_in_series(&version.state.features, name)
+    find_in_chunks(&version.state.features, name)
 }
 
 /// Returns whether a feature has this name.

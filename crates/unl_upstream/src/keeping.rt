@@ -2,7 +2,7 @@
 ghost use Rattle.std.specs.Prelude.{◌≡◌, ◌≢◌, ◌<◌, true, [], ◌∷◌, Ok, Err, IfOk, IfErr, OnOk};
 ghost use Rattle.unl_upstream.specs.Command.{IsValidCommand, command_in};
 ghost use Rattle.unl_upstream.specs.Kept.{Carries, Keeps, Puts, kept_state, keeper_by, with_room};
-ghost use Rattle.unl_upstream.specs.Upstream.{commanded, prepared};
+ghost use Rattle.unl_upstream.specs.Upstream.{apply_command, prepared};
 ghost use Rattle.unl_upstream.specs.Writing.{command_text};
 ghost use Rattle.unl_upstream.specs.declared.refusal.KeepCommandRefusal.TheVariants.{Memory as want};
 
@@ -20,7 +20,7 @@ const MOST_ROWS: u64 = 10_000_000;
 
 /// An accepted command for which the keeper has room: the prepared command, and the text to store.
 #[derive(Drop)]
-pub(crate) struct Awaiting {
+pub(crate) struct PendingPut {
     pub ready: Ready,
     pub text: Text,
 }
@@ -82,14 +82,14 @@ pub(crate) fn await_put<K: Keeper>(
     up: &Upstream,
     keeper: &K,
     command: &Command,
-) -> Result<Awaiting, KeepCommandRefusal>
+) -> Result<PendingPut, KeepCommandRefusal>
     requires { IsValidCommand command.now }
     ensures awaits { IfOk result (λ awaiting. with_room (K.count keeper.now) (prepared command.now up.now) ≡ Ok awaiting.ready) }
     ensures from { IfOk result (λ awaiting. awaiting.ready.from ≡ up.now.board.slots) }
     ensures text { IfOk result (λ awaiting. awaiting.text ≡ command_text command.now) }
     ensures spelled { OnOk result (command_in (command_text command.now) ≡ Ok command.now) }
     ensures room { OnOk result (K.count keeper.now < 10000000) }
-    ensures refused { IfErr result (λ e. e ≢ want → with_room (K.count keeper.now) (commanded command.now up.now) ≡ Err e) }
+    ensures refused { IfErr result (λ e. e ≢ want → with_room (K.count keeper.now) (apply_command command.now up.now) ≡ Err e) }
 {
     let ready = up.prepare(alloc, command)?;
     let text = command_text(alloc, command)?;
@@ -97,7 +97,7 @@ pub(crate) fn await_put<K: Keeper>(
     if count >= MOST_ROWS {
         return Err(KeepCommandRefusal::KeeperFull(count));
     }
-    Ok(Awaiting { ready, text })
+    Ok(PendingPut { ready, text })
 }
 
 /// Stores a command's text, then publishes the prepared command. Nothing after the keeper's put can run out of memory.
@@ -108,7 +108,7 @@ pub(crate) fn put<K: Keeper>(
     alloc: Global,
     up: &mut Upstream,
     keeper: &mut K,
-    awaiting: Awaiting,
+    awaiting: PendingPut,
 ) -> Result<u64, KeepRefusal>
     requires opened { K.opened keeper.old ≡ true }
     requires room { K.count keeper.old < 10000000 }

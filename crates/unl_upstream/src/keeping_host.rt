@@ -2,30 +2,30 @@
 ghost use Rattle.std.specs.Prelude.{◌≡◌, true, OnOk};
 ghost use Rattle.unl_base.specs.Doors.{IsClosed, IsListening};
 ghost use Rattle.unl_base.specs.Faults.{HasCause};
-ghost use Rattle.unl_exchange.specs.Linked.{linking};
-ghost use Rattle.unl_upstream.specs.Kept.{HoldsOn, keeper_by, kept_state};
+ghost use Rattle.unl_server.specs.Linked.{linking};
+ghost use Rattle.unl_upstream.specs.Kept.{AttemptsPreserve, keeper_by, kept_state};
 ghost use Rattle.unl_upstream.specs.KeptHosting.{HostsAll};
 
-use crate::keeping_server::{KeptUpstream, serve_kept};
+use crate::keeping_server::{DurableUpstream, serve_kept};
 use crate::upstream::Upstream;
 use std::alloc::Global;
 use std::sync::Wait;
 use unl_base::{Door, Draws, Failed, Link};
-use unl_exchange::{Server, host};
 use unl_keeper::Keeper;
+use unl_server::{Server, host};
 
-impl<'a, K: Keeper> Server for KeptUpstream<'a, K> {
+impl<'a, K: Keeper> Server for DurableUpstream<'a, K> {
     ghost use Rattle.std.specs.Prelude.{◌≡◌, true};
     ghost use Rattle.std.proofs.Common.{◌∙◌, refl};
     ghost use Rattle.unl_upstream.specs.Kept.{keeper_by, kept_state};
-    ghost use Rattle.unl_upstream.specs.KeptHosting.{GoesOn};
+    ghost use Rattle.unl_upstream.specs.KeptHosting.{ExtendsAttempts};
     ghost use Rattle.unl_upstream.specs.KeptServing.{ServesLink};
 
     ghost fits = { λ server. K.opened server.keeper.now ≡ true };
 
     ghost keeps = { λ server after. (after.up.ghost_name ≡ server.up.ghost_name)
         × (after.keeper.ghost_name ≡ server.keeper.ghost_name)
-        × GoesOn (kept_state server.up.now (keeper_by K.opened K.faults K.count K.rows server.keeper.now))
+        × ExtendsAttempts (kept_state server.up.now (keeper_by K.opened K.faults K.count K.rows server.keeper.now))
         (kept_state after.up.now (keeper_by K.opened K.faults K.count K.rows after.keeper.now)) };
 
     ghost serves = { λ server coming link link_after after coming_after. ServesLink
@@ -68,13 +68,13 @@ pub fn host_kept<K: Keeper, D: Door, R: Draws, W: Wait>(
 
     // Even if the door's links are not observable: attempts to keep the commands of the links are all that changed the
     // upstream and its keeper.
-    ensures carries { HoldsOn (kept_state up.old (keeper_by K.opened K.faults K.count K.rows keeper.old))
+    ensures carries { AttemptsPreserve (kept_state up.old (keeper_by K.opened K.faults K.count K.rows keeper.old))
         (kept_state up.new (keeper_by K.opened K.faults K.count K.rows keeper.new)) }
     ensures closed { OnOk result (IsClosed (D.state door.new)) }
     ensures port { (D.state door.new).port ≡ (D.state door.old).port }
     ensures cause { HasCause (D.faults door.old) (D.faults door.new) result }
 {
-    let mut kept = KeptUpstream { up, keeper };
+    let mut kept = DurableUpstream { up, keeper };
     let hosted = host(rt, alloc, &mut kept, door, draws);
     hosted
 }

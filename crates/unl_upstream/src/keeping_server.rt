@@ -1,24 +1,24 @@
 //! Answers requests with an upstream and its keeper, and serves connections with them.
-ghost use Rattle.unl_exchange.specs.Conversation.{Converses};
-ghost use Rattle.unl_exchange.specs.Links.{link_state};
+ghost use Rattle.unl_server.specs.Conversation.{Converses};
+ghost use Rattle.unl_server.specs.Links.{link_state};
 ghost use Rattle.std.specs.Prelude.{◌≡◌, true, IfOk, OnErr};
 ghost use Rattle.unl_upstream.specs.Command.{IsValidCommand};
 ghost use Rattle.unl_upstream.specs.Kept.{keeper_by, kept_state};
-ghost use Rattle.unl_upstream.specs.KeptServing.{CarriesAnswer, Gives, KeepsOn, Lacks, RepliesTo, Step, serving};
+ghost use Rattle.unl_upstream.specs.KeptServing.{CarriesAnswer, Gives, ServesKept, RunsOutAtRequest, RepliesTo, Step, serving};
 
 use crate::answering::{numbered, refused};
 use crate::command::Command;
+use crate::command_or_reply::CommandOrReply;
 use crate::keeping::{await_put, put};
-use crate::order::Order;
 use crate::refusal::KeepCommandRefusal;
 use crate::upstream::Upstream;
 use std::alloc::Global;
 use std::marker::PhantomData;
 use unl_base::{Draw, Draws, Link};
 use unl_documents::Memory;
-use unl_exchange::{Answering, Server, converse};
 use unl_http_api::{End, Reply, Request};
 use unl_keeper::{KeepRefusal, Keeper};
+use unl_server::{RequestHandler, Server, serve_requests};
 
 /// Answers a request as [`Upstream::answer`] does, but keeps its command, if it gives one, before acknowledging it.
 ///
@@ -57,8 +57,8 @@ fn answer_one<K: Keeper>(
         ≡ kept_state up.old (keeper_by K.opened K.faults K.count K.rows keeper.old)) }
 {
     match up.order_of(alloc, request, draw)? {
-        Order::Obey(command) => obey_kept(alloc, up, keeper, &command),
-        Order::Reply(reply) => Ok(reply),
+        CommandOrReply::Execute(command) => obey_kept(alloc, up, keeper, &command),
+        CommandOrReply::Reply(reply) => Ok(reply),
     }
 }
 
@@ -98,7 +98,7 @@ fn obey_kept<K: Keeper>(
 
 /// An upstream, and the keeper of its commands.
 #[derive(Drop)]
-pub(crate) struct KeptUpstream<'a, K> {
+pub(crate) struct DurableUpstream<'a, K> {
     pub up: &'a mut Upstream,
     pub keeper: &'a mut K,
 }
@@ -106,13 +106,13 @@ pub(crate) struct KeptUpstream<'a, K> {
 /// The request handler of an upstream that keeps its commands.
 pub(crate) struct ByKept<'a, K>(PhantomData<&'a K>);
 
-impl<'a, K: Keeper> Answering for ByKept<'a, K> {
+impl<'a, K: Keeper> RequestHandler for ByKept<'a, K> {
     ghost use Rattle.std.specs.Prelude.{◌≡◌, true};
     ghost use Rattle.std.proofs.Common.{rules};
     ghost use Rattle.unl_upstream.specs.Kept.{keeper_by, kept_state};
     ghost use Rattle.unl_upstream.specs.KeptServing.{Gives, GivesUp};
 
-    type State = KeptUpstream<'a, K>;
+    type State = DurableUpstream<'a, K>;
 
     ghost fits = { λ count state. K.opened state.keeper.now ≡ true };
 
@@ -128,7 +128,7 @@ impl<'a, K: Keeper> Answering for ByKept<'a, K> {
 
     fn answer(
         alloc: Global,
-        state: &mut KeptUpstream<'a, K>,
+        state: &mut DurableUpstream<'a, K>,
         _count: usize,
         request: &Request,
         draw: &Draw,
@@ -155,18 +155,18 @@ pub fn serve_kept<K: Keeper, L: Link, R: Draws>(
 
     // The whole conversation: its session, its replies, how it ended, how many requests were answered (each with the next
     // draw), and the cause of each failure.
-    ensures converses { Converses Step Lacks
+    ensures converses { Converses Step RunsOutAtRequest
         (link_state (L.left link.old) (L.sent link.old) (L.Source.faults link.old))
         (serving (kept_state up.old (keeper_by K.opened K.faults K.count K.rows keeper.old)) 0 (R.coming draws.old)) result.1
         (serving (kept_state up.new (keeper_by K.opened K.faults K.count K.rows keeper.new)) result.0 (R.coming draws.new)) result.0
         (link_state (L.left link.new) (L.sent link.new) (L.Source.faults link.new)) }
 
     // In every case, attempts to keep the commands of the answered requests are all that changed the upstream and its keeper.
-    ensures keeps { KeepsOn
+    ensures keeps { ServesKept
         (serving (kept_state up.old (keeper_by K.opened K.faults K.count K.rows keeper.old)) 0 (R.coming draws.old)) result.1 result.0
         (serving (kept_state up.new (keeper_by K.opened K.faults K.count K.rows keeper.new)) result.0 (R.coming draws.new)) }
 {
-    let mut kept = KeptUpstream { up, keeper };
-    let conversed = converse::<ByKept<K>, L, R>(alloc, &mut kept, link, draws);
+    let mut kept = DurableUpstream { up, keeper };
+    let conversed = serve_requests::<ByKept<K>, L, R>(alloc, &mut kept, link, draws);
     conversed
 }

@@ -5,22 +5,22 @@ ghost use Rattle.unl_base.specs.declared.draws.Draw.{Draw};
 ghost use Rattle.unl_http_api.specs.declared.request.Request.{Request};
 ghost use Rattle.unl_upstream.specs.declared.command.Command.{Command};
 ghost use Rattle.unl_upstream.specs.declared.refusal.CommandRefusal.{CommandRefusal};
-ghost use Rattle.unl_upstream.specs.Upstream.{UpstreamState, commanded};
+ghost use Rattle.unl_upstream.specs.Upstream.{UpstreamState, apply_command};
 ghost use Rattle.unl_upstream.specs.Answer.{upstream_answer};
 ghost use Rattle.unl_upstream.specs.Requests.{command_given};
 ghost use Rattle.unl_upstream.specs.History.{accepted, after_command, after_commands, history_of};
-ghost use Rattle.unl_upstream.specs.Kept.{KeepingCarries, KeepingGoesOn};
+ghost use Rattle.unl_upstream.specs.Kept.{KeepingCarries, KeepingContinues};
 ghost use Rattle.unl_upstream.specs.KeptHosting.{KeptLinksNameCommands};
 ghost use Rattle.unl_upstream.specs.Reopening.{ReopeningGivesBack};
-ghost use Rattle.unl_upstream.specs.Laws.{EnvironmentsStay, VersionsStand};
-ghost use Rattle.unl_upstream.specs.Laws.{VersionsStandInLines};
+ghost use Rattle.unl_upstream.specs.Laws.{EnvironmentsStay, VersionsMatchHistory};
+ghost use Rattle.unl_upstream.specs.Laws.{VersionsBelongToLines};
 
 /// After any commands, each environment's version represents the history of the commands accepted for it. Its number is their
 /// count, and its epoch is the one that the upstream began with. So the version belongs to the line of that one history.
-pub fn versions_stand()
+pub fn versions_match_history()
     ensures history { (commands : List Command) → IsHistory (history_of commands) }
-    ensures stands { VersionsStand }
-    ensures lines { VersionsStandInLines }
+    ensures represents { VersionsMatchHistory }
+    ensures lines { VersionsBelongToLines }
 {}
 
 /// After any commands, an environment has a version exactly if the upstream began with it.
@@ -30,7 +30,7 @@ pub fn environments_stay()
 
 /// A refused command changes nothing. So the accepted commands alone lead to the same state, and are all accepted.
 pub fn refused_changes_nothing()
-    ensures one { (command : Command) (up : UpstreamState) (refusal : CommandRefusal) → commanded command up ≡ Err refusal
+    ensures one { (command : Command) (up : UpstreamState) (refusal : CommandRefusal) → apply_command command up ≡ Err refusal
         → after_command command up ≡ up }
     ensures others { (commands : List Command) (up : UpstreamState) → after_commands (accepted commands up) up
         ≡ after_commands commands up }
@@ -48,7 +48,7 @@ pub fn requests_give_commands()
 /// acknowledged commands are all that were added to these, and at most one row follows the kept ones, left by a failed put.
 pub fn keeping_carries()
     ensures carries { KeepingCarries }
-    ensures goes_on { KeepingGoesOn }
+    ensures goes_on { KeepingContinues }
 {}
 
 /// Reopening a keeper, with an initial upstream of the same environments and epoch, restores the kept commands, or these and

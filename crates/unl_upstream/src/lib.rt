@@ -3,12 +3,12 @@
 
 mod answering;
 mod command;
+mod command_or_reply;
 mod event;
 mod keeping;
 mod keeping_host;
 mod keeping_server;
 pub mod laws;
-mod order;
 mod reading;
 mod ready;
 mod refusal;

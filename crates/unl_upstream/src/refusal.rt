@@ -9,18 +9,23 @@ use thiserror::Error;
 use unl_documents::Memory;
 
 /// Why a command is refused: the first of these variants that applies, in this order, or `Memory`.
-#[derive(Clone, Copy, Debug, PartialEq, Eq)]
+#[derive(Clone, Copy, Debug, PartialEq, Eq, Error)]
 pub enum CommandRefusal {
     /// The upstream has no environment of this name.
+    #[error("there is no such environment")]
     NoSuchEnvironment,
     /// The feature to remove does not exist.
+    #[error("there is no such feature")]
     NoSuchFeature,
     /// The segment to remove does not exist.
+    #[error("there is no such segment")]
     NoSuchSegment,
     /// The name or id is new and the environment is full, at 10,000 features or 1,000 segments: carries that count. Or the
     /// environment's version number is the last one, 2^64 - 1: carries that number.
+    #[error("there are {0} already")]
     TooMany(u64),
     /// Out of memory.
+    #[error("out of memory")]
     Memory,
 }
 

@@ -1,7 +1,7 @@
 //! Reopens an upstream: applies the rows of its keeper in order.
 ghost use Rattle.std.specs.Prelude.{◌≡◌, ◌≤◌, ◌<◌, ◌+◌, ◌^◌, true, false, Some, None, IfOk, IfErr, OnOk, OnErr};
 ghost use Rattle.unl_upstream.specs.Kept.{keeper_by, kept_state};
-ghost use Rattle.unl_upstream.specs.Reopening.{Bars, IsOpening, IsSameKeeper, Reopens, TakesRow, row_after};
+ghost use Rattle.unl_upstream.specs.Reopening.{WhyRowFails, IsOpening, IsSameKeeper, Reopens, TakesRow, row_after};
 
 use crate::reading::read_command_bytes;
 use crate::refusal::CommandRefusal;
@@ -92,7 +92,7 @@ fn take_row<K: Keeper>(
     ensures faults { (K.faults keeper.old ≤ K.faults keeper.new) × OnOk result (K.faults keeper.new ≡ K.faults keeper.old) }
     ensures taken { OnOk result (TakesRow before (K.rows keeper.old) up.old up.new) }
     ensures barred { IfErr result (λ e. (up.new ≡ up.old)
-        × Bars before (K.rows keeper.old) (K.faults keeper.old) (K.faults keeper.new) up.old e) }
+        × WhyRowFails before (K.rows keeper.old) (K.faults keeper.old) (K.faults keeper.new) up.old e) }
 {
     match keeper.read(alloc, before + 1)? {
         None => Err(ReopenFault::NoRow(before + 1)),

@@ -1,19 +1,19 @@
 //! Serves a connection with an upstream.
-ghost use Rattle.unl_exchange.specs.Conversation.{Converses};
-ghost use Rattle.unl_exchange.specs.Links.{link_state};
-ghost use Rattle.unl_upstream.specs.Serving.{Lacks, Obeys, Step, serving};
+ghost use Rattle.unl_server.specs.Conversation.{Converses};
+ghost use Rattle.unl_server.specs.Links.{link_state};
+ghost use Rattle.unl_upstream.specs.Serving.{RunsOutAtRequest, Obeys, Step, serving};
 
 use crate::upstream::Upstream;
 use std::alloc::Global;
 use unl_base::{Draw, Draws, Link};
 use unl_documents::Memory;
-use unl_exchange::{Answering, converse};
 use unl_http_api::{End, Reply, Request};
+use unl_server::{RequestHandler, serve_requests};
 
 /// The request handler of an upstream.
 pub(crate) struct ByUpstream;
 
-impl Answering for ByUpstream {
+impl RequestHandler for ByUpstream {
     ghost use Rattle.unl_upstream.specs.Serving.{Gives, GivesUp};
 
     type State = Upstream;
@@ -53,7 +53,7 @@ impl Upstream {
     ) -> (usize, End)
         // The whole conversation: its session, its replies, how it ended, how many requests were answered (each with the next
         // draw), and the cause of each failure.
-        ensures converses { Converses Step Lacks
+        ensures converses { Converses Step RunsOutAtRequest
             (link_state (L.left link.old) (L.sent link.old) (L.Source.faults link.old))
             (serving self.old 0 (R.coming draws.old)) result.1 (serving self.new result.0 (R.coming draws.new)) result.0
             (link_state (L.left link.new) (L.sent link.new) (L.Source.faults link.new)) }
@@ -61,6 +61,6 @@ impl Upstream {
         // In every case, the commands of the answered requests are all that changed the upstream.
         ensures obeyed { Obeys self.old result.0 self.new }
     {
-        converse::<ByUpstream, L, R>(alloc, self, link, draws)
+        serve_requests::<ByUpstream, L, R>(alloc, self, link, draws)
     }
 }

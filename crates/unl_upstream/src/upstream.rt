@@ -8,7 +8,7 @@ ghost use Rattle.unl_documents.specs.Texts.{is_name};
 ghost use Rattle.unl_upstream.specs.declared.refusal.CommandRefusal.TheVariants.{Memory as memory};
 ghost use Rattle.unl_upstream.specs.Command.{IsValidCommand};
 ghost use Rattle.unl_upstream.specs.History.{AreAdded, AreHistories};
-ghost use Rattle.unl_upstream.specs.Upstream.{commanded, committed, opening, opening_slot, prepared};
+ghost use Rattle.unl_upstream.specs.Upstream.{apply_command, committed, opening, opening_slot, prepared};
 ghost use Rattle.unl_upstream.specs.Writing.{HasNames};
 
 use crate::command::Command;
@@ -91,20 +91,20 @@ impl Upstream {
     /// The first refusal that applies, or `Memory`: out of memory. The upstream is then unchanged.
     pub fn apply(&mut self, alloc: Global, command: &Command) -> Result<u64, CommandRefusal>
         requires { IsValidCommand command.now }
-        ensures applied { IfOk result (λ number. commanded command.now self.old ≡ Ok (record { up = self.new; number = number })) }
+        ensures applied { IfOk result (λ number. apply_command command.now self.old ≡ Ok (record { up = self.new; number = number })) }
         ensures versions { IfOk result (λ number. AreAdded (command.now ∷ []) self.old self.new) }
-        ensures refused { IfErr result (λ refusal. refusal ≢ memory → commanded command.now self.old ≡ Err refusal) }
+        ensures refused { IfErr result (λ refusal. refusal ≢ memory → apply_command command.now self.old ≡ Err refusal) }
         ensures same { OnErr result (self.new ≡ self.old) }
     {
         self.apply_one(alloc, command)
     }
 
     /// Applies a command.
-    #[tactic(auto, unfolding(crate::specs::Upstream::commanded))]
+    #[tactic(auto, unfolding(crate::specs::Upstream::apply_command))]
     fn apply_one(&mut self, alloc: Global, command: &Command) -> Result<u64, CommandRefusal>
         requires { IsValidCommand command.now }
-        ensures applied { IfOk result (λ number. commanded command.now self.old ≡ Ok (record { up = self.new; number = number })) }
-        ensures refused { IfErr result (λ refusal. refusal ≢ memory → commanded command.now self.old ≡ Err refusal) }
+        ensures applied { IfOk result (λ number. apply_command command.now self.old ≡ Ok (record { up = self.new; number = number })) }
+        ensures refused { IfErr result (λ refusal. refusal ≢ memory → apply_command command.now self.old ≡ Err refusal) }
         ensures same { OnErr result (self.new ≡ self.old) }
     {
         let ready = self.prepare(alloc, command)?;

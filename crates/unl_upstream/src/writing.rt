@@ -9,7 +9,7 @@ ghost use Rattle.unl_upstream.specs.Writing.{HasNames, command_data, command_tex
 use crate::command::Command;
 use serde_json::{Map, Value};
 use std::alloc::Global;
-use unl_documents::written::{Written, put, put_value};
+use unl_documents::to_value::{ToValue, put, put_value};
 use unl_documents::{Feature, Field, Memory, Segment, Text};
 
 /// Writes a command as a JSON object: its command word, its environment, and the feature, name, segment or id. The value is

@@ -4,16 +4,19 @@ use std::env::{Args, VarError};
 use std::io::ErrorKind;
 use std::rt::{Env, Files};
 use std::{env, fs, io};
+use thiserror::Error;
 
 /// The environment variable with the path of the file.
 pub(crate) const FILE_VARIABLE: &str = "UNL_EDGE_WORDS_FILE";
 
 /// Why the arguments could not be read.
-#[derive(Clone, Copy, Debug, PartialEq, Eq)]
+#[derive(Clone, Copy, Debug, PartialEq, Eq, Error)]
 pub enum ArgumentsFault {
     /// An argument, the path of the file or the file isn't UTF-8, or the file can't be read.
+    #[error("the arguments are not accepted")]
     Bad,
     /// Out of memory.
+    #[error("out of memory")]
     Memory,
 }
 

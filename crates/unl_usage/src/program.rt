@@ -14,7 +14,7 @@ impl Program {
     pub fn name(self) -> &'static str {
         match self {
             Program::Edge => "unl_edge",
-            Program::DurableUpstream => "unl_keeping",
+            Program::DurableUpstream => "unl_durable_upstream",
         }
     }
 }

@@ -79,7 +79,7 @@ fn push_no_command(text: &mut String, first: &str) -> Result<(), AllocError> {
     }
 }
 
-/// Appends why `unl_keeping` refuses its arguments.
+/// Appends why `unl_durable_upstream` refuses its arguments.
 fn push_durable(
     alloc: Global,
     text: &mut String,
@@ -91,7 +91,9 @@ fn push_durable(
     let options = options_of(command).unwrap_or(&[]);
     if first.is_empty() || first.starts_with('-') {
         if first != "--help" && first != "-h" {
-            text.push_str("unl_keeping: the first argument is to be the path of the database\n")?;
+            text.push_str(
+                "unl_durable_upstream: the first argument is to be the path of the database\n",
+            )?;
         }
     } else {
         push_fault(alloc, text, program, command, options, words)?;
@@ -126,7 +128,7 @@ fn push_fault(
 fn push_place(text: &mut String, program: Program, command: &str) -> Result<(), AllocError> {
     match program {
         Program::Edge => write!(text, "unl_edge {command}: "),
-        Program::DurableUpstream => text.push_str("unl_keeping: "),
+        Program::DurableUpstream => text.push_str("unl_durable_upstream: "),
     }
 }
 

@@ -37,7 +37,7 @@ pub(crate) fn push_usage(
 ) -> Result<(), AllocError> {
     match program {
         Program::Edge => write!(text, "usage: unl_edge {command}")?,
-        Program::DurableUpstream => text.push_str("usage: unl_keeping FILE")?,
+        Program::DurableUpstream => text.push_str("usage: unl_durable_upstream FILE")?,
     }
     for option in options {
         push_named(text, option)?;

@@ -3,7 +3,7 @@ use Rattle.std.proofs.Common.{◌≡◌, ◌&&◌, ◌||◌, ◌++◌, Bool, tru
 use Rattle.std.proofs.lemmas.List.Folds.{list_any-append}
 use Rattle.std.specs.Str.{bytes_eq}
 use Rattle.clap.specs.Words.{Text}
-use Rattle.unl_tokens.specs.Names.{stands_in}
+use Rattle.unl_tokens.specs.Names.{is_one_of}
 use Rattle.unl_words.specs.Lists.{are_apart, are_different}
 
 right_true : (a : Bool) → a ≡ (a && true)
@@ -26,4 +26,4 @@ unfolding are_different
 different_together [] others = right_true (are_different others)
 different_together (text ∷ texts) others =
     rw (list_any-append (λ other. bytes_eq other text) texts others, different_together texts others)
-    (regrouped (stands_in text texts) (stands_in text others) (are_different texts) (are_different others) (are_apart texts others))
+    (regrouped (is_one_of text texts) (is_one_of text others) (are_different texts) (are_different others) (are_apart texts others))

@@ -14,7 +14,7 @@ use Rattle.unl_tokens.specs.declared.fault.BadToken.{BadToken}
 use Rattle.unl_tokens.specs.declared.projects.Projects.{Projects}
 use Rattle.unl_tokens.specs.declared.projects.Projects.TheVariants as projects
 use Rattle.unl_tokens.specs.declared.scope.Scope.{Scope}
-use Rattle.unl_tokens.specs.Names.{AreNames, are_names, stands_in}
+use Rattle.unl_tokens.specs.Names.{AreNames, are_names, is_one_of}
 use Rattle.unl_tokens.specs.Scopes.{scope_of}
 use Rattle.unl_words.specs.Lists.{are_different, has_count, is_named, is_token}
 use Rattle.unl_words.specs.Values.{is_line}
@@ -46,10 +46,10 @@ neither : (a b : Bool) → (a || b) ≡ false → (a ≡ false) × (b ≡ false)
 neither true b e = absurd (true≢false e)
 neither false b e = (refl, e)
 
-none_equal : (text : Text) (texts : List Text) → stands_in text texts ≡ false → All (λ (other : Text). ¬ (other ≡ text)) texts
+none_equal : (text : Text) (texts : List Text) → is_one_of text texts ≡ false → All (λ (other : Text). ¬ (other ≡ text)) texts
 none_equal text [] none = All-nil (λ (other : Text). ¬ (other ≡ text))
 none_equal text (other ∷ others) none =
-    let parts = neither (bytes_eq other text) (stands_in text others) none in
+    let parts = neither (bytes_eq other text) (is_one_of text others) none in
     All-cons (λ (other : Text). ¬ (other ≡ text)) other others
     (λ same. true≢false (sym ((bytes_eq-Decides other text).1 same) ∙ parts.0))
     (none_equal text others parts.1)
@@ -59,8 +59,8 @@ pub others_differ : (text : Text) (texts : List Text) → are_different (text �
     → All (λ (other : Text). ¬ (other ≡ text)) texts × (are_different texts ≡ true)
 unfolding are_different
 others_differ text texts differ =
-    let parts = both (not (stands_in text texts)) (are_different texts) differ in
-    (none_equal text texts (denied (stands_in text texts) parts.0), parts.1)
+    let parts = both (not (is_one_of text texts)) (are_different texts) differ in
+    (none_equal text texts (denied (is_one_of text texts) parts.0), parts.1)
 
 projects_are : (projects : Projects) → are_names projects ≡ true → AreNames projects
 projects_are projects.All are = tt

@@ -6,7 +6,7 @@ use Rattle.std.specs.List.{slice_get}
 use Rattle.std.proofs.lemmas.Slice.Eq.{bytes_eq-Decides}
 use Rattle.clap.specs.Words.{Text}
 use Rattle.unl_documents.specs.Results.{◌>>=◌, Gives}
-use Rattle.unl_words.specs.Words.{AnswersTaken, Command, WordsReading, asked_of, check, command_of, edge, explain, follow, load, replay, upstream, words_of}
+use Rattle.unl_words.specs.Words.{DecidedByRanges, Command, WordsReading, asked_of, check, command_of, edge, explain, follow, load, replay, upstream, words_of}
 use Rattle.unl_words.specs.declared.refusal.WordsRefusal.TheVariants.{Bad, Memory}
 
 apart : (a b : List ℕ) → (a ≡ b → ⊥) → bytes_eq a b ≡ false
@@ -86,7 +86,7 @@ exactly words command result named gives =
 
 -- The arguments name only one command.
 pub taken : (words : List Text) (known command : Command) (result : WordsReading) → command_of words ≡ Some known
-    → AnswersTaken known words result → command_of words ≡ Some command → AnswersTaken command words result
+    → DecidedByRanges known words result → command_of words ≡ Some command → DecidedByRanges command words result
 taken words known command result named answers is =
     let same : known ≡ command = cc in
-    subst (λ (c : Command). AnswersTaken c words result) same answers
+    subst (λ (c : Command). DecidedByRanges c words result) same answers

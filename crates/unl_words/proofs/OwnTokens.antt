@@ -26,7 +26,7 @@ use Rattle.unl_tokens.specs.Entries.{entry_of, project_names, with_named}
 use Rattle.unl_tokens.specs.Kinds.{kind_of}
 use Rattle.unl_tokens.specs.Names.{are_names}
 use Rattle.unl_tokens.specs.Scopes.{scope_of}
-use Rattle.unl_tokens.specs.Valid.{HaveOtherTexts}
+use Rattle.unl_tokens.specs.Valid.{HaveDistinctTexts}
 use Rattle.unl_words.specs.Lists.{are_different, are_own_tokens, fit_one_book, is_named, is_token}
 use Rattle.unl_words.specs.Values.{is_line}
 use Rattle.unl_words.proofs.Known.{others_differ}
@@ -131,7 +131,7 @@ none_has token (other ∷ tokens) none =
     (λ same. All-head (λ (other : List ℕ). ¬ (other ≡ token.text)) other.text (map (λ (t : Token). t.text) tokens) none (sym same))
     (none_has token tokens (All-tail (λ (other : List ℕ). ¬ (other ≡ token.text)) other.text (map (λ (t : Token). t.text) tokens) none))
 
-other_texts : (tokens : List Token) → are_different (map (λ (t : Token). t.text) tokens) ≡ true → HaveOtherTexts tokens
+other_texts : (tokens : List Token) → are_different (map (λ (t : Token). t.text) tokens) ≡ true → HaveDistinctTexts tokens
 other_texts [] differ = λ i j d before below. absurd (omega arith)
 other_texts (token ∷ tokens) differ =
     let parts = others_differ token.text (map (λ (t : Token). t.text) tokens) differ in

@@ -5,7 +5,7 @@ use Rattle.clap.specs.Words.{Text}
 use Rattle.unl_documents.specs.Texts.{comma_items, is_name}
 use Rattle.unl_tokens.specs.declared.fault.BadToken.{BadToken}
 use Rattle.unl_tokens.specs.declared.scope.Scope.{Scope}
-use Rattle.unl_tokens.specs.Names.{are_names, stands_in}
+use Rattle.unl_tokens.specs.Names.{are_names, is_one_of}
 use Rattle.unl_tokens.specs.Scopes.{scope_of}
 use Rattle.unl_words.specs.Values.{Value, is_line, passed}
 
@@ -16,11 +16,11 @@ has_count least most items = nat_le least (length items) && nat_le (length items
 -- The texts are distinct.
 unfoldable pub are_different : List Text → Bool
 are_different [] = true
-are_different (text ∷ texts) = not (stands_in text texts) && are_different texts
+are_different (text ∷ texts) = not (is_one_of text texts) && are_different texts
 
 -- No text of the first list is in the second.
 abbrev pub are_apart : List Text → List Text → Bool
-are_apart texts others = list_all (λ text. not (stands_in text others)) texts
+are_apart texts others = list_all (λ text. not (is_one_of text others)) texts
 
 -- ---- tokens
 

@@ -1,8 +1,8 @@
 -- The ranges of the values of arguments that were read.
 use Rattle.std.specs.Prelude.{◌≡◌, ◌≤◌, ℕ, true, ⊤}
-use Rattle.unl_words.specs.declared.words.EdgeWords.{EdgeWords}
-use Rattle.unl_words.specs.declared.words.FollowWords.{FollowWords}
-use Rattle.unl_words.specs.declared.words.UpstreamWords.{UpstreamWords}
+use Rattle.unl_words.specs.declared.words.EdgeArguments.{EdgeArguments}
+use Rattle.unl_words.specs.declared.words.FollowArguments.{FollowArguments}
+use Rattle.unl_words.specs.declared.words.UpstreamArguments.{UpstreamArguments}
 use Rattle.unl_words.specs.declared.words.Words.{Words}
 use Rattle.unl_context.specs.Limits.{is_within_limits}
 use Rattle.unl_documents.specs.Texts.{is_name}
@@ -15,7 +15,7 @@ abbrev pub IsWithin : ℕ → ℕ → ℕ → Type 0
 IsWithin least most number = (least ≤ number) × (number ≤ most)
 
 -- The values of the options of `edge` are in their ranges.
-pub record IsEdge (words : EdgeWords) : Type 0 where
+pub record IsEdge (words : EdgeArguments) : Type 0 where
   pub listens : IsWithin 1 65535 words.port
   pub asks : is_address words.upstream ≡ true
   pub shows : are_upstream_tokens words.upstream_tokens ≡ true
@@ -25,7 +25,7 @@ pub record IsEdge (words : EdgeWords) : Type 0 where
   pub seconds : IsWithin 1 3600 words.interval
 
 -- The values of the options of `upstream` are in their ranges.
-pub record IsUpstream (words : UpstreamWords) : Type 0 where
+pub record IsUpstream (words : UpstreamArguments) : Type 0 where
   pub listens : IsWithin 1 65535 words.port
   pub hides : is_secret words.secret ≡ true
   pub named : are_environments words.environments ≡ true
@@ -34,7 +34,7 @@ pub record IsUpstream (words : UpstreamWords) : Type 0 where
   pub one_book : fit_one_book words.client_tokens words.frontend_tokens ≡ true
 
 -- The values of the options of `follow` are in their ranges.
-pub record IsFollow (words : FollowWords) : Type 0 where
+pub record IsFollow (words : FollowArguments) : Type 0 where
   pub asks : is_address words.upstream ≡ true
   pub shows : is_token true words.token ≡ true
   pub named : is_name words.feature ≡ true

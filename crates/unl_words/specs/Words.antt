@@ -250,5 +250,5 @@ words_of words = do
   asked_of command words
 
 -- If clap's definition of the command accepts the arguments, the result depends only on the values, unless memory ran out.
-abbrev pub AnswersTaken : Command → List Text → WordsReading → Type 0
-AnswersTaken command words result = takes command.app words ≡ true → Gives Memory result (command.asks (matches_of command.app words))
+abbrev pub DecidedByRanges : Command → List Text → WordsReading → Type 0
+DecidedByRanges command words result = takes command.app words ≡ true → Gives Memory result (command.asks (matches_of command.app words))

@@ -7,7 +7,7 @@ ghost use Rattle.unl_words.specs.Lists.{are_own_tokens, fit_one_book};
 
 use serde_json::{Map, Value};
 use std::alloc::Global;
-use unl_documents::written::{put, put_value};
+use unl_documents::to_value::{put, put_value};
 use unl_documents::{Field, List, Memory, Text};
 use unl_tokens::{BadBook, Book};
 

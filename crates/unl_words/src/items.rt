@@ -130,7 +130,7 @@ fn are_different_together(texts: &[Text], others: &[Text]) -> bool
 fn are_apart(texts: &[Text], others: &[Text]) -> bool
     ensures { result ≡ are_apart texts.now others.now }
 {
-    texts.iter().all(|text| !stands_in(text.as_str(), others))
+    texts.iter().all(|text| !is_one_of(text.as_str(), others))
 }
 
 /// Whether the texts are distinct.
@@ -140,7 +140,7 @@ fn are_different(texts: &[Text]) -> bool
 {
     let mut rest = texts;
     while let Some((text, others)) = rest.split_first() {
-        if stands_in(text.as_str(), others) {
+        if is_one_of(text.as_str(), others) {
             return false;
         }
         rest = others;
@@ -149,7 +149,7 @@ fn are_different(texts: &[Text]) -> bool
 }
 
 /// Whether a text is in a list.
-fn stands_in(text: &str, texts: &[Text]) -> bool
+fn is_one_of(text: &str, texts: &[Text]) -> bool
     ensures { result ≡ list_any (λ other. bytes_eq other text.now) texts.now }
 {
     texts.iter().any(|other| other.as_str() == text)

@@ -15,4 +15,4 @@ pub use book::own_book;
 pub use read::read_words;
 pub use refusal::WordsRefusal;
 pub use token::{token_environment, token_environments};
-pub use words::{EdgeWords, FollowWords, UpstreamWords, Words};
+pub use words::{EdgeArguments, FollowArguments, UpstreamArguments, Words};

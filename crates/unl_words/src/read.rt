@@ -3,7 +3,7 @@ ghost use Rattle.std.specs.Prelude.{◌≡◌, Some, IfOk, map, string_bytes};
 ghost use Rattle.clap.specs.Words.{found_of, rows_of};
 ghost use Rattle.unl_documents.specs.Results.{Gives};
 ghost use Rattle.unl_words.specs.Ranges.{IsInRange};
-ghost use Rattle.unl_words.specs.Words.{AnswersTaken, Command, asked_of, asks_check, asks_edge, asks_follow, asks_load, asks_upstream};
+ghost use Rattle.unl_words.specs.Words.{DecidedByRanges, Command, asked_of, asks_check, asks_edge, asks_follow, asks_load, asks_upstream};
 ghost use Rattle.unl_words.specs.Words.{check as check_command, command_of, edge as edge_command, explain as explain_command};
 ghost use Rattle.unl_words.specs.Words.{follow as follow_command, load as load_command, replay as replay_command};
 ghost use Rattle.unl_words.specs.Words.{upstream as upstream_command, words_of};
@@ -11,7 +11,9 @@ ghost use Rattle.unl_words.specs.declared.refusal.WordsRefusal.TheVariants.{Memo
 
 use crate::number::{number_or, required_number};
 use crate::value::given;
-use crate::{EdgeWords, FollowWords, UpstreamWords, Words, WordsRefusal, command, items, value};
+use crate::{
+    EdgeArguments, FollowArguments, UpstreamArguments, Words, WordsRefusal, command, items, value,
+};
 use clap::ArgMatches;
 use std::alloc::Global;
 
@@ -53,7 +55,7 @@ pub fn read_words(alloc: Global, words: &[String]) -> Result<Words, WordsRefusal
     ensures exact { Gives Memory result (words_of (map string_bytes words.now)) }
     // If clap's definition accepts the arguments, the result depends only on the ranges of the values.
     ensures taken { (command : Command) → command_of (map string_bytes words.now) ≡ Some command
-        → AnswersTaken command (map string_bytes words.now) result }
+        → DecidedByRanges command (map string_bytes words.now) result }
     // The values are in their ranges.
     ensures valid { IfOk result IsInRange }
 {
@@ -75,7 +77,7 @@ pub fn read_words(alloc: Global, words: &[String]) -> Result<Words, WordsRefusal
 /// Reads the arguments of `replay`.
 fn read_replay(alloc: Global, words: &[String]) -> Result<Words, WordsRefusal>
     ensures exact { Gives Memory result (asked_of replay_command (map string_bytes words.now)) }
-    ensures taken { AnswersTaken replay_command (map string_bytes words.now) result }
+    ensures taken { DecidedByRanges replay_command (map string_bytes words.now) result }
     ensures valid { IfOk result IsInRange }
 {
     command::matched(command::replay(alloc), words)?;
@@ -85,7 +87,7 @@ fn read_replay(alloc: Global, words: &[String]) -> Result<Words, WordsRefusal>
 /// Reads the arguments of `check`.
 fn read_check(alloc: Global, words: &[String]) -> Result<Words, WordsRefusal>
     ensures exact { Gives Memory result (asked_of check_command (map string_bytes words.now)) }
-    ensures taken { AnswersTaken check_command (map string_bytes words.now) result }
+    ensures taken { DecidedByRanges check_command (map string_bytes words.now) result }
     ensures valid { IfOk result IsInRange }
 {
     let matches = command::matched(command::check(alloc)?, words)?;
@@ -95,7 +97,7 @@ fn read_check(alloc: Global, words: &[String]) -> Result<Words, WordsRefusal>
 /// Reads the arguments of `edge`.
 fn read_edge(alloc: Global, words: &[String]) -> Result<Words, WordsRefusal>
     ensures exact { Gives Memory result (asked_of edge_command (map string_bytes words.now)) }
-    ensures taken { AnswersTaken edge_command (map string_bytes words.now) result }
+    ensures taken { DecidedByRanges edge_command (map string_bytes words.now) result }
     ensures valid { IfOk result IsInRange }
 {
     let matches = command::matched(command::edge(alloc)?, words)?;
@@ -105,7 +107,7 @@ fn read_edge(alloc: Global, words: &[String]) -> Result<Words, WordsRefusal>
 /// Reads the arguments of `upstream`.
 fn read_upstream(alloc: Global, words: &[String]) -> Result<Words, WordsRefusal>
     ensures exact { Gives Memory result (asked_of upstream_command (map string_bytes words.now)) }
-    ensures taken { AnswersTaken upstream_command (map string_bytes words.now) result }
+    ensures taken { DecidedByRanges upstream_command (map string_bytes words.now) result }
     ensures valid { IfOk result IsInRange }
 {
     let matches = command::matched(command::upstream(alloc)?, words)?;
@@ -115,7 +117,7 @@ fn read_upstream(alloc: Global, words: &[String]) -> Result<Words, WordsRefusal>
 /// Reads the arguments of `follow`.
 fn read_follow(alloc: Global, words: &[String]) -> Result<Words, WordsRefusal>
     ensures exact { Gives Memory result (asked_of follow_command (map string_bytes words.now)) }
-    ensures taken { AnswersTaken follow_command (map string_bytes words.now) result }
+    ensures taken { DecidedByRanges follow_command (map string_bytes words.now) result }
     ensures valid { IfOk result IsInRange }
 {
     let matches = command::matched(command::follow(alloc)?, words)?;
@@ -125,7 +127,7 @@ fn read_follow(alloc: Global, words: &[String]) -> Result<Words, WordsRefusal>
 /// Reads the arguments of `explain`.
 fn read_explain(alloc: Global, words: &[String]) -> Result<Words, WordsRefusal>
     ensures exact { Gives Memory result (asked_of explain_command (map string_bytes words.now)) }
-    ensures taken { AnswersTaken explain_command (map string_bytes words.now) result }
+    ensures taken { DecidedByRanges explain_command (map string_bytes words.now) result }
     ensures valid { IfOk result IsInRange }
 {
     command::matched(command::explain(alloc), words)?;
@@ -135,7 +137,7 @@ fn read_explain(alloc: Global, words: &[String]) -> Result<Words, WordsRefusal>
 /// Reads the arguments of `load`.
 fn read_load(alloc: Global, words: &[String]) -> Result<Words, WordsRefusal>
     ensures exact { Gives Memory result (asked_of load_command (map string_bytes words.now)) }
-    ensures taken { AnswersTaken load_command (map string_bytes words.now) result }
+    ensures taken { DecidedByRanges load_command (map string_bytes words.now) result }
     ensures valid { IfOk result IsInRange }
 {
     let matches = command::matched(command::load(alloc)?, words)?;
@@ -168,7 +170,7 @@ fn asked_edge(alloc: Global, matches: &ArgMatches<'_>) -> Result<Words, WordsRef
     let interval = number_or(given(matches, "interval"), 15, 1, 3600)?;
     let connections = number_or(given(matches, "connections"), 0, 0, u64::MAX)?;
     let delta = value::mode_or_delta(given(matches, "mode"))?;
-    Ok(Words::Edge(EdgeWords {
+    Ok(Words::Edge(EdgeArguments {
         port: port as u16,
         upstream,
         upstream_tokens,
@@ -198,7 +200,7 @@ fn asked_upstream(alloc: Global, matches: &ArgMatches<'_>) -> Result<Words, Word
     if !items::fit_one_book(&client_tokens, &frontend_tokens) {
         return Err(WordsRefusal::Bad);
     }
-    Ok(Words::Upstream(UpstreamWords {
+    Ok(Words::Upstream(UpstreamArguments {
         port: port as u16,
         secret,
         environments,
@@ -224,7 +226,7 @@ fn asked_follow(alloc: Global, matches: &ArgMatches<'_>) -> Result<Words, WordsR
     let turns = number_or(given(matches, "turns"), 1, 1, 1_000_000)?;
     let interval = number_or(given(matches, "interval"), 15, 1, 3600)?;
     let context = value::placed(alloc, context, &token)?;
-    Ok(Words::Follow(FollowWords {
+    Ok(Words::Follow(FollowArguments {
         upstream,
         token,
         feature,

@@ -7,15 +7,18 @@ ghost use Rattle.unl_words.specs.declared.refusal.WordsRefusal.TheVariants.{Memo
 use clap::Error;
 use clap::error::ErrorKind;
 use std::alloc::AllocError;
+use thiserror::Error;
 use unl_context::BadContext;
 use unl_documents as documents;
 
 /// Why the arguments of a command line are refused.
-#[derive(Clone, Copy, Debug, PartialEq, Eq)]
+#[derive(Clone, Copy, Debug, PartialEq, Eq, Error)]
 pub enum WordsRefusal {
     /// No argument names a command, clap rejects the arguments after the name, or a value is outside its range.
+    #[error("the arguments are not accepted")]
     Bad,
     /// Out of memory.
+    #[error("out of memory")]
     Memory,
 }
 

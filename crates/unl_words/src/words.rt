@@ -15,11 +15,11 @@ pub enum Words {
         word: u64,
     },
     /// Serves evaluations, and polls its upstream.
-    Edge(EdgeWords),
+    Edge(EdgeArguments),
     /// Accepts commands, and serves the resulting state.
-    Upstream(UpstreamWords),
+    Upstream(UpstreamArguments),
     /// Follows an upstream, and prints at each turn whether one feature is on.
-    Follow(FollowWords),
+    Follow(FollowArguments),
     /// Explains why a feature is on or off.
     Explain,
     /// Evaluates features of a large generated input.
@@ -33,7 +33,7 @@ pub enum Words {
 
 /// The values of the options of `edge`.
 #[derive(Debug, Drop)]
-pub struct EdgeWords {
+pub struct EdgeArguments {
     /// The port to listen on, which isn't 0.
     pub port: u16,
     /// The upstream's `HOST:PORT`.
@@ -56,7 +56,7 @@ pub struct EdgeWords {
 
 /// The values of the options of `upstream`.
 #[derive(Debug, Drop)]
-pub struct UpstreamWords {
+pub struct UpstreamArguments {
     /// The port to listen on, which isn't 0.
     pub port: u16,
     /// The secret that a command must present, which isn't empty.
@@ -77,7 +77,7 @@ pub struct UpstreamWords {
 
 /// The values of the options of `follow`.
 #[derive(Debug, Drop)]
-pub struct FollowWords {
+pub struct FollowArguments {
     /// The upstream's `HOST:PORT`.
     pub upstream: Text,
     /// The token that is presented to the upstream.

@@ -1,4 +1,4 @@
 mod Chains
 mod Handing
 mod Lasts
-mod Posts
+mod WorkerSlots

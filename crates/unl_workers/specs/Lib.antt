@@ -1,4 +1,5 @@
+pub mod Links
 pub mod Accepting
-pub mod Beside
+pub mod Pool
 pub mod Serving
-pub mod Turning
+pub mod Periodic

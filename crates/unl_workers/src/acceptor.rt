@@ -4,10 +4,10 @@ ghost use Rattle.unl_base.specs.Doors.{Accepts, DoorState, IsListening};
 ghost use Rattle.unl_base.specs.Faults.{HasCause};
 ghost use Rattle.unl_workers.specs.Accepting.{AcceptsAll};
 
-use crate::ever::wait_for_ever;
+use crate::LinkQueue;
+use crate::ever::wait_forever;
 use std::sync::Wait;
 use unl_base::{Door, Failed, Job};
-use unl_links::LinkQueue;
 
 /// Accepts the links of a listening door and queues them for the workers.
 pub(crate) struct Acceptor<'a, D: Door, W> {
@@ -73,5 +73,5 @@ fn accept_all<D: Door, W: Wait>(
             Err(failed) => return Err(failed),
         }
     }
-    wait_for_ever(rt)
+    wait_forever(rt)
 }

@@ -1,23 +1,23 @@
 //! Workers, which serve links.
 ghost use Rattle.std.specs.Prelude.{◌≡◌};
-ghost use Rattle.unl_workers.specs.Serving.{Attends, ServesMany, ServesOne, serving};
+ghost use Rattle.unl_workers.specs.Serving.{ServesSlot, ServesMany, ServesOne, serving};
 
-use crate::ever::wait_for_ever;
+use crate::LinkQueue;
+use crate::ever::wait_forever;
 use std::alloc::Global;
 use std::sync::Wait;
 use unl_base::{Draws, Link};
-use unl_exchange::Server;
-use unl_links::LinkQueue;
+use unl_server::Server;
 
 /// A server that is always ready for a link.
-pub trait Attendant: Server {
+pub trait LinkHandler: Server {
     /// The precondition of `serve_link` always holds.
     ghost always: { (server : Self) → Self.Server.fits server };
 }
 
 /// The slot of a worker: a server and a source of draws of its own.
 #[derive(Drop)]
-pub struct Post<S, R> {
+pub struct WorkerSlot<S, R> {
     /// Serves each link.
     pub server: S,
     /// Draws for the requests of its links.
@@ -26,12 +26,12 @@ pub struct Post<S, R> {
     pub links: u64,
 }
 
-impl<S, R> Post<S, R> {
+impl<S, R> WorkerSlot<S, R> {
     /// Creates a slot that has served no link.
     pub fn new(server: S, draws: R) -> Self
         ensures { result ≡ record { server = server; draws = draws; links = 0 } }
     {
-        Post {
+        WorkerSlot {
             server,
             draws,
             links: 0,
@@ -42,19 +42,19 @@ impl<S, R> Post<S, R> {
 /// Serves the links of a queue.
 #[derive(Drop)]
 pub(crate) struct Worker<'a, S, R, L, W> {
-    pub post: Post<S, R>,
+    pub post: WorkerSlot<S, R>,
     pub queue: &'a LinkQueue<L>,
     pub rt: &'a W,
     pub alloc: Global,
 }
 
 /// Takes links from the queue and serves each, until the queue is closed and empty. It may block.
-pub(crate) fn serve_all<S: Attendant, R: Draws, L: Link + Drop, W: Wait>(
+pub(crate) fn serve_all<S: LinkHandler, R: Draws, L: Link + Drop, W: Wait>(
     worker: &mut Worker<'_, S, R, L, W>,
 )
-    ensures { Attends S.serves S.keeps R.coming worker.old.post worker.new.post }
+    ensures { ServesSlot S.serves S.keeps R.coming worker.old.post worker.new.post }
 {
-    worker.post.links = serve_links(
+    worker.post.links = run_worker(
         worker.alloc,
         worker.rt,
         worker.queue,
@@ -63,8 +63,9 @@ pub(crate) fn serve_all<S: Attendant, R: Draws, L: Link + Drop, W: Wait>(
     );
 }
 
-/// Takes links from a queue and serves each, until the queue is closed and empty. Returns how many were served.
-fn serve_links<S: Attendant, R: Draws, L: Link + Drop, W: Wait>(
+/// Does the work of one worker: takes links from a queue and serves each, until the queue is closed and empty. Returns how many
+/// were served. It may block.
+pub fn run_worker<S: LinkHandler, R: Draws, L: Link + Drop, W: Wait>(
     alloc: Global,
     rt: &W,
     queue: &LinkQueue<L>,
@@ -80,11 +81,11 @@ fn serve_links<S: Attendant, R: Draws, L: Link + Drop, W: Wait>(
             None => return served,
         }
     }
-    wait_for_ever(rt)
+    wait_forever(rt)
 }
 
 /// Serves a link, and drops it.
-fn serve_one<S: Attendant, R: Draws, L: Link + Drop>(
+fn serve_one<S: LinkHandler, R: Draws, L: Link + Drop>(
     alloc: Global,
     mut link: L,
     server: &mut S,

@@ -1,6 +1,6 @@
 use Rattle.std.proofs.Common.{◌≡◌, ℕ, List, ◌++◌, drop}
 use Rattle.unl_compiled.specs.Places.{listed, places_from}
-use Rattle.unl_documents.specs.Series.{joined}
+use Rattle.unl_documents.specs.Chunks.{joined}
 use Rattle.unl_compiled.proofs.index.index_of.Given as goal
 
 abbrev pub invariant-loop-run : goal.invariant-loop-run

@@ -1,5 +1,5 @@
 use Rattle.std.proofs.Common.{◌≡◌, ◌+◌, length, drop}
-use Rattle.unl_documents.specs.Series.{joined}
+use Rattle.unl_documents.specs.Chunks.{joined}
 use Rattle.unl_compiled.proofs.seen.count_of.Given as goal
 
 abbrev pub invariant-loop-run : goal.invariant-loop-run

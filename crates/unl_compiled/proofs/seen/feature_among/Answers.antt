@@ -1,7 +1,7 @@
 use Rattle.std.proofs.Common.{◌≡◌, Some, None, refl, sym, ◌∙◌}
 use Rattle.std.specs.Prelude.{slice_get}
 use Rattle.unl_delta.proofs.Runs.{find_at_end, find_in_run, held}
-use Rattle.unl_documents.specs.Series.{joined}
+use Rattle.unl_documents.specs.Chunks.{joined}
 use Rattle.unl_documents.specs.States.{name_key}
 use Rattle.unl_compiled.proofs.seen.feature_among.Goals as goal
 

@@ -8,7 +8,7 @@ use Rattle.unl_delta.specs.Keyed.{ends_before}
 use Rattle.unl_delta.proofs.Runs.{held}
 use Rattle.unl_documents.specs.declared.feature.Feature.{Feature}
 use Rattle.unl_documents.specs.Parameters.{AreRising}
-use Rattle.unl_documents.specs.Series.{joined}
+use Rattle.unl_documents.specs.Chunks.{joined}
 use Rattle.unl_documents.specs.States.{name_key}
 use Rattle.unl_compiled.proofs.InRuns.{place_at_end, place_in_run}
 use Rattle.unl_compiled.proofs.seen.place_among.Goals as goal

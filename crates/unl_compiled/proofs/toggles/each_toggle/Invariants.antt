@@ -2,7 +2,7 @@ use Rattle.std.proofs.Common.{◌≡◌, ◌++◌, drop}
 use Rattle.std.specs.Prelude.{All, filter_map, map}
 use Rattle.serde_json.specs.View.{view}
 use Rattle.unl_compiled.specs.Toggles.{toggle_if_seen}
-use Rattle.unl_documents.specs.Series.{joined}
+use Rattle.unl_documents.specs.Chunks.{joined}
 use Rattle.unl_documents.specs.Valid.{IsValidFeature}
 use Rattle.unl_compiled.proofs.toggles.each_toggle.Given as goal
 

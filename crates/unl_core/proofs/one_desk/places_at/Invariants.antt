@@ -1,5 +1,5 @@
 use Rattle.std.proofs.Common.{◌≡◌, map, take, All}
-use Rattle.unl_core.specs.Standing.{place_at}
+use Rattle.unl_core.specs.DeskStates.{place_at}
 use Rattle.unl_delta.specs.Valid.{IsValidPlace}
 use Rattle.unl_core.proofs.one_desk.places_at.Given as goal
 

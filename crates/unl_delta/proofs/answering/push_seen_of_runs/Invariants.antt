@@ -1,7 +1,7 @@
 use Rattle.std.proofs.Common.{◌≡◌, ◌++◌, take}
 use Rattle.std.specs.Prelude.{filter}
 use Rattle.unl_documents.specs.declared.feature.Feature.{Feature}
-use Rattle.unl_documents.specs.Series.{joined}
+use Rattle.unl_documents.specs.Chunks.{joined}
 use Rattle.unl_tokens.specs.Names.{sees}
 use Rattle.unl_delta.proofs.answering.push_seen_of_runs.Given as goal
 

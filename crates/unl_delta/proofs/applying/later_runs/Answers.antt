@@ -1,6 +1,6 @@
 use Rattle.std.proofs.Common.{List, [], ap, ◌∙◌}
 use Rattle.unl_delta.specs.State.{entry_number, later}
-use Rattle.unl_documents.specs.Series.{joined}
+use Rattle.unl_documents.specs.Chunks.{joined}
 use Rattle.unl_delta.proofs.Numbers.{later_append}
 use Rattle.unl_delta.proofs.Runs.{gathers_next}
 use Rattle.unl_delta.proofs.applying.later_runs.Goals as goal

@@ -1,5 +1,5 @@
 use Rattle.std.proofs.Common.{◌≡◌, take}
-use Rattle.unl_documents.specs.Series.{joined, NoneIsEmpty}
+use Rattle.unl_documents.specs.Chunks.{joined, NoneIsEmpty}
 use Rattle.unl_delta.specs.State.{entry_number, later}
 use Rattle.unl_delta.proofs.applying.later_runs.Given as goal
 

@@ -1,5 +1,5 @@
 use Rattle.std.proofs.Common.{◌≡◌, ◌++◌, take}
-use Rattle.unl_documents.specs.Series.{joined}
+use Rattle.unl_documents.specs.Chunks.{joined}
 use Rattle.unl_delta.proofs.ordered_series.push_runs.Given as goal
 
 abbrev pub invariant-loop-run : goal.invariant-loop-run

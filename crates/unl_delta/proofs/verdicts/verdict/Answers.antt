@@ -1,5 +1,5 @@
 use Rattle.unl_delta.proofs.Delivery.{taken_follows}
 use Rattle.unl_delta.proofs.verdicts.verdict.Goals as goal
 
-pub returns-clause-stands : goal.returns-clause-stands
-returns-clause-stands c = taken_follows c.args.place.now c.args.batch.now c.judged.result c.judged.ensures
+pub returns-clause-represents : goal.returns-clause-represents
+returns-clause-represents c = taken_follows c.args.place.now c.args.batch.now c.judged.result c.judged.ensures

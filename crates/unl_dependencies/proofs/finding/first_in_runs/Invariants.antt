@@ -1,5 +1,5 @@
 use Rattle.std.proofs.Common.{◌≡◌, drop}
-use Rattle.unl_documents.specs.Series.{joined}
+use Rattle.unl_documents.specs.Chunks.{joined}
 use Rattle.unl_dependencies.specs.Evaluation.{feature_named}
 use Rattle.unl_dependencies.proofs.finding.first_in_runs.Given as goal
 

@@ -1,6 +1,6 @@
 use Rattle.std.proofs.Common.{◌≡◌, map, take}
 use Rattle.unl_documents.specs.Inline.{inlined_feature}
-use Rattle.unl_documents.specs.Series.{joined, NoneIsEmpty}
+use Rattle.unl_documents.specs.Chunks.{joined, NoneIsEmpty}
 use Rattle.unl_documents.proofs.inlining.inlined_runs.Given as goal
 
 abbrev pub invariant-loop-run : goal.invariant-loop-run

@@ -4,7 +4,7 @@ use Rattle.unl_edge.proofs.edges.run_edge.Goals as goal
 
 pub returns-in-Ok-clause-runs : goal.returns-in-Ok-clause-runs
 returns-in-Ok-clause-runs g c =
-    begun_ends c.args.words.now _ _ _ c.serve_links.result _ _ _ c.draw-boot.result _ c.in-Ok.ensures.known c.in-Ok.ensures.board c.in-Ok.ensures.feeders
+    begun_ends c.args.words.now _ _ _ c.serve_links.result _ _ _ c.draw-boot.result _ c.in-Ok.ensures.known c.in-Ok.ensures.board c.in-Ok.ensures.slot_pollers
     (sym c.world.view_is) c.draw-boot.ensures.drawn c.serve_links.ensures.ends
 
 pub returns-in-Err-clause-runs : goal.returns-in-Err-clause-runs

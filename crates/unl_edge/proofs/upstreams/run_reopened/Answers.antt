@@ -4,7 +4,7 @@ use Rattle.unl_upstream.specs.contracts.reopening.ReopenFault as faults
 use Rattle.unl_upstream.specs.declared.reopening.ReopenFault.{ReopenFault}
 use Rattle.unl_upstream.specs.Kept.{keeper_by, kept_state}
 use Rattle.unl_edge.specs.Upstreams.{row_line}
-use Rattle.unl_input.specs.Refusal.{SaysLine}
+use Rattle.unl_input.specs.Refusal.{WritesLine}
 use Rattle.unl_edge.proofs.Commands.{bad_row, no_row_there}
 use Rattle.unl_edge.proofs.upstreams.run_reopened.Goals as goal
 
@@ -17,7 +17,7 @@ returns-in-Err-BadRow-clause-ends g c =
           (kept_state c.args.up (keeper_by g.K.Keeper.opened g.K.Keeper.faults g.K.Keeper.count g.K.Keeper.rows c.args.keeper))
           (kept_state c.reopen.new.up (keeper_by g.K.Keeper.opened g.K.Keeper.faults g.K.Keeper.count g.K.Keeper.rows c.reopen.new.keeper))
           place text c.in-Err-BadRow.field-0 c.in-Err-BadRow.field-0-is c.in-Err-BadRow.ensures.keeper c.in-Err-BadRow.ensures.reopens,
-      subst (λ (f : ReopenFault). SaysLine c.say_row.result (row_line (values_d faults.enum 0 (place, (text, tt {0})) f).0)
+      subst (λ (f : ReopenFault). WritesLine c.say_row.result (row_line (values_d faults.enum 0 (place, (text, tt {0})) f).0)
           (g.O.Sink.sent c.args.output.now) (g.O.Sink.sent c.say_row.new.output)) c.in-Err-BadRow.field-0-is c.say_row.ensures.said,
       refl,
     )
@@ -30,7 +30,7 @@ returns-in-Err-NoRow-clause-ends g c =
           (kept_state c.args.up (keeper_by g.K.Keeper.opened g.K.Keeper.faults g.K.Keeper.count g.K.Keeper.rows c.args.keeper))
           (kept_state c.reopen.new.up (keeper_by g.K.Keeper.opened g.K.Keeper.faults g.K.Keeper.count g.K.Keeper.rows c.reopen.new.keeper))
           place c.in-Err-NoRow.field-0 c.in-Err-NoRow.field-0-is c.in-Err-NoRow.ensures.keeper c.in-Err-NoRow.ensures.reopens,
-      subst (λ (f : ReopenFault). SaysLine c.say_row-in-Err-NoRow.result (row_line (values_d faults.enum 1 (place, tt {0}) f).0)
+      subst (λ (f : ReopenFault). WritesLine c.say_row-in-Err-NoRow.result (row_line (values_d faults.enum 1 (place, tt {0}) f).0)
           (g.O.Sink.sent c.args.output.now) (g.O.Sink.sent c.say_row-in-Err-NoRow.new.output)) c.in-Err-NoRow.field-0-is
           c.say_row-in-Err-NoRow.ensures.said,
       refl,

@@ -12,8 +12,8 @@ returns-in-Ok-clause-ends g c =
     (kept_state c.kept.inside.up (keeper_by g.K.Keeper.opened g.K.Keeper.faults g.K.Keeper.count g.K.Keeper.rows c.kept.inside.keeper)) c.args.port
     (kept_state c.serve_links-end.new.up
     (keeper_by g.K.Keeper.opened g.K.Keeper.faults g.K.Keeper.count g.K.Keeper.rows c.serve_links-end.new.keeper))
-    c.take_lines-taken.new.desk c.serve_links-end.result (g.I.Source.left c.args.input.now) (g.I.Source.left c.take_lines-taken.new.source)
+    c.process_lines-taken.new.desk c.serve_links-end.result (g.I.Source.left c.args.input.now) (g.I.Source.left c.process_lines-taken.new.source)
     (facing (g.O.Sink.sent c.args.output.now) (g.D.Door.state c.args.door.now) (g.R.Draws.coming c.args.draws.now))
     (facing (g.O.Sink.sent c.serve_links-end.new.output) (g.D.Door.state c.serve_links-end.new.door)
     (g.R.Draws.coming c.serve_links-end.new.draws))
-    (g.O.Sink.sent c.take_lines-taken.new.sink) has c.kept.view_is c.in-Ok.ensures.all c.serve_links-end.ensures.ends
+    (g.O.Sink.sent c.process_lines-taken.new.sink) has c.kept.view_is c.in-Ok.ensures.all c.serve_links-end.ensures.ends

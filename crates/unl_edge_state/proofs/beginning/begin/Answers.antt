@@ -1,8 +1,8 @@
 use Rattle.std.proofs.Common.{ap, ◌∙◌, map}
-use Rattle.unl_core.specs.Standing.{place_at}
+use Rattle.unl_core.specs.DeskStates.{place_at}
 use Rattle.unl_edge_state.proofs.Writings.{writing_begun}
-use Rattle.unl_published.specs.Rule.{knows_opening}
-use Rattle.unl_published.specs.Seen.{written}
+use Rattle.unl_publication.specs.Rule.{knows_opening}
+use Rattle.unl_publication.specs.Seen.{written}
 use Rattle.unl_edge_state.proofs.beginning.begin.Goals as goal
 
 pub over-requires : goal.over-requires

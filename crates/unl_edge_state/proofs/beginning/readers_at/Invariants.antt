@@ -1,8 +1,8 @@
 use Rattle.std.proofs.Common.{◌≡◌, ◌≤◌, ◌-◌, length}
 use Rattle.std.specs.Prelude.{All}
 use Rattle.unl_edge_state.specs.Reading.{HasBegun}
-use Rattle.unl_published.specs.Rule.{told_by}
-use Rattle.unl_published.specs.Seen.{is_closed, written}
+use Rattle.unl_publication.specs.Rule.{told_by}
+use Rattle.unl_publication.specs.Seen.{is_closed, written}
 use Rattle.unl_edge_state.proofs.beginning.readers_at.Given as goal
 
 -- The readers made so far.

@@ -2,7 +2,7 @@ use Rattle.unl_follow.proofs.Keeping.{fault_keeps, front_rises}
 use Rattle.unl_follow.proofs.once.follow_once.Goals as goal
 
 pub returns-clause-delivery : goal.returns-clause-delivery
-returns-clause-delivery g c line sees is_line stands brings = c.refresh_once.ensures.delivery line sees is_line stands brings
+returns-clause-delivery g c line sees is_line represents brings = c.refresh_once.ensures.delivery line sees is_line represents brings
 
 pub returns-clause-next_front : goal.returns-clause-next_front
 returns-clause-next_front g c = front_rises _ _ _ _ _ _ c.refresh_once.ensures.takes c.refresh_once.ensures.fault

@@ -1,5 +1,5 @@
 use Rattle.std.proofs.Common.{◌∙◌, arith, refl}
-use Rattle.unl_input.proofs.Taking.{takes_more, takes_none, takes_end}
+use Rattle.unl_input.proofs.ReadingWhole.{takes_more, takes_none, takes_end}
 use Rattle.unl_input.proofs.reading.read_to_end.Goals as goal
 
 pub reads-init : goal.reads-init

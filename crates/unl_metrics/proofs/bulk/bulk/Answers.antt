@@ -12,8 +12,8 @@ returns-then-is_empty c =
     let none : length c.in_ok-rows.rows.items ≡ 0 = grind (arith, nat_tests, c.in_ok-rows.rows.ok.0, c.is_empty.ensures, c.if-is_empty.true) in
     nothing_sent c.args.environment.now c.args.rows.now c.in_ok-rows.rows.items c.in_ok-rows.ensures none
 
-pub front_of-requires : goal.front_of-requires
-front_of-requires c =
+pub fitting_values-requires : goal.fitting_values-requires
+fitting_values-requires c =
     let same : c.as_slice.result.now ≡ counted_in c.args.environment.now c.args.rows.now = search rules in
     subst (λ (found : Book). All IsCounted found) (sym same) (each_in c.args.environment.now c.args.rows.now c.requires)
 

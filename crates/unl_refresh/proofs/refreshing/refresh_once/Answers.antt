@@ -15,5 +15,5 @@ returns-clause-one_reply g c calm found =
     takes_one _ _ _ _ _ _ _ c.refresh.ensures.asks c.refresh.ensures.cause calm found
 
 pub returns-clause-delivery : goal.returns-clause-delivery
-returns-clause-delivery g c line sees is_line stands brings =
-    delivered _ _ _ _ _ _ _ line sees c.requires.slot c.refresh.ensures.takes c.refresh.ensures.fault is_line stands brings
+returns-clause-delivery g c line sees is_line represents brings =
+    delivered _ _ _ _ _ _ _ line sees c.requires.slot c.refresh.ensures.takes c.refresh.ensures.fault is_line represents brings

@@ -1,9 +1,9 @@
 use Rattle.std.proofs.Common.{[], refl, rules}
-use Rattle.unl_exchange.specs.Linked.{linking}
-use Rattle.unl_upstream.specs.declared.keeping_server.KeptUpstream.{KeptUpstream}
+use Rattle.unl_server.specs.Linked.{linking}
+use Rattle.unl_upstream.specs.declared.keeping_server.DurableUpstream.{DurableUpstream}
 use Rattle.unl_upstream.specs.Kept.{HasKept, keeper_by, kept_state}
 use Rattle.unl_upstream.specs.KeptHosting.{HostsAll}
-use Rattle.unl_upstream.specs.KeptServing.{KeepsOn, Lacks, Step}
+use Rattle.unl_upstream.specs.KeptServing.{ServesKept, RunsOutAtRequest, Step}
 use Rattle.unl_upstream.proofs.Carrying.{holds_on, holds_same}
 use Rattle.unl_upstream.proofs.Linking.{hosts_told}
 use Rattle.unl_upstream.proofs.keeping_host.host_kept.Goals as goal
@@ -16,7 +16,7 @@ returns-clause-hosts g c =
     (g.R.Draws.coming c.args.draws.now) (g.D.Door.state c.args.door.now))
     (linking (kept_state after.up.now (keeper_by g.K.Keeper.opened g.K.Keeper.faults g.K.Keeper.count g.K.Keeper.rows after.keeper.now))
     (g.R.Draws.coming c.host-hosted.new.draws) (g.D.Door.state c.host-hosted.new.door)) =
-    hosts_told Step Lacks KeepsOn (λ (s : KeptUpstream g.row.K.Denot). kept_state s.up.now
+    hosts_told Step RunsOutAtRequest ServesKept (λ (s : DurableUpstream g.row.K.Denot). kept_state s.up.now
     (keeper_by g.K.Keeper.opened g.K.Keeper.faults g.K.Keeper.count g.K.Keeper.rows s.keeper.now)) c.host-hosted.result _ _ c.host-hosted.ensures.hosts in
     search rules
 

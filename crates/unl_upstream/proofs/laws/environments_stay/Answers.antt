@@ -1,4 +1,4 @@
-use Rattle.unl_upstream.proofs.Standing.{environments_are}
+use Rattle.unl_upstream.proofs.VersionLemmas.{environments_are}
 use Rattle.unl_upstream.proofs.laws.environments_stay.Goals as goal
 
 pub returns : goal.returns

@@ -1,4 +1,4 @@
-use Rattle.unl_upstream.proofs.Standing.{others_are_accepted, others_lead_there, refused_is_nothing}
+use Rattle.unl_upstream.proofs.VersionLemmas.{others_are_accepted, others_lead_there, refused_is_nothing}
 use Rattle.unl_upstream.proofs.laws.refused_changes_nothing.Goals as goal
 
 pub returns-clause-one : goal.returns-clause-one

@@ -1,5 +1,5 @@
 use Rattle.unl_upstream.proofs.Given.{answer_leads}
-use Rattle.unl_upstream.proofs.Standing.{secret_stays}
+use Rattle.unl_upstream.proofs.VersionLemmas.{secret_stays}
 use Rattle.unl_upstream.proofs.laws.requests_give_commands.Goals as goal
 
 pub returns-clause-one : goal.returns-clause-one

@@ -1,4 +1,4 @@
-use Rattle.unl_exchange.specs.Links.{link_state}
+use Rattle.unl_server.specs.Links.{link_state}
 use Rattle.unl_workers.proofs.worker.serve_one.Goals as goal
 
 pub returns-clause-served : goal.returns-clause-served

@@ -1,6 +1,6 @@
 use Rattle.std.proofs.Common.{◌∙◌, ap, map}
-use Rattle.unl_core.specs.Standing.{place_at}
-use Rattle.unl_core.proofs.Standings.{standing_begun}
+use Rattle.unl_core.specs.DeskStates.{place_at}
+use Rattle.unl_core.proofs.DeskStateLemmas.{standing_begun}
 use Rattle.unl_core.proofs.one_desk.OneDesk.new.Goals as goal
 
 pub invariant_of-result : goal.invariant_of-result

@@ -4,8 +4,8 @@ use Rattle.unl_core.specs.Answer.{answer_of}
 use Rattle.unl_edge_state.specs.Editions.{board_known}
 use Rattle.unl_edge_state.specs.Reading.{seen_by}
 use Rattle.unl_edge_state.proofs.Boards.{keeps_left, seen_left, shown_known}
-use Rattle.unl_published.specs.Rule.{knows_nothing}
-use Rattle.unl_published.specs.Seen.{next, past, seen, taken}
+use Rattle.unl_publication.specs.Rule.{knows_nothing}
+use Rattle.unl_publication.specs.Seen.{next, past, seen, taken}
 use Rattle.unl_edge_state.proofs.reader.EdgeReaderDesk.answer.Goals as goal
 
 pub returns-in_err-given-in-Ok-clause-keeps : goal.returns-in_err-given-in-Ok-clause-keeps

@@ -2,7 +2,7 @@ use Rattle.std.proofs.Common.{ap, ◌∙◌}
 use Rattle.unl_edge_state.specs.Editions.{board_known}
 use Rattle.unl_edge_state.specs.Writing.{Writing}
 use Rattle.unl_edge_state.proofs.Boards.{shown_known}
-use Rattle.unl_published.specs.Seen.{published}
+use Rattle.unl_publication.specs.Seen.{published}
 use Rattle.unl_edge_state.proofs.writer.EdgeWriter.board.Goals as goal
 
 pub returns-clause-board : goal.returns-clause-board

@@ -4,7 +4,7 @@ use Rattle.unl_edge_state.specs.Editions.{board_known}
 use Rattle.unl_edge_state.specs.Writing.{Writing}
 use Rattle.unl_edge_state.proofs.Boards.{shown_known}
 use Rattle.unl_edge_state.proofs.Writings.{book_installed, book_orderly, book_told}
-use Rattle.unl_published.specs.Seen.{published}
+use Rattle.unl_publication.specs.Seen.{published}
 use Rattle.unl_edge_state.proofs.writer.EdgeWriterInstaller.install_book.Goals as goal
 
 pub returns-then-is_same-clause-book : goal.returns-then-is_same-clause-book

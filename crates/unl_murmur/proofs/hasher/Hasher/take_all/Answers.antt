@@ -1,4 +1,4 @@
-use Rattle.unl_murmur.proofs.Standing.{one_more, no_more}
+use Rattle.unl_murmur.proofs.Represented.{one_more, no_more}
 use Rattle.unl_murmur.proofs.hasher.Hasher.take_all.Goals as goal
 
 pub loop-byte-preserved : goal.loop-byte-preserved

@@ -1,6 +1,6 @@
--- What may be told is text.
+-- Bytes that may be logged are UTF-8.
 use Rattle.std.proofs.Common.{rules, take}
-use Rattle.unl_net.proofs.Telling.{is_text}
+use Rattle.unl_net.proofs.LoggedText.{is_text}
 use Rattle.unl_net.proofs.request_kind.RequestKind.as_str.Goals as goal
 
 pub returns-in-Err : goal.returns-in-Err

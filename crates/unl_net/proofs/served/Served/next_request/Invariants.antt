@@ -2,7 +2,7 @@ use Rattle.std.specs.Io.KnownBytes.{Keeps}
 use Rattle.unl_net.specs.Buffers.{coming}
 use Rattle.unl_net.proofs.served.Served.next_request.Given as goal
 
--- what is to come is as it was
+-- the bytes to come are unchanged
 abbrev pub invariant-looks : goal.invariant-looks
 invariant-looks g l = Keeps
     (coming l.initial.self.connection.received (g.S.Read.remaining l.initial.self.connection.stream))

@@ -2,7 +2,7 @@ use Rattle.std.proofs.Common.{◌≡◌}
 use Rattle.std.specs.Io.KnownBytes.{Keeps}
 use Rattle.unl_net.proofs.served.Served.read_stream.Given as goal
 
--- nothing came
+-- nothing was read
 abbrev pub invariant-waits : goal.invariant-waits
 invariant-waits g l = Keeps (g.S.Read.remaining l.initial.self.connection.stream) (g.S.Read.remaining l.self.connection.stream)
     × (l.self.connection.received ≡ l.initial.self.connection.received)

@@ -2,7 +2,7 @@ use Rattle.std.specs.Io.KnownBytes.{Keeps}
 use Rattle.unl_net.specs.Buffers.{going}
 use Rattle.unl_net.proofs.served.Served.write_waiting.Given as goal
 
--- what was sent and what is to be sent are as before
+-- the bytes sent and those still to be sent are unchanged
 abbrev pub invariant-waits : goal.invariant-waits
 invariant-waits g l = Keeps
     (going (g.S.Write.contents l.initial.self.connection.stream) l.initial.self.connection.to_send)

@@ -1,5 +1,5 @@
 use Rattle.std.proofs.lemmas.Result.{IfOk-weaker}
-use Rattle.unl_upstream.proofs.Standing.{one_added}
+use Rattle.unl_upstream.proofs.VersionLemmas.{one_added}
 use Rattle.unl_upstream.proofs.upstream.Upstream.apply.Goals as goal
 
 pub returns-clause-versions : goal.returns-clause-versions

@@ -1,5 +1,5 @@
 use Rattle.std.proofs.Common.{rules}
-use Rattle.unl_upstream.proofs.Standing.{opens_without}
+use Rattle.unl_upstream.proofs.VersionLemmas.{opens_without}
 use Rattle.unl_upstream.proofs.upstream.Upstream.new.Goals as goal
 
 pub returns-clause-versions : goal.returns-clause-versions

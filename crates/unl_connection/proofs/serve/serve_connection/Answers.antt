@@ -1,0 +1,71 @@
+use Rattle.std.proofs.Common.{◌≡◌, ℕ, length, rules, Some}
+use Rattle.unl_core.proofs.Showing.{shows_where_stands}
+use Rattle.unl_server.specs.Conversation.{Converses}
+use Rattle.unl_server.specs.Links.{link_state}
+use Rattle.unl_server.proofs.ShowsLemmas.{Converses_seen}
+use Rattle.unl_connection.specs.declared.by_desk.DeskHandler.{DeskHandler}
+use Rattle.unl_connection.specs.Notes.{DrawsAtLeast, LooksFor, Notes, NotesNothing, Rise, known_by, noted, seen}
+use Rattle.unl_connection.proofs.NotesLemmas.{Tells, shows, tells}
+use Rattle.unl_connection.proofs.serve.serve_connection.Goals as goal
+
+-- Each fact is about the values behind the references after the conversation, which are the references that were passed.
+pub returns-clause-converses : goal.returns-clause-converses
+returns-clause-converses g c =
+    let after = c.serve_requests-conversed.new.state in
+    let counted : length after.served.now ≡ c.serve_requests-conversed.result.0 = c.serve_requests-conversed.ensures.fits in
+    let fact : Converses (Notes (g.D.Desk.board_at after.desk.now)) NotesNothing
+    (link_state (g.L.Source.left c.args.link.now) (g.L.Sink.sent c.args.link.now) (g.L.Source.faults c.args.link.now))
+    (noted c.args.served.now c.args.book.now) c.serve_requests-conversed.result.1 (noted after.served.now after.book.now) (length after.served.now)
+    (link_state (g.L.Source.left c.serve_requests-conversed.new.link) (g.L.Sink.sent c.serve_requests-conversed.new.link)
+    (g.L.Source.faults c.serve_requests-conversed.new.link)) =
+    rw (counted) (Converses_seen _ c.serve_requests-conversed.result.1 c.serve_requests-conversed.result.0 _
+    (shows (λ (s : DeskHandler g.row.D.Denot). seen (known_by g.D.Desk.front g.D.Desk.board_at g.D.Desk.fronts s.desk.now) s.served.now s.book.now) _ _)
+    c.serve_requests-conversed.ensures.converses) in
+    search rules
+
+pub returns-clause-fronts : goal.returns-clause-fronts
+returns-clause-fronts g c =
+    let after = c.serve_requests-conversed.new.state in
+    let told : Tells (known_by g.D.Desk.front g.D.Desk.board_at g.D.Desk.fronts c.args.desk.now) (g.R.Draws.coming c.args.draws.now)
+    c.serve_requests-conversed.result.1 (known_by g.D.Desk.front g.D.Desk.board_at g.D.Desk.fronts after.desk.now)
+    (g.R.Draws.coming c.serve_requests-conversed.new.draws) after.served.now =
+    tells (λ (s : DeskHandler g.row.D.Denot). seen (known_by g.D.Desk.front g.D.Desk.board_at g.D.Desk.fronts s.desk.now) s.served.now s.book.now)
+    _ _ c.serve_requests-conversed.result.1 c.serve_requests-conversed.result.0 c.requires c.serve_requests-conversed.ensures.converses.answered in
+    let fact : Rise (g.D.Desk.front c.args.desk.now) after.served.now (g.D.Desk.front after.desk.now) = told.fronts in
+    search rules
+
+pub returns-clause-looks : goal.returns-clause-looks
+returns-clause-looks g c =
+    let after = c.serve_requests-conversed.new.state in
+    let told : Tells (known_by g.D.Desk.front g.D.Desk.board_at g.D.Desk.fronts c.args.desk.now) (g.R.Draws.coming c.args.draws.now)
+    c.serve_requests-conversed.result.1 (known_by g.D.Desk.front g.D.Desk.board_at g.D.Desk.fronts after.desk.now)
+    (g.R.Draws.coming c.serve_requests-conversed.new.draws) after.served.now =
+    tells (λ (s : DeskHandler g.row.D.Denot). seen (known_by g.D.Desk.front g.D.Desk.board_at g.D.Desk.fronts s.desk.now) s.served.now s.book.now)
+    _ _ c.serve_requests-conversed.result.1 c.serve_requests-conversed.result.0 c.requires c.serve_requests-conversed.ensures.converses.answered in
+    let fact : LooksFor (g.D.Desk.fronts c.args.desk.now) after.served.now c.serve_requests-conversed.result.1 (g.D.Desk.fronts after.desk.now) = told.looks in
+    search rules
+
+pub returns-clause-drawn : goal.returns-clause-drawn
+returns-clause-drawn g c =
+    let after = c.serve_requests-conversed.new.state in
+    let told : Tells (known_by g.D.Desk.front g.D.Desk.board_at g.D.Desk.fronts c.args.desk.now) (g.R.Draws.coming c.args.draws.now)
+    c.serve_requests-conversed.result.1 (known_by g.D.Desk.front g.D.Desk.board_at g.D.Desk.fronts after.desk.now)
+    (g.R.Draws.coming c.serve_requests-conversed.new.draws) after.served.now =
+    tells (λ (s : DeskHandler g.row.D.Denot). seen (known_by g.D.Desk.front g.D.Desk.board_at g.D.Desk.fronts s.desk.now) s.served.now s.book.now)
+    _ _ c.serve_requests-conversed.result.1 c.serve_requests-conversed.result.0 c.requires c.serve_requests-conversed.ensures.converses.answered in
+    let fact : DrawsAtLeast (g.R.Draws.coming c.args.draws.now) after.served.now (g.R.Draws.coming c.serve_requests-conversed.new.draws) = told.drawn in
+    search rules
+
+pub returns-clause-keeps : goal.returns-clause-keeps
+returns-clause-keeps g c k board there =
+    let after = c.serve_requests-conversed.new.state in
+    let told : Tells (known_by g.D.Desk.front g.D.Desk.board_at g.D.Desk.fronts c.args.desk.now) (g.R.Draws.coming c.args.draws.now)
+    c.serve_requests-conversed.result.1 (known_by g.D.Desk.front g.D.Desk.board_at g.D.Desk.fronts after.desk.now)
+    (g.R.Draws.coming c.serve_requests-conversed.new.draws) after.served.now =
+    tells (λ (s : DeskHandler g.row.D.Denot). seen (known_by g.D.Desk.front g.D.Desk.board_at g.D.Desk.fronts s.desk.now) s.served.now s.book.now)
+    _ _ c.serve_requests-conversed.result.1 c.serve_requests-conversed.result.0 c.requires c.serve_requests-conversed.ensures.converses.answered in
+    let fact : g.D.Desk.board_at after.desk.now k ≡ Some board = told.keeps k board there in
+    search rules
+
+pub returns-clause-revisions : goal.returns-clause-revisions
+returns-clause-revisions g c told front = shows_where_stands told _

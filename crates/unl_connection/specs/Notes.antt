@@ -1,0 +1,104 @@
+-- The notes of the answered requests of a connection, and what they say.
+use Rattle.std.specs.Prelude.{◌≡◌, ℕ, ◌≤◌, ◌⊎◌, List, [], ◌∷◌, ◌++◌, map, Option, Some}
+use Rattle.unl_base.specs.declared.draws.Draw.{Draw}
+use Rattle.unl_base.specs.Draws.{TakesDraw, TakesAtMostOne}
+use Rattle.unl_http_api.specs.declared.end.End.{End}
+use Rattle.unl_http_api.specs.declared.end.End.TheVariants.{Memory}
+use Rattle.unl_http_api.specs.declared.reply.Reply.{Reply}
+use Rattle.unl_http_api.specs.declared.request.Request.{Request}
+use Rattle.unl_core.specs.declared.board.Board.{Board}
+use Rattle.unl_core.specs.Answer.{answer_of}
+use Rattle.unl_core.specs.Desk.{Keeps, Enters, EntersAtMostOnce}
+use Rattle.unl_core.specs.Recording.{final_book, final_reply}
+use Rattle.unl_metrics.specs.Book.{Book}
+use Rattle.unl_connection.specs.declared.served.ServedOne.{ServedOne}
+
+-- the notes of the answered requests, and the book with their reports
+pub record Noted : Type 0 where
+  pub ones : List ServedOne
+  pub book : Book
+
+-- these two as a record
+abbrev pub noted : List ServedOne → Book → Noted
+noted ones book = record { ones = ones; book = book }
+
+-- One more answer is noted: it is computed from the board at the front of its note, with the draw of its note. The reply is
+-- that of the answer, or says that the book is full. The book has what the answer reports, unless it is full.
+pub record Notes
+    (board_at : ℕ → Option Board) (before : Noted) (request : Request) (reply : Reply) (after : Noted) : Type 0 where
+  pub one : ServedOne
+  pub board : Board
+  pub added : after.ones ≡ before.ones ++ one ∷ []
+  pub known : board_at one.front ≡ Some board
+  pub is : reply ≡ final_reply before.book (answer_of board request one.draw)
+  pub summed : after.book ≡ final_book before.book (answer_of board request one.draw)
+
+-- nothing is noted or added to the book for a request
+abbrev pub NotesNothing : Noted → Request → Noted → Type 0
+NotesNothing before request after = after ≡ before
+
+-- the fronts never fall, from the first one to the last
+abbrev pub Rise : ℕ → List ServedOne → ℕ → Type 0
+Rise first [] last = first ≤ last
+Rise first (one ∷ ones) last = (first ≤ one.front) × Rise one.front ones last
+
+-- the front of each note
+abbrev pub fronts_of : List ServedOne → List ℕ
+fronts_of ones = map (λ one. one.front) ones
+
+-- the desk looked at the fronts of the notes; if memory ran out, at one more at most
+abbrev pub LooksFor : Option (List ℕ) → List ServedOne → End → Option (List ℕ) → Type 0
+LooksFor fronts ones end fronts_after =
+    Enters fronts (fronts_of ones) fronts_after
+    ⊎ ((end ≡ Memory) × (front : ℕ) × Enters fronts (fronts_of ones ++ front ∷ []) fronts_after)
+
+-- the draws of the notes were taken one after another
+abbrev pub Draws : Option (List Draw × Draw) → List ServedOne → Option (List Draw × Draw) → Type 0
+Draws coming [] after = after ≡ coming
+Draws coming (one ∷ ones) after = (middle : Option (List Draw × Draw)) × TakesDraw coming one.draw middle × Draws middle ones after
+
+-- as above, and at most one more draw was taken
+abbrev pub DrawsAtLeast : Option (List Draw × Draw) → List ServedOne → Option (List Draw × Draw) → Type 0
+DrawsAtLeast coming ones after = (middle : Option (List Draw × Draw)) × Draws coming ones middle × TakesAtMostOne middle after
+
+-- what is known of a desk: the number of publications when it last looked, the boards, and the fronts at which it looked
+pub record Known : Type 0 where
+  pub front : ℕ
+  pub board_at : ℕ → Option Board
+  pub fronts : Option (List ℕ)
+
+-- these facts about a desk, given the functions that read them
+abbrev pub known_by : {D : Type 0} → (D → ℕ) → (D → ℕ → Option Board) → (D → Option (List ℕ)) → D → Known
+known_by front board_at fronts desk = record { front = front desk; board_at = board_at desk; fronts = fronts desk }
+
+-- what is known of a desk, the notes of its answers, and the book
+pub record Seen : Type 0 where
+  pub desk : Known
+  pub noted : Noted
+
+-- these three as a record
+abbrev pub seen : Known → List ServedOne → Book → Seen
+seen desk ones book = record { desk = desk; noted = noted ones book }
+
+-- the desk looked once and answered from the board that it saw; its front and the draw were noted, and the report was added
+-- to the book
+pub record AnswersFromBoard (before : Seen) (request : Request) (draw : Draw) (reply : Reply) (after : Seen) : Type 0 where
+  pub board : Board
+  pub known : after.desk.board_at after.desk.front ≡ Some board
+  pub is : reply ≡ final_reply before.noted.book (answer_of board request draw)
+  pub summed : after.noted.book ≡ final_book before.noted.book (answer_of board request draw)
+  pub one : ServedOne
+  pub added : after.noted.ones ≡ before.noted.ones ++ one ∷ []
+  pub its_front : one.front ≡ after.desk.front
+  pub its_draw : one.draw ≡ draw
+  pub rises : before.desk.front ≤ after.desk.front
+  pub keeps : Keeps before.desk.board_at after.desk.board_at
+  pub entered : Enters before.desk.fronts (after.desk.front ∷ []) after.desk.fronts
+
+-- memory ran out: nothing was noted or added to the book, and the desk looked at most once
+pub record AnswersNothing (before after : Seen) : Type 0 where
+  pub same : after.noted.ones ≡ before.noted.ones
+  pub same_book : after.noted.book ≡ before.noted.book
+  pub rises : before.desk.front ≤ after.desk.front
+  pub keeps : Keeps before.desk.board_at after.desk.board_at
+  pub entered : EntersAtMostOnce before.desk.fronts after.desk.fronts

@@ -1,0 +1,60 @@
+//! The request handler that asks a desk.
+
+use crate::served::{Served, ServedOne};
+use std::alloc::Global;
+use std::marker::PhantomData;
+use unl_base::Draw;
+use unl_core::{Desk, record_report};
+use unl_documents::Memory;
+use unl_http_api::{Reply, Request};
+use unl_metrics::MetricsBook;
+use unl_server::RequestHandler;
+
+/// The state of the handler: the desk that answers requests, the metrics book, and the notes of the answers.
+#[derive(Drop)]
+pub(crate) struct DeskHandler<'a, D> {
+    pub desk: &'a mut D,
+    pub book: &'a mut MetricsBook,
+    pub served: &'a mut Served,
+}
+
+/// Answers each request from a desk, adds what it reports to the book, and notes the desk's front and the draw.
+pub(crate) struct ByDesk<'a, D>(PhantomData<&'a D>);
+
+impl<'a, D: Desk> RequestHandler for ByDesk<'a, D> {
+    ghost use Rattle.std.specs.Prelude.{◌≡◌, length};
+    ghost use Rattle.std.proofs.Common.{rules};
+    ghost use Rattle.unl_connection.specs.Notes.{AnswersNothing, AnswersFromBoard, known_by, seen};
+
+    type State = DeskHandler<'a, D>;
+
+    ghost fits = { λ count state. length state.served.now ≡ count };
+
+    ghost keeps = { λ state after. (after.desk.ghost_name ≡ state.desk.ghost_name)
+        × (after.book.ghost_name ≡ state.book.ghost_name) × (after.served.ghost_name ≡ state.served.ghost_name) };
+
+    ghost gives = { λ state request draw reply after. AnswersFromBoard
+        (seen (known_by D.front D.board_at D.fronts state.desk.now) state.served.now state.book.now) request draw reply
+        (seen (known_by D.front D.board_at D.fronts after.desk.now) after.served.now after.book.now) };
+
+    ghost gives_up = { λ state request draw after. AnswersNothing
+        (seen (known_by D.front D.board_at D.fronts state.desk.now) state.served.now state.book.now)
+        (seen (known_by D.front D.board_at D.fronts after.desk.now) after.served.now after.book.now) };
+
+    fn answer(
+        alloc: Global,
+        state: &mut DeskHandler<'a, D>,
+        _count: usize,
+        request: &Request,
+        draw: &Draw,
+    ) -> Result<Reply, Memory> {
+        let (front, answer) = state.desk.answer(alloc, request, draw)?;
+        let reply = record_report(alloc, state.book, answer)?;
+        state.served.note(ServedOne { front, draw: *draw });
+        Ok(reply)
+    }
+
+    ghost keeps_itself = { Prim.search rules };
+
+    ghost keeps_on = { Prim.search rules };
+}

@@ -1,0 +1,278 @@
+//! The right sides of constraints, parsed as their operators need.
+ghost use Rattle.std.specs.Prelude.{◌≡◌, ℕ, List, Bool, IfOk, OnOk, map, option_map, option_and_then};
+ghost use Rattle.std.specs.List.{list_any};
+ghost use Rattle.semver.specs.Identifiers.{parts_of};
+ghost use Rattle.unl_documents.specs.Parameters.{AreRising};
+ghost use Rattle.unl_documents.specs.declared.constraint.Constraint.{Constraint};
+ghost use Rattle.unl_context.specs.Known.{known_by};
+ghost use Rattle.unl_constraints.specs.Decimal.{number_of, IsRead};
+ghost use Rattle.unl_constraints.specs.Instant.{instant_of};
+ghost use Rattle.unl_constraints.specs.Operands.{kind_of as kind_by, is_folded as is_folded_by, compared_values, IsScalarOperand, IsOperand};
+ghost use Rattle.unl_constraints.specs.Texts.{compared as compared_by, is_among as among, has_some_part_at as some_there};
+ghost use Rattle.unl_constraints.specs.Version.{version_of};
+ghost use Rattle.unl_constraints.specs.declared.operand.Kind.TheVariants as kind;
+
+use crate::decimal::Decimal;
+use crate::instant::read_instant;
+use crate::texts::{
+    TextPosition, compared, has_some_part_at, has_some_raw_part_at, is_among, is_among_unsorted,
+};
+use crate::version::read_version;
+use semver::Version;
+use std::alloc::Global;
+use unl_context::Known;
+use unl_documents::{Constraint, List, Memory, Operator, Text};
+
+/// What an operator compares.
+#[derive(Clone, Copy)]
+pub(crate) enum Kind {
+    /// The field with each whole value.
+    Member,
+    /// The field with substrings that it may contain.
+    Part,
+    /// Two numbers.
+    Number,
+    /// Two instants.
+    Instant,
+    /// Two versions.
+    Version,
+}
+
+/// The right side of a constraint, parsed and sorted.
+#[derive(Drop)]
+pub(crate) struct Operand {
+    /// The values in the form in which they are compared, in ascending byte order, without duplicates.
+    pub values: List<Text>,
+    /// The parsed value.
+    pub single: ScalarOperand,
+    /// Which of the context's six fields the constraint names, if it names one.
+    pub known: Option<Known>,
+}
+
+/// The value of a constraint, parsed as its operator needs.
+#[derive(Drop)]
+pub(crate) enum ScalarOperand {
+    /// The operator compares with the list of values instead.
+    Values,
+    /// The number, if the value is one.
+    Number(Option<Decimal>),
+    /// The instant in nanoseconds since 1970, if the value is one.
+    Instant(Option<i128>),
+    /// The version, if the value is one.
+    Version(Option<Version>),
+}
+
+/// The right side of a constraint, in a form that a context can be compared with.
+pub(crate) trait OperandSide {
+    /// `self` is the right side of the constraint.
+    ghost is_of: { Constraint → Self → Type 0 };
+
+    /// Whether a string is one of the constraint's values.
+    fn has(&self, constraint: &Constraint, text: &str) -> bool
+        requires right { is_of constraint.now self.now }
+        requires kind { kind_by constraint.now.operator ≡ kind.Member }
+        ensures { result ≡ among constraint.now.values text.now };
+
+    /// Whether a string has one of the constraint's values at that position. The only error is out of memory.
+    fn has_part(
+        &self,
+        alloc: Global,
+        place: TextPosition,
+        constraint: &Constraint,
+        text: &str,
+    ) -> Result<bool, Memory>
+        requires right { is_of constraint.now self.now }
+        requires kind { kind_by constraint.now.operator ≡ kind.Part }
+        ensures { IfOk result (λ r. r ≡ some_there place constraint.now.caseless text.now constraint.now.values) };
+
+    /// Returns which of the context's six fields the constraint names, if it names one.
+    fn known(&self, constraint: &Constraint) -> Option<Known>
+        requires { is_of constraint.now self.now }
+        ensures { result ≡ known_by constraint.now.field };
+
+    /// Returns the constraint's value, parsed as its operator needs.
+    fn single(&self, constraint: &Constraint) -> &ScalarOperand
+        requires { is_of constraint.now self.now }
+        ensures { IsScalarOperand (kind_by constraint.now.operator) constraint.now.value result.now };
+}
+
+/// The values are sorted, so a binary search can be used.
+impl OperandSide for Operand {
+    ghost is_of = { IsOperand };
+
+    fn has(&self, constraint: &Constraint, text: &str) -> bool {
+        is_among(text, self.values.as_slice())
+    }
+
+    fn has_part(
+        &self,
+        alloc: Global,
+        place: TextPosition,
+        constraint: &Constraint,
+        text: &str,
+    ) -> Result<bool, Memory> {
+        let values = self.values.as_slice();
+        has_some_part_at(alloc, place, constraint.caseless, text, values)
+    }
+
+    fn known(&self, _constraint: &Constraint) -> Option<Known> {
+        self.known
+    }
+
+    fn single(&self, _constraint: &Constraint) -> &ScalarOperand {
+        &self.single
+    }
+}
+
+/// The constraint's values are searched in their original order: for a single evaluation, copying and sorting them doesn't
+/// pay.
+impl OperandSide for ScalarOperand {
+    ghost is_of = { λ c s. IsScalarOperand (kind_by c.operator) c.value s };
+
+    fn has(&self, constraint: &Constraint, text: &str) -> bool {
+        is_among_unsorted(text, constraint.values.as_slice())
+    }
+
+    fn has_part(
+        &self,
+        alloc: Global,
+        place: TextPosition,
+        constraint: &Constraint,
+        text: &str,
+    ) -> Result<bool, Memory> {
+        let values = constraint.values.as_slice();
+        has_some_raw_part_at(alloc, place, constraint.caseless, text, values)
+    }
+
+    fn known(&self, constraint: &Constraint) -> Option<Known> {
+        Known::by(constraint.field.as_str())
+    }
+
+    fn single(&self, _constraint: &Constraint) -> &ScalarOperand {
+        self
+    }
+}
+
+impl Operand {
+    /// Prepares the right side of a constraint. The only error is out of memory.
+    pub(crate) fn of(alloc: Global, constraint: &Constraint) -> Result<Operand, Memory>
+        ensures { IfOk result (IsOperand constraint.now) }
+    {
+        Ok(Operand {
+            values: values_of(alloc, constraint)?,
+            single: ScalarOperand::of(alloc, constraint)?,
+            known: Known::by(constraint.field.as_str()),
+        })
+    }
+}
+
+impl ScalarOperand {
+    /// Parses the value of a constraint as its operator needs. The only error is out of memory.
+    pub(crate) fn of(alloc: Global, constraint: &Constraint) -> Result<ScalarOperand, Memory>
+        ensures { IfOk result (IsScalarOperand (kind_by constraint.now.operator) constraint.now.value) }
+    {
+        let text = constraint.value.as_ref().map(Text::as_str);
+        match kind_of(&constraint.operator) {
+            Kind::Member => Ok(ScalarOperand::Values),
+            Kind::Part => Ok(ScalarOperand::Values),
+            Kind::Number => Ok(ScalarOperand::Number(number(text))),
+            Kind::Instant => Ok(ScalarOperand::Instant(instant(alloc, text)?)),
+            Kind::Version => Ok(ScalarOperand::Version(version(alloc, text)?)),
+        }
+    }
+}
+
+/// Returns what the operator compares.
+fn kind_of(operator: &Operator) -> Kind
+    ensures { result ≡ kind_by operator.now }
+{
+    match operator {
+        Operator::In => Kind::Member,
+        Operator::NotIn => Kind::Member,
+        Operator::StrContains => Kind::Part,
+        Operator::StrStartsWith => Kind::Part,
+        Operator::StrEndsWith => Kind::Part,
+        Operator::NumEq => Kind::Number,
+        Operator::NumGt => Kind::Number,
+        Operator::NumGte => Kind::Number,
+        Operator::NumLt => Kind::Number,
+        Operator::NumLte => Kind::Number,
+        Operator::DateAfter => Kind::Instant,
+        Operator::DateBefore => Kind::Instant,
+        Operator::SemverEq => Kind::Version,
+        Operator::SemverGt => Kind::Version,
+        Operator::SemverLt => Kind::Version,
+        Operator::Unknown(_) => Kind::Member,
+    }
+}
+
+/// Whether the values are case-folded before they are compared.
+fn is_folded(constraint: &Constraint) -> bool
+    ensures { result ≡ is_folded_by constraint.now }
+{
+    match kind_of(&constraint.operator) {
+        Kind::Part => constraint.caseless,
+        _ => false,
+    }
+}
+
+fn values_of(alloc: Global, constraint: &Constraint) -> Result<List<Text>, Memory>
+    ensures rising { IfOk result AreRising }
+    ensures same { IfOk result (λ values. (test : List ℕ → Bool) → list_any test values ≡ list_any test (compared_values constraint.now)) }
+{
+    let folded = is_folded(constraint);
+    let values = compared_each(alloc, folded, constraint.values.as_slice())?;
+    in_order(values)
+}
+
+/// Returns copies of the strings in the form in which they are compared.
+fn compared_each(alloc: Global, folded: bool, texts: &[Text]) -> Result<Vec<Text>, Memory>
+    ensures { IfOk result (λ all. all.items ≡ map (compared_by folded) texts.now) }
+{
+    let mut all = Vec::new(alloc);
+    for text in texts {
+        all.push(compared(alloc, folded, text.as_str())?)?;
+    }
+    Ok(all)
+}
+
+/// Sorts the strings in ascending byte order and removes duplicates.
+fn in_order(texts: Vec<Text>) -> Result<List<Text>, Memory>
+    ensures rising { IfOk result AreRising }
+    ensures same { IfOk result (λ ordered. (test : List ℕ → Bool) → list_any test ordered ≡ list_any test texts.items) }
+{
+    let mut texts = texts;
+    texts.sort()?;
+    texts.dedup();
+    Ok(List::from_vec(texts))
+}
+
+/// Parses a number. Returns `None` if there is no string or it is not a number.
+pub(crate) fn number(text: Option<&str>) -> Option<Decimal>
+    ensures { IsRead (option_and_then number_of (option_map (λ t. t.now) text.entry)) result }
+{
+    match text {
+        None => None,
+        Some(text) => Decimal::read(text),
+    }
+}
+
+/// Parses a version. Returns `None` if there is no string or it is not a version.
+pub(crate) fn version(alloc: Global, text: Option<&str>) -> Result<Option<Version>, Memory>
+    ensures { IfOk result (λ v. option_map parts_of v ≡ option_and_then version_of (option_map (λ t. t.now) text.entry)) }
+{
+    match text {
+        None => Ok(None),
+        Some(text) => read_version(alloc, text),
+    }
+}
+
+/// Parses an instant. Returns `None` if there is no string or it is not an instant.
+fn instant(alloc: Global, text: Option<&str>) -> Result<Option<i128>, Memory>
+    ensures { IfOk result (λ i. i ≡ option_and_then instant_of (option_map (λ t. t.now) text.entry)) }
+{
+    match text {
+        None => Ok(None),
+        Some(text) => read_instant(alloc, text),
+    }
+}

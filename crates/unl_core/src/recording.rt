@@ -1,0 +1,45 @@
+//! Adds a request's report to the metrics book.
+ghost use Rattle.std.specs.Prelude.{◌≡◌, Err, IfOk, IfSome, Ok, OnErr, OnOk};
+ghost use Rattle.unl_core.specs.Recording.{final_book, final_reply, summed};
+ghost use Rattle.unl_metrics.specs.Reports.{IsReport};
+
+use crate::desk::Answer;
+use crate::reply::refuse;
+use http::StatusCode;
+use std::alloc::Global;
+use unl_documents::{Memory, Text};
+use unl_http_api::Reply;
+use unl_metrics::{AddRefusal, MetricsBook, Report};
+
+/// Adds the answer's report to the book and returns the reply: the answer's own, or the refusal 503 `MetricsFull` if the
+/// book has no room. The book is then unchanged, as on an error.
+pub fn record_report(alloc: Global, book: &mut MetricsBook, answer: Answer) -> Result<Reply, Memory>
+    requires { IfSome answer.report IsReport }
+    ensures reply { IfOk result (λ reply. reply ≡ final_reply book.old answer) }
+    ensures book { OnOk result (book.new ≡ final_book book.old answer) }
+    ensures memory { OnErr result (book.new ≡ book.old) }
+{
+    match sum_up(alloc, book, &answer.report, &answer.environment) {
+        Ok(()) => Ok(answer.reply),
+        Err(AddRefusal::Full) => refuse(alloc, StatusCode::SERVICE_UNAVAILABLE, "MetricsFull"),
+        Err(AddRefusal::Memory) => Err(Memory),
+    }
+}
+
+/// Adds a report for its environment, if there is one.
+fn sum_up(
+    alloc: Global,
+    book: &mut MetricsBook,
+    report: &Option<Report>,
+    environment: &Option<Text>,
+) -> Result<(), AddRefusal>
+    requires { IfSome report.now IsReport }
+    ensures summed { OnOk result (summed book.old report.now environment.now ≡ Ok book.new) }
+    ensures full { result ≡ Err AddRefusal.Full → summed book.old report.now environment.now ≡ Err AddRefusal.Full }
+    ensures same { OnErr result (book.new ≡ book.old) }
+{
+    match (report, environment) {
+        (Some(report), Some(environment)) => book.add(alloc, report, environment.as_str()),
+        _ => Ok(()),
+    }
+}

@@ -1,8 +1,0 @@
-use Rattle.unl_documents.proofs.Tokens.{one, then, spelled, dependency_tokens}
-use Rattle.unl_documents.proofs.dependency.DependencyPrinted.print.Goals as goal
-
-pub returns : goal.returns
-returns c =
-    let begun = one c.in_ok-begin_object.ensures in
-    let ended = one c.in_ok-end_object.ensures in
-    spelled (dependency_tokens c.args.self.now) (then begun (then c.in_ok-print_at.ensures (then c.in_ok-print_at-2.ensures (then c.in_ok-print_at-3.ensures ended))))

@@ -1,8 +1,0 @@
-use Rattle.unl_documents.proofs.Tokens.{one, then, spelled, override_tokens}
-use Rattle.unl_documents.proofs.variant.OverridePrinted.print.Goals as goal
-
-pub returns : goal.returns
-returns c =
-    let begun = one c.in_ok-begin_object.ensures in
-    let ended = one c.in_ok-end_object.ensures in
-    spelled (override_tokens c.args.self.now) (then begun (then c.in_ok-print_at.ensures (then c.in_ok-print_at-2.ensures ended)))

@@ -1,6 +1,0 @@
-use Rattle.std.proofs.Common.{◌≡◌, ◌++◌, map, take}
-use Rattle.serde_json.specs.View.{view}
-use Rattle.unl_documents.proofs.written.push_each.Given as goal
-
-abbrev pub invariant-loop-item : goal.invariant-loop-item
-invariant-loop-item g l = map view l.values.items ≡ map view l.fn.values.items ++ map g.W.Written.written (take l.item-index l.items)

@@ -1,0 +1,76 @@
+//! The errors that end the program, and their exit codes.
+ghost use Rattle.std.specs.Prelude.{◌≡◌};
+ghost use Rattle.unl_durable_upstream.specs.Faults.{fault_of};
+ghost use Rattle.unl_durable_upstream.specs.Serving.{code_of};
+ghost use Rattle.unl_durable_upstream.specs.declared.fault.KeepingFault.TheVariants.{Memory as want};
+
+use sqlite::ErrorCode;
+use std::alloc::AllocError;
+use thiserror::Error;
+use unl_documents as documents;
+
+/// Why the program ended before its door was closed.
+#[derive(Debug, Drop, Error)]
+pub enum KeepingFault {
+    /// There is no path, or the arguments after it are not valid options of `upstream`.
+    #[error("unl_durable_upstream: bad words")]
+    BadWords,
+    /// The database could not be opened or closed.
+    #[error("unl_durable_upstream: {0}")]
+    File(sqlite::Error),
+    /// The row with this number, from 1, is missing, or holds no command that is accepted.
+    #[error("refused: row {0}")]
+    Row(u64),
+    /// The keeper failed while the upstream was reopened, and incremented its fault count.
+    #[error("unl_durable_upstream: the keeper failed")]
+    Keeper,
+    /// The door failed, and incremented its fault count.
+    #[error("unl_durable_upstream: the door failed")]
+    Door,
+    /// Out of memory.
+    #[error("unl_durable_upstream: out of memory")]
+    Memory,
+}
+
+impl KeepingFault {
+    /// Returns the exit code of the program.
+    pub fn code(&self) -> u8
+        ensures { result ≡ code_of self.now }
+    {
+        match self {
+            KeepingFault::BadWords => 2,
+            KeepingFault::Row(_) => 3,
+            KeepingFault::Memory => 6,
+            KeepingFault::Door => 7,
+            KeepingFault::File(_) => 8,
+            KeepingFault::Keeper => 8,
+        }
+    }
+}
+
+impl From<sqlite::Error> for KeepingFault {
+    ghost from_gives = { λ error fault. fault ≡ fault_of error };
+
+    fn from(error: sqlite::Error) -> KeepingFault {
+        match error {
+            sqlite::Error::SqliteFailure(ErrorCode::OutOfMemory) => KeepingFault::Memory,
+            other => KeepingFault::File(other),
+        }
+    }
+}
+
+impl From<documents::Memory> for KeepingFault {
+    ghost from_gives = { λ _ fault. fault ≡ want };
+
+    fn from(_: documents::Memory) -> KeepingFault {
+        KeepingFault::Memory
+    }
+}
+
+impl From<AllocError> for KeepingFault {
+    ghost from_gives = { λ _ fault. fault ≡ want };
+
+    fn from(_: AllocError) -> KeepingFault {
+        KeepingFault::Memory
+    }
+}

@@ -1,0 +1,99 @@
+//! A keeper whose failures are reported on the error stream.
+ghost use Rattle.std.specs.Prelude.{◌≡◌};
+
+use std::alloc::Global;
+use unl_documents::Text;
+use unl_keeper::{KeepRefusal, Keeper};
+use unl_net::Log;
+
+/// Forwards each call to a keeper. Reports on the error stream when the keeper's database begins to fail, and when it works
+/// again. A line that can't be written at once is dropped.
+#[derive(Drop)]
+pub struct ReportingKeeper<'a, K: Keeper + Drop, E: Eprint> {
+    keeper: K,
+    rt: &'a E,
+    path: &'a str,
+    log: Log,
+    is_failing: bool,
+}
+
+impl<'a, K: Keeper + Drop, E: Eprint> ReportingKeeper<'a, K, E> {
+    /// Reports on the error stream of `rt`, by the path of the database's file.
+    pub fn new(rt: &'a E, path: &'a str, keeper: K) -> Self
+        ensures { result.keeper ≡ keeper }
+    {
+        ReportingKeeper {
+            keeper,
+            rt,
+            path,
+            log: Log::new(),
+            is_failing: false,
+        }
+    }
+
+    /// Returns the keeper.
+    pub fn into_keeper(self) -> K
+        ensures { result ≡ self.entry.keeper }
+    {
+        let ReportingKeeper { keeper, .. } = self;
+        keeper
+    }
+
+    /// Reports whether the database works, if that changed.
+    fn note(&mut self, fails: bool)
+        ensures { self.new.keeper ≡ self.old.keeper }
+    {
+        if fails == self.is_failing {
+            return;
+        }
+        self.is_failing = fails;
+        let path = self.path;
+        if fails {
+            let line = format_args!("{path}: the database fails: commands are answered with 503");
+            self.log.line(self.rt, line);
+        } else {
+            self.log
+                .line(self.rt, format_args!("{path}: the database works again"));
+        }
+    }
+}
+
+/// Returns whether a call failed at the database, and not for lack of memory.
+fn is_fault<T: Drop>(outcome: &Result<T, KeepRefusal>) -> bool {
+    match outcome {
+        Err(KeepRefusal::Fault) => true,
+        _ => false,
+    }
+}
+
+impl<'a, K: Keeper + Drop, E: Eprint> Keeper for ReportingKeeper<'a, K, E> {
+    ghost opened = { λ k. K.opened k.keeper };
+
+    ghost faults = { λ k. K.faults k.keeper };
+
+    ghost count = { λ k. K.count k.keeper };
+
+    ghost rows = { λ k. K.rows k.keeper };
+
+    fn open(&mut self, alloc: Global) -> Result<u64, KeepRefusal> {
+        self.keeper.open(alloc)
+    }
+
+    fn count(&self) -> u64 {
+        self.keeper.count()
+    }
+
+    fn put(&mut self, alloc: Global, text: &Text) -> Result<(), KeepRefusal> {
+        let put = self.keeper.put(alloc, text);
+        self.note(is_fault(&put));
+        put
+    }
+
+    fn read(&mut self, alloc: Global, place: u64) -> Result<Option<Text>, KeepRefusal> {
+        self.keeper.read(alloc, place)
+    }
+
+    ghost at_least = { λ k. K.at_least k.keeper };
+
+    ghost at_most = { λ k. K.at_most k.keeper };
+}

@@ -1,0 +1,112 @@
+//! Reopens an upstream from its keeper, and serves the links of its door.
+ghost use Rattle.std.specs.Prelude.{◌≡◌, true, Err, IfOk, OnErr};
+ghost use Rattle.unl_base.specs.Faults.{Rose};
+ghost use Rattle.unl_durable_upstream.specs.Beginning.{Begins, upstream_of};
+ghost use Rattle.unl_durable_upstream.specs.Serving.{Ends, LinksEnd, facing};
+ghost use Rattle.unl_durable_upstream.specs.declared.fault.KeepingFault.TheVariants.{Door as door_fault, Keeper as keeper_fault};
+ghost use Rattle.unl_upstream.specs.Kept.{keeper_by, kept_state};
+ghost use Rattle.unl_upstream.specs.Reopening.{IsOpening};
+ghost use Rattle.unl_words.specs.Ranges.{IsInRange, IsUpstream};
+
+use crate::fault::KeepingFault;
+use std::alloc::Global;
+use std::sync::Wait;
+use unl_base::{Door, Draws, Failed};
+use unl_documents::Memory;
+use unl_keeper::Keeper;
+use unl_upstream::{ReopenFault, Upstream, host_kept, reopen};
+use unl_usage::report_commands;
+use unl_words::{UpstreamArguments, Words, own_book};
+
+/// Creates an upstream from the arguments. It has applied no command.
+///
+/// # Errors
+/// `BadWords`: exactly if the arguments are not those of an upstream. `Memory`: out of memory.
+pub fn begin(alloc: Global, boot: u64, words: &Words) -> Result<Upstream, KeepingFault>
+    requires { IsInRange words.now }
+    ensures opens { IfOk result IsOpening }
+    ensures begins { Begins boot words.now result }
+{
+    match words {
+        Words::Upstream(upstream) => Ok(new_upstream(alloc, boot, upstream)?),
+        _ => Err(KeepingFault::BadWords),
+    }
+}
+
+/// Creates an upstream from its options. It has applied no command.
+fn new_upstream(alloc: Global, boot: u64, words: &UpstreamArguments) -> Result<Upstream, Memory>
+    requires { IsUpstream words.now }
+    ensures opens { IfOk result IsOpening }
+    ensures asked { IfOk result (λ up. up ≡ upstream_of boot words.now) }
+{
+    let book = own_book(alloc, &words.client_tokens, &words.frontend_tokens)?;
+    let secret = words.secret.as_str();
+    let up = Upstream::new(alloc, boot, secret, &words.environments, book, words.epoch)?;
+    Ok(up)
+}
+
+/// Reopens an upstream from the rows of its keeper, reports their number and the epoch, listens on a port, and serves the
+/// links of the door one after another until the door is closed. Each command is kept before it is acknowledged. Returns how
+/// many links were served.
+///
+/// # Errors
+/// `Row`: a row of the keeper is missing, or holds no command that is accepted. `Keeper`: the keeper failed while the
+/// upstream was reopened. `Memory`: out of memory while the upstream was reopened. `Door`: the door could not listen on the
+/// port, or could not hand out a link. A keeper that fails while links are served ends nothing.
+pub fn serve_reopened<K: Keeper, D: Door, R: Draws, W: Wait + Eprint>(
+    rt: &W,
+    alloc: Global,
+    port: u16,
+    epoch: u64,
+    up: &mut Upstream,
+    keeper: &mut K,
+    door: &mut D,
+    draws: &mut R,
+) -> Result<u64, KeepingFault>
+    requires { IsOpening up.old }
+    ensures ends { Ends (kept_state up.old (keeper_by K.opened K.faults K.count K.rows keeper.old)) port result
+        (kept_state up.new (keeper_by K.opened K.faults K.count K.rows keeper.new))
+        (facing (D.state door.old) (R.coming draws.old)) (facing (D.state door.new) (R.coming draws.new)) }
+    ensures keeper { result ≡ Err keeper_fault → Rose (K.faults keeper.old) (K.faults keeper.new) }
+    ensures door { result ≡ Err door_fault → Rose (D.faults door.old) (D.faults door.new) }
+{
+    match reopen(alloc, up, keeper) {
+        Ok(count) => {
+            report_commands(rt, count, epoch);
+            match serve_links(rt, alloc, port, up, keeper, door, draws) {
+                Ok(served) => Ok(served),
+                Err(_) => Err(KeepingFault::Door),
+            }
+        }
+        Err(ReopenFault::BadRow(place, _)) => Err(KeepingFault::Row(place)),
+        Err(ReopenFault::NoRow(place)) => Err(KeepingFault::Row(place)),
+        Err(ReopenFault::Fault) => Err(KeepingFault::Keeper),
+        Err(ReopenFault::Memory) => Err(KeepingFault::Memory),
+    }
+}
+
+/// Listens on a port, serves the links of the door one after another until the door is closed, and returns how many were
+/// served.
+///
+/// # Errors
+/// `Failed`: the door failed, and incremented its fault count.
+fn serve_links<K: Keeper, D: Door, R: Draws, W: Wait>(
+    rt: &W,
+    alloc: Global,
+    port: u16,
+    up: &mut Upstream,
+    keeper: &mut K,
+    door: &mut D,
+    draws: &mut R,
+) -> Result<u64, Failed>
+    requires { K.opened keeper.old ≡ true }
+    ensures ends { LinksEnd (kept_state up.old (keeper_by K.opened K.faults K.count K.rows keeper.old)) port result
+        (kept_state up.new (keeper_by K.opened K.faults K.count K.rows keeper.new))
+        (facing (D.state door.old) (R.coming draws.old)) (facing (D.state door.new) (R.coming draws.new)) }
+    ensures cause { OnErr result (Rose (D.faults door.old) (D.faults door.new)) }
+{
+    if door.listen(port).is_err() {
+        return Err(Failed);
+    }
+    host_kept(rt, alloc, up, keeper, door, draws)
+}

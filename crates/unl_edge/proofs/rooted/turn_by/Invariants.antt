@@ -1,5 +1,0 @@
-use Rattle.unl_edge.proofs.rooted.turn_by.Given as goal
-
--- the root is what the writer knows
-abbrev pub ghosts-turn_from : goal.ghosts-turn_from
-ghosts-turn_from g a = record { known = a.writer.known }

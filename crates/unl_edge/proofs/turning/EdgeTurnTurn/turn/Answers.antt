@@ -1,6 +1,0 @@
-use Rattle.std.proofs.Common.{refl}
-use Rattle.unl_upkeep.proofs.Connecting.{connects_still}
-use Rattle.unl_edge.proofs.turning.EdgeTurnTurn.turn.Goals as goal
-
-pub returns-clause-keeps : goal.returns-clause-keeps
-returns-clause-keeps g c = (refl, refl, refl, λ first faults connects. connects_still connects c.turn.ensures.connects)

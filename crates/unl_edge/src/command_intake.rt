@@ -1,0 +1,109 @@
+//! An upstream and its keeper, while they take the lines of an input.
+ghost use Rattle.std.specs.Prelude.{◌≡◌, true, IfOk};
+ghost use Rattle.unl_documents.specs.Reading.{Gives};
+ghost use Rattle.unl_edge.specs.Keeping.{kept_one, refusal_name};
+ghost use Rattle.unl_input.specs.Taking.{TakesLine};
+ghost use Rattle.unl_upstream.specs.Command.{IsValidCommand, command_in};
+
+use std::alloc::Global;
+use std::marker::Model;
+use unl_documents::parsing::read_json;
+use unl_documents::{BadDocument, Text, fault_text};
+use unl_input::{LineProcessor, LineRefusal};
+use unl_keeper::Keeper;
+use unl_upstream::{Command, KeepCommandRefusal, Upstream, keep, read_command};
+
+/// An upstream, the opened keeper of its commands, and whether the keeper has failed at a line.
+#[derive(Drop)]
+pub(crate) struct CommandIntake<K: Keeper> {
+    pub up: Upstream,
+    pub keeper: K,
+    pub failed: bool,
+}
+
+impl<K: Keeper> Model for CommandIntake<K> {
+    ghost use Rattle.std.specs.Prelude.{◌≡◌, ◌≢◌, false, true};
+    ghost use Rattle.unl_edge.specs.Keeping.{Shelf, shelf_of};
+    ghost use Rattle.unl_upstream.specs.Kept.{keeper_by, kept_state};
+
+    ghost Value = { Shelf };
+
+    ghost view = { λ kept. shelf_of (kept_state kept.up (keeper_by K.opened K.faults K.count K.rows kept.keeper)) };
+
+    ghost invariant = { λ kept. (K.opened kept.keeper ≡ true) × (kept.failed ≡ true → K.faults kept.keeper ≢ 0)
+        × (kept.failed ≡ false → K.faults kept.keeper ≡ 0) };
+}
+
+/// Keeps the command of each line. A command that is kept prints nothing. A line whose command can't be read or is refused is
+/// refused; the cause is the first fault of the document or the name of the refusal. A fault of the keeper is noted in `failed`
+/// and ends the lines as out of memory does.
+impl<K: Keeper> LineProcessor for CommandIntake<K> {
+    ghost use Rattle.unl_edge.specs.Keeping.{kept_line};
+
+    type Desk = CommandIntake<K>;
+
+    ghost taken = { λ number shelf line. kept_line shelf line };
+
+    ghost fits = { λ number shelf. Unit {0} };
+
+    #[tactic(auto, unfolding(crate::specs::Keeping::kept_line))]
+    fn take(
+        alloc: Global,
+        desk: &mut CommandIntake<K>,
+        _number: u64,
+        line: &[u8],
+    ) -> Result<Vec<u8>, LineRefusal> {
+        match read_line(alloc, line) {
+            Ok(command) => take_command(alloc, desk, &command),
+            Err(BadDocument::Memory) => Err(LineRefusal::Memory),
+            Err(fault) => Err(LineRefusal::Cause(Text::from(fault_text(alloc, &fault)?))),
+        }
+    }
+}
+
+/// Reads the command of a line.
+#[tactic(auto, unfolding(unl_upstream::specs::Command::command_in))]
+fn read_line(alloc: Global, line: &[u8]) -> Result<Command, BadDocument>
+    ensures gives { Gives result (command_in line.now) }
+    ensures valid { IfOk result IsValidCommand }
+{
+    let Some(value) = read_json(alloc, line)? else {
+        return Err(BadDocument::NotJson);
+    };
+    read_command(alloc, &value)
+}
+
+/// Keeps a command and prints nothing. Notes whether the keeper failed.
+fn take_command<K: Keeper>(
+    alloc: Global,
+    kept: &mut CommandIntake<K>,
+    command: &Command,
+) -> Result<Vec<u8>, LineRefusal>
+    requires { IsValidCommand command.now }
+    ensures { TakesLine result kept.new (kept_one command.now kept.old) }
+{
+    match keep(alloc, &mut kept.up, &mut kept.keeper, command) {
+        Ok(_) => Ok(Vec::new(alloc)),
+        Err(KeepCommandRefusal::KeeperFault) => {
+            kept.failed = true;
+            Err(LineRefusal::Memory)
+        }
+        Err(KeepCommandRefusal::Memory) => Err(LineRefusal::Memory),
+        Err(refusal) => Err(LineRefusal::Cause(Text::new(alloc, name_of(refusal))?)),
+    }
+}
+
+/// Returns the name of a refusal. It is empty for `KeeperFault` and `Memory`, which refuse no line.
+fn name_of(refusal: KeepCommandRefusal) -> &'static str
+    ensures { result.now ≡ refusal_name refusal }
+{
+    match refusal {
+        KeepCommandRefusal::NoSuchEnvironment => "NoSuchEnvironment",
+        KeepCommandRefusal::NoSuchFeature => "NoSuchFeature",
+        KeepCommandRefusal::NoSuchSegment => "NoSuchSegment",
+        KeepCommandRefusal::TooMany(_) => "TooMany",
+        KeepCommandRefusal::KeeperFull(_) => "KeeperFull",
+        KeepCommandRefusal::KeeperFault => "",
+        KeepCommandRefusal::Memory => "",
+    }
+}

@@ -1,0 +1,224 @@
+//! Serving the links of a door concurrently, over what a writer publishes meanwhile.
+ghost use Rattle.std.specs.Prelude.{◌≡◌, ◌<◌, ◌≤◌, ◌+◌, All, IfOk, OnOk, length};
+ghost use Rattle.std.specs.List.{AllZip};
+ghost use Rattle.unl_base.specs.Doors.{IsListening};
+ghost use Rattle.unl_core.specs.Board.{AreSlots};
+ghost use Rattle.unl_edge.specs.LinkHandling.{IsOfOrigin, ReadsOnAt, ServesAt};
+ghost use Rattle.unl_edge.specs.Edges.{HandsOutLinks, links_of};
+ghost use Rattle.unl_edge.specs.EdgeServices.{RunsService, WorkConcurrently, opened, service_at};
+ghost use Rattle.unl_edge_state.specs.Reading.{HasBegun};
+ghost use Rattle.unl_edge_state.specs.Writing.{installed_by};
+ghost use Rattle.unl_refresh.specs.Connects.{Connects};
+ghost use Rattle.unl_workers.specs.Pool.{HasCauses};
+ghost use Rattle.unl_workers.specs.Serving.{ServesSlot};
+
+use crate::attending::EdgeLinkHandler;
+use crate::crossing::worker_parts_are_send;
+use crate::refresh_task::RefreshTask;
+use crate::same_origin_writer::turn_by;
+use crate::worker_slots::posts_of;
+use std::alloc::Global;
+use std::sync::{Mutex, Wait};
+use unl_base::{Door, Draws, Pace, Peer, Spawner};
+use unl_core::Board;
+use unl_documents::Memory;
+use unl_edge_state::{EdgeReader, EdgeWriter, begin, readers_are_send, writers_are_send};
+use unl_metrics::MetricsBook;
+use unl_refresh::Poller;
+use unl_workers::{PoolFault, PoolOutcome, WorkerSlot, run_pool};
+
+/// Serves the links of a listening door with this many workers, over a board that is kept up to date. The upstream is polled
+/// once before the first link is accepted, and then at a pace, concurrently with the workers. Returns the number of links that
+/// the door handed out.
+///
+/// # Errors
+/// `Door` if the door failed. `Spawner` if a thread couldn't be started, and `Memory` if out of memory; in these two cases the
+/// door handed out no link.
+pub(crate) fn serve_service<D: Door, P, R, T, S: Spawner, W: Wait + Sync>(
+    alloc: Global,
+    rt: &W,
+    workers: u32,
+    board: Board,
+    poller: Poller,
+    door: &mut D,
+    peer: &mut P,
+    draws: &mut R,
+    pace: &mut T,
+    spawner: &mut S,
+) -> Result<u64, PoolFault>
+where
+    D::L: Drop + Send,
+    P: Peer + Send,
+    R: Draws + Drop + Send,
+    T: Pace + Send,
+    requires listens { IsListening (D.state door.old) }
+    requires workers { (0 < workers) × (workers ≤ 16) }
+    requires slots { AreSlots board.slots }
+    requires slot_pollers { poller.slots ≡ length (opened board).places }
+    ensures hands { HandsOutLinks (λ links. links) result (D.state door.old) (D.state door.new) }
+    ensures connects { OnOk result (Connects (length (opened board).places + 1)
+        (P.state peer.old).replies (P.Source.faults peer.old) (P.state peer.new).replies (P.Source.faults peer.new)) }
+    ensures serves { OnOk result (RunsService (service_at poller.known board poller.slot_pollers workers)
+        (P.state peer.old).replies (P.Source.faults peer.old) (P.Source.faults peer.new)) }
+    ensures causes { HasCauses result (D.faults door.old) (D.faults door.new) (S.faults spawner.old) (S.faults spawner.new) }
+{
+    match begin(rt, alloc, board, workers) {
+        Ok((writer, readers)) => serve_from(
+            alloc, rt, writer, readers, poller, door, peer, draws, pace, spawner,
+        ),
+        Err(Memory) => Err(PoolFault::Memory),
+    }
+}
+
+/// As `serve_service`, with a writer that has published nothing and its readers. Ends the writer.
+fn serve_from<D: Door, P, R, T, S: Spawner, W: Wait + Sync>(
+    alloc: Global,
+    rt: &W,
+    writer: EdgeWriter<'_, W>,
+    readers: Vec<EdgeReader>,
+    poller: Poller,
+    door: &mut D,
+    peer: &mut P,
+    draws: &mut R,
+    pace: &mut T,
+    spawner: &mut S,
+) -> Result<u64, PoolFault>
+where
+    D::L: Drop + Send,
+    P: Peer + Send,
+    R: Draws + Drop + Send,
+    T: Pace + Send,
+    requires listens { IsListening (D.state door.old) }
+    requires opens { length writer.known.installs ≡ 0 }
+    requires slot_pollers { poller.slots ≡ length writer.places }
+    requires few { length writer.places ≤ 8 }
+    requires readers { All (HasBegun writer.known) readers.items }
+    ensures hands { HandsOutLinks (λ links. links) result (D.state door.old) (D.state door.new) }
+    ensures connects { OnOk result (Connects (length writer.entry.places + 1)
+        (P.state peer.old).replies (P.Source.faults peer.old) (P.state peer.new).replies (P.Source.faults peer.new)) }
+    ensures serves { OnOk result (RunsService (record {
+      known = poller.known;
+      opening = installed_by writer.entry;
+      edition = writer.entry.known.opening;
+      slot_pollers = poller.slot_pollers;
+      workers = length readers.items;
+    }) (P.state peer.old).replies (P.Source.faults peer.old) (P.Source.faults peer.new)) }
+    ensures causes { HasCauses result (D.faults door.old) (D.faults door.new) (S.faults spawner.old) (S.faults spawner.new) }
+{
+    let mut poller = poller;
+    let (mut writer, turned) = turn_by(alloc, &mut poller, writer, peer);
+    match turned {
+        Ok(()) => {
+            let served = serve_after(
+                alloc,
+                rt,
+                &mut writer,
+                readers,
+                &mut poller,
+                door,
+                peer,
+                draws,
+                pace,
+                spawner,
+            );
+            writer.end();
+            served
+        }
+        Err(Memory) => {
+            drop(readers);
+            writer.end();
+            Err(PoolFault::Memory)
+        }
+    }
+}
+
+/// As `serve_service`, after the first turn. Each reader learns what that turn published.
+fn serve_after<D: Door, P, R, T, S: Spawner, W: Wait + Sync>(
+    alloc: Global,
+    rt: &W,
+    writer: &mut EdgeWriter<'_, W>,
+    readers: Vec<EdgeReader>,
+    poller: &mut Poller,
+    door: &mut D,
+    peer: &mut P,
+    draws: &mut R,
+    pace: &mut T,
+    spawner: &mut S,
+) -> Result<u64, PoolFault>
+where
+    D::L: Drop + Send,
+    P: Peer + Send,
+    R: Draws + Drop + Send,
+    T: Pace + Send,
+    requires listens { IsListening (D.state door.old) }
+    requires readers { All (IsOfOrigin writer.old.known) readers.items }
+    ensures hands { HandsOutLinks (λ links. links) result (D.state door.old) (D.state door.new) }
+    ensures connects { OnOk result (Connects 0
+        (P.state peer.old).replies (P.Source.faults peer.old) (P.state peer.new).replies (P.Source.faults peer.new)) }
+    ensures work { OnOk result (WorkConcurrently (length readers.items) writer.old.known.opening (length writer.old.known.installs)) }
+    ensures causes { HasCauses result (D.faults door.old) (D.faults door.new) (S.faults spawner.old) (S.faults spawner.new) }
+{
+    let shared = Mutex::new(MetricsBook::new(alloc));
+    match posts_of(alloc, rt, &shared, writer, readers, draws) {
+        Ok(posts) => links_of(serve_posts(
+            alloc, rt, writer, peer, &shared, poller, posts, door, pace, spawner,
+        )),
+        Err(Memory) => Err(PoolFault::Memory),
+    }
+}
+
+/// Returns the number of links that were handed out.
+fn links_of<S: Drop, R: Drop>(
+    served: Result<PoolOutcome<S, R>, PoolFault>,
+) -> Result<u64, PoolFault>
+    ensures { result ≡ links_of served }
+{
+    match served {
+        Ok(beside) => Ok(beside.links),
+        Err(fault) => Err(fault),
+    }
+}
+
+/// As `serve_after`, with these worker slots. Each slot serves the links that it takes one after the other.
+fn serve_posts<'a, D: Door, P, R, T, S: Spawner, W: Wait + Sync>(
+    alloc: Global,
+    rt: &'a W,
+    writer: &mut EdgeWriter<'_, W>,
+    peer: &mut P,
+    shared: &'a Mutex<MetricsBook>,
+    poller: &mut Poller,
+    posts: Vec<WorkerSlot<EdgeLinkHandler<'a, W>, R>>,
+    door: &mut D,
+    pace: &mut T,
+    spawner: &mut S,
+) -> Result<PoolOutcome<EdgeLinkHandler<'a, W>, R>, PoolFault>
+where
+    D::L: Drop + Send,
+    P: Peer + Send,
+    R: Draws + Drop + Send,
+    T: Pace + Send,
+    requires { IsListening (D.state door.old) }
+    ensures hands { HandsOutLinks (λ beside. beside.links) result (D.state door.old) (D.state door.new) }
+    ensures posts { IfOk result (λ beside. AllZip (ServesSlot ServesAt ReadsOnAt R.coming) posts.entry.items beside.posts.items) }
+    ensures connects { OnOk result (Connects 0
+        (P.state peer.old).replies (P.Source.faults peer.old) (P.state peer.new).replies (P.Source.faults peer.new)) }
+    ensures causes { HasCauses result (D.faults door.old) (D.faults door.new) (S.faults spawner.old) (S.faults spawner.new) }
+{
+    let mut turn = RefreshTask {
+        poller,
+        writer,
+        peer,
+        shared,
+        rt,
+    };
+    readers_are_send();
+    writers_are_send::<W>();
+    worker_parts_are_send();
+    // The result is matched, since it is known that the task still holds its references only if all ended well.
+    match run_pool(alloc, rt, spawner, door, pace, &mut turn, posts) {
+        Ok(beside) => Ok(beside),
+        Err(PoolFault::Door) => Err(PoolFault::Door),
+        Err(PoolFault::Spawner) => Err(PoolFault::Spawner),
+        Err(PoolFault::Memory) => Err(PoolFault::Memory),
+    }
+}

@@ -1,0 +1,49 @@
+//! The polls of an edge, concurrent with its workers.
+use std::alloc::Global;
+use std::sync::{Mutex, Wait};
+use unl_base::Peer;
+use unl_edge_state::EdgeWriter;
+use unl_metrics::MetricsBook;
+use unl_refresh::Poller;
+use unl_workers::PeriodicTask;
+
+/// Polls the upstream at each turn, publishes its replies, and sends it the metrics of the workers.
+#[derive(Drop)]
+pub(crate) struct RefreshTask<'u, 'e, 'p, 'a, 'w, W: Wait, P> {
+    pub poller: &'u mut Poller,
+    pub writer: &'e mut EdgeWriter<'w, W>,
+    pub peer: &'p mut P,
+    pub shared: &'a Mutex<MetricsBook>,
+    pub rt: &'a W,
+}
+
+impl<'u, 'e, 'p, 'a, 'w, W: Wait, P: Peer> PeriodicTask for RefreshTask<'u, 'e, 'p, 'a, 'w, W, P> {
+    ghost use Rattle.std.specs.Prelude.{◌≡◌};
+    ghost use Rattle.std.proofs.Common.{◌∙◌, refl};
+    ghost use Rattle.unl_edge.specs.Edges.{GoesOn};
+    ghost use Rattle.unl_refresh.specs.Connects.{Connects};
+
+    ghost turned = { λ turn after. Connects 0 (P.state turn.peer.now).replies (P.Source.faults turn.peer.now)
+        (P.state after.peer.now).replies (P.Source.faults after.peer.now) };
+
+    ghost keeps = { λ turn after. (after.poller.ghost_name ≡ turn.poller.ghost_name)
+        × (after.writer.ghost_name ≡ turn.writer.ghost_name)
+        × (after.peer.ghost_name ≡ turn.peer.ghost_name)
+        × GoesOn (P.state turn.peer.now).replies (P.Source.faults turn.peer.now)
+        (P.state after.peer.now).replies (P.Source.faults after.peer.now) };
+
+    /// Moves the shared metrics out first, so that no lock is held during the requests.
+    fn turn(&mut self, alloc: Global) {
+        self.poller.drain_shared(alloc, self.rt, self.shared);
+        let _ = self.poller.turn(alloc, self.writer, self.peer);
+    }
+
+    ghost keeps_itself = { λ turn. (refl, refl, refl, λ first faults connects. connects) };
+
+    ghost keeps_on = { λ first next last one two. (
+      two.0 ∙ one.0,
+      two.1 ∙ one.1,
+      two.2 ∙ one.2,
+      λ replies faults connects. two.3 replies faults (one.3 replies faults connects),
+    ) };
+}

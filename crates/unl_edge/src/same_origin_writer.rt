@@ -1,0 +1,119 @@
+//! Polling with a writer that keeps its origin.
+ghost use Rattle.std.specs.Prelude.{◌≡◌, ◌≤◌, ◌+◌, OnOk, length};
+ghost use Rattle.unl_base.specs.Faults.{Rose};
+ghost use Rattle.unl_edge_state.specs.Writing.{installed_by};
+ghost use Rattle.unl_publication.specs.Looking.{SameOrigin};
+ghost use Rattle.unl_refresh.specs.Connects.{Connects};
+ghost use Rattle.unl_refresh.specs.Turns.{MakesTurn, poll_state};
+
+use std::alloc::Global;
+use std::marker::{Brand, PhantomData};
+use std::sync::Wait;
+use unl_base::Peer;
+use unl_delta::{Batch, Installer, Place};
+use unl_documents::Memory;
+use unl_edge_state::EdgeWriter;
+use unl_refresh::Poller;
+use unl_tokens::Book;
+
+/// What a writer knew at some time. It is chosen at each call.
+pub(crate) trait Root {
+    ghost use Rattle.unl_core.specs.declared.board.Install.{Install};
+    ghost use Rattle.unl_edge_state.specs.Editions.{BoardAt};
+    ghost use Rattle.unl_publication.specs.declared.knowledge.Knowledge.{Knowledge};
+
+    ghost known: { Knowledge BoardAt Install };
+}
+
+impl Root for Brand {
+    ghost use Rattle.unl_publication.specs.Rule.{knows_nothing};
+
+    ghost known = { knows_nothing };
+}
+
+/// A writer with the same origin as `K`, whatever it installs.
+struct SameOriginWriter<'w, W: Wait, K: Root> {
+    writer: EdgeWriter<'w, W>,
+    root: PhantomData<K>,
+    ghost origin: { SameOrigin writer.known K.known },
+}
+
+impl<W: Wait, K: Root> Installer for SameOriginWriter<'_, W, K> {
+    ghost installed = { λ rooted. installed_by rooted.writer };
+
+    fn slots(&self) -> usize {
+        self.writer.slots()
+    }
+
+    fn front(&self) -> u64 {
+        self.writer.front()
+    }
+
+    fn place(&self, slot: usize) -> &Place {
+        self.writer.place(slot)
+    }
+
+    fn install(&mut self, alloc: Global, slot: usize, batch: &Batch) -> Result<u64, Memory> {
+        self.writer.install(alloc, slot, batch)
+    }
+
+    fn hold(&mut self, slot: usize) {
+        self.writer.hold(slot);
+    }
+
+    fn install_book(&mut self, alloc: Global, book: Book) -> Result<Option<u64>, Memory> {
+        self.writer.install_book(alloc, book)
+    }
+}
+
+/// Polls once with a writer, and returns the writer.
+///
+/// # Errors
+/// `Memory` if out of memory. The turn ends then.
+pub(crate) fn turn_by<'w, W: Wait, P: Peer>(
+    alloc: Global,
+    poller: &mut Poller,
+    writer: EdgeWriter<'w, W>,
+    peer: &mut P,
+) -> (EdgeWriter<'w, W>, Result<(), Memory>)
+    ensures origin { SameOrigin result.0.known writer.entry.known }
+    ensures asks { length writer.entry.known.installs ≡ 0 → poller.old.slots ≤ length writer.entry.places
+        → poller.old.slots ≤ 8
+        → OnOk result.1 (Connects (poller.old.slots + 1)
+        (P.state peer.old).replies (P.Source.faults peer.old) (P.state peer.new).replies (P.Source.faults peer.new)) }
+    ensures takes { length writer.entry.known.installs ≡ 0 → poller.old.slots ≤ length writer.entry.places
+        → poller.old.slots ≤ 8
+        → ¬ (Rose (P.Source.faults peer.old) (P.Source.faults peer.new))
+        → OnOk result.1 (MakesTurn poller.old.known poller.old.slot_pollers
+        (poll_state (installed_by writer.entry) (P.state peer.old).replies) (poll_state (installed_by result.0) (P.state peer.new).replies)) }
+{
+    turn_from::<W, P, Brand>(alloc, poller, writer, peer)
+}
+
+/// As `turn_by`, with the root chosen by the caller.
+fn turn_from<'w, W: Wait, P: Peer, K: Root>(
+    alloc: Global,
+    poller: &mut Poller,
+    writer: EdgeWriter<'w, W>,
+    peer: &mut P,
+) -> (EdgeWriter<'w, W>, Result<(), Memory>)
+    requires { K.known ≡ writer.known }
+    ensures origin { SameOrigin result.0.known K.known }
+    ensures asks { length writer.entry.known.installs ≡ 0 → poller.old.slots ≤ length writer.entry.places
+        → poller.old.slots ≤ 8
+        → OnOk result.1 (Connects (poller.old.slots + 1)
+        (P.state peer.old).replies (P.Source.faults peer.old) (P.state peer.new).replies (P.Source.faults peer.new)) }
+    ensures takes { length writer.entry.known.installs ≡ 0 → poller.old.slots ≤ length writer.entry.places
+        → poller.old.slots ≤ 8
+        → ¬ (Rose (P.Source.faults peer.old) (P.Source.faults peer.new))
+        → OnOk result.1 (MakesTurn poller.old.known poller.old.slot_pollers
+        (poll_state (installed_by writer.entry) (P.state peer.old).replies) (poll_state (installed_by result.0) (P.state peer.new).replies)) }
+{
+    let mut rooted = SameOriginWriter::<W, K> {
+        writer,
+        root: PhantomData,
+    };
+    let turned = poller.turn(alloc, &mut rooted, peer);
+    let SameOriginWriter { writer, root: _ } = rooted;
+    (writer, turned)
+}

@@ -1,0 +1,53 @@
+//! The worker slots of an edge.
+ghost use Rattle.std.specs.Prelude.{◌≡◌, All, IfOk, length};
+ghost use Rattle.unl_edge.specs.LinkHandling.{HasLearned, IsOfOrigin};
+
+use crate::attending::EdgeLinkHandler;
+use std::alloc::Global;
+use std::sync::{Mutex, Wait};
+use unl_base::Draws;
+use unl_documents::Memory;
+use unl_edge_state::{EdgeReader, EdgeWriter};
+use unl_metrics::MetricsBook;
+use unl_workers::WorkerSlot;
+
+/// Returns a worker slot for each reader. The reader learns what the writer has published, and the slot has its own draws.
+pub(crate) fn posts_of<'a, R: Draws + Drop, W: Wait>(
+    alloc: Global,
+    rt: &'a W,
+    shared: &'a Mutex<MetricsBook>,
+    writer: &mut EdgeWriter<'_, W>,
+    readers: Vec<EdgeReader>,
+    draws: &mut R,
+) -> Result<Vec<WorkerSlot<EdgeLinkHandler<'a, W>, R>>, Memory>
+    requires { All (IsOfOrigin writer.old.known) readers.items }
+    ensures same { writer.new ≡ writer.old }
+    ensures draws { R.coming draws.new ≡ R.coming draws.old }
+    ensures count { IfOk result (λ posts. length posts.items ≡ length readers.items) }
+    ensures learned { IfOk result (λ posts. All (λ post. HasLearned writer.old.known post.server.desk.reader) posts.items) }
+{
+    let mut posts = Vec::new(alloc);
+    for reader in readers {
+        posts.push(post_of(alloc, rt, shared, writer, reader, draws)?)?;
+    }
+    Ok(posts)
+}
+
+/// Returns the worker slot for a reader.
+fn post_of<'a, R: Draws + Drop, W: Wait>(
+    alloc: Global,
+    rt: &'a W,
+    shared: &'a Mutex<MetricsBook>,
+    writer: &mut EdgeWriter<'_, W>,
+    mut reader: EdgeReader,
+    draws: &mut R,
+) -> Result<WorkerSlot<EdgeLinkHandler<'a, W>, R>, Memory>
+    requires { IsOfOrigin writer.old.known reader }
+    ensures same { writer.new ≡ writer.old }
+    ensures draws { R.coming draws.new ≡ R.coming draws.old }
+    ensures learned { IfOk result (λ post. HasLearned writer.old.known post.server.desk.reader) }
+{
+    reader.learn(writer.tell());
+    let attendant = EdgeLinkHandler::new(alloc, rt, shared, reader)?;
+    Ok(WorkerSlot::new(attendant, draws.split()))
+}

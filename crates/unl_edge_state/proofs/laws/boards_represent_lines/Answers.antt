@@ -1,0 +1,5 @@
+use Rattle.unl_edge_state.proofs.Stood.{boards_represent}
+use Rattle.unl_edge_state.proofs.laws.boards_represent_lines.Goals as goal
+
+pub returns : goal.returns
+returns c line sees slot known opening k is none low stood = boards_represent line sees slot known opening k is none low stood

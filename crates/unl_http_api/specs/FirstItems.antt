@@ -1,0 +1,13 @@
+-- The first item in a buffer, computed without allocating.
+use Rattle.std.specs.Prelude.{◌≡◌, ◌≤◌, ℕ, List, length, drop}
+use Rattle.unl_http_api.specs.declared.request.Request.{Request}
+use Rattle.unl_http_api.specs.declared.first_item.FirstItem.{FirstItem}
+use Rattle.unl_http_api.specs.declared.first_item.FirstItem.TheVariants.{Request as Whole, More, Bad}
+use Rattle.unl_http_api.specs.Requests.{BeginsWith, IsUnfinished, IsBad}
+
+-- some request is the first `len` bytes, or the bytes are unfinished, or they are bad
+abbrev pub IsFirstItem : List ℕ → FirstItem → Type 0
+IsFirstItem held (Whole len close) =
+    (request : Request) × BeginsWith held request (drop len held) × (request.close ≡ close) × (len ≤ length held)
+IsFirstItem held More = IsUnfinished held
+IsFirstItem held (Bad status) = IsBad held status

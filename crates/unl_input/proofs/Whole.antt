@@ -1,0 +1,268 @@
+-- The lines of a whole input, from their turns.
+use Rattle.std.proofs.Common.{◌≡◌, ℕ, ◌+◌, ◌<◌, ◌≤◌, List, [], ◌∷◌, ◌++◌, length, false, cond, ltb, Result, Ok, Err, Option, Some, None, IfSome, refl, sym, ap, subst, ◌∙◌, append_assoc, append-nil, arith}
+use Rattle.std.specs.Prelude.{codes, IsErrOf}
+use Rattle.std.proofs.lemmas.Bool.{lt-ltb}
+use Rattle.std.proofs.lemmas.Bool.Decides.{nat_tests}
+use Rattle.unl_base.specs.Streams.{HasEnded, Sends, SendsFront}
+use Rattle.unl_base.specs.Streams as stream
+use Rattle.unl_input.specs.declared.taking.LinesFault.{LinesFault}
+use Rattle.unl_input.specs.declared.taking.LinesFault.TheVariants.{Bad, ReadFault, WriteFault, Memory}
+use Rattle.unl_input.specs.Lines.{lines, ended_lines}
+use Rattle.unl_input.specs.Reading.{Gets, longest_line}
+use Rattle.unl_input.specs.Taken.{LineResult, Outcome, Taking, done, refused, IsRefused, ending_text, whole_text, printed, refused_text, begun_by, followed, take_line, take_from, outcome_of, outcome_of_ended, most_lines}
+use Rattle.unl_input.specs.Turns.{Scene, Takes, MayFollow, Prints, GoesOn, ComesToEnd, IsRefusedAt, BreaksOff, BeginsWith, StopsReading, Turns}
+use Rattle.unl_input.specs.Whole.{IsRefusing, AnswersRead, AnswersAll, HoldsOfRead, TakesLines}
+use Rattle.unl_input.proofs.Lines.{gets_trans, sends_nothing, sends_trans, sends_then_front, front_of_longer, IsWhole, whole_more, ended_whole, line_first}
+
+-- ---- one line
+
+-- a line within the limits is processed
+pub within_limits : {D : Type 0} (taking : Taking D) (k : ℕ) (d : D) (line : List ℕ) → k ≤ most_lines → length line ≤ longest_line
+    → take_line taking k d line ≡ taking k d line
+within_limits taking k d line few short =
+    ap (λ t. cond t (Err (codes "TooManyLines")) (cond (ltb longest_line (length line)) (Err (codes "LineTooLong")) (taking k d line))) (not_below most_lines k few)
+    ∙ ap (λ t. cond t (Err (codes "LineTooLong")) (taking k d line)) (not_below longest_line (length line) short)
+  where
+    not_below : (m n : ℕ) → n ≤ m → ltb m n ≡ false
+    not_below m n most = grind (arith, nat_tests)
+
+pub past_limit : {D : Type 0} (taking : Taking D) (k : ℕ) (d : D) (line : List ℕ) → k ≤ most_lines → longest_line < length line
+    → take_line taking k d line ≡ Err (codes "LineTooLong")
+past_limit taking k d line few long =
+    ap (λ t. cond t (Err (codes "TooManyLines")) (cond (ltb longest_line (length line)) (Err (codes "LineTooLong")) (taking k d line))) (not_below most_lines k few)
+    ∙ ap (λ t. cond t (Err (codes "LineTooLong")) (taking k d line)) (lt-ltb longest_line (length line) long)
+  where
+    not_below : (m n : ℕ) → n ≤ m → ltb m n ≡ false
+    not_below m n most = grind (arith, nat_tests)
+
+pub past_last : {D : Type 0} (taking : Taking D) (k : ℕ) (d : D) (line : List ℕ) → most_lines < k → take_line taking k d line ≡ Err (codes "TooManyLines")
+past_last taking k d line past =
+    ap (λ t. cond t (Err (codes "TooManyLines")) (cond (ltb longest_line (length line)) (Err (codes "LineTooLong")) (taking k d line))) (lt-ltb most_lines k past)
+
+-- ---- the effect of a turn
+
+-- a line begins the consumed bytes, and this is its result
+unfoldable pub Heads : {D : Type 0} → Taking D → ℕ → D → List ℕ → Scene D → LineResult D → Type 0
+Heads taking k d out after comes = (rest : List ℕ) → MayFollow after rest
+    → (line : List ℕ) × (more : List (List ℕ)) × (lines (out ++ rest) ≡ line ∷ more) × (take_line taking k d line ≡ comes)
+
+headed : {D : Type 0} (taking : Taking D) (k : ℕ) (d : D) (out rest : List ℕ) (after : Scene D) (comes : LineResult D)
+    → Heads taking k d out after comes → MayFollow after rest
+    → (more : List (List ℕ)) × (take_from taking k d (lines (out ++ rest)) ≡ followed k d comes (λ next. take_from taking (k + 1) next more))
+unfolding Heads
+headed taking k d out rest after comes heads may =
+    let first = heads rest may in
+    (first.1, ap (take_from taking k d) first.2 ∙ ap (λ r. followed k d r (λ next. take_from taking (k + 1) next first.1)) first.3)
+
+-- all that is printed begins with what the line prints
+prints_first : {D : Type 0} (k : ℕ) (d : D) (comes : LineResult D) (next : D → Outcome D) → BeginsWith (printed k comes) (followed k d comes next)
+prints_first k d (Ok taken) next = (whole_text (next taken.desk), append_assoc taken.text (next taken.desk).text (ending_text (next taken.desk).ending))
+prints_first k d (Err cause) next = ([], sym (append-nil (refused_text k cause)))
+
+-- a line that isn't processed in full
+pub errs : {D : Type 0} (taking : Taking D) (fault : LinesFault) (k : ℕ) (before after : Scene D) (out : List ℕ) (comes : LineResult D) (desk : D)
+    → Prints (Err fault) k comes desk before.sent after.sent → Takes before out after → Heads taking k before.desk out after comes
+    → Turns taking (Err fault) k before after
+errs taking Bad k before after out comes desk prints got heads = record {
+  out = out;
+  cause = prints.0;
+  got = got;
+  is = λ rest may. (headed taking k before.desk out rest after comes heads may).1
+      ∙ ap (λ r. followed k before.desk r (λ next. take_from taking (k + 1) next (headed taking k before.desk out rest after comes heads may).0)) prints.1;
+  sent = prints.2;
+}
+errs taking ReadFault k before after out comes desk prints got heads = absurd prints
+errs taking WriteFault k before after out comes desk prints got heads = record {
+  out = out;
+  text = printed k comes;
+  got = got;
+  is = λ rest may. let told = headed taking k before.desk out rest after comes heads may in
+      subst (BeginsWith (printed k comes)) (sym told.1) (prints_first k before.desk comes (λ next. take_from taking (k + 1) next told.0));
+  sent = prints;
+}
+errs taking Memory k before after out comes desk prints got heads = prints
+
+-- ---- the lines so far
+
+pub record Sofar {D : Type 0} (taking : Taking D) (first : D) (start sent : Option (List ℕ)) (k : ℕ) (scene : Scene D) : Type 0 where
+  pub taken : List ℕ
+  pub text : List ℕ
+  pub got : Gets [] start taken scene.held scene.left
+  pub whole : IsWhole taken
+  pub leads : (rest : List ℕ) → take_from taking 1 first (lines (taken ++ rest)) ≡ begun_by text (take_from taking k scene.desk (lines rest))
+  pub sends : Sends sent text scene.sent
+
+begun_twice : {D : Type 0} (text more : List ℕ) (outcome : Outcome D) → begun_by text (begun_by more outcome) ≡ begun_by (text ++ more) outcome
+begun_twice {D = D} text more outcome =
+    ap (λ t. let x : Outcome D = record { text = t; ending = outcome.ending; desk = outcome.desk } in x) (sym (append_assoc text more outcome.text))
+
+-- one more line was processed
+pub goes_on : {D : Type 0} (taking : Taking D) (first : D) (start sent : Option (List ℕ)) (k : ℕ) (before after : Scene D)
+    → Sofar taking first start sent k before → GoesOn taking k before after → Sofar taking first start sent (k + 1) after
+goes_on taking first start sent k before after sofar now =
+    let out : List ℕ = now.line ++ 10 ∷ [] in record {
+      taken = sofar.taken ++ out;
+      text = sofar.text ++ now.text;
+      got = gets_trans [] before.held after.held start before.left after.left sofar.taken out sofar.got now.got;
+      whole = whole_more sofar.taken now.line sofar.whole now.unbroken;
+      leads = λ rest.
+          ap (λ bytes. take_from taking 1 first (lines bytes)) (append_assoc sofar.taken out rest)
+          ∙ sofar.leads (out ++ rest)
+          ∙ ap (λ ls. begun_by sofar.text (take_from taking k before.desk ls)) (line_first now.line rest now.unbroken)
+          ∙ ap (λ r. begun_by sofar.text (followed k before.desk r (λ next. take_from taking (k + 1) next (lines rest)))) now.is
+          ∙ begun_twice sofar.text now.text (take_from taking (k + 1) after.desk (lines rest));
+      sends = sends_trans sent before.sent after.sent sofar.text now.text sofar.sends now.sent;
+    }
+
+-- ---- how they end
+
+-- all of the input was processed, whether or not it is observable
+pub ends_all : {D : Type 0} (taking : Taking D) (first : D) (start sent : Option (List ℕ)) (k : ℕ) (before after : Scene D)
+    → Sofar taking first start sent k before → ComesToEnd taking k before after
+    → AnswersAll taking first after.desk start after.left sent after.sent
+ends_all {D = D} taking first start sent k before after sofar now =
+    let all = gets_trans [] before.held after.held start before.left after.left sofar.taken now.out sofar.got now.got in
+    let read : all.read ≡ sofar.taken ++ now.out = all.split ∙ ap (λ h. (sofar.taken ++ now.out) ++ h) now.end.0 ∙ append-nil (sofar.taken ++ now.out) in
+    let whole : Outcome D = record { text = sofar.text ++ now.text; ending = done; desk = after.desk } in
+    let is : outcome_of taking first all.read ≡ whole =
+    ap (λ bytes. take_from taking 1 first (lines bytes)) read ∙ sofar.leads now.out ∙ ap (begun_by sofar.text) now.is in
+    record {
+      read = all.read;
+      took = all.took;
+      end = now.end.1;
+      answered = record {
+        ending = ap (λ r. r.ending) is;
+        sent = subst (λ text. Sends sent text after.sent) (sym (ap (λ r. r.text) is)) (sends_trans sent before.sent after.sent sofar.text now.text sofar.sends now.sent);
+      };
+      leaves = ap (λ r. r.desk) is;
+    }
+
+-- the outcome of the bytes read and any that follow, from the outcome of the bytes consumed last
+read_of : {D : Type 0} (taking : Taking D) (first : D) (start sent : Option (List ℕ)) (k : ℕ) (before after : Scene D) (out rest : List ℕ)
+    → (sofar : Sofar taking first start sent k before) → (got : Takes before out after)
+    → outcome_of taking first ((gets_trans [] before.held after.held start before.left after.left sofar.taken out sofar.got got).read ++ rest)
+    ≡ begun_by sofar.text (take_from taking k before.desk (lines (out ++ (after.held ++ rest))))
+read_of taking first start sent k before after out rest sofar got =
+    let all = gets_trans [] before.held after.held start before.left after.left sofar.taken out sofar.got got in
+    ap (λ bytes. take_from taking 1 first (lines (bytes ++ rest))) all.split
+    ∙ ap (λ bytes. take_from taking 1 first (lines bytes))
+    (append_assoc (sofar.taken ++ out) after.held rest ∙ append_assoc sofar.taken out (after.held ++ rest))
+    ∙ sofar.leads (out ++ (after.held ++ rest))
+
+-- what can follow the bytes read can also follow the consumed bytes, after the held ones
+may_follow : {D : Type 0} (after : Scene D) (rest : List ℕ) → (HasEnded after.left → rest ≡ []) → MayFollow after (after.held ++ rest)
+may_follow after rest may = λ end. ap (λ xs. xs ++ rest) end.0 ∙ may end.1
+
+pub ends_refused : {D : Type 0} (taking : Taking D) (first : D) (start sent : Option (List ℕ)) (k : ℕ) (before after : Scene D)
+    → Sofar taking first start sent k before → IsRefusedAt taking k before after
+    → HoldsOfRead start after.left (λ bytes. IsRefusing (outcome_of taking first bytes) sent after.sent)
+ends_refused {D = D} taking first start sent k before after sofar now =
+    let all = gets_trans [] before.held after.held start before.left after.left sofar.taken now.out sofar.got now.got in
+    let whole : Outcome D = record { text = sofar.text ++ []; ending = refused k now.cause; desk = before.desk } in
+    let sends = sends_trans sent before.sent after.sent sofar.text (refused_text k now.cause) sofar.sends now.sent in
+    let is : (rest : List ℕ) → (HasEnded after.left → rest ≡ []) → outcome_of taking first (all.read ++ rest) ≡ whole =
+    λ rest may. read_of taking first start sent k before after now.out rest sofar now.got
+    ∙ ap (begun_by sofar.text) (now.is (after.held ++ rest) (may_follow after rest may)) in
+    let text : (rest : List ℕ) → (HasEnded after.left → rest ≡ []) → whole_text (outcome_of taking first (all.read ++ rest)) ≡ sofar.text ++ refused_text k now.cause =
+    λ rest may. ap whole_text (is rest may) ∙ ap (λ t. t ++ refused_text k now.cause) (append-nil sofar.text) in
+    record {
+      read = all.read;
+      took = all.took;
+      stands = λ rest may. record {
+        ending = subst IsRefused (sym (ap (λ r. r.ending) (is rest may))) tt;
+        sent = subst (λ t. Sends sent t after.sent) (sym (text rest may)) sends;
+      };
+    }
+
+pub ends_broken : {D : Type 0} (taking : Taking D) (first : D) (start sent : Option (List ℕ)) (k : ℕ) (before after : Scene D)
+    → Sofar taking first start sent k before → BreaksOff taking k before after
+    → HoldsOfRead start after.left (λ bytes. SendsFront sent (whole_text (outcome_of taking first bytes)) after.sent)
+ends_broken taking first start sent k before after sofar now =
+    let all = gets_trans [] before.held after.held start before.left after.left sofar.taken now.out sofar.got now.got in
+    let front = sends_then_front sent before.sent after.sent sofar.text now.text sofar.sends now.sent in
+    let tail : (rest : List ℕ) → (HasEnded after.left → rest ≡ [])
+    → BeginsWith now.text (take_from taking k before.desk (lines (now.out ++ (after.held ++ rest)))) =
+    λ rest may. now.is (after.held ++ rest) (may_follow after rest may) in
+    let text : (rest : List ℕ) → (may : HasEnded after.left → rest ≡ [])
+    → whole_text (outcome_of taking first (all.read ++ rest)) ≡ (sofar.text ++ now.text) ++ (tail rest may).0 =
+    λ rest may. let r = take_from taking k before.desk (lines (now.out ++ (after.held ++ rest))) in
+    ap whole_text (read_of taking first start sent k before after now.out rest sofar now.got)
+    ∙ append_assoc sofar.text r.text (ending_text r.ending) ∙ ap (λ t. sofar.text ++ t) (tail rest may).1
+    ∙ sym (append_assoc sofar.text now.text (tail rest may).0) in
+    record {
+      read = all.read;
+      took = all.took;
+      stands = λ rest may. front_of_longer sent after.sent (sofar.text ++ now.text) (tail rest may).0
+          (whole_text (outcome_of taking first (all.read ++ rest))) front (text rest may);
+    }
+
+-- what holds whatever follows holds for an observable input
+pub stands_told : (P : List ℕ → Type 0) (start left : Option (List ℕ)) → HoldsOfRead start left P → IfSome start P
+stands_told P None left stands = tt
+stands_told P (Some x) None stands = absurd (let took = stands.took in cc)
+stands_told P (Some x) (Some y) stands =
+    let parts : x ≡ stands.read ++ y = let took = stands.took in cc in
+    subst P (sym parts) (stands.stands y (λ end. end))
+
+pub ends_unread : {D : Type 0} (taking : Taking D) (first : D) (start sent : Option (List ℕ)) (k : ℕ) (before after : Scene D)
+    → Sofar taking first start sent k before → StopsReading before after → AnswersRead taking first start after.left sent after.sent
+ends_unread {D = D} taking first start sent k before after sofar now =
+    let all = gets_trans [] before.held after.held start before.left after.left sofar.taken now.begun.front sofar.got now.begun.got in
+    let read : all.read ≡ sofar.taken ++ now.begun.front = all.split ∙ ap (λ h. (sofar.taken ++ now.begun.front) ++ h) now.none ∙ append-nil (sofar.taken ++ now.begun.front) in
+    let whole : Outcome D = record { text = sofar.text ++ []; ending = done; desk = before.desk } in
+    let is : outcome_of_ended taking first all.read ≡ whole =
+    ap (λ bytes. take_from taking 1 first (ended_lines bytes)) read
+    ∙ ap (take_from taking 1 first) (ended_whole sofar.taken now.begun.front sofar.whole now.begun.unbroken ∙ ap lines (sym (append-nil sofar.taken)))
+    ∙ sofar.leads [] in
+    record {
+      read = all.read;
+      took = all.took;
+      answered = record {
+        ending = ap (λ r. r.ending) is;
+        sent = subst (λ t. Sends sent t after.sent) (sym (ap (λ r. r.text) is ∙ append-nil sofar.text)) (now.sent ∙ sofar.sends);
+      };
+    }
+
+-- the bytes to come after those that were read
+rest_of : (x read : List ℕ) (left : Option (List ℕ)) → stream.Takes (Some x) read left → (rest : List ℕ) × (x ≡ read ++ rest)
+rest_of x read None took = absurd (cc took)
+rest_of x read (Some y) took = let parts : x ≡ read ++ y = let t = took in cc in (y, parts)
+
+-- if nothing was sent, that is a prefix of any text
+pub sent_none : (start sent : Option (List ℕ)) (text : List ℕ → List ℕ) → IfSome start (λ bytes. SendsFront sent (text bytes) sent)
+sent_none None sent text = tt
+sent_none (Some x) sent text = record { part = []; after = text x; split = refl; sends = sends_nothing sent }
+
+-- what was sent before a turn is a prefix of the text
+pub sent_before : {D : Type 0} (taking : Taking D) (first : D) (start sent after : Option (List ℕ)) (k : ℕ) (before : Scene D)
+    → Sofar taking first start sent k before → after ≡ before.sent
+    → IfSome start (λ bytes. SendsFront sent (whole_text (outcome_of taking first bytes)) after)
+sent_before taking first None sent after k before sofar same = tt
+sent_before {D = D} taking first (Some x) sent after k before sofar same =
+    let rest = rest_of x sofar.got.read before.left sofar.got.took in
+    let bytes : List ℕ = before.held ++ rest.0 in
+    let more : Outcome D = take_from taking k before.desk (lines bytes) in
+    let is : x ≡ sofar.taken ++ bytes = rest.1 ∙ ap (λ xs. xs ++ rest.0) sofar.got.split ∙ append_assoc sofar.taken before.held rest.0 in
+    record {
+      part = sofar.text;
+      after = whole_text more;
+      split = ap (λ xs. whole_text (outcome_of taking first xs)) is ∙ ap whole_text (sofar.leads bytes) ∙ append_assoc sofar.text more.text (ending_text more.ending);
+      sends = subst (λ (s : Option (List ℕ)). Sends sent sofar.text s) (sym same) sofar.sends;
+    }
+
+-- so is what was sent when memory runs out in a turn
+pub sent_at_want : {D : Type 0} (taking : Taking D) (first : D) (fault : LinesFault) (start sent : Option (List ℕ)) (k : ℕ) (before after : Scene D)
+    → Sofar taking first start sent k before → Turns taking (Err fault) k before after
+    → (let r : Result (Unit {0}) LinesFault = Err fault in IsErrOf r Memory)
+    → IfSome start (λ bytes. SendsFront sent (whole_text (outcome_of taking first bytes)) after.sent)
+sent_at_want taking first fault start sent k before after sofar now is =
+    let wants : fault ≡ Memory = let h = is in cc in
+    sent_before taking first start sent after.sent k before sofar (subst (λ (f : LinesFault). Turns taking (Err f) k before after) wants now)
+
+-- how the lines end if a turn fails
+pub ends_at : {D : Type 0} (taking : Taking D) (first : D) (fault : LinesFault) (start sent : Option (List ℕ)) (k : ℕ) (before after : Scene D)
+    → Sofar taking first start sent k before → Turns taking (Err fault) k before after → TakesLines taking first (Err fault) start after.left sent after.sent
+ends_at taking first Bad start sent k before after sofar now = ends_refused taking first start sent k before after sofar now
+ends_at taking first ReadFault start sent k before after sofar now = ends_unread taking first start sent k before after sofar now
+ends_at taking first WriteFault start sent k before after sofar now = ends_broken taking first start sent k before after sofar now
+ends_at taking first Memory start sent k before after sofar now = tt

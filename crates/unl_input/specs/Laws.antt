@@ -1,0 +1,11 @@
+-- Properties of all outputs that follow from properties of each line.
+use Rattle.std.specs.Prelude.{◌≡◌, ℕ, List, [], Ok}
+use Rattle.unl_input.specs.Taken.{Taken, Taking, outcome_of}
+
+-- no line prints anything
+abbrev pub IsSilent : {D : Type 0} → Taking D → Type 0
+IsSilent {D = D} taking = (k : ℕ) (d : D) (line : List ℕ) (taken : Taken D) → taking k d line ≡ Ok taken → taken.text ≡ []
+
+-- nothing is printed except the cause of a refused line
+abbrev pub PrintsCauseAlone : {D : Type 0} → Taking D → Type 0
+PrintsCauseAlone {D = D} taking = (d : D) (bytes : List ℕ) → (outcome_of taking d bytes).text ≡ []

@@ -1,0 +1,78 @@
+-- What reading a line consumes of the held bytes and the source.
+use Rattle.std.specs.Prelude.{◌≡◌, ◌≢◌, ⊤, ℕ, ◌<◌, ◌≤◌, List, [], ◌∷◌, ◌++◌, length, Option, Bool, true, false}
+use Rattle.unl_base.specs.Streams.{Takes, HasEnded}
+use Rattle.unl_input.specs.declared.reader.NextLine.{NextLine}
+use Rattle.unl_input.specs.declared.reader.NextLine.TheVariants.{Line, Last, End}
+use Rattle.unl_input.specs.declared.reader.ReadFault.{ReadFault}
+use Rattle.unl_input.specs.declared.reader.ReadFault.TheVariants.{Failed, TooLong, Memory}
+use Rattle.unl_input.specs.Lines.{has_end}
+
+-- the source gave some bytes, and `out` was consumed as a prefix of the held bytes followed by those
+pub record Gets
+    (held : List ℕ) (left : Option (List ℕ)) (out held_after : List ℕ) (left_after : Option (List ℕ)) : Type 0 where
+  pub read : List ℕ
+  pub took : Takes left read left_after
+  pub split : held ++ read ≡ out ++ held_after
+
+-- nothing is held, and the source has ended
+abbrev pub IsAtEnd : List ℕ → Option (List ℕ) → Type 0
+IsAtEnd held left = (held ≡ []) × HasEnded left
+
+-- the most bytes that a line may have
+abbrev pub longest_line : ℕ
+longest_line = 16777216
+
+-- a line within the limit and without a line feed
+pub record IsLine (line : List ℕ) : Type 0 where
+  pub unbroken : has_end line ≡ false
+  pub short : length line ≤ longest_line
+
+-- bytes are held, or the input has ended
+abbrev pub Fills : Bool → List ℕ → Option (List ℕ) → List ℕ → Option (List ℕ) → Type 0
+Fills true held left held_after left_after = Gets held left [] held_after left_after × (0 < length held_after)
+Fills false held left held_after left_after = Gets held left [] held_after left_after × IsAtEnd held_after left_after
+
+-- the rest of a line and its line feed were consumed as a prefix of the held bytes
+pub record EndsLine (line held line_after held_after : List ℕ) : Type 0 where
+  pub piece : List ℕ
+  pub unbroken : has_end piece ≡ false
+  pub grown : line_after ≡ line ++ piece
+  pub short : length line_after ≤ longest_line
+  pub split : held ≡ piece ++ 10 ∷ held_after
+
+-- some bytes without a line feed were consumed as a prefix of the held bytes
+pub record GrowsLine (line held line_after held_after : List ℕ) : Type 0 where
+  pub piece : List ℕ
+  pub unbroken : has_end piece ≡ false
+  pub grown : line_after ≡ line ++ piece
+  pub some : length line < length line_after
+  pub split : held ≡ piece ++ held_after
+
+-- bytes of a line were consumed, and its line feed too if it was found
+abbrev pub TakesPiece : Bool → List ℕ → List ℕ → List ℕ → List ℕ → Type 0
+TakesPiece true line held line_after held_after = EndsLine line held line_after held_after
+TakesPiece false line held line_after held_after = GrowsLine line held line_after held_after
+
+-- the next item was consumed
+abbrev pub TakesNext : NextLine → List ℕ → Option (List ℕ) → List ℕ → Option (List ℕ) → Type 0
+TakesNext (Line line) held left held_after left_after = IsLine line.items × Gets held left (line.items ++ 10 ∷ []) held_after left_after
+TakesNext (Last line) held left held_after left_after =
+    IsLine line.items × (line.items ≢ []) × Gets held left line.items held_after left_after × IsAtEnd held_after left_after
+TakesNext End held left held_after left_after = Gets held left [] held_after left_after × IsAtEnd held_after left_after
+
+-- part of a line was consumed
+pub record Begins (held : List ℕ) (left : Option (List ℕ)) (held_after : List ℕ) (left_after : Option (List ℕ)) : Type 0 where
+  pub front : List ℕ
+  pub unbroken : has_end front ≡ false
+  pub got : Gets held left front held_after left_after
+
+-- part of a line was consumed, and the line is already too long
+pub record BeginsLong (held : List ℕ) (left : Option (List ℕ)) (held_after : List ℕ) (left_after : Option (List ℕ)) : Type 0 where
+  pub begun : Begins held left held_after left_after
+  pub long : longest_line < length begun.front
+
+-- what was consumed when no line could be read
+abbrev pub Breaks : ReadFault → List ℕ → Option (List ℕ) → List ℕ → Option (List ℕ) → Type 0
+Breaks Failed held left held_after left_after = Begins held left held_after left_after × (held_after ≡ [])
+Breaks TooLong held left held_after left_after = BeginsLong held left held_after left_after
+Breaks Memory held left held_after left_after = ⊤

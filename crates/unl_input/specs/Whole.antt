@@ -1,0 +1,47 @@
+-- How the lines of a whole input end: what was read from the source, and what was sent.
+use Rattle.std.specs.Prelude.{◌≡◌, ⊤, List, [], ◌++◌, ℕ, Option, IfSome, Result, Ok, Err}
+use Rattle.unl_base.specs.Streams.{Takes, HasEnded, Sends, SendsFront}
+use Rattle.unl_input.specs.declared.taking.LinesFault.{LinesFault}
+use Rattle.unl_input.specs.declared.taking.LinesFault.TheVariants.{Bad, ReadFault, WriteFault, Memory}
+use Rattle.unl_input.specs.Taken.{Outcome, Taking, done, IsRefused, whole_text, outcome_of, outcome_of_ended}
+
+-- every line was processed, and all output was sent
+pub record IsAnswered {D : Type 0} (outcome : Outcome D) (old new : Option (List ℕ)) : Type 0 where
+  pub ending : outcome.ending ≡ done
+  pub sent : Sends old outcome.text new
+
+-- a line is refused; the output of the lines before it and the cause were sent
+pub record IsRefusing {D : Type 0} (outcome : Outcome D) (old new : Option (List ℕ)) : Type 0 where
+  pub ending : IsRefused outcome.ending
+  pub sent : Sends old (whole_text outcome) new
+
+-- some bytes were read, and the lines that ended in them were processed
+pub record AnswersRead {D : Type 0} (taking : Taking D) (desk : D) (left left_after old new : Option (List ℕ)) : Type 0 where
+  pub read : List ℕ
+  pub took : Takes left read left_after
+  pub answered : IsAnswered (outcome_of_ended taking desk read) old new
+
+-- these bytes were read, and `P` holds for the whole input, whatever follows them
+pub record HoldsOfRead (left left_after : Option (List ℕ)) (P : List ℕ → Type 0) : Type 0 where
+  pub read : List ℕ
+  pub took : Takes left read left_after
+  pub stands : (rest : List ℕ) → (HasEnded left_after → rest ≡ []) → P (read ++ rest)
+
+-- the input was read to its end, its lines were processed, and the state is the one that they leave
+pub record AnswersAll {D : Type 0} (taking : Taking D) (desk desk_after : D) (left left_after old new : Option (List ℕ)) : Type 0 where
+  pub read : List ℕ
+  pub took : Takes left read left_after
+  pub end : HasEnded left_after
+  pub answered : IsAnswered (outcome_of taking desk read) old new
+  pub leaves : (outcome_of taking desk read).desk ≡ desk_after
+
+-- How the lines end, given the bytes to come and the bytes sent, before and after.
+abbrev pub TakesLines : {D : Type 0} → Taking D → D → Result (Unit {0}) LinesFault → Option (List ℕ) → Option (List ℕ) → Option (List ℕ)
+    → Option (List ℕ) → Type 0
+TakesLines taking desk (Ok u) left left_after old new = IfSome left (λ bytes. IsAnswered (outcome_of taking desk bytes) old new)
+TakesLines taking desk (Err Bad) left left_after old new =
+    HoldsOfRead left left_after (λ bytes. IsRefusing (outcome_of taking desk bytes) old new)
+TakesLines taking desk (Err ReadFault) left left_after old new = AnswersRead taking desk left left_after old new
+TakesLines taking desk (Err WriteFault) left left_after old new =
+    HoldsOfRead left left_after (λ bytes. SendsFront old (whole_text (outcome_of taking desk bytes)) new)
+TakesLines taking desk (Err Memory) left left_after old new = ⊤

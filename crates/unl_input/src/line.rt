@@ -1,0 +1,69 @@
+//! The processing of one line.
+ghost use Rattle.std.specs.Prelude.{◌≡◌, ◌+◌, ◌≤◌, ℕ, List, Result, OnOk};
+ghost use Rattle.unl_input.specs.Taken.{Taken, most_lines};
+ghost use Rattle.unl_input.specs.Taking.{TakesLine};
+
+use std::alloc::{AllocError, Global};
+use thiserror::Error;
+use unl_documents::{Memory, Text};
+
+/// Why a line was not processed.
+#[derive(Debug, Drop, Error)]
+pub enum LineRefusal {
+    /// The line is refused. This is the text of the cause.
+    #[error("the line is refused")]
+    Cause(Text),
+    /// Out of memory.
+    #[error("out of memory")]
+    Memory,
+}
+
+impl From<Memory> for LineRefusal {
+    ghost use Rattle.std.specs.Prelude.{◌≡◌};
+    ghost use Rattle.unl_input.specs.declared.line.LineRefusal.TheVariants.{Memory as memory};
+
+    ghost from_gives = { λ _ e. e ≡ memory };
+
+    fn from(_: Memory) -> Self {
+        LineRefusal::Memory
+    }
+}
+
+impl From<AllocError> for LineRefusal {
+    ghost use Rattle.std.specs.Prelude.{◌≡◌};
+    ghost use Rattle.unl_input.specs.declared.line.LineRefusal.TheVariants.{Memory as memory};
+
+    ghost from_gives = { λ _ e. e ≡ memory };
+
+    fn from(_: AllocError) -> Self {
+        LineRefusal::Memory
+    }
+}
+
+/// Processes the lines of an input, one after another.
+pub trait LineProcessor {
+    /// The state that the lines change.
+    type Desk;
+
+    // The result of a line, by its number and the state before it: what it prints and the state after it, or the text of
+    // the cause for which it is refused.
+    ghost taken: { ℕ → Self.Desk → List ℕ → Result (Taken Self.Desk) (List ℕ) };
+
+    // The state has room for the line with this number.
+    ghost fits: { ℕ → Self.Desk → Type 0 };
+
+    /// Processes the line with this number, given without its line feed. Returns what it prints.
+    ///
+    /// # Errors
+    /// `Cause` if the line is refused, and `Memory` if memory runs out.
+    fn take(
+        alloc: Global,
+        desk: &mut Self::Desk,
+        number: u64,
+        line: &[u8],
+    ) -> Result<Vec<u8>, LineRefusal>
+        requires room { fits number desk.old }
+        requires few { number ≤ most_lines }
+        ensures taken { TakesLine result desk.new (taken number desk.old line.now) }
+        ensures room { OnOk result (fits (number + 1) desk.new) };
+}

@@ -1,0 +1,244 @@
+//! Reads the lines of a source.
+ghost use Rattle.std.specs.Prelude.{◌≡◌, ◌<◌, ◌≤◌, [], ◌∷◌, ℕ, length, take, drop, IfOk, IfErr, OnErr, IsErrOf, MatchOption};
+ghost use Rattle.std.specs.List.{position_or_len};
+ghost use Rattle.unl_base.specs.Faults.{HasCause, Rose};
+ghost use Rattle.unl_base.specs.Streams.{Takes, HasEnded};
+ghost use Rattle.unl_input.specs.Lines.{is_end};
+ghost use Rattle.unl_input.specs.Reading.{Gets, IsAtEnd, Fills, TakesPiece, TakesNext, Breaks, longest_line};
+
+use std::alloc::{AllocError, AllocFailed, Global};
+use std::marker::Model;
+use thiserror::Error;
+use unl_base::{Failed, Source};
+
+/// The size of the read buffer in bytes.
+const ROOM: usize = 65_536;
+
+/// The most bytes that a line may have, without its line feed.
+const LONGEST_LINE: usize = 16_777_216;
+
+/// The next item of the input.
+#[derive(Debug, Drop)]
+pub enum NextLine {
+    /// A line, without its line feed.
+    Line(Vec<u8>),
+    /// The last line. It is not empty and has no line feed.
+    Last(Vec<u8>),
+    /// The source has ended.
+    End,
+}
+
+/// Why no line could be read.
+#[derive(Clone, Copy, Debug, PartialEq, Eq, Error)]
+pub enum ReadFault {
+    /// The source failed.
+    #[error("the input failed")]
+    Failed,
+    /// The line is longer than allowed.
+    #[error("the line is too long")]
+    TooLong,
+    /// Out of memory.
+    #[error("out of memory")]
+    Memory,
+}
+
+impl From<AllocError> for ReadFault {
+    ghost use Rattle.std.specs.Prelude.{◌≡◌};
+    ghost use Rattle.unl_input.specs.declared.reader.ReadFault.TheVariants.{Memory};
+
+    ghost from_gives = { λ _ e. e ≡ Memory };
+
+    fn from(_: AllocError) -> Self {
+        ReadFault::Memory
+    }
+}
+
+impl<T: Drop> From<AllocFailed<T>> for ReadFault {
+    ghost use Rattle.std.specs.Prelude.{◌≡◌};
+    ghost use Rattle.unl_input.specs.declared.reader.ReadFault.TheVariants.{Memory};
+
+    ghost from_gives = { λ _ e. e ≡ Memory };
+
+    fn from(_: AllocFailed<T>) -> Self {
+        ReadFault::Memory
+    }
+}
+
+impl From<Failed> for ReadFault {
+    ghost use Rattle.std.specs.Prelude.{◌≡◌};
+    ghost use Rattle.unl_input.specs.declared.reader.ReadFault.TheVariants.{Failed};
+
+    ghost from_gives = { λ _ e. e ≡ Failed };
+
+    fn from(_: Failed) -> Self {
+        ReadFault::Failed
+    }
+}
+
+/// The number of bytes before the first line feed, or of all bytes if there is none.
+fn unbroken_len(bytes: &[u8]) -> usize
+    ensures { result ≡ position_or_len is_end bytes.now }
+{
+    match bytes.iter().position(|&byte| byte == b'\n') {
+        Some(len) => len,
+        None => bytes.len(),
+    }
+}
+
+/// A read buffer. Contracts see it as the list of bytes that it holds.
+#[derive(Drop)]
+pub struct LineReader {
+    room: Vec<u8>,
+    from: usize,
+    to: usize,
+}
+
+impl Model for LineReader {
+    ghost use Rattle.std.specs.Prelude.{List, ℕ, ◌-◌, ◌<◌, ◌≤◌, length, take, drop};
+
+    ghost Value = { List ℕ };
+
+    ghost view = { λ r. drop r.from (take r.to r.room.items) };
+
+    ghost invariant = { λ r. (r.from ≤ r.to) × (r.to ≤ length r.room.items) × (0 < length r.room.items) };
+}
+
+impl LineReader {
+    /// Creates an empty reader.
+    ///
+    /// # Errors
+    /// Out of memory.
+    pub fn new(alloc: Global) -> Result<LineReader, AllocError>
+        ensures { IfOk result (λ r. r ≡ []) }
+    {
+        Ok(LineReader {
+            room: vec![in alloc; 0u8; ROOM]?,
+            from: 0,
+            to: 0,
+        })
+    }
+
+    /// Takes the first held byte.
+    fn take_held(&mut self) -> u8
+        requires { 0 < length self.old }
+        ensures { self.old ≡ result ∷ self.new }
+    {
+        let byte = self.room[self.from];
+        self.from += 1;
+        byte
+    }
+
+    /// Reads into the empty buffer, and returns how many bytes were read. 0 means that the source has ended.
+    fn read_ahead<S: Source>(&mut self, source: &mut S) -> Result<usize, Failed>
+        requires { self.old ≡ [] }
+        ensures read { IfOk result (λ n. Takes (S.left source.old) self.new (S.left source.new)) }
+        ensures count { IfOk result (λ n. n ≡ length self.new) }
+        ensures end { IfOk result (λ n. n ≡ 0 → HasEnded (S.left source.old)) }
+        ensures kept { OnErr result (S.left source.new ≡ S.left source.old) }
+        ensures empty { OnErr result (self.new ≡ []) }
+        ensures cause { HasCause (S.faults source.old) (S.faults source.new) result }
+    {
+        self.from = 0;
+        self.to = 0;
+        self.to = source.read(&mut self.room)?;
+        Ok(self.to)
+    }
+
+    /// Reads into the buffer if it is empty, and returns whether it then holds bytes.
+    fn fill<S: Source>(&mut self, source: &mut S) -> Result<bool, Failed>
+        ensures fills { IfOk result (λ some. Fills some self.old (S.left source.old) self.new (S.left source.new)) }
+        ensures broken { OnErr result (Gets self.old (S.left source.old) [] self.new (S.left source.new) × (self.new ≡ [])) }
+        ensures cause { HasCause (S.faults source.old) (S.faults source.new) result }
+    {
+        if self.from < self.to {
+            return Ok(true);
+        }
+        if self.read_ahead(source)? == 0 {
+            return Ok(false);
+        }
+        Ok(true)
+    }
+
+    /// The held bytes, at most the first `most`.
+    fn front(&self, most: usize) -> &[u8]
+        ensures { result.now ≡ take most self.now }
+    {
+        let held = &self.room[self.from..self.to];
+        &held[..held.len().min(most)]
+    }
+
+    /// Drops the first `count` held bytes.
+    fn skip(&mut self, count: usize)
+        requires { count ≤ length self.old }
+        ensures { self.new ≡ drop count self.old }
+    {
+        self.from += count;
+    }
+
+    /// Moves held bytes of the line into `line` in one step. Returns whether the line feed was found, which is consumed
+    /// too. Takes at most one byte more than a line may have, which is enough to see that the line is too long.
+    fn take_piece(&mut self, line: &mut Vec<u8>) -> Result<bool, AllocError>
+        requires held { 0 < length self.old }
+        requires short { length line.old.items ≤ longest_line }
+        ensures { IfOk result (λ ended. TakesPiece ended line.old.items self.old line.new.items self.new) }
+    {
+        let front = self.front(LONGEST_LINE + 1 - line.len());
+        let len = unbroken_len(front);
+        line.extend_from_slice(&front[..len])?;
+        if len < front.len() {
+            self.skip(len + 1);
+            return Ok(true);
+        }
+        self.skip(len);
+        Ok(false)
+    }
+
+    /// The next byte, or `None` exactly at the end of the source.
+    ///
+    /// # Errors
+    /// `Failed`: the source failed.
+    pub fn next_byte<S: Source>(&mut self, source: &mut S) -> Result<Option<u8>, Failed>
+        ensures byte { IfOk result (λ o. MatchOption o
+            (Gets self.old (S.left source.old) [] self.new (S.left source.new) × IsAtEnd self.new (S.left source.new))
+            (λ b. Gets self.old (S.left source.old) (b ∷ []) self.new (S.left source.new))) }
+        ensures broken { OnErr result (Gets self.old (S.left source.old) [] self.new (S.left source.new) × (self.new ≡ [])) }
+        ensures cause { HasCause (S.faults source.old) (S.faults source.new) result }
+    {
+        if self.fill(source)? {
+            return Ok(Some(self.take_held()));
+        }
+        Ok(None)
+    }
+
+    /// Reads the next line, the last line, or the end of the source.
+    ///
+    /// # Errors
+    /// - `Failed`: the source failed.
+    /// - `TooLong`: the line has more than 16,777,216 bytes before its line feed.
+    /// - `Memory`: out of memory.
+    pub fn next_line<S: Source>(
+        &mut self,
+        alloc: Global,
+        source: &mut S,
+    ) -> Result<NextLine, ReadFault>
+        ensures next { IfOk result (λ next. TakesNext next self.old (S.left source.old) self.new (S.left source.new)) }
+        ensures fault { IfErr result (λ fault. Breaks fault self.old (S.left source.old) self.new (S.left source.new)) }
+        ensures failed { IsErrOf result ReadFault.Failed → Rose (S.faults source.old) (S.faults source.new) }
+        ensures later { S.faults source.old ≤ S.faults source.new }
+    {
+        let mut line = Vec::new(alloc);
+        // The line feed can still come while the line is not too long.
+        'pieces: while line.len() <= LONGEST_LINE {
+            if !self.fill(source)? {
+                if line.is_empty() {
+                    return Ok(NextLine::End);
+                }
+                return Ok(NextLine::Last(line));
+            }
+            if self.take_piece(&mut line)? {
+                return Ok(NextLine::Line(line));
+            }
+        }
+        Err(ReadFault::TooLong)
+    }
+}

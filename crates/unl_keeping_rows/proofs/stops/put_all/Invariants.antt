@@ -1,5 +1,0 @@
-use Rattle.std.proofs.Common.{◌≡◌, true}
-use Rattle.unl_keeping_rows.proofs.stops.put_all.Given as goal
-
-abbrev pub invariant-names : goal.invariant-names
-invariant-names g l = g.K.Keeper.opened l.keeper ≡ true

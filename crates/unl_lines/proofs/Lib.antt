@@ -1,4 +1,0 @@
-pub mod Lines
-pub mod Silent
-pub mod Turns
-pub mod Whole

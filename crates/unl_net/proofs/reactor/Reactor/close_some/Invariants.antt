@@ -1,0 +1,11 @@
+use Rattle.std.proofs.Common.{◌+◌}
+use Rattle.slab.specs.Slab.{slab_len}
+use Rattle.std.specs.VecDeque.{deque_len}
+use Rattle.unl_net.specs.Ends.{Accounts}
+use Rattle.unl_net.proofs.reactor.Reactor.close_some.Given as goal
+
+-- each connection that was held is held or was counted as ended
+abbrev pub invariant-closed : goal.invariant-closed
+invariant-closed g l = Accounts 0
+    (slab_len l.initial.self.waiting + deque_len l.initial.self.ready) l.initial.self.ended
+    (slab_len l.self.waiting + deque_len l.self.ready) l.self.ended

@@ -1,7 +1,0 @@
--- The bytes that were passed may be told, and it is known whether there is a space among them.
-use Rattle.std.proofs.Common.{◌≡◌, nat_lt, take, true}
-use Rattle.unl_net.specs.Telling.{may_be_told, spaces_in}
-use Rattle.unl_net.proofs.request_kind.told_count.Given as goal
-
-abbrev pub invariant-loop-at : goal.invariant-loop-at
-invariant-loop-at l = (may_be_told (take l.at l.front) ≡ true) × (l.has_method ≡ nat_lt 0 (spaces_in (take l.at l.front)))

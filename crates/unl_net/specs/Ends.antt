@@ -1,0 +1,53 @@
+-- How connections that no link serves end, and how they are counted.
+use Rattle.std.specs.Prelude.{◌≡◌, ◌<◌, ◌≤◌, ◌+◌, ◌-◌, ◌^◌, ℕ, ⊤, Option, Some, None, min, nat_le, true}
+use Rattle.std.specs.declared.time.Instant.{Instant}
+use Rattle.unl_net.specs.Moments.{seconds_between}
+use Rattle.unl_net.specs.Phases.{limit_of}
+use Rattle.unl_net.specs.declared.cuts.Cut.{Cut}
+use Rattle.unl_net.specs.declared.cuts.Cut.TheVariants.{SlowRequest, SlowReader, Room, Memory}
+use Rattle.unl_net.specs.declared.cuts.Cuts.{Cuts}
+use Rattle.unl_net.specs.declared.cuts.EndReason.{EndReason}
+use Rattle.unl_net.specs.declared.cuts.EndReason.TheVariants.{Done, Failed, Late, CutOff}
+use Rattle.unl_net.specs.declared.phase.Phase.{Phase}
+use Rattle.unl_net.specs.declared.phase.Phase.TheVariants.{Idle, Receiving, Ready, Sending, Draining, Over}
+
+-- a connection in this phase since that moment may end for this reason
+abbrev pub MayEnd : EndReason → Phase → Option Instant → Type 0
+MayEnd Done phase since = phase ≡ Over
+MayEnd (Failed fault) phase since = ⊤
+MayEnd (Late now) phase since = nat_le (limit_of phase) (seconds_between since now) ≡ true
+MayEnd (CutOff cut) phase since = ⊤
+
+-- what is counted of a connection whose time is over: that a client asks nothing more is no cut
+abbrev pub late_cut : Phase → Option Cut
+late_cut Idle = None
+late_cut Receiving = Some SlowRequest
+late_cut Ready = None
+late_cut Sending = Some SlowReader
+late_cut Draining = None
+late_cut Over = None
+
+-- what is counted of a connection that ends for this reason in this phase
+abbrev pub cut_of : EndReason → Phase → Option Cut
+cut_of Done phase = None
+cut_of (Failed fault) phase = None
+cut_of (Late now) phase = late_cut phase
+cut_of (CutOff cut) phase = Some cut
+
+-- the counts with one more
+abbrev pub counted : Cut → Cuts → Cuts
+counted SlowRequest cuts = record cuts { slow_requests = min (cuts.slow_requests + 1) (2 ^ 64 - 1) }
+counted SlowReader cuts = record cuts { slow_readers = min (cuts.slow_readers + 1) (2 ^ 64 - 1) }
+counted Room cuts = record cuts { room = min (cuts.room + 1) (2 ^ 64 - 1) }
+counted Memory cuts = record cuts { memory = min (cuts.memory + 1) (2 ^ 64 - 1) }
+
+-- the counts after a connection that was cut off for this, or not
+abbrev pub after_cut : Option Cut → Cuts → Cuts
+after_cut None cuts = cuts
+after_cut (Some cut) cuts = counted cut cuts
+
+-- No connection is lost: of those that were held and of `more` that came, each is held now or was counted as ended. `held` is how
+-- many wait or are ready, `ended` the count of those that ended, which says nothing more once it is the largest u64.
+unfoldable pub Accounts : ℕ → ℕ → ℕ → ℕ → ℕ → Type 0
+Accounts more held ended held_now ended_now =
+    ended_now < 2 ^ 64 - 1 → (ended ≤ ended_now) × (held_now + ended_now ≡ held + ended + more)

@@ -1,0 +1,59 @@
+-- Invariants of what the writer and a reader know, and the steps of a reader.
+use Rattle.std.specs.Prelude.{◌≡◌, ℕ, ◌<◌, ◌≤◌, [], ◌∷◌, ◌++◌, ◌⊎◌, length, fold, leb, if◌then◌else◌, Option, Some, None, unwrap_or}
+use Rattle.unl_publication.specs.declared.knowledge.Knowledge.{Knowledge}
+use Rattle.unl_publication.specs.Rule.{Rise, StartsWith}
+use Rattle.unl_publication.specs.Meaning.{known, before_of, front_seen, value_at}
+
+module _ {S I : Type 0} where
+  -- Both know of the same writer and the same opening value.
+  abbrev pub SameOrigin : Knowledge S I → Knowledge S I → Type 0
+  SameOrigin v w = (v.table ≡ w.table) × (v.opening ≡ w.opening)
+
+  -- The value is the opening value after all known installs, and its front is their number.
+  pub record Shows (installed : S → I → S) (front_of : S → ℕ) (value : S) (v : Knowledge S I) : Type 0 where
+    pub value_is : (o : S) → v.opening ≡ Some o → value ≡ fold installed o v.installs
+    pub front_is : front_of value ≡ length v.installs
+
+  -- The fronts of the looks never fall, and none is above the length of the list that was seen.
+  abbrev pub AreFronts : Knowledge S I → Type 0
+  AreFronts v = Rise 0 v.fronts (length v.installs)
+
+  -- If the reader continues from a learned list, that list is longer than the one it saw.
+  abbrev pub IsAhead : Option (Knowledge S I) → Knowledge S I → Type 0
+  IsAhead (Some past) now = length past.installs < length now.installs
+  IsAhead None now = length now.before ≤ length now.installs
+
+  -- The invariant of a reader that is not looking.
+  pub record IsBetweenLooks (past : Option (Knowledge S I)) (now : Knowledge S I) : Type 0 where
+    pub fronts : AreFronts (known past now)
+    pub ahead : IsAhead past now
+
+  -- The invariant of a reader that is looking.
+  pub record IsLooking (v : Knowledge S I) : Type 0 where
+    pub fronts : AreFronts v
+    pub before : length v.before ≤ length v.installs
+
+  -- The reader took a list that starts with the one it had or continued from. The list's length is appended to the fronts.
+  pub record Takes (installed : S → I → S) (past : Option (Knowledge S I)) (now new : Knowledge S I) : Type 0 where
+    pub same : new ≡ record {
+      table = now.table;
+      opening = now.opening;
+      installs = new.installs;
+      before = before_of installed past now;
+      fronts = (known past now).fronts ++ length new.installs ∷ [];
+    }
+    pub seen : StartsWith new.installs now.installs
+
+  -- What was known is still known, and is the same.
+  pub record Follows (installed : S → I → S) (old new : Knowledge S I) : Type 0 where
+    pub rises : front_seen old ≤ front_seen new
+    pub keeps : (k : ℕ) (value : S) → value_at installed old k ≡ Some value → value_at installed new k ≡ Some value
+
+  -- The reader did not look, or it looked once and saw fewer than `least` installs.
+  abbrev pub LooksBelow : ℕ → Knowledge S I → Knowledge S I → Type 0
+  LooksBelow least old new = (new.fronts ≡ old.fronts) ⊎ ((front : ℕ) × (new.fronts ≡ old.fronts ++ front ∷ []) × (front < least))
+
+  -- What a reader continues from after it learned a front: if the front is above its own, the list that came with it, if there
+  -- is one; otherwise its own.
+  abbrev pub goes_on : ℕ → Option (Knowledge S I) → Knowledge S I → Knowledge S I
+  goes_on front told own = if leb front (front_seen own) then own else unwrap_or told own

@@ -1,0 +1,85 @@
+-- The invariant of the published value, and what each step makes known.
+use Rattle.std.specs.Prelude.{◌≡◌, ℕ, ◌≤◌, List, [], ◌∷◌, ◌++◌, length, fold, Option, Some, None}
+use mathlib.Core.Option.{some}
+use lib.ListN.{get_elem?}
+use Rattle.unl_publication.specs.declared.knowledge.Knowledge.{Knowledge}
+
+-- The numbers never fall, from `first` through the list to `last`.
+abbrev pub Rise : ℕ → List ℕ → ℕ → Type 0
+Rise first [] last = first ≤ last
+Rise first (n ∷ ns) last = (first ≤ n) × Rise n ns last
+
+module _ {I : Type 0} where
+  -- The first list starts with the second.
+  abbrev pub StartsWith : List I → List I → Type 0
+  StartsWith whole front = (rest : List I) × (whole ≡ front ++ rest)
+
+module _ {S I : Type 0} where
+  -- Nothing is known.
+  abbrev pub knows_nothing : Knowledge S I
+  knows_nothing = record { table = None; opening = None; installs = []; before = []; fronts = [] }
+
+  -- The table and the opening value are known.
+  abbrev pub knows_opening : ℕ → S → Knowledge S I
+  knows_opening table opening = record { table = Some table; opening = Some opening; installs = []; before = []; fronts = [] }
+
+  -- The list with installs appended.
+  abbrev pub with_installs : List I → Knowledge S I → Knowledge S I
+  with_installs given v = record {
+    table = v.table;
+    opening = v.opening;
+    installs = v.installs ++ given;
+    before = v.before;
+    fronts = v.fronts;
+  }
+
+  -- What is passed on from one's knowledge: the table, the opening value and the list.
+  abbrev pub told_by : Knowledge S I → Knowledge S I
+  told_by v = record { table = v.table; opening = v.opening; installs = v.installs; before = []; fronts = [] }
+
+  -- The knowledge agrees with the opening value and the list of installs.
+  pub record Fits (opening : S) (list : List I) (v : Knowledge S I) : Type 0 where
+    pub opened : (o : S) → v.opening ≡ Some o → o ≡ opening
+    pub seen : StartsWith list v.installs
+    pub fronts : Rise 0 v.fronts (length v.installs)
+
+  -- There is one opening value, with front 0, and one list of installs. The published value is the opening value after the
+  -- list, its front is the list's length, and everyone's knowledge agrees with both.
+  pub record IsKept (installed : S → I → S) (front_of : S → ℕ) (value : S) (views : List (Knowledge S I)) : Type 0 where
+    pub opening : S
+    pub list : List I
+    pub begins : front_of opening ≡ 0
+    pub value_is : value ≡ fold installed opening list
+    pub front_is : front_of value ≡ length list
+    pub fits : (seat : ℕ) (v : Knowledge S I) → get_elem? views seat ≡ some v → Fits opening list v
+
+  -- ---- what the steps make known
+
+  -- The writer learns its table and the opening value.
+  abbrev pub Opens : ℕ → S → Knowledge S I → Knowledge S I → Type 0
+  Opens table value v w = w ≡ record {
+    table = Some table;
+    opening = Some value;
+    installs = v.installs;
+    before = v.before;
+    fronts = v.fronts;
+  }
+
+  -- Installs were appended to the list.
+  abbrev pub Publishes : List I → Knowledge S I → Knowledge S I → Type 0
+  Publishes given v w = w ≡ with_installs given v
+
+  -- A list was taken that starts with the one before. The value shown is the opening value after it, and its length is the
+  -- front, which is appended to the earlier fronts.
+  pub record Enters (installed : S → I → S) (front_of : S → ℕ) (before : List (Option S)) (fronts : List ℕ) (value : S)
+      (v w : Knowledge S I) : Type 0 where
+    pub same : w ≡ record {
+      table = v.table;
+      opening = v.opening;
+      installs = w.installs;
+      before = before;
+      fronts = fronts ++ length w.installs ∷ [];
+    }
+    pub seen : StartsWith w.installs v.installs
+    pub value_is : (o : S) → v.opening ≡ Some o → value ≡ fold installed o w.installs
+    pub front_is : front_of value ≡ length w.installs

@@ -1,0 +1,69 @@
+-- What a writer and its readers know, and what the readers have learned.
+use Rattle.std.specs.Prelude.{◌≡◌, ℕ, Bool, true, Option, None, option_map, unwrap_or}
+use Rattle.left_right.specs.Sides.{view}
+use Rattle.left_right.specs.declared.Absorb as absorb
+use Rattle.unl_publication.specs.declared.value.Counted as counted
+use Rattle.unl_publication.specs.declared.knowledge.Knowledge.{Knowledge}
+use Rattle.unl_publication.specs.declared.publisher.Publisher.{Publisher}
+use Rattle.unl_publication.specs.declared.reader.Guard.{Guard}
+use Rattle.unl_publication.specs.declared.reader.Reader.{Reader}
+use Rattle.unl_publication.specs.declared.writer.Told.{Told}
+use Rattle.unl_publication.specs.declared.writer.Writer.{Writer}
+use Rattle.unl_publication.specs.Meaning.{known}
+use Rattle.unl_publication.specs.Rule.{knows_nothing}
+
+module _ {T I P S : Type 0} {c : counted.Ghosts T I S} {a : absorb.Ghosts T I S} where
+  -- What a writer has published: the opening value and the whole list.
+  abbrev pub written : Writer T I P S c a → Knowledge S I
+  written writer = view writer.sides.desk.place
+
+  -- A publication of the writer failed after its install was logged, so every later one fails.
+  abbrev pub is_closed : Writer T I P S c a → Bool
+  is_closed writer = writer.refused
+
+  -- What a reader knew when it last looked.
+  abbrev pub seen : Reader T I P S c a → Knowledge S I
+  seen reader = known (option_map (λ s. view s.value.place) reader.past) (view reader.seat.place)
+
+  -- What a reader continues from: the list that it takes next starts with this one's.
+  abbrev pub next : Reader T I P S c a → Knowledge S I
+  next reader = view reader.seat.place
+
+  -- What a reader knew at its last look, if it has continued from a learned list since.
+  abbrev pub past : Reader T I P S c a → Option (Knowledge S I)
+  past reader = option_map (λ s. view s.value.place) reader.past
+
+  -- The largest number of installs that a reader has learned of.
+  abbrev pub told_of : Reader T I P S c a → ℕ
+  told_of reader = reader.least
+
+  -- A reader that knows exactly this, and has learned nothing else.
+  pub record IsFresh (knowledge : Knowledge S I) (reader : Reader T I P S c a) : Type 0 where
+    pub knows : next reader ≡ knowledge
+    pub alone : past reader ≡ None
+    pub untold : told_of reader ≡ 0
+
+  -- What a reader that is looking knows.
+  abbrev pub taken : Guard T I P S c a → Knowledge S I
+  taken guard = view guard.reading.place
+
+  -- The largest number of installs that a reader had learned of when it looked.
+  abbrev pub was_told_of : Guard T I P S c a → ℕ
+  was_told_of guard = guard.least
+
+  -- The number of installs in what the writer reports.
+  abbrev pub told_front : Told T I P S c a → ℕ
+  told_front told = told.front
+
+  -- The list in what the writer reports, if it has one.
+  abbrev pub told_list : Told T I P S c a → Option (Knowledge S I)
+  told_list told = option_map (λ seat. view seat.place) told.seat
+
+module _ {W T I P S : Type 0} {c : counted.Ghosts T I S} {a : absorb.Ghosts T I S} where
+  -- What a publisher has published: the opening value and the whole list.
+  abbrev pub published : Publisher W T I P S c a → Knowledge S I
+  published publisher = unwrap_or (option_map written publisher.writer) knows_nothing
+
+  -- A publication failed after its install was logged, so every later one fails.
+  abbrev pub stays_closed : Publisher W T I P S c a → Bool
+  stays_closed publisher = unwrap_or (option_map is_closed publisher.writer) true

@@ -1,0 +1,95 @@
+//! A writer that is changed in place.
+ghost use Rattle.std.specs.Prelude.{◌≡◌, true, false, [], ◌∷◌, length, fold, Some, is_some, unwrap_or, option_map};
+ghost use Rattle.std.specs.Prelude.{IfSome, IsErr, MatchResult, OnOk};
+ghost use Rattle.unl_publication.specs.Meaning.{front_seen};
+ghost use Rattle.unl_publication.specs.Rule.{knows_nothing, told_by, with_installs};
+
+use crate::rule::Rules;
+use crate::value::Counted;
+use crate::writer::{Told, Writer};
+use std::alloc::AllocError;
+use std::mem::replace;
+use std::sync::Wait;
+
+/// A writer that is used through `&mut self`, with the `Wait` that it waits by. It isn't `Drop`: close it with `end`.
+pub struct Publisher<'a, W: Wait, T: Counted<I> + Drop, I: Drop, P: Rules<T, I>> {
+    rt: &'a W,
+    pub(crate) writer: Option<Writer<T, I, P>>,
+    ghost there: { is_some writer ≡ true },
+}
+
+impl<'a, W: Wait, T: Counted<I> + Drop, I: Drop, P: Rules<T, I>> Publisher<'a, W, T, I, P> {
+    ghost use Rattle.unl_publication.specs.Seen.{is_closed, stays_closed, published, told_front, told_list, written};
+
+    /// A publisher over a writer. It waits by `rt`.
+    pub fn new(rt: &'a W, writer: Writer<T, I, P>) -> Publisher<'a, W, T, I, P>
+        ensures published { published result ≡ written writer }
+        ensures closed { stays_closed result ≡ is_closed writer }
+    {
+        Publisher {
+            rt,
+            writer: Some(writer),
+        }
+    }
+
+    /// Publishes an install and returns how many were published. Waits for readers that still look at an older copy.
+    ///
+    /// # Errors
+    ///
+    /// Fails if it runs out of memory, or if the install or its copy can't be absorbed. Nothing is published then. If this
+    /// happens after the install was logged, every later call fails too.
+    pub fn publish(&mut self, what: I) -> Result<u64, AllocError>
+        ensures published { MatchResult result
+            (λ front. (published self.new ≡ with_installs (what ∷ []) (published self.old)) × (front ≡ front_seen (published self.new)))
+            (λ _. published self.new ≡ published self.old) }
+        ensures open { OnOk result (stays_closed self.new ≡ false) }
+        ensures closed { stays_closed self.old ≡ true → (stays_closed self.new ≡ true) × IsErr result }
+    {
+        let Some(writer) = self.writer.take() else {
+            return Err(AllocError);
+        };
+        let (writer, published) = writer.publish(self.rt, what);
+        if let Some(other) = replace(&mut self.writer, Some(writer)) {
+            other.end(self.rt);
+        }
+        published
+    }
+
+    /// The published value: the opening value after all installs.
+    pub fn value(&self) -> &T
+        ensures list { (opening : T.State) → (published self.now).opening ≡ Some opening
+            → T.state result.now ≡ fold T.applied opening (published self.now).installs }
+        ensures front { T.front_of (T.state result.now) ≡ front_seen (published self.now) }
+    {
+        let Some(writer) = &self.writer else {
+            unreachable!()
+        };
+        writer.value()
+    }
+
+    /// What the writer knows now, for one reader to learn: its list if there is room for one more reader, otherwise only the
+    /// list's length.
+    pub fn tell(&mut self) -> Told<T, I, P>
+        ensures same { published self.new ≡ published self.old }
+        ensures closed { stays_closed self.new ≡ stays_closed self.old }
+        ensures front { told_front result ≡ front_seen (published self.old) }
+        ensures list { IfSome (told_list result) (λ list. list ≡ told_by (published self.old)) }
+    {
+        let Some(mut writer) = self.writer.take() else {
+            unreachable!()
+        };
+        let told = writer.tell();
+        if let Some(other) = replace(&mut self.writer, Some(writer)) {
+            other.end(self.rt);
+        }
+        told
+    }
+
+    /// Waits for the readers that are still looking, and ends publication.
+    pub fn end(self) {
+        let Publisher { rt, writer } = self;
+        if let Some(writer) = writer {
+            writer.end(rt);
+        }
+    }
+}

@@ -1,0 +1,183 @@
+//! Readers of the published value.
+ghost use Rattle.std.specs.Prelude.{max, ◌≡◌, ◌≤◌, ◌<◌, true, IfOk, IfErr, IfSome, MatchResult, Some, None, is_some, option_map, fold};
+ghost use Rattle.std.specs.Prelude.{length};
+ghost use Rattle.left_right.specs.Sides.{view};
+ghost use Rattle.unl_publication.specs.Rule.{Rise, Enters};
+ghost use Rattle.unl_publication.specs.Meaning.{known, before_of, front_seen, value_at};
+ghost use Rattle.unl_publication.specs.Looking.{SameOrigin, Shows, goes_on, IsBetweenLooks, IsLooking, Follows, LooksBelow, Takes};
+
+use crate::knowledge::Knowledge;
+use crate::rule::{Enter, Past, Rules};
+use crate::value::Counted;
+use crate::writer::Told;
+use left_right::reader::{Reader as Seat, Reading};
+use std::marker::Brand;
+use std::snapshot::Snapshot;
+
+/// A reader that is not looking at the value.
+#[derive(Drop)]
+pub struct Reader<T: Counted<I> + Drop, I: Drop, P: Rules<T, I>> {
+    pub(crate) seat: Seat<T, Knowledge<T::State, I>, P>,
+    /// The reader as it was at its last look, if it has learned a longer list since.
+    pub(crate) past: Option<Snapshot<Seat<T, Knowledge<T::State, I>, P>>>,
+    /// The number of installs that it knows.
+    pub(crate) front: u64,
+    /// The largest number of installs that it has learned of. It returns no value with fewer.
+    pub(crate) least: u64,
+    ghost counted: { front ≡ length (view seat.place).installs },
+    ghost stands: { ∥ IsBetweenLooks (option_map (λ s. view s.value.place) past) (view seat.place) ∥₁ },
+}
+
+/// A reader that is looking at the value. It isn't `Drop`: end the look with `leave`.
+pub struct Guard<T: Counted<I> + Drop, I: Drop, P: Rules<T, I>> {
+    pub(crate) reading: Reading<T, Knowledge<T::State, I>, P>,
+    pub(crate) front: u64,
+    pub(crate) least: u64,
+    ghost counted: { front ≡ length (view reading.place).installs },
+    ghost shows: { ∥ Shows T.applied T.front_of (T.state reading.part.value) (view reading.place) ∥₁ },
+    ghost sits: { ∥ IsLooking (view reading.place) ∥₁ },
+}
+
+impl<T: Counted<I> + Drop, I: Drop, P: Rules<T, I>> Reader<T, I, P> {
+    ghost use Rattle.unl_publication.specs.Seen.{next, past, seen, taken, told_front, told_list, told_of, was_told_of};
+
+    /// Learns what the writer knew when it made `told`. From then on the reader returns no value with fewer installs, and
+    /// what it knew stays known. If `told` has more installs than the reader knows, and has their list, the list that the
+    /// reader takes next starts with that one.
+    pub fn learn(&mut self, told: Told<T, I, P>)
+        requires origin { IfSome (told_list told) (λ list. SameOrigin list (next self.old)) }
+        ensures origin { SameOrigin (next self.new) (next self.old) }
+        ensures least { told_of self.new ≡ max (told_of self.old) (told_front told) }
+        ensures seen { seen self.new ≡ seen self.old }
+        ensures next { next self.new ≡ goes_on (told_front told) (told_list told) (next self.old) }
+    {
+        let Told { seat, front } = told;
+        self.least = self.least.max(front);
+        if front <= self.front {
+            return;
+        }
+        if let Some(seat) = seat {
+            let past = go_on(self.past.take(), &self.seat);
+            self.past = Some(past);
+            self.seat = seat;
+            self.front = front;
+        }
+    }
+
+    /// Takes the list of installs that is published now, and looks at the value after it. Never waits.
+    ///
+    /// # Errors
+    ///
+    /// Returns the reader if it did not look, for which `left_right` gives no cause, or if the list was shorter than the
+    /// reader had learned.
+    pub fn enter(self) -> Result<Guard<T, I, P>, Reader<T, I, P>>
+        ensures least { MatchResult result
+            (λ guard. (told_of self ≤ front_seen (taken guard)) × (was_told_of guard ≡ told_of self))
+            (λ reader. told_of reader ≡ told_of self) }
+        ensures origin { MatchResult result
+            (λ guard. SameOrigin (taken guard) (next self))
+            (λ reader. SameOrigin (next reader) (next self)) }
+        ensures takes { IfOk result (λ guard. Takes T.applied (past self) (next self) (taken guard)) }
+        ensures follows { MatchResult result
+            (λ guard. Follows T.applied (seen self) (taken guard))
+            (λ reader. Follows T.applied (seen self) (seen reader)) }
+        ensures refused { IfErr result (λ reader. LooksBelow (told_of self) (seen self) (seen reader)) }
+    {
+        let Reader {
+            seat,
+            past,
+            front,
+            least,
+        } = self;
+        match enter_past::<T, I, P, Brand>(seat, &past) {
+            Ok(reading) => {
+                let front = reading.get().front();
+                let guard = Guard {
+                    reading,
+                    front,
+                    least,
+                };
+                if front < least {
+                    return Err(guard.leave());
+                }
+                Ok(guard)
+            }
+            Err(seat) => Err(Reader {
+                seat,
+                past,
+                front,
+                least,
+            }),
+        }
+    }
+}
+
+// The reader as it was when it last looked.
+fn go_on<T: Counted<I> + Drop, I: Drop, P: Rules<T, I>>(
+    past: Option<Snapshot<Seat<T, Knowledge<T::State, I>, P>>>,
+    seat: &Seat<T, Knowledge<T::State, I>, P>,
+) -> Snapshot<Seat<T, Knowledge<T::State, I>, P>>
+    ensures { view result.value.place ≡ known (option_map (λ s. view s.value.place) past) (view seat.now.place) }
+{
+    match past {
+        Some(past) => past,
+        None => Snapshot::of(seat),
+    }
+}
+
+fn enter_past<T: Counted<I> + Drop, I: Drop, P: Rules<T, I>, K: Past<T::State>>(
+    seat: Seat<T, Knowledge<T::State, I>, P>,
+    past: &Option<Snapshot<Seat<T, Knowledge<T::State, I>, P>>>,
+) -> Result<Reading<T, Knowledge<T::State, I>, P>, Seat<T, Knowledge<T::State, I>, P>>
+    requires before { K.before ≡ before_of T.applied (option_map (λ s. view s.value.place) past.now) (view seat.place) }
+    requires fronts { K.fronts ≡ (known (option_map (λ s. view s.value.place) past.now) (view seat.place)).fronts }
+    requires rises { Rise 0 K.fronts (length (view seat.place).installs) }
+    ensures { MatchResult result
+        (λ r. Enters T.applied T.front_of (before_of T.applied (option_map (λ s. view s.value.place) past.now) (view seat.place))
+        (known (option_map (λ s. view s.value.place) past.now) (view seat.place)).fronts
+        (T.state r.part.value) (view seat.place) (view r.place))
+        (λ r. view r.place ≡ view seat.place) }
+{
+    let _known = past;
+    seat.enter_as::<Enter<K>>()
+}
+
+impl<T: Counted<I> + Drop, I: Drop, P: Rules<T, I>> Guard<T, I, P> {
+    ghost use Rattle.unl_publication.specs.Seen.{next, past, taken, told_of, was_told_of};
+
+    /// The number of installs that the value has absorbed.
+    pub fn front(&self) -> u64
+        ensures { result ≡ front_seen (taken self.now) }
+    {
+        self.front
+    }
+
+    /// The value: the opening value after the list that was taken.
+    pub fn value(&self) -> &T
+        ensures list { (opening : T.State) → (taken self.now).opening ≡ Some opening
+            → T.state result.now ≡ fold T.applied opening (taken self.now).installs }
+        ensures value { is_some (taken self.now).opening ≡ true
+            → value_at T.applied (taken self.now) (front_seen (taken self.now)) ≡ Some (T.state result.now) }
+    {
+        self.reading.get()
+    }
+
+    /// Ends the look. What was seen stays known.
+    pub fn leave(self) -> Reader<T, I, P>
+        ensures past { past result ≡ None }
+        ensures least { told_of result ≡ was_told_of self }
+        ensures same { next result ≡ taken self }
+    {
+        let Guard {
+            reading,
+            front,
+            least,
+        } = self;
+        Reader {
+            seat: reading.leave(),
+            past: None,
+            front,
+            least,
+        }
+    }
+}

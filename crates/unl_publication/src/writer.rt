@@ -1,0 +1,202 @@
+//! The writer of the published value.
+ghost use Rattle.std.specs.Prelude.{◌≡◌, ◌^◌, ◌<◌, ◌≤◌, false, [], ◌∷◌, ◌++◌, ℕ, length, drop, fold};
+ghost use Rattle.std.specs.Prelude.{IfOk, IfSome, IsErr, MatchResult, OnOk};
+ghost use Rattle.std.specs.Prelude.{true, Some};
+ghost use Rattle.left_right.specs.Sides.{view};
+ghost use Rattle.unl_publication.specs.Rule.{Opens, knows_opening, told_by, with_installs};
+ghost use Rattle.unl_publication.specs.Looking.{Shows};
+ghost use Rattle.unl_publication.specs.Meaning.{front_seen};
+
+use crate::knowledge::Knowledge;
+use crate::rule::{AtTable, Given, Learn, Open, Publish, Rules, Tell};
+use crate::value::Counted;
+use left_right::reader::Reader as Seat;
+use left_right::writer::Writer as Sides;
+use std::alloc::{AllocError, Global};
+use std::marker::Brand;
+use std::sync::Wait;
+
+/// The writer, between two calls. It isn't `Drop`: close it with `end`.
+pub struct Writer<T: Counted<I> + Drop, I: Drop, P: Rules<T, I>> {
+    pub(crate) sides: Sides<T, I, Knowledge<T::State, I>, P>,
+    /// A publication failed after its install was logged, so no more are made.
+    pub(crate) refused: bool,
+    ghost shows: { ∥ Shows T.applied T.front_of (T.state sides.desk.shown.value) (view sides.desk.place) ∥₁ },
+    ghost clear: { refused ≡ false → drop sides.behind sides.log.items ≡ [] },
+}
+
+/// What a writer knew at one moment, for one reader to learn.
+#[derive(Drop)]
+pub struct Told<T: Counted<I> + Drop, I: Drop, P: Rules<T, I>> {
+    /// A reader that knows what the writer knew, if there was room for one more.
+    pub(crate) seat: Option<Seat<T, Knowledge<T::State, I>, P>>,
+    /// The number of installs that the writer knew.
+    pub(crate) front: u64,
+    ghost counted: { ∥ IfSome seat (λ r. length (view r.place).installs ≡ front) ∥₁ },
+}
+
+impl<T: Counted<I> + Drop, I: Drop, P: Rules<T, I>> Writer<T, I, P> {
+    ghost use Rattle.unl_publication.specs.Seen.{is_closed, told_front, told_list, written};
+
+    /// Creates a writer that knows the opening value, over two copies with equal meaning, with room for `readers` readers.
+    ///
+    /// # Errors
+    ///
+    /// Fails if it runs out of memory.
+    pub fn new<W: Wait>(
+        rt: &W,
+        alloc: Global,
+        first: T,
+        second: T,
+        readers: usize,
+    ) -> Result<Writer<T, I, P>, AllocError>
+        requires readers { (0 < readers) × (readers < 2 ^ 32) }
+        requires alike { T.state first ≡ T.state second }
+        requires begins { T.front_of (T.state first) ≡ 0 }
+        ensures opening { IfOk result (λ writer. (table : ℕ) × (written writer ≡ knows_opening table (T.state first))) }
+        ensures open { IfOk result (λ writer. is_closed writer ≡ false) }
+    {
+        let sides = Sides::new(alloc, first, second, readers)?;
+        let (sides, told) = open_table::<T, I, P, Brand, W>(rt, sides);
+        match told {
+            Ok(()) => Ok(Writer {
+                sides,
+                refused: false,
+            }),
+            Err(e) => {
+                let _last = sides.take(rt);
+                Err(e)
+            }
+        }
+    }
+
+    /// The published value: the opening value after all installs.
+    pub fn value(&self) -> &T
+        ensures list { (opening : T.State) → (written self.now).opening ≡ Some opening
+            → T.state result.now ≡ fold T.applied opening (written self.now).installs }
+        ensures front { T.front_of (T.state result.now) ≡ front_seen (written self.now) }
+    {
+        self.sides.published()
+    }
+
+    /// What the writer knows now, for one reader to learn: its list if there is room for one more reader, otherwise only the
+    /// list's length.
+    pub fn tell(&mut self) -> Told<T, I, P>
+        ensures same { written self.new ≡ written self.old }
+        ensures closed { is_closed self.new ≡ is_closed self.old }
+        ensures front { told_front result ≡ front_seen (written self.old) }
+        ensures list { IfSome (told_list result) (λ list. list ≡ told_by (written self.old)) }
+    {
+        let front = self.sides.published().front();
+        let Ok(seat) = fresh_seat(&mut self.sides) else {
+            return Told { seat: None, front };
+        };
+        Told {
+            seat: Some(seat),
+            front,
+        }
+    }
+
+    /// Publishes an install and returns the writer, and how many installs were published. Waits for readers that still look
+    /// at an older copy.
+    ///
+    /// # Errors
+    ///
+    /// Fails if it runs out of memory, or if the install or its copy can't be absorbed. Nothing is published then. If this
+    /// happens after the install was logged, every later call fails too.
+    pub fn publish<W: Wait>(self, rt: &W, what: I) -> (Writer<T, I, P>, Result<u64, AllocError>)
+        ensures published { MatchResult result.1
+            (λ front. (written result.0 ≡ with_installs (what ∷ []) (written self)) × (front ≡ front_seen (written result.0)))
+            (λ _. written result.0 ≡ written self) }
+        ensures open { OnOk result.1 (is_closed result.0 ≡ false) }
+        ensures closed { is_closed self ≡ true → (is_closed result.0 ≡ true) × IsErr result.1 }
+    {
+        let Writer { mut sides, refused } = self;
+        if refused {
+            return (Writer { sides, refused }, Err(AllocError));
+        }
+        if sides.append(what).is_err() {
+            return (Writer { sides, refused }, Err(AllocError));
+        }
+        let (sides, published) = publish_given::<T, I, P, Brand, W>(rt, sides);
+        match published {
+            Ok(()) => {
+                let front = sides.published().front();
+                (
+                    Writer {
+                        sides,
+                        refused: false,
+                    },
+                    Ok(front),
+                )
+            }
+            Err(e) => (
+                Writer {
+                    sides,
+                    refused: true,
+                },
+                Err(e),
+            ),
+        }
+    }
+
+    /// Waits for the readers that are still looking, and ends publication.
+    pub fn end<W: Wait>(self, rt: &W) {
+        let Writer { sides, refused: _ } = self;
+        let _last = sides.take(rt);
+    }
+}
+
+/// Adds a reader that knows what the writer knows.
+pub(crate) fn fresh_seat<T: Counted<I> + Drop, I: Drop, P: Rules<T, I>>(
+    sides: &mut Sides<T, I, Knowledge<T::State, I>, P>,
+) -> Result<Seat<T, Knowledge<T::State, I>, P>, AllocError>
+    ensures same { view sides.new.desk.place ≡ view sides.old.desk.place }
+    ensures shown { sides.new.desk.shown ≡ sides.old.desk.shown }
+    ensures log { (sides.new.log ≡ sides.old.log) × (sides.new.behind ≡ sides.old.behind) }
+    ensures seat { IfOk result (λ r. view r.place ≡ told_by (view sides.old.desk.place)) }
+{
+    let mut seat = sides.factory().reader()?;
+    seat.learn::<Learn>(sides.tell::<Tell>());
+    Ok(seat)
+}
+
+fn open_table<T: Counted<I> + Drop, I: Drop, P: Rules<T, I>, K: AtTable, W: Wait>(
+    rt: &W,
+    sides: Sides<T, I, Knowledge<T::State, I>, P>,
+) -> (
+    Sides<T, I, Knowledge<T::State, I>, P>,
+    Result<(), AllocError>,
+)
+    requires table { K.table ≡ sides.desk.place.table_id.views_name }
+    requires pending { drop sides.behind sides.log.items ≡ [] }
+    requires begins { T.front_of (T.state sides.desk.shown.value) ≡ 0 }
+    ensures { MatchResult result.1
+        (λ _. (drop result.0.behind result.0.log.items ≡ []) × (T.state result.0.desk.shown.value ≡ T.state sides.desk.shown.value)
+        × Opens sides.desk.place.table_id.views_name (T.state sides.desk.shown.value) (view sides.desk.place) (view result.0.desk.place))
+        (λ _. Unit {0}) }
+{
+    sides.publish_as::<Open<K>, W>(rt)
+}
+
+fn publish_given<T: Counted<I> + Drop, I: Drop, P: Rules<T, I>, K: Given<I>, W: Wait>(
+    rt: &W,
+    sides: Sides<T, I, Knowledge<T::State, I>, P>,
+) -> (
+    Sides<T, I, Knowledge<T::State, I>, P>,
+    Result<(), AllocError>,
+)
+    requires pending { drop sides.behind sides.log.items ≡ K.given }
+    requires whole { T.front_of (T.state sides.desk.shown.value) ≡ length (view sides.desk.place).installs }
+    ensures known { MatchResult result.1
+        (λ _. view result.0.desk.place ≡ with_installs K.given (view sides.desk.place))
+        (λ _. view result.0.desk.place ≡ view sides.desk.place) }
+    ensures pending { MatchResult result.1
+        (λ _. drop result.0.behind result.0.log.items ≡ [])
+        (λ _. drop result.0.behind result.0.log.items ≡ drop sides.behind sides.log.items) }
+    ensures value { MatchResult result.1
+        (λ _. T.state result.0.desk.shown.value ≡ fold T.applied (T.state sides.desk.shown.value) K.given)
+        (λ _. result.0.desk.shown.value ≡ sides.desk.shown.value) }
+{
+    sides.publish_as::<Publish<K>, W>(rt)
+}

@@ -1,4 +1,0 @@
-use Rattle.unl_published.proofs.writer.Writer.new.Given as goal
-
-abbrev pub ghosts-open_table : goal.ghosts-open_table
-ghosts-open_table g a = record { table = a.sides.desk.place.table_id.views_name }

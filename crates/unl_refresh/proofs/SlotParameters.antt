@@ -1,0 +1,52 @@
+-- Each token has its feeder.
+use Rattle.std.proofs.Common.{◌≡◌, ◌<◌, ◌≤◌, ◌+◌, ◌∙◌, ℕ, Bool, List, [], ◌∷◌, ◌++◌, None, length, drop, map, get_or, ap, sym, arith, append-nil, append_assoc}
+use Rattle.std.proofs.lemmas.List.{drop_all, drop_more, map-append}
+use Rattle.unl_refresh.specs.declared.ask.Ask.{Ask}
+use Rattle.unl_refresh.specs.SlotParameters.{SlotParameters, parameters_of, slot_parameters}
+use Rattle.unl_refresh.specs.declared.slot_poller.SlotPoller.{SlotPoller}
+
+-- after one more token
+pub fed_next : (host : List ℕ) (delta : Bool) (tokens environments : List (List ℕ)) (place : ℕ) (token environment : List ℕ)
+    (before after : List SlotPoller) (slot_poller : SlotPoller) → place < length tokens → length environments ≡ length tokens
+    → slot_poller.environment ≡ environment → slot_poller.ask ≡ record { host = host; token = token; delta = delta; tag = None }
+    → token ≡ get_or tokens place token → environment ≡ get_or environments place environment
+    → after ≡ before ++ slot_poller ∷ []
+    → map parameters_of before ++ slot_parameters host delta (drop place tokens) (drop place environments) ≡ slot_parameters host delta tokens environments
+    → map parameters_of after ++ slot_parameters host delta (drop (place + 1) tokens) (drop (place + 1) environments)
+    ≡ slot_parameters host delta tokens environments
+fed_next host delta tokens environments place token environment before after slot_poller inside many named asked here there more made =
+    ap (λ (fs : List SlotPoller). map parameters_of fs ++ rest) more
+    ∙ ap (λ (fs : List SlotParameters). fs ++ rest) (map-append parameters_of before (slot_poller ∷ []))
+    ∙ append_assoc (map parameters_of before) (parameters_of slot_poller ∷ []) rest
+    ∙ ap (λ (fs : List SlotParameters). map parameters_of before ++ fs) (sym (split ∙ ap (λ (f : SlotParameters). f ∷ rest) (sym same)))
+    ∙ made
+  where
+    rest : List SlotParameters
+    rest = slot_parameters host delta (drop (place + 1) tokens) (drop (place + 1) environments)
+
+    wanted : SlotParameters
+    wanted = record { environment = get_or environments place environment; host = host; token = get_or tokens place token; delta = delta }
+
+    same : parameters_of slot_poller ≡ wanted
+    same = λ i. record {
+      environment = (named ∙ there) i;
+      host = ap (λ (a : Ask). a.host) asked i;
+      token = (ap (λ (a : Ask). a.token) asked ∙ here) i;
+      delta = ap (λ (a : Ask). a.delta) asked i;
+    }
+
+    within : place < length environments
+    within = omega (arith, inside, many)
+
+    split : slot_parameters host delta (drop place tokens) (drop place environments) ≡ wanted ∷ rest
+    split = λ i. slot_parameters host delta (drop_more tokens place token inside i) (drop_more environments place environment within i)
+
+-- after all tokens
+pub all_fed : (host : List ℕ) (delta : Bool) (tokens environments : List (List ℕ)) (place : ℕ) (made : List SlotParameters) → length tokens ≤ place
+    → made ++ slot_parameters host delta (drop place tokens) (drop place environments) ≡ slot_parameters host delta tokens environments
+    → made ≡ slot_parameters host delta tokens environments
+all_fed host delta tokens environments place made few is =
+    sym (append-nil made) ∙ ap (λ (fs : List SlotParameters). made ++ fs) (sym none) ∙ is
+  where
+    none : slot_parameters host delta (drop place tokens) (drop place environments) ≡ []
+    none = ap (λ (ts : List (List ℕ)). slot_parameters host delta ts (drop place environments)) (drop_all place tokens few)

@@ -1,0 +1,26 @@
+-- The request parameters of each slot.
+use Rattle.std.specs.Prelude.{ℕ, Bool, List, [], ◌∷◌}
+use Rattle.unl_refresh.specs.declared.slot_poller.SlotPoller.{SlotPoller}
+
+-- the environment of a slot, the server and the token that it is refreshed with, and whether changes or whole feeds are requested
+pub record SlotParameters : Type 0 where
+  pub environment : List ℕ
+  pub host : List ℕ
+  pub token : List ℕ
+  pub delta : Bool
+
+-- the parameters of a feeder, without its tag
+abbrev pub parameters_of : SlotPoller → SlotParameters
+parameters_of slot_poller = record {
+  environment = slot_poller.environment;
+  host = slot_poller.ask.host;
+  token = slot_poller.ask.token;
+  delta = slot_poller.ask.delta;
+}
+
+-- one for each token, for one server; the environments are in the order of the tokens
+abbrev pub slot_parameters : List ℕ → Bool → List (List ℕ) → List (List ℕ) → List SlotParameters
+slot_parameters host delta [] environments = []
+slot_parameters host delta (token ∷ tokens) [] = []
+slot_parameters host delta (token ∷ tokens) (environment ∷ environments) =
+    record { environment = environment; host = host; token = token; delta = delta } ∷ slot_parameters host delta tokens environments

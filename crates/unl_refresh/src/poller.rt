@@ -1,0 +1,129 @@
+//! The state that keeps a board up to date.
+ghost use Rattle.std.specs.Prelude.{◌≡◌, ◌≤◌, ◌+◌, All, IfOk, IsTrue, OnOk, length};
+ghost use Rattle.unl_base.specs.Faults.{Rose};
+ghost use Rattle.unl_http_api.specs.RequestText.{fits_line};
+ghost use Rattle.unl_refresh.specs.Connects.{Connects};
+ghost use Rattle.unl_refresh.specs.SlotParameters.{slot_parameters};
+ghost use Rattle.unl_refresh.specs.Turns.{MakesTurn, poll_state};
+
+use crate::asking::{feed_slots, refresh_book};
+use crate::shared_book::drain_shared;
+use crate::slot_poller::SlotPoller;
+use crate::slot_pollers::slot_pollers;
+use std::alloc::Global;
+use std::marker::Model;
+use std::sync::{Mutex, Wait};
+use unl_base::Peer;
+use unl_delta::Installer;
+use unl_documents::{List, Memory, Text};
+use unl_metrics::MetricsBook;
+
+/// The feeders of a board's slots, the texts of the tokens that may be known, the upstream server, and the metrics that aren't
+/// sent yet. Contracts see all of it except the metrics and the tags.
+#[derive(Drop)]
+pub struct Poller {
+    slot_pollers: Vec<SlotPoller>,
+    known: List<Text>,
+    upstream: Text,
+    book: MetricsBook,
+}
+
+impl Model for Poller {
+    ghost use Rattle.std.specs.Prelude.{IsTrue, length, map};
+    ghost use Rattle.unl_http_api.specs.RequestText.{fits_line};
+    ghost use Rattle.unl_refresh.specs.SlotParameters.{parameters_of};
+    ghost use Rattle.unl_refresh.specs.Turns.{Duty};
+
+    ghost Value = { Duty };
+
+    ghost view = { λ poller. record {
+      known = poller.known;
+      slots = length poller.slot_pollers.items;
+      slot_pollers = map parameters_of poller.slot_pollers.items;
+      upstream = poller.upstream;
+    } };
+
+    ghost invariant = { λ poller. IsTrue (fits_line poller.upstream) };
+}
+
+impl Poller {
+    /// Creates the state for a board with one slot for each of the upstream's tokens; `environments` are those of the slots. The
+    /// upstream is at its `HOST:PORT`. `delta` selects requests for changes; otherwise whole feeds. The metrics are empty.
+    ///
+    /// # Errors
+    /// `Memory` if out of memory.
+    pub fn new(
+        alloc: Global,
+        upstream: &Text,
+        upstream_tokens: &List<Text>,
+        environments: &List<Text>,
+        tokens: &List<Text>,
+        delta: bool,
+    ) -> Result<Poller, Memory>
+        requires upstream { IsTrue (fits_line upstream.now) }
+        requires tokens { All (λ token. IsTrue (fits_line token)) upstream_tokens.now }
+        requires environments { length environments.now ≡ length upstream_tokens.now }
+        ensures { IfOk result (λ poller. poller ≡ record {
+          known = tokens.now;
+          slots = length upstream_tokens.now;
+          slot_pollers = slot_parameters upstream.now delta upstream_tokens.now environments.now;
+          upstream = upstream.now;
+        }) }
+    {
+        let slot_pollers = slot_pollers(alloc, upstream, upstream_tokens, environments, delta)?;
+        let known = copies(alloc, tokens.as_slice())?;
+        let upstream = Text::new(alloc, upstream.as_str())?;
+        Ok(Poller {
+            slot_pollers,
+            known,
+            upstream,
+            book: MetricsBook::new(alloc),
+        })
+    }
+
+    /// Makes one request for the book and one for each slot, publishes the replies, and sends the metrics. A fault of the
+    /// upstream doesn't end the turn.
+    ///
+    /// # Errors
+    /// `Memory` if out of memory. The turn ends then.
+    pub fn turn<I: Installer, P: Peer>(
+        &mut self,
+        alloc: Global,
+        to: &mut I,
+        peer: &mut P,
+    ) -> Result<(), Memory>
+        ensures same { self.new ≡ self.old }
+        ensures asks { (I.installed to.old).front ≡ 0 → self.old.slots ≤ length (I.installed to.old).places → self.old.slots ≤ 8
+            → OnOk result (Connects (self.old.slots + 1)
+            (P.state peer.old).replies (P.Source.faults peer.old) (P.state peer.new).replies (P.Source.faults peer.new)) }
+        ensures connects { Connects 0
+            (P.state peer.old).replies (P.Source.faults peer.old) (P.state peer.new).replies (P.Source.faults peer.new) }
+        ensures takes { (I.installed to.old).front ≡ 0 → self.old.slots ≤ length (I.installed to.old).places → self.old.slots ≤ 8
+            → ¬ (Rose (P.Source.faults peer.old) (P.Source.faults peer.new))
+            → OnOk result (MakesTurn self.old.known self.old.slot_pollers
+            (poll_state (I.installed to.old) (P.state peer.old).replies) (poll_state (I.installed to.new) (P.state peer.new).replies)) }
+    {
+        match refresh_book(alloc, to, &self.known, &self.upstream, peer) {
+            Ok(()) => feed_slots(alloc, to, &mut self.book, &mut self.slot_pollers, peer),
+            Err(Memory) => Err(Memory),
+        }
+    }
+
+    /// Moves the shared metrics into this book, unless they wouldn't fit or memory runs out. The lock is held only for that.
+    pub fn drain_shared<W: Wait>(&mut self, alloc: Global, rt: &W, shared: &Mutex<MetricsBook>)
+        ensures same { self.new ≡ self.old }
+    {
+        drain_shared(alloc, rt, shared, &mut self.book);
+    }
+}
+
+/// Returns copies of the texts.
+fn copies(alloc: Global, texts: &[Text]) -> Result<List<Text>, Memory>
+    ensures { IfOk result (λ copies. copies ≡ texts.now) }
+{
+    let mut copies = List::new(alloc);
+    for text in texts {
+        copies.push(Text::new(alloc, text.as_str())?)?;
+    }
+    Ok(copies)
+}

@@ -1,0 +1,52 @@
+//! The feeders of all slots of a board.
+ghost use Rattle.std.specs.Prelude.{◌≡◌, All, IfOk, IsTrue, length, map};
+ghost use Rattle.unl_http_api.specs.RequestText.{fits_line};
+ghost use Rattle.unl_refresh.specs.SlotParameters.{parameters_of, slot_parameters};
+
+use crate::slot_poller::{SlotPoller, feeder_with};
+use std::alloc::Global;
+use unl_documents::{List, Memory, Text};
+
+/// Returns one feeder for each token, in the order of the tokens. The environments are in the same order.
+pub(crate) fn slot_pollers(
+    alloc: Global,
+    host: &Text,
+    tokens: &List<Text>,
+    environments: &List<Text>,
+    delta: bool,
+) -> Result<Vec<SlotPoller>, Memory>
+    requires host { IsTrue (fits_line host.now) }
+    requires tokens { All (λ token. IsTrue (fits_line token)) tokens.now }
+    requires environments { length environments.now ≡ length tokens.now }
+    ensures count { IfOk result (λ slot_pollers. length slot_pollers.items ≡ length tokens.now) }
+    ensures made { IfOk result (λ slot_pollers. map parameters_of slot_pollers.items ≡ slot_parameters host.now delta tokens.now environments.now) }
+{
+    feeders_of(
+        alloc,
+        host,
+        tokens.as_slice(),
+        environments.as_slice(),
+        delta,
+    )
+}
+
+/// Returns one feeder for each token.
+fn feeders_of(
+    alloc: Global,
+    host: &Text,
+    tokens: &[Text],
+    environments: &[Text],
+    delta: bool,
+) -> Result<Vec<SlotPoller>, Memory>
+    requires host { IsTrue (fits_line host.now) }
+    requires tokens { All (λ token. IsTrue (fits_line token)) tokens.now }
+    requires environments { length environments.now ≡ length tokens.now }
+    ensures count { IfOk result (λ slot_pollers. length slot_pollers.items ≡ length tokens.now) }
+    ensures made { IfOk result (λ slot_pollers. map parameters_of slot_pollers.items ≡ slot_parameters host.now delta tokens.now environments.now) }
+{
+    let mut slot_pollers = Vec::new(alloc);
+    for place in 0..tokens.len() {
+        slot_pollers.push(feeder_with(alloc, host, &tokens[place], &environments[place], delta)?)?;
+    }
+    Ok(slot_pollers)
+}

@@ -1,0 +1,176 @@
+//! Tests of an edge writer that publishes concurrently with its readers.
+use std::alloc::Global;
+use std::sync::Wait;
+use std::test::Fail;
+use std::thread::Threads;
+use unl_base::{Draw, Job, RealSpawner, Spawner};
+use unl_core::{Board, Desk, Install};
+use unl_delta::Installer;
+use unl_documents::{List, Memory, Shared, Text};
+use unl_edge_state::{EdgeReader, EdgeWriter, begin, readers_are_send};
+use unl_http_api::{Method, Request};
+use unl_tokens::Book;
+
+const TOKENS: &[u8] = br#"{"tokens":[{"token":"*:dev.f","type":"frontend"}]}"#;
+
+/// The front and the status of an answer.
+type Look = (u64, u16);
+
+/// Returns a writer and two readers of a board with one empty slot.
+fn begun<'a, W: Wait>(
+    rt: &'a W,
+    alloc: Global,
+) -> Result<(EdgeWriter<'a, W>, Vec<EdgeReader>), Memory> {
+    let environments = List::from_vec(vec![in alloc; Text::new(alloc, "dev")?]?);
+    let board = Board::new(alloc, 0, "", &environments)?;
+    begin(rt, alloc, board, 2)
+}
+
+/// Publishes a book.
+fn publish_book<W: Wait>(alloc: Global, writer: &mut EdgeWriter<'_, W>) -> Result<(), Memory> {
+    let Ok(book) = Book::read(alloc, TOKENS) else {
+        return Err(Memory);
+    };
+    if writer.front() == u64::MAX {
+        return Err(Memory);
+    }
+    let book = Shared::new(alloc, book)?;
+    match writer.publish(alloc, Install::Tokens(book)) {
+        Ok(_) => Ok(()),
+        Err(Memory) => Err(Memory),
+    }
+}
+
+/// Requests the toggles of a token.
+fn ask(alloc: Global, reader: &mut EdgeReader) -> Result<Look, Memory> {
+    let request = Request {
+        method: Method::Get,
+        target: List::from_slice(alloc, b"/api/frontend")?,
+        token: Some(List::from_slice(alloc, b"*:dev.f")?),
+        tag: None,
+        spec: None,
+        close: false,
+        body: List::new(alloc),
+    };
+    let (front, answer) = reader.answer(alloc, &request, &Draw { now: 0, word: 0 })?;
+    Ok((front, answer.reply.status))
+}
+
+/// The status of an answer: at front 0 the token is unknown; later its environment has no state.
+const STATUSES: [u16; 2] = [403, 503];
+
+/// Publishes a book 20 times.
+struct Publishing<'a, 'w, W: Wait> {
+    writer: &'a mut EdgeWriter<'w, W>,
+    alloc: Global,
+    good: bool,
+}
+
+impl<W: Wait> Job for Publishing<'_, '_, W> {
+    ghost use Rattle.std.specs.Prelude.{⊤};
+
+    ghost worked = { λ before after. ⊤ };
+
+    ghost cancelled = { λ before after. ⊤ };
+
+    fn work(&mut self) {
+        let mut good = true;
+        for _ in 0..20 {
+            good = publish_book(self.alloc, self.writer).is_ok() && good;
+        }
+        self.good = good && self.writer.front() == 20;
+    }
+
+    fn cancel(&mut self) {}
+}
+
+/// Sends 200 requests. Each answer must be that of the board at its front, and the fronts must not fall.
+#[derive(Drop)]
+struct Asking {
+    reader: EdgeReader,
+    alloc: Global,
+    good: bool,
+}
+
+impl Job for Asking {
+    ghost use Rattle.std.specs.Prelude.{⊤};
+
+    ghost worked = { λ before after. ⊤ };
+
+    ghost cancelled = { λ before after. ⊤ };
+
+    fn work(&mut self) {
+        let mut last = 0;
+        let mut good = true;
+        for _ in 0..200 {
+            match ask(self.alloc, &mut self.reader) {
+                Ok((front, status)) => {
+                    good = good
+                        && last <= front
+                        && front <= 20
+                        && status == STATUSES[front.min(1) as usize];
+                    last = front;
+                }
+                Err(_) => good = false,
+            }
+        }
+        self.good = good;
+    }
+
+    fn cancel(&mut self) {}
+}
+
+/// Returns one `Asking` job for each reader.
+fn askers(alloc: Global, readers: Vec<EdgeReader>) -> Result<Vec<Asking>, Memory> {
+    let mut asking = Vec::new(alloc);
+    for reader in readers {
+        asking.push(Asking {
+            reader,
+            alloc,
+            good: false,
+        })?;
+    }
+    Ok(asking)
+}
+
+/// Publishes on this thread while each reader answers requests in its own thread.
+fn publish_beside<R: Threads + Wait>(
+    rt: &R,
+    alloc: Global,
+    writer: &mut EdgeWriter<'_, R>,
+    asking: Vec<Asking>,
+) -> bool {
+    let publishing = Publishing {
+        writer,
+        alloc,
+        good: false,
+    };
+    let mut spawner = RealSpawner::new(rt);
+    readers_are_send();
+    let (publishing, asked) = spawner.with(asking, publishing);
+    let Publishing {
+        writer: _,
+        alloc: _,
+        good,
+    } = publishing;
+    match asked {
+        Ok(asked) => good && asked.iter().all(|one| one.good),
+        Err(_) => false,
+    }
+}
+
+fn side_by_side<R: Threads + Wait>(rt: &R, alloc: Global) -> Result<bool, Memory> {
+    let (mut writer, readers) = begun(rt, alloc)?;
+    let good = match askers(alloc, readers) {
+        Ok(asking) => publish_beside(rt, alloc, &mut writer, asking),
+        Err(Memory) => false,
+    };
+    writer.end();
+    Ok(good)
+}
+
+#[test]
+fn a_writer_publishes_beside_readers(rt: HostRuntime) -> Result<(), Fail> {
+    assert!(rt; side_by_side(&rt, rt.alloc())?);
+    Ok(())
+}

@@ -1,0 +1,170 @@
+-- What a conversation leaves if memory runs out, and how many requests were answered in it.
+use Rattle.std.proofs.Common.{◌≡◌, ℕ, ◌+◌, ◌<◌, ◌≤◌, Bool, ◌||◌, List, [], ◌∷◌, ◌++◌, length, refl, sym, ap, ◌∙◌, subst, arith, append_assoc, length-append, Option, Some, ◌⊎◌, inl, inr}
+use Rattle.std.specs.Prelude.{◌==◌}
+use Rattle.unl_base.specs.declared.draws.Draw.{Draw}
+use Rattle.unl_base.specs.Faults.{Rose}
+use Rattle.unl_base.specs.Streams.{Takes}
+use Rattle.unl_http_api.specs.declared.end.End.{End}
+use Rattle.unl_http_api.specs.declared.end.End.TheVariants.{Closed, Asked, Limit, Refused, CutOff, ReadFault, WriteFault, Memory}
+use Rattle.unl_http_api.specs.declared.reply.Reply.{Reply}
+use Rattle.unl_http_api.specs.declared.request.Request.{Request}
+use Rattle.unl_http_api.specs.Reply.{reply_text}
+use Rattle.unl_http_api.specs.Requests.{BeginsWith}
+use Rattle.unl_http_api.specs.Session.{Reads, StayOpen}
+use Rattle.unl_http_api.proofs.RequestLemmas.{BeginsWith-append}
+use Rattle.unl_http_api.proofs.SessionLemmas.{Reads-append}
+use Rattle.unl_server.specs.Handling.{Answers, RunsOutOfMemory}
+use Rattle.unl_server.specs.Conversation.{IsUnreplied, GivesUp, Reaches}
+use Rattle.unl_server.specs.Exchange.{Connection, Unreplied, Breaks, Goes, Sends500}
+use Rattle.unl_server.proofs.ConversationLemmas.{Answered_more, Takes_told, Talk}
+
+-- ---- out of memory
+
+-- a request without a complete reply begins the bytes that were left
+breaks_told : {S : Type 0} (Step : S → Request → Reply → S → Type 0) (Lacks : S → Request → S → Type 0)
+    (now new : Connection S) (rest : List ℕ) → now.left ≡ Some rest → Breaks Step Lacks now new
+    → IsUnreplied Step Lacks (now.held ++ rest) now.state new.state
+breaks_told Step Lacks now new rest left broken =
+    let front = Takes_told rest broken.read new.left
+    (subst (λ (l : Option (List ℕ)). Takes l broken.read new.left) left broken.took) in
+    record {
+      request = broken.request;
+      rest = new.held ++ front.0;
+      begins = subst (λ (b : List ℕ). BeginsWith b broken.request (new.held ++ front.0))
+          (append_assoc now.held broken.read front.0 ∙ ap (λ (b : List ℕ). now.held ++ b) (sym front.2))
+          (BeginsWith-append (now.held ++ broken.read) broken.request new.held front.0 broken.begins);
+      unreplied = broken.unreplied;
+    }
+
+-- what a turn leaves when memory runs out
+next_told : {S : Type 0} (Step : S → Request → Reply → S → Type 0) (Lacks : S → Request → S → Type 0)
+    (now new : Connection S) (rest : List ℕ) → now.left ≡ Some rest
+    → (new.state ≡ now.state) ⊎ Breaks Step Lacks now new
+    → (new.state ≡ now.state) ⊎ IsUnreplied Step Lacks (now.held ++ rest) now.state new.state
+next_told Step Lacks now new rest left (inl same) = inl same
+next_told Step Lacks now new rest left (inr broken) = inr (breaks_told Step Lacks now new rest left broken)
+
+-- complete, or cut short where the fault count rose from a later value, hence from an earlier one
+rose_earlier : {P : Type 0} (a b c : ℕ) → a ≤ b → P ⊎ Rose b c → P ⊎ Rose a c
+rose_earlier a b c up (inl p) = inl p
+rose_earlier a b c up (inr rose) = inr (omega (arith, up, rose))
+
+-- memory ran out after these requests
+pub gives_up : {S : Type 0} (Step : S → Request → Reply → S → Type 0) (Lacks : S → Request → S → Type 0)
+    (start now new : Connection S) (requests : List Request) (last : Bool) (bytes : List ℕ) (end : End)
+    (faults between faults_after : ℕ) → Talk Step start now requests → StayOpen requests → length requests < 1000
+    → start.left ≡ Some bytes → end ≡ Memory → Goes Step Lacks last now (Some end) new → faults ≤ between
+    → Sends500 now.sent between new.sent faults_after
+    → GivesUp Step Lacks bytes start.sent faults start.state new.state new.sent faults_after
+gives_up Step Lacks start now new requests last bytes end faults between faults_after talk stay few told is turn later tells =
+    let front = Takes_told bytes talk.read now.left
+    (subst (λ (l : Option (List ℕ)). Takes l talk.read now.left) told talk.took) in
+    record {
+      requests = requests;
+      rest = now.held ++ front.0;
+      reads = subst (λ (b : List ℕ). Reads b requests (now.held ++ front.0)) (sym front.2)
+          (Reads-append talk.read requests now.held front.0 talk.reads);
+      first = record { few = few; open_all = stay };
+      text = talk.text;
+      replied = now.state;
+      answered = talk.answered;
+      next = next_told Step Lacks now new front.0 front.1
+          (subst (λ (e : End). Goes Step Lacks last now (Some e) new) is turn);
+      sent_before = now.sent;
+      sends = talk.sends;
+      told = record {
+        part = tells.part;
+        after = tells.after;
+        split = tells.split;
+        sends = tells.sends;
+        whole = rose_earlier faults between faults_after later tells.whole;
+      };
+    }
+
+-- ---- what was answered, whether or not the bytes are observable
+
+-- each step increments a count, and running out of memory doesn't
+pub record Counts
+    {S : Type 0} (Step : S → Request → Reply → S → Type 0) (Lacks : S → Request → S → Type 0) (count : S → ℕ) : Type 0 where
+  pub step : (s t : S) (q : Request) (r : Reply) → Step s q r t → count t ≡ count s + 1
+  pub lack : (s t : S) (q : Request) → Lacks s q t → count t ≡ count s
+
+-- the handler's own count is such a count
+pub Answers_count : {S : Type 0} (gives : S → Request → Draw → Reply → S → Type 0) (gives_up : S → Request → Draw → S → Type 0)
+    → Counts (Answers gives) (RunsOutOfMemory gives_up) (λ s. s.count)
+Answers_count gives gives_up = record {
+  step = λ s t q r one. one.counted;
+  lack = λ s t q none. none.counted;
+}
+
+-- one more request was answered in the last turn
+reaches_more : {S : Type 0} (Step : S → Request → Reply → S → Type 0) (Lacks : S → Request → S → Type 0) (count : S → ℕ)
+    → Counts Step Lacks count → (start now : Connection S) (after : S) (requests : List Request) (end : End)
+    (request : Request) (reply : Reply) → Talk Step start now requests → length requests ≡ count now.state
+    → Step now.state request reply after → Reaches Step Lacks start.state end after (count after)
+reaches_more Step Lacks count counts start now after requests end request reply talk counted step = record {
+  requests = requests ++ request ∷ [];
+  text = talk.text ++ reply_text reply (request.close || length requests == 999);
+  reached = after;
+  answered = Answered_more Step 0 start.state now.state after requests talk.text request reply (length requests == 999)
+      talk.answered step (ap (λ (n : ℕ). n == 999) (omega arith));
+  counted = omega (arith, counted, counts.step now.state after request reply step, length-append requests (request ∷ []));
+  next = inl refl;
+}
+
+-- no more requests were answered
+pub reaches_same : {S : Type 0} (Step : S → Request → Reply → S → Type 0) (Lacks : S → Request → S → Type 0)
+    (count : S → ℕ) (start now : Connection S) (after : S) (requests : List Request) (end : End)
+    → Talk Step start now requests → length requests ≡ count now.state → after ≡ now.state
+    → Reaches Step Lacks start.state end after (count after)
+reaches_same Step Lacks count start now after requests end talk counted same = record {
+  requests = requests;
+  text = talk.text;
+  reached = now.state;
+  answered = talk.answered;
+  counted = counted ∙ ap count (sym same);
+  next = inl same;
+}
+
+-- the last request was read, and memory ran out while it was answered or afterwards
+reaches_lacking : {S : Type 0} (Step : S → Request → Reply → S → Type 0) (Lacks : S → Request → S → Type 0)
+    (count : S → ℕ) → Counts Step Lacks count → (start now : Connection S) (after : S) (requests : List Request)
+    (request : Request) → Talk Step start now requests → length requests ≡ count now.state
+    → Unreplied Step Lacks now.state request after → Reaches Step Lacks start.state Memory after (count after)
+reaches_lacking Step Lacks count counts start now after requests request talk counted (inl lacks) = record {
+  requests = requests;
+  text = talk.text;
+  reached = now.state;
+  answered = talk.answered;
+  counted = counted ∙ sym (counts.lack now.state after request lacks);
+  next = inr (refl, request, lacks);
+}
+reaches_lacking Step Lacks count counts start now after requests request talk counted (inr (reply, step)) =
+    reaches_more Step Lacks count counts start now after requests Memory request reply talk counted step
+
+-- as many requests were answered as were counted, however the last turn ended
+pub reaches : {S : Type 0} (Step : S → Request → Reply → S → Type 0) (Lacks : S → Request → S → Type 0)
+    (count : S → ℕ) → Counts Step Lacks count → (start now new : Connection S) (requests : List Request) (last : Bool)
+    (end : End) → Talk Step start now requests → length requests ≡ count now.state
+    → Goes Step Lacks last now (Some end) new → Reaches Step Lacks start.state end new.state (count new.state)
+reaches Step Lacks count counts start now new requests last Asked talk counted turn =
+    reaches_more Step Lacks count counts start now new.state requests Asked turn.request turn.replies.reply talk counted
+    turn.replies.steps
+reaches Step Lacks count counts start now new requests last Closed talk counted stop =
+    reaches_same Step Lacks count start now new.state requests Closed talk counted stop.same
+reaches Step Lacks count counts start now new requests last CutOff talk counted stop =
+    reaches_same Step Lacks count start now new.state requests CutOff talk counted stop.same
+reaches Step Lacks count counts start now new requests last (Refused status) talk counted stop =
+    reaches_same Step Lacks count start now new.state requests (Refused status) talk counted stop.same
+reaches Step Lacks count counts start now new requests last Limit talk counted turn = absurd turn
+reaches Step Lacks count counts start now new requests last ReadFault talk counted stop =
+    reaches_same Step Lacks count start now new.state requests ReadFault talk counted stop.same
+reaches Step Lacks count counts start now new requests last WriteFault talk counted (inl (close, turn)) =
+    reaches_more Step Lacks count counts start now new.state requests WriteFault turn.request turn.replies.reply talk
+    counted turn.replies.steps
+reaches Step Lacks count counts start now new requests last WriteFault talk counted (inr (status, stop)) =
+    reaches_same Step Lacks count start now new.state requests WriteFault talk counted stop.same
+reaches Step Lacks count counts start now new requests last Memory talk counted (inl same) =
+    reaches_same Step Lacks count start now new.state requests Memory talk counted same
+reaches Step Lacks count counts start now new requests last Memory talk counted (inr broken) =
+    reaches_lacking Step Lacks count counts start now new.state requests broken.request talk counted broken.unreplied

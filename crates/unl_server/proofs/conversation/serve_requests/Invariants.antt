@@ -1,0 +1,32 @@
+use Rattle.std.proofs.Common.{◌≡◌, ◌≤◌, List, [], length}
+use Rattle.unl_http_api.specs.declared.request.Request.{Request}
+use Rattle.unl_http_api.specs.Session.{StayOpen}
+use Rattle.unl_server.specs.Handling.{Answers, answerer}
+use Rattle.unl_server.proofs.ConversationLemmas.{Talk}
+use Rattle.unl_server.proofs.conversation.serve_requests.Given as goal
+
+-- as many requests as turns were answered, and none of them ends the connection
+abbrev pub invariant-loop-turn : goal.invariant-loop-turn
+invariant-loop-turn g l = record {
+  requests : List Request;
+  talk : Talk (Answers g.A.RequestHandler.gives)
+      (record {
+        held = [];
+        left = g.L.Source.left l.initial.link;
+        state = answerer l.initial.state 0 (g.R.Draws.coming l.initial.draws);
+        sent = g.L.Sink.sent l.initial.link;
+      })
+      (record {
+        held = l.reader;
+        left = g.L.Source.left l.link;
+        state = answerer l.state l.count (g.R.Draws.coming l.draws);
+        sent = g.L.Sink.sent l.link;
+      })
+      requests;
+  stay : StayOpen requests;
+  asked : length requests ≡ l.turn;
+  counted : l.count ≡ l.turn;
+  fits : g.A.RequestHandler.fits l.count l.state;
+  keeps : g.A.RequestHandler.keeps l.initial.state l.state;
+  later : g.L.Source.faults l.initial.link ≤ g.L.Source.faults l.link;
+}

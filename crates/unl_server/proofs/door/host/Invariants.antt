@@ -1,0 +1,16 @@
+use Rattle.std.proofs.Common.{◌≡◌, ◌≤◌}
+use Rattle.unl_base.specs.Doors.{IsListening}
+use Rattle.unl_server.specs.ServingDoor.{ServesDoorLinks, hosting}
+use Rattle.unl_server.proofs.door.host.Given as goal
+
+-- this many links were served
+abbrev pub invariant-loop-served : goal.invariant-loop-served
+invariant-loop-served g l = record {
+  listens : IsListening (g.D.Door.state l.door);
+  port : (g.D.Door.state l.door).port ≡ (g.D.Door.state l.initial.door).port;
+  fits : g.S.Server.fits l.server;
+  keeps : g.S.Server.keeps l.initial.server l.server;
+  hosts : ServesDoorLinks g.S.Server.serves l.served (hosting l.initial.server (g.R.Draws.coming l.initial.draws) (g.D.Door.state l.initial.door))
+      (hosting l.server (g.R.Draws.coming l.draws) (g.D.Door.state l.door));
+  later : g.D.Door.faults l.initial.door ≤ g.D.Door.faults l.door;
+}

@@ -1,0 +1,15 @@
+use Rattle.std.proofs.Common.{◌≡◌, ◌-◌, ◌≤◌, length}
+use Rattle.unl_server.proofs.ReceiveLemmas.{Taking}
+use Rattle.unl_server.proofs.receive.receive.Given as goal
+
+-- all bytes read so far are held
+abbrev pub invariant-loop-received : goal.invariant-loop-received
+invariant-loop-received g l = record {
+  taking : Taking l.initial.reader (g.L.Source.left l.initial.link) l.reader (g.L.Source.left l.link);
+  sent : g.L.Sink.sent l.link ≡ g.L.Sink.sent l.initial.link;
+  later : g.L.Source.faults l.initial.link ≤ g.L.Source.faults l.link;
+}
+
+-- each turn reads at least one byte, and an unfinished request holds fewer than this
+abbrev pub decreases-loop-received : goal.decreases-loop-received
+decreases-loop-received g l = 1056769 - length l.reader

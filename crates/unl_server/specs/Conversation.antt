@@ -1,0 +1,167 @@
+-- All of a connection: its requests, the reply to each, and how it ended. `Step before request reply after` is the effect
+-- of one answer on the handler's state, and `Lacks before request after` the effect of running out of memory at a request.
+use Rattle.std.specs.Prelude.{◌≡◌, ◌≢◌, ◌≤◌, ℕ, ◌+◌, ◌⊎◌, ◌==◌, ◌||◌, List, [], ◌∷◌, ◌++◌, length, Option, Some, ⊤}
+use Rattle.unl_base.specs.Faults.{Rose}
+use Rattle.unl_base.specs.Streams.{Sends, SendsFront}
+use Rattle.unl_http_api.specs.declared.end.End.{End}
+use Rattle.unl_http_api.specs.declared.end.End.TheVariants.{Closed, Asked, Limit, Refused, CutOff, ReadFault, WriteFault, Memory}
+use Rattle.unl_http_api.specs.declared.reply.Reply.{Reply}
+use Rattle.unl_http_api.specs.declared.request.Request.{Request}
+use Rattle.unl_http_api.specs.Reply.{reply_text, refusal_text}
+use Rattle.unl_http_api.specs.Requests.{BeginsWith}
+use Rattle.unl_http_api.specs.Session.{AreWhole, IsOpen, IsRegular, Reads, Session}
+use Rattle.unl_server.specs.Exchange.{Unreplied, Sends500}
+use Rattle.unl_server.specs.Links.{LinkState}
+
+-- The text is the replies to the requests, one step each, after `count` earlier requests. The connection ends after a reply
+-- to a request that asks for it, and after the 1,000th.
+abbrev pub Answered : {S : Type 0} → (S → Request → Reply → S → Type 0) → ℕ → S → List Request → List ℕ → S → Type 0
+Answered {S} Step count before [] text after = (text ≡ []) × (after ≡ before)
+Answered {S} Step count before (q ∷ qs) text after =
+    (reply : Reply) × (middle : S) × (more : List ℕ) × Step before q reply middle
+    × (text ≡ reply_text reply (q.close || count == 999) ++ more)
+    × Answered Step (count + 1) middle qs more after
+
+-- what is sent after the replies
+abbrev pub farewell : End → List ℕ
+farewell Closed = []
+farewell Asked = []
+farewell Limit = []
+farewell (Refused status) = refusal_text status
+farewell CutOff = []
+farewell ReadFault = []
+farewell WriteFault = []
+farewell Memory = []
+
+-- the session of the bytes has this end, each of its requests was answered, and all replies were sent
+pub record Serves
+    {S : Type 0} (Step : S → Request → Reply → S → Type 0) (bytes : List ℕ) (sent : Option (List ℕ)) (before : S)
+    (end : End) (after : S) (sent_after : Option (List ℕ)) : Type 0 where
+  pub requests : List Request
+  pub text : List ℕ
+  pub session : Session bytes requests end
+  pub answered : Answered Step 0 before requests text after
+  pub sends : Sends sent (text ++ farewell end) sent_after
+
+-- A read failed. The bytes read until then, which are all but the bytes left, form a session of their own, whose requests
+-- were answered.
+pub record ServesFront
+    {S : Type 0} (Step : S → Request → Reply → S → Type 0) (bytes : List ℕ) (sent : Option (List ℕ)) (before after : S)
+    (left_after sent_after : Option (List ℕ)) : Type 0 where
+  pub read : List ℕ
+  pub rest : List ℕ
+  pub split : bytes ≡ read ++ rest
+  pub left : left_after ≡ Some rest
+  pub serves : Serves Step read sent before Closed after sent_after ⊎ Serves Step read sent before CutOff after sent_after
+
+-- A write failed in a reply. These requests were read and answered, and only a prefix of the replies was sent. The last
+-- request may be one that ends the connection.
+pub record CutInReply
+    {S : Type 0} (Step : S → Request → Reply → S → Type 0) (bytes : List ℕ) (sent : Option (List ℕ)) (before after : S)
+    (sent_after : Option (List ℕ)) : Type 0 where
+  pub earlier : List Request
+  pub request : Request
+  pub rest : List ℕ
+  pub text : List ℕ
+  pub reads : Reads bytes (earlier ++ request ∷ []) rest
+  pub first : IsOpen 1000 earlier
+  pub answered : Answered Step 0 before (earlier ++ request ∷ []) text after
+  pub sends : SendsFront sent text sent_after
+
+-- a write failed in a refusal: the session ends with it, and only a prefix of the replies and the refusal was sent
+pub record CutInRefusal
+    {S : Type 0} (Step : S → Request → Reply → S → Type 0) (bytes : List ℕ) (sent : Option (List ℕ)) (before after : S)
+    (sent_after : Option (List ℕ)) : Type 0 where
+  pub requests : List Request
+  pub status : ℕ
+  pub text : List ℕ
+  pub session : Session bytes requests (Refused status)
+  pub answered : Answered Step 0 before requests text after
+  pub sends : SendsFront sent (text ++ refusal_text status) sent_after
+
+-- a request begins the bytes, and its reply was not sent in full
+pub record IsUnreplied
+    {S : Type 0} (Step : S → Request → Reply → S → Type 0) (Lacks : S → Request → S → Type 0) (bytes : List ℕ)
+    (before after : S) : Type 0 where
+  pub request : Request
+  pub rest : List ℕ
+  pub begins : BeginsWith bytes request rest
+  pub unreplied : Unreplied Step Lacks before request after
+
+-- Memory ran out after these requests were read and answered, and then the 500 reply was sent, as far as the link allowed.
+-- One more request may have been read; its reply was not sent.
+pub record GivesUp
+    {S : Type 0} (Step : S → Request → Reply → S → Type 0) (Lacks : S → Request → S → Type 0) (bytes : List ℕ)
+    (sent : Option (List ℕ)) (faults : ℕ) (before after : S) (sent_after : Option (List ℕ)) (faults_after : ℕ) : Type 0 where
+  pub requests : List Request
+  pub rest : List ℕ
+  pub reads : Reads bytes requests rest
+  pub first : IsOpen 1000 requests
+  pub text : List ℕ
+  pub replied : S
+  pub answered : Answered Step 0 before requests text replied
+  pub next : (after ≡ replied) ⊎ IsUnreplied Step Lacks rest replied after
+  pub sent_before : Option (List ℕ)
+  pub sends : Sends sent text sent_before
+  pub told : Sends500 sent_before faults sent_after faults_after
+
+-- what holds for each end, other than running out of memory
+abbrev pub Concludes :
+    {S : Type 0} → (S → Request → Reply → S → Type 0) → List ℕ → Option (List ℕ) → S → End → S → Option (List ℕ)
+    → Option (List ℕ) → Type 0
+Concludes Step bytes sent before Closed after left_after sent_after = Serves Step bytes sent before Closed after sent_after
+Concludes Step bytes sent before Asked after left_after sent_after = Serves Step bytes sent before Asked after sent_after
+Concludes Step bytes sent before Limit after left_after sent_after = Serves Step bytes sent before Limit after sent_after
+Concludes Step bytes sent before (Refused status) after left_after sent_after =
+    Serves Step bytes sent before (Refused status) after sent_after
+Concludes Step bytes sent before CutOff after left_after sent_after = Serves Step bytes sent before CutOff after sent_after
+Concludes Step bytes sent before ReadFault after left_after sent_after =
+    ServesFront Step bytes sent before after left_after sent_after
+Concludes Step bytes sent before WriteFault after left_after sent_after =
+    CutInReply Step bytes sent before after sent_after ⊎ CutInRefusal Step bytes sent before after sent_after
+Concludes Step bytes sent before Memory after left_after sent_after = ⊤
+
+-- each of these requests was answered, and then what this end sends was sent
+pub record AnswersAll
+    {S : Type 0} (Step : S → Request → Reply → S → Type 0) (requests : List Request) (sent : Option (List ℕ)) (before : S)
+    (end : End) (after : S) (sent_after : Option (List ℕ)) : Type 0 where
+  pub text : List ℕ
+  pub answered : Answered Step 0 before requests text after
+  pub sends : Sends sent (text ++ farewell end) sent_after
+
+-- `count` requests were answered one after another, whether or not the bytes are observable. If memory ran out, one more
+-- may have been read, and it was not answered.
+pub record Reaches
+    {S : Type 0} (Step : S → Request → Reply → S → Type 0) (Lacks : S → Request → S → Type 0) (before : S) (end : End)
+    (after : S) (count : ℕ) : Type 0 where
+  pub requests : List Request
+  pub text : List ℕ
+  pub reached : S
+  pub answered : Answered Step 0 before requests text reached
+  pub counted : length requests ≡ count
+  pub next : (after ≡ reached) ⊎ ((end ≡ Memory) × (request : Request) × Lacks reached request after)
+
+-- A conversation on a link, from beginning to end, with `count` answered requests.
+pub record Converses
+    {S : Type 0} (Step : S → Request → Reply → S → Type 0) (Lacks : S → Request → S → Type 0) (link : LinkState) (before : S)
+    (end : End) (after : S) (count : ℕ) (link_after : LinkState) : Type 0 where
+  -- the end is that of the session, and its requests were answered one after another
+  pub session : (bytes : List ℕ) → link.left ≡ Some bytes
+      → Concludes Step bytes link.sent before end after link_after.left link_after.sent
+  -- if no call of the link failed and memory didn't run out, the end is the session's, and each request was answered
+  pub complete : (bytes : List ℕ) (asked : List Request) (ending : End) → link.left ≡ Some bytes → Session bytes asked ending
+      → ¬ (Rose link.faults link_after.faults) → end ≢ Memory
+      → (end ≡ ending) × AnswersAll Step asked link.sent before ending after link_after.sent
+  -- so complete requests, of which only the last may end the connection, get exactly their replies
+  pub whole : (bytes : List ℕ) (asked : List Request) → link.left ≡ Some bytes → AreWhole bytes asked
+      → ¬ (Rose link.faults link_after.faults) → end ≢ Memory
+      → IsRegular end × AnswersAll Step asked link.sent before end after link_after.sent
+  -- if memory ran out, a 500 reply is sent after complete replies, as far as the link allows
+  pub memory : (bytes : List ℕ) → link.left ≡ Some bytes → end ≡ Memory
+      → GivesUp Step Lacks bytes link.sent link.faults before after link_after.sent link_after.faults
+  -- in every case, `count` requests were answered one after another
+  pub answered : Reaches Step Lacks before end after count
+  -- a fault is reported only if the link's fault count rose
+  pub later : link.faults ≤ link_after.faults
+  pub read_cause : end ≡ ReadFault → Rose link.faults link_after.faults
+  pub write_cause : end ≡ WriteFault → Rose link.faults link_after.faults

@@ -1,0 +1,116 @@
+-- One exchange on a connection: a request and its reply, or the end.
+use Rattle.std.specs.Prelude.{◌≡◌, ◌≢◌, ℕ, ◌⊎◌, ◌||◌, Bool, true, false, List, [], ◌++◌, Option, Some, None, ⊤}
+use Rattle.unl_base.specs.Faults.{Rose}
+use Rattle.unl_base.specs.Streams.{Takes, HasEnded, Sends, SendsFront}
+use Rattle.unl_http_api.specs.declared.end.End.{End}
+use Rattle.unl_http_api.specs.declared.end.End.TheVariants.{Closed, Asked, Limit, Refused, CutOff, ReadFault, WriteFault, Memory}
+use Rattle.unl_http_api.specs.declared.reply.Reply.{Reply}
+use Rattle.unl_http_api.specs.declared.request.Request.{Request}
+use Rattle.unl_http_api.specs.Reply.{reply_text, refusal_text}
+use Rattle.unl_http_api.specs.Requests.{BeginsWith, IsBad, IsUnfinished}
+
+-- the request was answered by a step, and the reply was sent, in full or in part
+pub record Replies
+    {S : Type 0} (Sent : Option (List ℕ) → List ℕ → Option (List ℕ) → Type 0)
+    (Step : S → Request → Reply → S → Type 0) (request : Request) (close : Bool) (before after : S)
+    (sent sent_after : Option (List ℕ)) : Type 0 where
+  pub reply : Reply
+  pub steps : Step before request reply after
+  pub sends : Sent sent (reply_text reply close) sent_after
+
+-- the request has no complete reply, since memory ran out while it was answered or afterwards
+abbrev pub Unreplied :
+    {S : Type 0} → (S → Request → Reply → S → Type 0) → (S → Request → S → Type 0) → S → Request → S → Type 0
+Unreplied Step Lacks before request after =
+    Lacks before request after ⊎ ((reply : Reply) × Step before request reply after)
+
+-- the state of a connection: the bytes received and not consumed, the bytes to come, the handler's state, and the bytes
+-- sent
+pub record Connection (S : Type 0) : Type 0 where
+  pub held : List ℕ
+  pub left : Option (List ℕ)
+  pub state : S
+  pub sent : Option (List ℕ)
+
+-- a request was read and its reply sent
+pub record Exchanges
+    {S : Type 0} (Sent : Option (List ℕ) → List ℕ → Option (List ℕ) → Type 0)
+    (Step : S → Request → Reply → S → Type 0) (last close : Bool) (old new : Connection S) : Type 0 where
+  pub request : Request
+  pub read : List ℕ
+  pub took : Takes old.left read new.left
+  pub begins : BeginsWith (old.held ++ read) request new.held
+  pub closes : request.close ≡ close
+  pub replies : Replies Sent Step request (request.close || last) old.state new.state old.sent new.sent
+
+-- the bytes ended the connection, and nothing was sent except what this end sends
+pub record Stops
+    {S : Type 0} (Sent : Option (List ℕ) → List ℕ → Option (List ℕ) → Type 0)
+    (P : List ℕ → Option (List ℕ) → Type 0) (farewell : List ℕ) (old new : Connection S) : Type 0 where
+  pub read : List ℕ
+  pub took : Takes old.left read new.left
+  pub found : P (old.held ++ read) new.left
+  pub same : new.state ≡ old.state
+  pub sends : Sent old.sent farewell new.sent
+
+-- a request was read, and its reply was not sent in full
+pub record Breaks
+    {S : Type 0} (Step : S → Request → Reply → S → Type 0) (Lacks : S → Request → S → Type 0)
+    (old new : Connection S) : Type 0 where
+  pub request : Request
+  pub read : List ℕ
+  pub took : Takes old.left read new.left
+  pub begins : BeginsWith (old.held ++ read) request new.held
+  pub unreplied : Unreplied Step Lacks old.state request new.state
+
+-- The effect of one turn: the connection stays open after a request that does not close it, or it ends. If memory ran out,
+-- a request was read whose reply was not sent in full, or none was read.
+abbrev pub Goes :
+    {S : Type 0} → (S → Request → Reply → S → Type 0) → (S → Request → S → Type 0) → Bool → Connection S → Option End
+    → Connection S → Type 0
+Goes Step Lacks last old None new = Exchanges Sends Step last false old new
+Goes Step Lacks last old (Some Asked) new = Exchanges Sends Step last true old new
+Goes Step Lacks last old (Some Closed) new = Stops Sends (λ bytes left. (bytes ≡ []) × HasEnded left) [] old new
+Goes Step Lacks last old (Some CutOff) new =
+    Stops Sends (λ bytes left. (bytes ≢ []) × IsUnfinished bytes × HasEnded left) [] old new
+Goes Step Lacks last old (Some (Refused status)) new =
+    Stops Sends (λ bytes left. IsBad bytes status) (refusal_text status) old new
+Goes Step Lacks last old (Some Limit) new = ⊥
+Goes Step Lacks last old (Some ReadFault) new = Stops Sends (λ bytes left. IsUnfinished bytes) [] old new
+Goes Step Lacks last old (Some WriteFault) new =
+    ((close : Bool) × Exchanges SendsFront Step last close old new)
+    ⊎ ((status : ℕ) × Stops SendsFront (λ bytes left. IsBad bytes status) (refusal_text status) old new)
+Goes Step Lacks last old (Some Memory) new = (new.state ≡ old.state) ⊎ Breaks Step Lacks old new
+
+-- the effect of writing a text; `None` if all of it was sent
+abbrev pub Writes : List ℕ → Option (List ℕ) → Option End → Option (List ℕ) → Type 0
+Writes text sent None sent_after = Sends sent text sent_after
+Writes text sent (Some WriteFault) sent_after = SendsFront sent text sent_after
+Writes text sent (Some Memory) sent_after = ⊤
+Writes text sent (Some end) sent_after = ⊥
+
+-- the effect of replying; `None` if the reply was sent in full
+abbrev pub Replied :
+    {S : Type 0} → (S → Request → Reply → S → Type 0) → (S → Request → S → Type 0) → Request → Bool → S → S
+    → Option (List ℕ) → Option End → Option (List ℕ) → Type 0
+Replied Step Lacks request close before after sent None sent_after =
+    Replies Sends Step request close before after sent sent_after
+Replied Step Lacks request close before after sent (Some WriteFault) sent_after =
+    Replies SendsFront Step request close before after sent sent_after
+Replied Step Lacks request close before after sent (Some Memory) sent_after = Unreplied Step Lacks before request after
+Replied Step Lacks request close before after sent (Some end) sent_after = ⊥
+
+-- the effect of refusing
+abbrev pub Refuses : ℕ → Option (List ℕ) → End → Option (List ℕ) → Type 0
+Refuses status sent (Refused told) sent_after = (told ≡ status) × Sends sent (refusal_text status) sent_after
+Refuses status sent WriteFault sent_after = SendsFront sent (refusal_text status) sent_after
+Refuses status sent Memory sent_after = ⊤
+Refuses status sent end sent_after = ⊥
+
+-- the 500 reply was sent after memory ran out, in full, or a prefix of it if the link failed
+pub record Sends500 (sent : Option (List ℕ)) (faults : ℕ) (sent_after : Option (List ℕ)) (faults_after : ℕ) : Type 0 where
+  pub part : List ℕ
+  pub after : List ℕ
+  pub split : refusal_text 500 ≡ part ++ after
+  pub sends : Sends sent part sent_after
+  pub whole : (after ≡ []) ⊎ Rose faults faults_after

@@ -1,0 +1,38 @@
+-- One step of the handler: the request, its draw, and the reply.
+use Rattle.std.specs.Prelude.{◌≡◌, ℕ, ◌+◌, List, Option}
+use Rattle.unl_base.specs.declared.draws.Draw.{Draw}
+use Rattle.unl_base.specs.Draws.{TakesDraw}
+use Rattle.unl_http_api.specs.declared.reply.Reply.{Reply}
+use Rattle.unl_http_api.specs.declared.request.Request.{Request}
+
+-- the coming draws, if they are observable
+abbrev pub Coming : Type 0
+Coming = Option (List Draw × Draw)
+
+-- the handler's state, the number of requests answered on the connection, and the coming draws
+pub record HandlerState (S : Type 0) : Type 0 where
+  pub state : S
+  pub count : ℕ
+  pub coming : Coming
+
+-- these three as a record
+abbrev pub answerer : {S : Type 0} → S → ℕ → Coming → HandlerState S
+answerer state count coming = record { state = state; count = count; coming = coming }
+
+-- a draw was taken, the handler gave this reply to the request with it, and the request was counted
+pub record Answers
+    {S : Type 0} (gives : S → Request → Draw → Reply → S → Type 0)
+    (before : HandlerState S) (request : Request) (reply : Reply) (after : HandlerState S) : Type 0 where
+  pub draw : Draw
+  pub taken : TakesDraw before.coming draw after.coming
+  pub given : gives before.state request draw reply after.state
+  pub counted : after.count ≡ before.count + 1
+
+-- a draw was taken, and then memory ran out; the request was not counted
+pub record RunsOutOfMemory
+    {S : Type 0} (gives_up : S → Request → Draw → S → Type 0)
+    (before : HandlerState S) (request : Request) (after : HandlerState S) : Type 0 where
+  pub draw : Draw
+  pub taken : TakesDraw before.coming draw after.coming
+  pub given_up : gives_up before.state request draw after.state
+  pub counted : after.count ≡ before.count

@@ -1,0 +1,60 @@
+-- The links of a door whose links are observable, served one after another.
+-- `LinkServed before coming bytes back after coming_after` is the effect of serving one link with these bytes, which came
+-- back with what it had sent and its fault count.
+use Rattle.std.specs.Prelude.{◌≡◌, ℕ, ◌+◌, List, [], ◌∷◌, ◌++◌, length, Option, Some}
+use Rattle.unl_base.specs.Doors.{DoorState}
+use Rattle.unl_server.specs.Handling.{Coming}
+
+-- Links with these bytes were served one after another, beginning with this server and these coming draws, and came back
+-- with these sent bytes and fault counts.
+abbrev pub Linked :
+    {S : Type 0} → (S → Coming → List ℕ → List ℕ × ℕ → S → Coming → Type 0) → S → Coming → List (List ℕ) → List (List ℕ × ℕ)
+    → S → Coming → Type 0
+Linked LinkServed server coming [] [] after coming_after = (after ≡ server) × (coming_after ≡ coming)
+Linked LinkServed server coming [] (back ∷ backs) after coming_after = ⊥
+Linked LinkServed server coming (bytes ∷ links) [] after coming_after = ⊥
+Linked {S} LinkServed server coming (bytes ∷ links) (back ∷ backs) after coming_after =
+    (middle : S) × (coming_middle : Coming) × LinkServed server coming bytes back middle coming_middle
+    × Linked LinkServed middle coming_middle links backs after coming_after
+
+-- the state while links are served: the server, the coming draws, and what the door records about its links
+pub record Linking (S : Type 0) : Type 0 where
+  pub server : S
+  pub coming : Coming
+  pub given : ℕ
+  pub back : ℕ
+  pub links : Option (List (List ℕ))
+  pub returned : Option (List (List ℕ × ℕ))
+
+-- these, from a server, the coming draws and a door
+abbrev pub linking : {S : Type 0} → S → Coming → DoorState → Linking S
+linking server coming door = record {
+  server = server;
+  coming = coming;
+  given = door.given;
+  back = door.back;
+  links = door.links;
+  returned = door.returned;
+}
+
+-- the first `served` of these links were handed out, served, and returned in order, behind the links returned before
+pub record ServesLinks
+    {S : Type 0} (LinkServed : S → Coming → List ℕ → List ℕ × ℕ → S → Coming → Type 0) (before after : Linking S)
+    (served : ℕ) (links : List (List ℕ)) (returned : List (List ℕ × ℕ)) : Type 0 where
+  pub given_links : List (List ℕ)
+  pub rest : List (List ℕ)
+  pub backs : List (List ℕ × ℕ)
+  pub are : links ≡ given_links ++ rest
+  pub left : after.links ≡ Some rest
+  pub returned_after : after.returned ≡ Some (returned ++ backs)
+  pub counted : length given_links ≡ served
+  pub linked : Linked LinkServed before.server before.coming given_links backs after.server after.coming
+
+-- `served` links were handed out, and as many were returned. If the door's links are observable, each was served.
+pub record HandsBack
+    {S : Type 0} (LinkServed : S → Coming → List ℕ → List ℕ × ℕ → S → Coming → Type 0) (before after : Linking S)
+    (served : ℕ) : Type 0 where
+  pub given : after.given ≡ before.given + served
+  pub back : after.back ≡ before.back + served
+  pub linked : (links : List (List ℕ)) (returned : List (List ℕ × ℕ)) → before.links ≡ Some links → before.returned ≡ Some returned
+      → ServesLinks LinkServed before after served links returned

@@ -1,0 +1,48 @@
+-- The links of a door, served one after another. `Serves before coming link link_after after coming_after` is the effect of
+-- serving one link: the server and the coming draws before, the link before and after, the server and the draws after.
+use Rattle.std.specs.Prelude.{◌≡◌, ℕ, zero, suc, Bool, Result, Ok, Err}
+use Rattle.unl_base.specs.declared.Failed.{Failed}
+use Rattle.unl_base.specs.Doors.{DoorState, IsFresh, IsOpen, handing_out, taking_back}
+use Rattle.unl_server.specs.declared.door.LinkOutcome.{LinkOutcome}
+use Rattle.unl_server.specs.declared.door.LinkOutcome.TheVariants.{Served, Closed}
+use Rattle.unl_server.specs.Handling.{Coming}
+use Rattle.unl_server.specs.Links.{LinkState}
+
+-- the server, the coming draws, and the door
+pub record Hosting (S : Type 0) : Type 0 where
+  pub server : S
+  pub coming : Coming
+  pub door : DoorState
+
+-- these three as a record
+abbrev pub hosting : {S : Type 0} → S → Coming → DoorState → Hosting S
+hosting server coming door = record { server = server; coming = coming; door = door }
+
+-- a link was handed out, served and returned
+pub record ServesDoorLink
+    {S : Type 0} (Serves : S → Coming → LinkState → LinkState → S → Coming → Type 0) (before after : Hosting S) : Type 0 where
+  pub link : LinkState
+  pub link_after : LinkState
+  pub closed : Bool
+  pub is_open : IsOpen before.door
+  pub fresh : IsFresh before.door link.left link.sent link.faults
+  pub served : Serves before.server before.coming link link_after after.server after.coming
+  pub door : after.door ≡ taking_back link_after.sent link_after.faults (handing_out closed before.door)
+
+-- `n` links were handed out, served and returned, one after another
+abbrev pub ServesDoorLinks : {S : Type 0} → (S → Coming → LinkState → LinkState → S → Coming → Type 0) → ℕ → Hosting S → Hosting S → Type 0
+ServesDoorLinks Serves zero before after = after ≡ before
+ServesDoorLinks {S} Serves (suc n) before after = (middle : Hosting S) × ServesDoorLinks Serves n before middle × ServesDoorLink Serves middle after
+
+-- one link was served, or none if the door is closed or failed
+abbrev pub ServesNextLink :
+    {S : Type 0} → (S → Coming → LinkState → LinkState → S → Coming → Type 0) → Result LinkOutcome Failed → Hosting S → Hosting S → Type 0
+ServesNextLink Serves (Ok Served) before after = ServesDoorLink Serves before after
+ServesNextLink Serves (Ok Closed) before after = after ≡ before
+ServesNextLink Serves (Err failed) before after = after ≡ before
+
+-- as many links as the result says were served; if the door failed, some number of them
+abbrev pub ServesDoor :
+    {S : Type 0} → (S → Coming → LinkState → LinkState → S → Coming → Type 0) → Result ℕ Failed → Hosting S → Hosting S → Type 0
+ServesDoor Serves (Ok served) before after = ServesDoorLinks Serves served before after
+ServesDoor Serves (Err failed) before after = (served : ℕ) × ServesDoorLinks Serves served before after

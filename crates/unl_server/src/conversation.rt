@@ -1,0 +1,49 @@
+//! Serves the requests of one connection.
+ghost use Rattle.unl_server.specs.Handling.{Answers, RunsOutOfMemory, answerer};
+ghost use Rattle.unl_server.specs.Conversation.{Converses};
+ghost use Rattle.unl_server.specs.Links.{link_state};
+
+use crate::receive::PIECE;
+use crate::request_handler::{MOST_REQUESTS, RequestHandler};
+use crate::serving::serve_request;
+use std::alloc::Global;
+use unl_base::{Draws, Link};
+use unl_http_api::{End, Reader};
+
+/// Serves the requests of a connection until it ends. Each request gets a draw of its own, and a reply. Returns how many
+/// requests were answered, and why the connection ended.
+pub fn serve_requests<A: RequestHandler, L: Link, R: Draws>(
+    alloc: Global,
+    state: &mut A::State,
+    link: &mut L,
+    draws: &mut R,
+) -> (usize, End)
+    requires { A.fits 0 state.old }
+    ensures converses { Converses (Answers A.gives) (RunsOutOfMemory A.gives_up)
+        (link_state (L.left link.old) (L.sent link.old) (L.Source.faults link.old))
+        (answerer state.old 0 (R.coming draws.old)) result.1 (answerer state.new result.0 (R.coming draws.new)) result.0
+        (link_state (L.left link.new) (L.sent link.new) (L.Source.faults link.new)) }
+    ensures fits { A.fits result.0 state.new }
+    ensures keeps { A.keeps state.old state.new }
+{
+    let mut reader = Reader::new(alloc);
+    // One buffer for the whole connection: filling a new one costs more than most requests do.
+    let mut room = [0; PIECE];
+    let mut count = 0;
+    for turn in 0..MOST_REQUESTS {
+        let last = turn + 1 == MOST_REQUESTS;
+        if let Some(end) = serve_request::<A, L, R>(
+            alloc,
+            &mut reader,
+            &mut room,
+            state,
+            &mut count,
+            link,
+            draws,
+            last,
+        ) {
+            return (count, end);
+        }
+    }
+    (count, End::Limit)
+}

@@ -1,0 +1,136 @@
+//! Serves the links of a door, one after another.
+ghost use Rattle.std.specs.Prelude.{◌≡◌, ◌<◌, IfOk, OnOk};
+ghost use Rattle.unl_base.specs.Doors.{IsClosed, IsListening, taking_back};
+ghost use Rattle.unl_base.specs.Faults.{HasCause};
+ghost use Rattle.unl_server.specs.Handling.{Coming};
+ghost use Rattle.unl_server.specs.ServingDoor.{ServesDoor, ServesNextLink, hosting};
+ghost use Rattle.unl_server.specs.Links.{LinkState, link_state};
+
+use std::alloc::Global;
+use std::sync::Wait;
+use unl_base::{Door, Draws, Failed, Link};
+
+/// Serves links, one after another.
+pub trait Server {
+    /// The precondition of `serve_link`, which also holds after it.
+    ghost fits: { Self → Type 0 };
+
+    /// The relation that every call preserves: at least, the server holds the same references.
+    ghost keeps: { Self → Self → Type 0 };
+
+    /// The effect of serving a link: the server and the coming draws before, the link before and after, the server and the
+    /// draws after.
+    ghost serves: { Self → Coming → LinkState → LinkState → Self → Coming → Type 0 };
+
+    /// Serves a link, and does what is due between two links. If the link fails, or memory runs out, only this link ends.
+    fn serve_link<L: Link, R: Draws>(&mut self, alloc: Global, link: &mut L, draws: &mut R)
+        requires { fits self.old }
+        ensures serves { serves self.old (R.coming draws.old)
+            (link_state (L.left link.old) (L.sent link.old) (L.Source.faults link.old))
+            (link_state (L.left link.new) (L.sent link.new) (L.Source.faults link.new)) self.new (R.coming draws.new) }
+        ensures fits { fits self.new }
+        ensures keeps { keeps self.old self.new };
+
+    // `keeps` is reflexive.
+    ghost keeps_itself: { (server : Self) → keeps server server };
+
+    // `keeps` is transitive.
+    ghost keeps_on: { (first next last : Self) → keeps first next → keeps next last → keeps first last };
+}
+
+/// The outcome of waiting for a link.
+#[derive(Clone, Copy, Debug, PartialEq, Eq)]
+pub(crate) enum LinkOutcome {
+    /// A link came, was served and was returned to the door.
+    Served,
+    /// The door is closed.
+    Closed,
+}
+
+/// Serves the links of a door, one after another, and returns each to it, until the door is closed. Returns how many links
+/// were served. If a link fails, or memory runs out while it is served, only that link ends.
+///
+/// # Errors
+/// `Failed`: the door could not hand out a link. The door increments its fault count.
+pub fn host<S: Server, D: Door, R: Draws, W: Wait>(
+    rt: &W,
+    alloc: Global,
+    server: &mut S,
+    door: &mut D,
+    draws: &mut R,
+) -> Result<u64, Failed>
+    requires listens { IsListening (D.state door.old) }
+    requires fits { S.fits server.old }
+    ensures hosts { ServesDoor S.serves result (hosting server.old (R.coming draws.old) (D.state door.old))
+        (hosting server.new (R.coming draws.new) (D.state door.new)) }
+    ensures fits { S.fits server.new }
+    ensures keeps { S.keeps server.old server.new }
+    ensures port { (D.state door.new).port ≡ (D.state door.old).port }
+    ensures closed { OnOk result (IsClosed (D.state door.new)) }
+    ensures cause { HasCause (D.faults door.old) (D.faults door.new) result }
+{
+    for served in 0..u64::MAX {
+        match serve_next(alloc, server, door, draws) {
+            Ok(LinkOutcome::Served) => {}
+            Ok(LinkOutcome::Closed) => return Ok(served),
+            Err(failed) => return Err(failed),
+        }
+    }
+    wait_for_ever(rt)
+}
+
+/// Waits for the next link, serves it, and returns it to the door.
+fn serve_next<S: Server, D: Door, R: Draws>(
+    alloc: Global,
+    server: &mut S,
+    door: &mut D,
+    draws: &mut R,
+) -> Result<LinkOutcome, Failed>
+    requires listens { IsListening (D.state door.old) }
+    requires fits { S.fits server.old }
+    ensures hosts { ServesNextLink S.serves result (hosting server.old (R.coming draws.old) (D.state door.old))
+        (hosting server.new (R.coming draws.new) (D.state door.new)) }
+    ensures fits { S.fits server.new }
+    ensures keeps { S.keeps server.old server.new }
+    ensures port { (D.state door.new).port ≡ (D.state door.old).port }
+    ensures closed { IfOk result (λ next. next ≡ LinkOutcome.Closed → IsClosed (D.state door.new)) }
+    ensures cause { HasCause (D.faults door.old) (D.faults door.new) result }
+{
+    match door.accept()? {
+        Some(link) => {
+            serve_and_return(alloc, server, link, door, draws);
+            Ok(LinkOutcome::Served)
+        }
+        None => Ok(LinkOutcome::Closed),
+    }
+}
+
+/// Serves a link and returns it to the door.
+fn serve_and_return<S: Server, D: Door, R: Draws>(
+    alloc: Global,
+    server: &mut S,
+    mut link: D::L,
+    door: &mut D,
+    draws: &mut R,
+)
+    requires lent { (D.state door.old).back < (D.state door.old).given }
+    requires fits { S.fits server.old }
+    ensures served { (after : LinkState)
+        × S.serves server.old (R.coming draws.old)
+        (link_state (D.L.Source.left link) (D.L.Sink.sent link) (D.L.Source.faults link)) after server.new (R.coming draws.new)
+        × (D.state door.new ≡ taking_back after.sent after.faults (D.state door.old)) }
+    ensures fits { S.fits server.new }
+    ensures keeps { S.keeps server.old server.new }
+    ensures same_faults { D.faults door.new ≡ D.faults door.old }
+{
+    server.serve_link(alloc, &mut link, draws);
+    door.give_back(link);
+}
+
+/// Never returns. It is reached after `u64::MAX` links, which no run of the program serves.
+fn wait_for_ever<T, W: Wait>(rt: &W) -> T
+    ensures { ⊥ }
+{
+    for _ in rt.forever() {}
+    unreachable!()
+}

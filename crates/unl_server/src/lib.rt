@@ -1,0 +1,13 @@
+//! The server. [`serve_requests`] reads the requests of one connection from a link, passes each to the handler, and sends the
+//! replies in order. [`host`] serves the links of a door, one after another.
+#![tactic(auto)]
+
+mod conversation;
+mod door;
+mod receive;
+mod request_handler;
+mod serving;
+
+pub use conversation::serve_requests;
+pub use door::{Server, host};
+pub use request_handler::{MOST_REQUESTS, RequestHandler};

@@ -1,0 +1,58 @@
+//! The handler for the requests of a connection.
+ghost use Rattle.std.specs.Prelude.{◌≡◌, ◌<◌, ◌+◌, ℕ, IfOk, OnErr, OnOk};
+ghost use Rattle.http.specs.StatusCode.{IsStatusCode};
+ghost use Rattle.unl_base.specs.declared.draws.Draw.{Draw};
+ghost use Rattle.unl_http_api.specs.declared.reply.Reply.{Reply};
+ghost use Rattle.unl_http_api.specs.declared.request.Request.{Request};
+
+use std::alloc::Global;
+use unl_base::Draw;
+use unl_documents::Memory;
+use unl_http_api::{Reply, Request};
+
+/// The most requests that are answered on one connection.
+pub const MOST_REQUESTS: usize = 1000;
+
+/// Handles the requests of a connection, and records what it must about each.
+pub trait RequestHandler {
+    /// The state of the handler, which a request may change, with all that it records and sums up.
+    type State;
+
+    /// The precondition of `answer`: the state and the number of requests answered before on the connection.
+    ghost fits: { ℕ → Self.State → Type 0 };
+
+    /// The relation that every call preserves: at least, the state holds the same references.
+    ghost keeps: { Self.State → Self.State → Type 0 };
+
+    /// The effect of a successful answer: the state before, the request, its draw, the reply, and the state after.
+    ghost gives: { Self.State → Request → Draw → Reply → Self.State → Type 0 };
+
+    /// The effect of running out of memory at a request: the state before, the request, its draw, and the state after.
+    ghost gives_up: { Self.State → Request → Draw → Self.State → Type 0 };
+
+    /// Handles a request. `count` requests were answered on its connection before.
+    ///
+    /// # Errors
+    /// `Memory`: out of memory. The request then counts as not answered.
+    fn answer(
+        alloc: Global,
+        state: &mut Self::State,
+        count: usize,
+        request: &Request,
+        draw: &Draw,
+    ) -> Result<Reply, Memory>
+        requires fits { fits count state.old }
+        requires few { count < 1000 }
+        ensures gives { IfOk result (λ reply. gives state.old request.now draw.entry.now reply state.new) }
+        ensures status { IfOk result (λ reply. IsStatusCode reply.status) }
+        ensures gives_up { OnErr result (gives_up state.old request.now draw.entry.now state.new) }
+        ensures fits { OnOk result (fits (count + 1) state.new) }
+        ensures still_fits { OnErr result (fits count state.new) }
+        ensures keeps { keeps state.old state.new };
+
+    // `keeps` is reflexive.
+    ghost keeps_itself: { (state : Self.State) → keeps state state };
+
+    // `keeps` is transitive.
+    ghost keeps_on: { (first next last : Self.State) → keeps first next → keeps next last → keeps first last };
+}

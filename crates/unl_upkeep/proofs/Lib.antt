@@ -1,3 +1,0 @@
-pub mod Connecting
-mod Feeding
-mod Taking

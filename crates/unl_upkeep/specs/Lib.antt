@@ -1,4 +1,0 @@
-pub mod Connects
-pub mod Feeding
-pub mod Handing
-pub mod Turns

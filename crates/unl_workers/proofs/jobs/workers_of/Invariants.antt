@@ -1,7 +1,0 @@
-use Rattle.std.proofs.Common.{◌≡◌}
-use Rattle.std.specs.Prelude.{filter_map}
-use Rattle.unl_workers.specs.Beside.{post_of}
-use Rattle.unl_workers.proofs.jobs.workers_of.Given as goal
-
-abbrev pub invariant-loop-post : goal.invariant-loop-post
-invariant-loop-post g l = filter_map post_of l.jobs.items ≡ l.yielded

@@ -1,8 +1,0 @@
-use Rattle.unl_workers.proofs.Chains.{serves_more}
-use Rattle.unl_workers.proofs.worker.serve_links.Goals as goal
-
-pub loop-served-preserved : goal.loop-served-preserved
-loop-served-preserved g c = record {
-  served = serves_more g.S.Server.serves c.loop-served.served _ _ _ c.loop-served.invariant.served c.serve_one.ensures.served;
-  keeps = g.met.S.Server.keeps_on _ _ _ c.loop-served.invariant.keeps c.serve_one.ensures.keeps;
-}

@@ -1,0 +1,107 @@
+//! A job that runs periodically, concurrently with the workers.
+ghost use Rattle.std.specs.Prelude.{◌≡◌, ◌<◌, ◌-◌, IfSome, IsTrue, option_map};
+ghost use Rattle.unl_workers.specs.Periodic.{MakesTurns};
+
+use crate::LinkQueue;
+use crate::ever::wait_forever;
+use std::alloc::Global;
+use std::sync::Wait;
+use unl_base::{Job, Pace};
+
+/// A job that runs in turns. State that it changes and that can't be dropped is borrowed, each with a lifetime of its own.
+pub trait PeriodicTask {
+    /// The effect of a turn.
+    ghost turned: { Self → Self → Type 0 };
+
+    /// The relation that every turn preserves: at least, it holds the same references.
+    ghost keeps: { Self → Self → Type 0 };
+
+    /// Makes a turn. The job handles its own failures, including out of memory.
+    fn turn(&mut self, alloc: Global)
+        ensures turned { turned self.old self.new }
+        ensures keeps { keeps self.old self.new };
+
+    // `keeps` is reflexive.
+    ghost keeps_itself: { (turn : Self) → keeps turn turn };
+
+    // `keeps` is transitive.
+    ghost keeps_on: { (first next last : Self) → keeps first next → keeps next last → keeps first last };
+}
+
+/// Makes turns at a pace.
+#[derive(Drop)]
+pub(crate) struct PeriodicJob<'a, 'n, 'p, N, T, L, W> {
+    pub turn: &'n mut N,
+    pub pace: &'p mut T,
+    pub queue: &'a LinkQueue<L>,
+    pub rt: &'a W,
+    pub alloc: Global,
+    /// The number of turns made.
+    pub turns: u64,
+}
+
+impl<'a, 'n, 'p, N, T, L, W> PeriodicJob<'a, 'n, 'p, N, T, L, W> {
+    /// A refresher that has not made a turn yet.
+    pub fn new(
+        alloc: Global,
+        rt: &'a W,
+        queue: &'a LinkQueue<L>,
+        pace: &'p mut T,
+        turn: &'n mut N,
+    ) -> Self
+        ensures same_turn { result.turn.ghost_name ≡ turn.entry.ghost_name }
+        ensures turn { result.turn.now ≡ turn.old }
+        ensures same { result.pace.ghost_name ≡ pace.entry.ghost_name }
+        ensures pace { result.pace.now ≡ pace.old }
+    {
+        PeriodicJob {
+            turn,
+            pace,
+            queue,
+            rt,
+            alloc,
+            turns: 0,
+        }
+    }
+}
+
+impl<'a, 'n, 'p, N: PeriodicTask, T: Pace, L, W: Wait> Job for PeriodicJob<'a, 'n, 'p, N, T, L, W> {
+    ghost worked = { λ before after. (after.pace.ghost_name ≡ before.pace.ghost_name)
+        × (after.turn.ghost_name ≡ before.turn.ghost_name)
+        × MakesTurns N.turned N.keeps after.turns before.turn.now after.turn.now (T.turns before.pace.now) (T.turns after.pace.now) };
+
+    ghost cancelled = { λ before after. Unit {0} };
+
+    fn work(&mut self) {
+        self.turns = refresh(self.alloc, self.rt, self.queue, self.pace, self.turn);
+    }
+
+    fn cancel(&mut self) {}
+}
+
+/// Makes turns until the pace ends or the queue is closed. Returns how many were made.
+fn refresh<N: PeriodicTask, T: Pace, L, W: Wait>(
+    alloc: Global,
+    rt: &W,
+    queue: &LinkQueue<L>,
+    pace: &mut T,
+    turn: &mut N,
+) -> u64
+    ensures { MakesTurns N.turned N.keeps result turn.old turn.new (T.turns pace.old) (T.turns pace.new) }
+{
+    for made in 0..u64::MAX {
+        if !goes_on(rt, queue, pace) {
+            return made;
+        }
+        turn.turn(alloc);
+    }
+    wait_forever(rt)
+}
+
+/// Whether the pace has a next turn, and links may still come. Waits for the turn.
+fn goes_on<T: Pace, L, W: Wait>(rt: &W, queue: &LinkQueue<L>, pace: &mut T) -> bool
+    ensures asked { T.turns pace.new ≡ option_map (λ n. n - 1) (T.turns pace.old) }
+    ensures had { IsTrue result → IfSome (T.turns pace.old) (λ n. 0 < n) }
+{
+    pace.more() && !queue.closed(rt)
+}
