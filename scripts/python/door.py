@@ -1,53 +1,125 @@
 """Shows that slow clients don't delay others: a well-behaved client waits at most 2 seconds, whatever else is connected.
-A test with a late answer is repeated. It fails if all three runs have late answers.
 
-Arguments: the port of an upstream and the id of the process that started it, the same for an edge behind it with 4 workers, and the
-program. Prints each fault, and in the last line the time of the slowest answer. The tokens are `*:dev.client` and `*:dev.front`.
+Each play is judged once: one late answer fails it. Only a machine that stalls is no fault of the server. To tell the two apart, a
+control runs beside all plays: a plain server in a process of its own, which a client polls all the time. A late answer is no fault
+only if an answer of the control was late at the same time. Then the play is repeated, and the last line says so.
+
+Arguments: the port of an upstream and the id of the process that started it, the same for an edge behind it with 4 workers, the
+program, and, if a C compiler is there, failing_door.c as a library. Prints each fault, and in the last line the times of the slowest
+answers. The tokens are `*:dev.client` and `*:dev.front`. With the argument `control` it is the plain server, and prints its port.
 """
 import asyncio
 import http.client
+import http.server
 import os
 import signal
 import socket
+import socketserver
 import subprocess
 import sys
 import threading
 import time
 
+import door_end
 from wire import HEALTH, answered, connect, reply_of, request, started_by, within
 
 # the limit for an answer, in seconds
 SOON = 2.0
 # how long each kind of slow client stays connected, in seconds
 EACH = 5.0
+# how long an answer is waited for at all, in seconds
+GIVES_UP = 10
+# how often a play is made at most, where the machine stalls each time
+MOST_PLAYS = 10
+# how long an answer of the control may take, in seconds: a machine that stalls for longer is of no use
+MOST_STALL = 120
 IDLE = 2_000
 SESSIONS, REQUESTS, ONE_WAY = 25, 200, 0.02
 FEED = request(b"/api/client/features", b"*:dev.client")
 REPORT = request(b"/edge/validate", body=b'{"tokens":["*:dev.client"]}')
-notes, waits = [], [0.0]
+notes, waits, repeated = [], [0.0], []
+
+
+class Plain(http.server.BaseHTTPRequestHandler):
+    """The plain server of the control: a thread for each connection, and an answer to each request."""
+    protocol_version = "HTTP/1.1"
+
+    def do_GET(self):
+        self.send_response(200)
+        self.send_header("Content-Length", "0")
+        self.end_headers()
+
+    def log_message(self, *_):
+        pass
+
+
+def serve_plainly():
+    server = socketserver.ThreadingTCPServer(("127.0.0.1", 0), Plain)
+    server.daemon_threads = True
+    print(server.server_address[1], flush=True)
+    server.serve_forever()
+
+
+def asked_twice(kept, port, timeout):
+    """Sends a request on a connection that is kept, and on a new one. Returns the statuses of the replies."""
+    kept.sendall(HEALTH)
+    return [reply_of(kept)[0], *answered(port, HEALTH, timeout=timeout)]
+
+
+class Control(threading.Thread):
+    """Polls a plain server just as the servers are polled, in a process of its own. Knows when its answers were late."""
+
+    def __init__(self):
+        super().__init__(daemon=True)
+        self.server = subprocess.Popen([sys.executable, __file__, "control"], stdout=subprocess.PIPE)
+        self.port = int(self.server.stdout.readline())
+        self.slowest = 0.0
+        # the times at which late answers were waited for: a begin and an end each
+        self.late = []
+        self.begun = time.monotonic()
+
+    def run(self):
+        kept = connect(self.port, MOST_STALL)
+        while True:
+            self.begun = time.monotonic()
+            found = asked_twice(kept, self.port, MOST_STALL)
+            ended = time.monotonic()
+            assert found == [200, 200]
+            self.slowest = max(self.slowest, ended - self.begun)
+            if ended - self.begun > SOON:
+                self.late.append((self.begun, ended))
+            time.sleep(0.05)
+
+    def was_late(self, begun, ended):
+        """Whether an answer of the control was late at some time between these."""
+        while self.is_alive() and self.begun <= ended:
+            time.sleep(0.01)
+        return any(first < ended and begun < last for first, last in self.late)
+
+
+control = None
 
 
 def poll(port, until, late):
-    """Sends each request twice: on a connection that it keeps, and on a new one. Notes each answer that is late or missing."""
+    """Sends each request twice, until a time. Notes each answer that is late or missing, with the time of its wait."""
     kept = connect(port)
     while time.monotonic() < until:
         begun = time.monotonic()
         try:
-            kept.sendall(HEALTH)
-            found = [reply_of(kept)[0], *answered(port, HEALTH)]
+            found = asked_twice(kept, port, GIVES_UP)
         except OSError as fault:
             found = [fault]
             kept = connect(port)
-        took = time.monotonic() - begun
-        waits.append(took)
-        if found != [200, 200] or took > SOON:
-            late.append(f"port {port}: {found} after {took:.2f} s")
+        ended = time.monotonic()
+        waits.append(ended - begun)
+        if found != [200, 200] or ended - begun > SOON:
+            late.append((begun, ended, f"{found} after {ended - begun:.2f} s"))
         time.sleep(0.05)
     kept.close()
 
 
 def polled(port, links, step):
-    """Polls the port while each of the connections repeatedly takes its step. Returns notes on the late answers."""
+    """Polls the port while each of the connections repeatedly takes its step. Returns the late answers, as `poll` notes them."""
     late = []
     until = time.monotonic() + EACH
     polling = threading.Thread(target=poll, args=(port, until, late))
@@ -66,13 +138,17 @@ def polled(port, links, step):
     return late
 
 
-def always_polled(name, port, links, step):
-    """Repeats `polled` while answers are late, at most three times in all: a busy machine is no fault of the server."""
-    for _ in range(3):
-        late = polled(port, links(), step)
-        if not late:
+def judged(name, play):
+    """Makes a play, which returns its late answers, and judges it. A play in which each late answer came while the control's was late
+    too is repeated."""
+    for _ in range(MOST_PLAYS):
+        late = play()
+        faults = [note for begun, ended, note in late if not control.was_late(begun, ended)]
+        notes.extend(f"{name}: {note}" for note in faults)
+        if faults or not late:
             return
-    notes.extend(f"{name}: {note}" for note in late)
+        repeated.append(name)
+    notes.append(f"{name}: the machine stalled in each of {MOST_PLAYS} plays")
 
 
 def opened(port, count, text):
@@ -100,12 +176,16 @@ def silent(link):
 
 def slow_clients(port):
     body = REPORT.replace(b"Content-Length: 27", b"Content-Length: 9000")
-    heads = lambda: opened(port, 48, b"GET / HTTP/1.1\r\nHost: h\r\nX: ")
+    head = b"GET / HTTP/1.1\r\nHost: h\r\nX: "
     readers = lambda: [slow_reader(port, FEED * 900) for _ in range(16)]
-    always_polled("slow heads", port, heads, lambda link: link.send(b"y" * 8))
-    always_polled("slow bodies", port, lambda: opened(port, 48, body), lambda link: link.send(b" " * 8))
-    always_polled("slow readers", port, readers, lambda link: link.recv(64))
-    always_polled("idle links", port, lambda: opened(port, IDLE // 2, HEALTH), silent)
+    rows = [
+        ("slow heads", lambda: opened(port, 48, head), lambda link: link.send(b"y" * 8)),
+        ("slow bodies", lambda: opened(port, 48, body), lambda link: link.send(b" " * 8)),
+        ("slow readers", readers, lambda link: link.recv(64)),
+        ("idle links", lambda: opened(port, IDLE // 2, HEALTH), silent),
+    ]
+    for name, links, step in rows:
+        judged(f"{name} at port {port}", lambda: polled(port, links(), step))
 
 
 def cut_at(port, at, text):
@@ -133,6 +213,7 @@ class Delay:
 
     def __init__(self, port):
         self.port = port
+        self.connections = 0
         self.loop = asyncio.new_event_loop()
         self.at = asyncio.run_coroutine_threadsafe
         threading.Thread(target=self.loop.run_forever, daemon=True).start()
@@ -140,8 +221,10 @@ class Delay:
         self.here = server.sockets[0].getsockname()[1]
 
     async def serve(self, reader, writer):
+        self.connections += 1
         there, back = await asyncio.open_connection("127.0.0.1", self.port)
         await asyncio.gather(self.pass_on(reader, back), self.pass_on(there, writer))
+        self.connections -= 1
 
     async def pass_on(self, reader, writer):
         try:
@@ -178,21 +261,21 @@ def sessions(port, method, path, body, headers):
         one.start()
     for one in running:
         one.join()
+    within(lambda: proxy.connections == 0)
 
 
-def serves(port):
-    """Whether a server answers in time. Gives it ten seconds to start, and repeats a late request, up to three tries in all."""
-    until, tries = time.monotonic() + 10, 0
-    while time.monotonic() < until and tries < 3:
-        try:
-            if answered(port, HEALTH, timeout=SOON) == [200]:
-                return True
-            tries += 1
-        except ConnectionRefusedError:
-            time.sleep(0.01)
-        except OSError:
-            tries += 1
-    return False
+def asked_once(port):
+    """Sends a request, once the server listens. Returns the answer if it is late or missing, as `poll` notes it."""
+    within(lambda: connect(port).close() or True)
+    begun = time.monotonic()
+    try:
+        found = answered(port, HEALTH, timeout=GIVES_UP)
+    except OSError as fault:
+        found = fault
+    ended = time.monotonic()
+    waits.append(ended - begun)
+    in_time = found == [200] and ended - begun <= SOON
+    return [] if in_time else [(begun, ended, f"{found} after {ended - begun:.2f} s")]
 
 
 def full_log(program, port):
@@ -206,8 +289,7 @@ def full_log(program, port):
         os.set_blocking(writing, True)
     words = ["edge", "--port", str(port), "--upstream", "127.0.0.1:1", "--upstream-tokens", "*:dev.c", "--tokens", "*:dev.c"]
     edge = subprocess.Popen([program, *words], stdin=subprocess.DEVNULL, stdout=subprocess.DEVNULL, stderr=writing)
-    if not serves(port):
-        notes.append("an edge with a full log doesn't answer")
+    judged("an edge with a full log", lambda: asked_once(port))
     edge.kill()
     edge.wait()
     os.close(reading)
@@ -243,13 +325,13 @@ def trickled(program, port):
     """Checks an edge behind such an upstream: it gives up after 30 seconds, sends no further request at once, and then serves."""
     upstream = Trickling()
     upstream.start()
-    words = ["edge", "--port", str(port), "--upstream", f"127.0.0.1:{upstream.port}", "--upstream-tokens", "*:dev.c,*:prod.c", "--tokens", "*:dev.c"]
+    words = ["edge", "--port", str(port), "--upstream", f"127.0.0.1:{upstream.port}", "--tokens", "*:dev.c"]
+    words += ["--upstream-tokens", "*:dev.c,*:prod.c"]
     edge = subprocess.Popen([program, *words], stdin=subprocess.DEVNULL, stdout=subprocess.DEVNULL, stderr=subprocess.DEVNULL)
     within(lambda: upstream.waited, seconds=40)
     if not upstream.waited or not 29 < upstream.waited[0] < 33:
         notes.append(f"an upstream that trickles: {upstream.waited}")
-    if not serves(port):
-        notes.append("an edge behind an upstream that trickles doesn't answer")
+    judged("an edge behind an upstream that trickles", lambda: asked_once(port))
     edge.kill()
     edge.wait()
 
@@ -259,8 +341,7 @@ def stopped(port, process):
     os.kill(process, signal.SIGSTOP)
     time.sleep(0.2)
     os.kill(process, signal.SIGCONT)
-    if not serves(port):
-        notes.append(f"port {port}: no answer after a stop")
+    judged(f"a server at port {port} after a stop", lambda: asked_once(port))
 
 
 def pipelined(port):
@@ -282,9 +363,13 @@ def pipelined(port):
 
 
 def main(words):
+    global control
     upstream, edge, program = int(words[0]), int(words[2]), words[4]
+    control = Control()
+    control.start()
     trickling = threading.Thread(target=trickled, args=(program, edge + 1))
     trickling.start()
+    ending = door_end.begin(notes, program, edge + 3, words[5]) if len(words) > 5 else []
     full_log(program, edge + 2)
     for port, process in [(upstream, words[1]), (edge, words[3])]:
         stopped(port, started_by(int(process)))
@@ -297,10 +382,18 @@ def main(words):
         side.join()
     sessions(edge, "GET", "/api/frontend", None, {"Authorization": "*:dev.front"})
     sessions(upstream, "POST", "/edge/validate", '{"tokens":[]}', {"Content-Type": "application/json"})
-    trickling.join()
+    for check in (trickling, *ending):
+        check.join()
+    if not control.is_alive():
+        notes.append("the control failed")
+    control.server.kill()
     for note in notes[:20]:
         print(note)
-    print(f"the slowest answer took {max(waits):.2f} s")
+    again = f"; played again, since the machine stalled: {', '.join(repeated)}" if repeated else ""
+    print(f"the slowest answer took {max(waits):.2f} s, the control's {control.slowest:.2f} s{again}")
 
 
-main(sys.argv[1:])
+if sys.argv[1:] == ["control"]:
+    serve_plainly()
+else:
+    main(sys.argv[1:])

@@ -34,7 +34,8 @@ waits w r e w1 h' e' more behind = λ few.
     (rises, omega arith)
 
 -- a connection that waited is placed again
-pub placed : (w r e w1 r1 e1 h' e' : ℕ) → w1 + 1 ≡ w → r1 ≡ r → e1 ≡ e → Accounts 1 (w1 + r1) e1 h' e' → Accounts 0 (w + r) e h' e'
+pub placed : (w r e w1 r1 e1 h' e' : ℕ) → w1 + 1 ≡ w → r1 ≡ r → e1 ≡ e
+    → Accounts 1 (w1 + r1) e1 h' e' → Accounts 0 (w + r) e h' e'
 unfolding Accounts
 placed w r e w1 r1 e1 h' e' taken ready ends behind = λ few.
     let rises : e1 ≤ e' = (behind few).0 in
@@ -57,6 +58,28 @@ step a ea b eb c ec first second = λ few.
     let was : b + eb ≡ a + ea + 0 = (first below).1 in
     (omega arith, omega arith)
 
+-- a step without another connection after steps with some
+pub step_more : (n a ea b eb c ec : ℕ) → Accounts n a ea b eb → Accounts 0 b eb c ec → Accounts n a ea c ec
+unfolding Accounts
+step_more n a ea b eb c ec first second = λ few.
+    let rises : eb ≤ ec = (second few).0 in
+    let still : c + ec ≡ b + eb + 0 = (second few).1 in
+    let below : eb < 2 ^ 64 - 1 = omega arith in
+    let rose : ea ≤ eb = (first below).0 in
+    let was : b + eb ≡ a + ea + n = (first below).1 in
+    (omega arith, omega arith)
+
+-- a step with one connection after a step without
+pub then_one : (a ea b eb c ec : ℕ) → Accounts 0 a ea b eb → Accounts 1 b eb c ec → Accounts 1 a ea c ec
+unfolding Accounts
+then_one a ea b eb c ec first second = λ few.
+    let rises : eb ≤ ec = (second few).0 in
+    let still : c + ec ≡ b + eb + 1 = (second few).1 in
+    let below : eb < 2 ^ 64 - 1 = omega arith in
+    let rose : ea ≤ eb = (first below).0 in
+    let was : b + eb ≡ a + ea + 0 = (first below).1 in
+    (omega arith, omega arith)
+
 -- and with one connection more
 pub step_one : (n a ea b eb c ec : ℕ) → Accounts n a ea b eb → Accounts 1 b eb c ec → Accounts (n + 1) a ea c ec
 unfolding Accounts
@@ -67,3 +90,6 @@ step_one n a ea b eb c ec first second = λ few.
     let rose : ea ≤ eb = (first below).0 in
     let was : b + eb ≡ a + ea + n = (first below).1 in
     (omega arith, omega arith)
+
+-- for connections that are accepted one after another
+pub ruleset accept_rules = (same, step_more, step_one)

@@ -1,4 +1,5 @@
 mod Accounting
+mod Conditions
 mod LoggedText
 mod Moving
 mod Trying

@@ -7,7 +7,7 @@ use Rattle.unl_net.specs.declared.cuts.Cut.{Cut}
 use Rattle.unl_net.specs.declared.cuts.Cut.TheVariants.{SlowRequest, SlowReader, Room, Memory}
 use Rattle.unl_net.specs.declared.cuts.Cuts.{Cuts}
 use Rattle.unl_net.specs.declared.cuts.EndReason.{EndReason}
-use Rattle.unl_net.specs.declared.cuts.EndReason.TheVariants.{Done, Failed, Late, CutOff}
+use Rattle.unl_net.specs.declared.cuts.EndReason.TheVariants.{Done, Failed, Late, CutOff, DoorEnds}
 use Rattle.unl_net.specs.declared.phase.Phase.{Phase}
 use Rattle.unl_net.specs.declared.phase.Phase.TheVariants.{Idle, Receiving, Ready, Sending, Draining, Over}
 
@@ -17,6 +17,7 @@ MayEnd Done phase since = phase ≡ Over
 MayEnd (Failed fault) phase since = ⊤
 MayEnd (Late now) phase since = nat_le (limit_of phase) (seconds_between since now) ≡ true
 MayEnd (CutOff cut) phase since = ⊤
+MayEnd (DoorEnds began now) phase since = nat_le 30 (seconds_between began now) ≡ true
 
 -- what is counted of a connection whose time is over: that a client asks nothing more is no cut
 abbrev pub late_cut : Phase → Option Cut
@@ -33,6 +34,7 @@ cut_of Done phase = None
 cut_of (Failed fault) phase = None
 cut_of (Late now) phase = late_cut phase
 cut_of (CutOff cut) phase = Some cut
+cut_of (DoorEnds began now) phase = None
 
 -- the counts with one more
 abbrev pub counted : Cut → Cuts → Cuts

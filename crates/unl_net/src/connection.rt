@@ -1,5 +1,5 @@
 //! A connection of a door, which its reactor and its links hold in turn.
-ghost use Rattle.std.specs.Prelude.{◌≡◌, ◌≤◌, [], false, length, nat_le, IfOk, IfSome, OnOk};
+ghost use Rattle.std.specs.Prelude.{◌≡◌, ◌==◌, ◌≤◌, ◌||◌, [], false, length, nat_le, IfOk, IfSome, OnOk};
 ghost use Rattle.std.specs.Io.KnownBytes.{Keeps, WriteAppends};
 ghost use Rattle.unl_net.specs.Buffers.{BeginsWith, GivesIfAny, coming, facts_of, going, unread, unsent};
 ghost use Rattle.unl_net.specs.Moments.{seconds_between};
@@ -113,6 +113,13 @@ impl<S: Read + Write + OpenStream + Drop> Connection<S> {
         let front = self.received.open(alloc);
         self.refused = matches!(front, Frame::Bad(_));
         front != Frame::More
+    }
+
+    /// Lets the connection be closed behind its answers, unless bytes of a further request came.
+    pub fn close_behind(&mut self)
+        ensures { self.new ≡ record self.old { closing = self.old.closing || (length (unread self.old.received) == 0) } }
+    {
+        self.closing = self.closing || self.received.is_empty();
     }
 
     /// The facts that decide its phase.

@@ -30,12 +30,14 @@ pub(crate) enum Cut {
 pub(crate) enum EndReason {
     /// It is over: its client ended it, and nothing is to be sent.
     Done,
-    /// A call of its stream failed.
+    /// A call of its stream failed, or the wait for events did.
     Failed(io::Error),
     /// At this moment it has waited longer than its phase allows.
     Late(Option<Instant>),
     /// It is cut off.
     CutOff(Cut),
+    /// Its door ends: at the second of these moments 30 seconds have passed since the first, at which accepting failed for good.
+    DoorEnds(Option<Instant>, Option<Instant>),
 }
 
 /// What is counted of a connection in this phase whose time is over: that a client asks nothing more is no cut.
@@ -58,6 +60,7 @@ pub(crate) fn cut_of(reason: EndReason, phase: Phase) -> Option<Cut>
         EndReason::Failed(_) => None,
         EndReason::Late(_) => late_cut(phase),
         EndReason::CutOff(cut) => Some(cut),
+        EndReason::DoorEnds(_, _) => None,
     }
 }
 

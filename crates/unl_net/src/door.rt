@@ -1,5 +1,6 @@
 //! A door over the network.
-ghost use Rattle.std.specs.Prelude.{◌≡◌, ◌≤◌, ◌-◌, ◌^◌, IfNone, IfOk, IfSome, None, OnErr, OnOk, option_map, true, unwrap_or};
+ghost use Rattle.std.specs.Prelude.{◌≡◌, ◌≤◌, ◌-◌, ◌^◌, IfNone, IfOk, IfSome, None, OnErr, OnOk};
+ghost use Rattle.std.specs.Prelude.{option_map, true, unwrap_or};
 ghost use Rattle.unl_base.specs.Doors.{Accepts, IsFresh};
 ghost use Rattle.unl_base.specs.Faults.{HasCause};
 ghost use Rattle.unl_net.specs.Doors.{IsLast, IsServed, door_state};
@@ -101,7 +102,8 @@ impl<N: Net + Clock + Eprint + Wait + Copy + Drop> RealDoor<N> {
 /// Waits for the next link, and returns whether it is the last one.
 ///
 /// # Errors
-/// That of the system, or the one with which accepting failed for good, which is returned once all connections were served.
+/// Out of memory, or the error with which an accept or a wait for events failed for good, once the connections that were there are
+/// served.
 fn next_link<N: Net + Clock + Eprint + Wait + Copy + Drop>(
     alloc: Global,
     net: N,
@@ -130,7 +132,7 @@ fn next_link<N: Net + Clock + Eprint + Wait + Copy + Drop>(
 /// accepted.
 ///
 /// # Errors
-/// That of the system.
+/// Out of memory.
 fn next_of<N: Net + Clock + Eprint + Wait + Copy + Drop>(
     alloc: Global,
     net: N,
@@ -153,17 +155,39 @@ fn next_of<N: Net + Clock + Eprint + Wait + Copy + Drop>(
             }
         }
         reports.in_a_row = 0;
-        if accepting.is_done() && reactor.is_empty() && reactor.has_no_links() {
+        if is_finished(&net, reactor, accepting) {
             return Ok(None);
         }
         accept_some(alloc, net, listener, reactor, accepting);
         // Links wake the door from here on. Those that gave a connection back before did not, so it is taken back now.
         reactor.shared.note_sleep(true);
         reactor.take_back(&net);
-        reactor.wait(&net, wait_of(reactor, accepting))?;
+        if let Err(fault) = reactor.wait(&net, wait_of(reactor, accepting)) {
+            accepting.note_end(fault);
+            reactor.end_waiting(fault);
+        }
         look_after(net, reactor, accepting, reports);
     }
     Err(io::Error::from(ErrorKind::NotConnected))
+}
+
+/// Whether no more connections are accepted, none waits or is ready, and none is waited for that a link may give back.
+fn is_finished<N: Net + Clock + Eprint + Wait + Copy + Drop>(
+    net: &N,
+    reactor: &mut Reactor<N::Stream>,
+    accepting: &Accepting,
+) -> bool
+    ensures { result ≡ true → IsServed accepting.now reactor.new.waiting reactor.new.ready.items }
+{
+    if !accepting.is_done() {
+        return false;
+    }
+    if !reactor.needs_no_link(moment(net)) {
+        return false;
+    }
+    // Links that ended before that gave their connections back.
+    reactor.take_back(net);
+    reactor.is_empty()
 }
 
 /// How long the door waits for an event, in milliseconds.
@@ -262,7 +286,9 @@ impl<N: Net + Clock + Eprint + Wait + Copy + Drop> Door for RealDoor<N> {
     }
 
     /// Hands out a connection of which a whole request was received. The door closes only with the last link of the connections that
-    /// its bound allows. After an accept that failed for good, it fails once the connections that are there were served.
+    /// its bound allows. After an accept that failed for good, those that are there wait on, each is closed behind its answers, and the
+    /// door fails once none is left, after 30 seconds at most. After a wait for events that failed for good, it fails once those are
+    /// handed out of which a whole request was received.
     fn accept(&mut self) -> Result<Option<Self::L>, Failed>
         ensures accepts { IfOk result (λ link. Accepts link (door_state (option_map (λ one. one.port) self.old.listening) self.old.counts)
             (door_state (option_map (λ one. one.port) self.new.listening) self.new.counts)) }

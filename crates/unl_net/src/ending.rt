@@ -1,9 +1,10 @@
-//! Ends connections that wait: the largest where memory is short, the oldest where room is, and those whose time is over. Also the
-//! last call, after which no more connections are accepted.
+//! Ends connections that wait: the largest where memory is short, the oldest where room is, and those whose time is over. Also what
+//! becomes of them once no more are accepted.
 ghost use Rattle.slab.specs.Slab.{slab_len};
-ghost use Rattle.std.specs.Prelude.{◌≡◌, ◌+◌};
+ghost use Rattle.std.specs.Prelude.{◌≡◌, ◌+◌, ◌&&◌, nat_le};
 ghost use Rattle.std.specs.VecDeque.{deque_len};
 ghost use Rattle.unl_net.specs.Ends.{Accounts};
+ghost use Rattle.unl_net.specs.Moments.{seconds_between};
 
 use crate::connection::Connection;
 use crate::cuts::{Cut, EndReason};
@@ -11,6 +12,7 @@ use crate::moment::seconds_between;
 use crate::phase::Phase;
 use crate::reactor::Reactor;
 use slab::Slab;
+use std::io;
 use std::io::{Read, Write};
 use std::net::OpenStream;
 use std::os::fd::AsRawFd;
@@ -18,6 +20,12 @@ use std::time::Instant;
 
 /// The most bytes of unfinished requests, of all connections together.
 const MOST_RECEIVED: u64 = 67_108_864;
+
+/// How many connections are closed at once if the system gives no more descriptors.
+pub(crate) const CLOSED_AT_ONCE: usize = 8;
+
+/// For how many seconds after an accept that failed for good connections may wait at most.
+const LAST_SECONDS: u64 = 30;
 
 impl<S: Read + Write + OpenStream + AsRawFd + Drop> Reactor<S> {
     /// Cuts off a connection that waits.
@@ -81,6 +89,17 @@ impl<S: Read + Write + OpenStream + AsRawFd + Drop> Reactor<S> {
         true
     }
 
+    /// Closes the connections that have waited longest, as many as are closed at once.
+    #[tactic(auto, using(crate::proofs::Accounting::same, crate::proofs::Accounting::step))]
+    pub(crate) fn close_some(&mut self)
+        ensures accounts { Accounts 0 (slab_len self.old.waiting + deque_len self.old.ready) self.old.ended
+            (slab_len self.new.waiting + deque_len self.new.ready) self.new.ended }
+    {
+        'closed: for _closed in 0..CLOSED_AT_ONCE {
+            self.close_oldest();
+        }
+    }
+
     /// The connection that has waited longest, preferably one without a request.
     pub(crate) fn oldest(&self) -> Option<usize> {
         let mut oldest: Option<(bool, Instant, usize)> = None;
@@ -98,6 +117,15 @@ impl<S: Read + Write + OpenStream + AsRawFd + Drop> Reactor<S> {
         }
     }
 
+    /// Counts a connection whose stream could not be set up, as ended.
+    #[tactic(auto, using(crate::proofs::Accounting::ended))]
+    pub fn note_unset(&mut self, _fault: io::Error)
+        ensures accounts { Accounts 1 (slab_len self.old.waiting + deque_len self.old.ready) self.old.ended
+            (slab_len self.new.waiting + deque_len self.new.ready) self.new.ended }
+    {
+        self.ended = self.ended.saturating_add(1);
+    }
+
     /// Ends the connections whose time is over, once a second. If there is no memory to note all of them, the rest is ended later.
     #[tactic(auto, using(crate::proofs::Accounting::same))]
     pub fn sweep(&mut self, now: Option<Instant>)
@@ -108,8 +136,16 @@ impl<S: Read + Write + OpenStream + AsRawFd + Drop> Reactor<S> {
             return;
         }
         self.swept = now;
-        note_keys(&self.waiting, &mut self.keys, Some(now));
+        let is_over = self.is_over(now);
+        note_keys(&self.waiting, &mut self.keys, now, is_over);
         self.end_noted(now)
+    }
+
+    /// Whether no connection may wait any longer at this moment: accepting failed for good 30 seconds before.
+    pub(crate) fn is_over(&self, now: Option<Instant>) -> bool
+        ensures exact { result ≡ (self.now.is_ending && nat_le 30 (seconds_between self.now.ending_since now)) }
+    {
+        self.is_ending && LAST_SECONDS <= seconds_between(self.ending_since, now)
     }
 
     /// Ends those of the noted connections whose time is over.
@@ -135,7 +171,7 @@ impl<S: Read + Write + OpenStream + AsRawFd + Drop> Reactor<S> {
     }
 
     /// Ends a connection, if its time is over.
-    #[tactic(auto, using(crate::proofs::Accounting::same, crate::proofs::Accounting::placed))]
+    #[tactic(auto, using(crate::proofs::Accounting::same, crate::proofs::Accounting::placed, crate::proofs::Conditions::second_holds))]
     fn end_key(&mut self, key: usize, now: Option<Instant>)
         ensures accounts { Accounts 0 (slab_len self.old.waiting + deque_len self.old.ready) self.old.ended
             (slab_len self.new.waiting + deque_len self.new.ready) self.new.ended }
@@ -146,19 +182,56 @@ impl<S: Read + Write + OpenStream + AsRawFd + Drop> Reactor<S> {
         if connection.is_late(now) {
             return self.finish(connection, EndReason::Late(now));
         }
+        if self.is_over(now) {
+            return self.finish(connection, EndReason::DoorEnds(self.ending_since, now));
+        }
         self.place(connection)
     }
 
-    /// From now on no more connections are accepted, and those of which a request may come are ready for a link, which serves them to
-    /// their ends. If there is no memory to note all of them, the rest is served once a whole request was received. `closes`: the door
-    /// closes with the last link.
-    pub fn call_last(&mut self, closes: bool)
+    /// Whether the door waits for no link at this moment: there is none, or the connection that it gives back could not wait any more.
+    pub(crate) fn needs_no_link(&self, now: Option<Instant>) -> bool {
+        self.has_no_links() || self.wait_fault.is_some() || self.is_over(now)
+    }
+
+    /// From now on each connection is closed behind its answers, or after 30 seconds, since accepting failed for good at this moment.
+    pub fn begin_ending(&mut self, now: Option<Instant>)
+        ensures accounts { Accounts 0 (slab_len self.old.waiting + deque_len self.old.ready) self.old.ended
+            (slab_len self.new.waiting + deque_len self.new.ready) self.new.ended }
+    {
+        self.is_ending = true;
+        self.ending_since = now;
+        self.place_all()
+    }
+
+    /// From now on no connection waits, since the wait for events failed for good: those that are ready for a link are served, and all
+    /// others end.
+    pub fn end_waiting(&mut self, fault: io::Error)
+        ensures accounts { Accounts 0 (slab_len self.old.waiting + deque_len self.old.ready) self.old.ended
+            (slab_len self.new.waiting + deque_len self.new.ready) self.new.ended }
+    {
+        self.shared.keep_no_answers();
+        self.wait_fault = Some(fault);
+        self.place_all()
+    }
+
+    /// From now on those connections of which a request may come are ready for a link, which serves them to their ends, and the door
+    /// closes with the last link. As many connections were accepted as may be. If there is no memory to note all of them, the rest is
+    /// served once a whole request was received.
+    pub fn call_last(&mut self)
         ensures accounts { Accounts 0 (slab_len self.old.waiting + deque_len self.old.ready) self.old.ended
             (slab_len self.new.waiting + deque_len self.new.ready) self.new.ended }
     {
         self.shared.call_last();
-        self.closes = closes;
-        note_keys(&self.waiting, &mut self.keys, None);
+        self.closes = true;
+        self.place_all()
+    }
+
+    /// Places all connections that wait again, as far as there is memory to note them.
+    fn place_all(&mut self)
+        ensures accounts { Accounts 0 (slab_len self.old.waiting + deque_len self.old.ready) self.old.ended
+            (slab_len self.new.waiting + deque_len self.new.ready) self.new.ended }
+    {
+        note_keys(&self.waiting, &mut self.keys, None, true);
         self.place_noted()
     }
 
@@ -193,23 +266,24 @@ impl<S: Read + Write + OpenStream + AsRawFd + Drop> Reactor<S> {
         let Some(connection) = self.take(key) else {
             return;
         };
+        let mut connection = connection;
+        if self.is_ending && !connection.to_send.is_empty() {
+            connection.close_behind();
+        }
         self.place(connection)
     }
 }
 
-/// Notes the keys of the connections whose time is over at a moment, or of all if there is no moment.
+/// Notes the keys of all connections, or only of those whose time is over at this moment.
 fn note_keys<S: Read + Write + OpenStream + AsRawFd + Drop>(
     waiting: &Slab<Connection<S>>,
     keys: &mut Vec<usize>,
-    late_at: Option<Option<Instant>>,
+    now: Option<Instant>,
+    all: bool,
 ) {
     keys.truncate(0);
     for (key, connection) in waiting.iter() {
-        let is_noted = match late_at {
-            Some(now) => connection.is_late(now),
-            None => true,
-        };
-        if is_noted && keys.push(key).is_err() {
+        if (all || connection.is_late(now)) && keys.push(key).is_err() {
             break;
         }
     }

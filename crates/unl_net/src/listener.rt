@@ -1,19 +1,23 @@
 //! Listening at a port, and accepting connections.
-ghost use Rattle.std.specs.Prelude.{◌≡◌, ◌≤◌, ◌||◌, IfSome, Some, false, is_some, nat_le};
+ghost use Rattle.slab.specs.Slab.{slab_len};
+ghost use Rattle.std.specs.Prelude.{◌≡◌, ◌≤◌, ◌+◌, ◌⊎◌, ◌||◌, IfSome, MatchResult, None, OnSome, Some, false, is_some, nat_le, true};
+ghost use Rattle.std.specs.VecDeque.{deque_len};
+ghost use Rattle.unl_net.specs.Ends.{Accounts};
 
 use crate::connection::Connection;
 use crate::log::{Log, Logged, WELL};
+use crate::moment::moment;
 use crate::reactor::Reactor;
 use std::alloc::Global;
-use std::io::ErrorKind;
-use std::net::{Ipv4Addr, Ipv6Addr, Net, OpenListener, TcpListener};
+use std::io::{ErrorKind, Read, Write};
+use std::net::{Ipv4Addr, Ipv6Addr, Net, OpenListener, OpenStream, SocketAddr, TcpListener};
 use std::os::fd::AsRawFd;
 use std::sync::Wait;
 use std::time::{Clock, Duration};
 use std::{io, thread};
 
 /// How many connections are accepted in a row at most.
-const MOST_AT_ONCE: usize = 16;
+const MOST_AT_ONCE: u64 = 16;
 
 /// How long the door pauses before it tries again to accept, in milliseconds.
 const PAUSE: u64 = 10;
@@ -59,7 +63,7 @@ pub(crate) struct Accepting {
     pub bound: u64,
     /// How many were accepted.
     pub accepted: u64,
-    /// The error with which accepting failed for good: nothing more is accepted.
+    /// The error with which an accept or a wait for events failed for good: nothing more is accepted.
     pub fault: Option<io::Error>,
     ghost within: { accepted ≤ bound },
 }
@@ -93,8 +97,8 @@ impl Accepting {
         self.fault.is_some() || self.is_full()
     }
 
-    /// Notes that accepting failed for good.
-    fn note_end(&mut self, fault: io::Error)
+    /// Notes that an accept or a wait for events failed for good.
+    pub fn note_end(&mut self, fault: io::Error)
         ensures { self.new ≡ record self.old { fault = Some fault } }
     {
         self.fault = Some(fault);
@@ -103,12 +107,12 @@ impl Accepting {
     /// Counts a connection that was accepted.
     fn count(&mut self)
         requires { nat_le self.old.bound self.old.accepted ≡ false }
-        ensures bound { self.new.bound ≡ self.old.bound }
+        ensures { (self.new.bound ≡ self.old.bound) × (self.new.accepted ≡ self.old.accepted + 1) }
     {
         self.accepted += 1;
     }
 
-    /// The error with which accepting failed for good, or else that there is no connection.
+    /// The error with which an accept or a wait for events failed for good, or else that there is no connection.
     pub fn end(&self) -> io::Error
         ensures { IfSome self.now.fault (λ fault. result ≡ fault) }
     {
@@ -119,14 +123,18 @@ impl Accepting {
     }
 
     /// Notes that an accept succeeded.
-    fn note_well<N: Eprint>(&mut self, net: &N) {
+    fn note_well<N: Eprint>(&mut self, net: &N)
+        ensures { (self.new.bound ≡ self.old.bound) × (self.new.accepted ≡ self.old.accepted) }
+    {
         if self.logged.is_news(WELL) {
             self.log.line(net, "accepting again");
         }
     }
 
     /// Notes that an accept failed for now, and pauses.
-    fn note_fault<N: Eprint + Clock>(&mut self, net: &N, fault: &io::Error) {
+    fn note_fault<N: Eprint + Clock>(&mut self, net: &N, fault: &io::Error)
+        ensures { (self.new.bound ≡ self.old.bound) × (self.new.accepted ≡ self.old.accepted) }
+    {
         if self.logged.is_news(FAILS) {
             self.log
                 .line(net, format_args!("cannot accept, trying again: {fault}"));
@@ -135,63 +143,184 @@ impl Accepting {
     }
 }
 
-/// Accepts the connections that are to be accepted, up to a number in a row. If that fails for good, the error is noted and no more
-/// are accepted: the connections that are there are served to their ends.
+/// Accepts the connections that are to be accepted, up to a number in a row, and returns how many these were. Each of them waits, is
+/// ready or has ended. If accepting fails for good, the error is noted and no more are accepted: the connections that are there are
+/// served.
+#[tactic(auto, using(crate::proofs::Accounting::accept_rules))]
 pub(crate) fn accept_some<N: Net + Clock + Eprint + Wait + Copy + Drop>(
     alloc: Global,
     net: N,
     listener: &N::Listener,
     reactor: &mut Reactor<N::Stream>,
     accepting: &mut Accepting,
-) {
-    for _ in 0..MOST_AT_ONCE {
-        if !reactor.may_accept || accepting.is_done() {
-            return;
+) -> u64
+    ensures accounts { Accounts result (slab_len reactor.old.waiting + deque_len reactor.old.ready) reactor.old.ended
+        (slab_len reactor.new.waiting + deque_len reactor.new.ready) reactor.new.ended }
+{
+    'accepted: for accepted in 0..MOST_AT_ONCE {
+        let Some(stream) = accept_one(net, listener, reactor, accepting) else {
+            return accepted;
+        };
+        take_in(alloc, net, stream, reactor, accepting);
+    }
+    MOST_AT_ONCE
+}
+
+/// Accepts a connection, if one is to be accepted and is there.
+#[tactic(auto, using(crate::proofs::Accounting::step, crate::proofs::Conditions::if_any))]
+fn accept_one<N: Net + Clock + Eprint + Wait + Copy + Drop>(
+    net: N,
+    listener: &N::Listener,
+    reactor: &mut Reactor<N::Stream>,
+    accepting: &mut Accepting,
+) -> Option<N::Stream>
+    ensures accounts { Accounts 0 (slab_len reactor.old.waiting + deque_len reactor.old.ready) reactor.old.ended
+        (slab_len reactor.new.waiting + deque_len reactor.new.ready) reactor.new.ended }
+    ensures not_full { OnSome result (nat_le accepting.new.bound accepting.new.accepted ≡ false) }
+{
+    if !may_accept(reactor, accepting) {
+        return None;
+    }
+    stream_of(net, listener.accept(), reactor, accepting)
+}
+
+/// Whether a connection is to be accepted. If so, this makes room for it.
+#[tactic(auto, using(crate::proofs::Accounting::same))]
+fn may_accept<S: Read + Write + OpenStream + AsRawFd + Drop>(
+    reactor: &mut Reactor<S>,
+    accepting: &Accepting,
+) -> bool
+    ensures accounts { Accounts 0 (slab_len reactor.old.waiting + deque_len reactor.old.ready) reactor.old.ended
+        (slab_len reactor.new.waiting + deque_len reactor.new.ready) reactor.new.ended }
+    ensures not_full { result ≡ true → nat_le accepting.now.bound accepting.now.accepted ≡ false }
+{
+    if accepting.is_full() {
+        return false;
+    }
+    if !reactor.may_accept || accepting.fault.is_some() {
+        return false;
+    }
+    let has_room = reactor.make_room();
+    has_room || !reactor.has_ready()
+}
+
+/// The stream of an accept, if it succeeded. Else its error is dealt with.
+#[tactic(auto, using(crate::proofs::Accounting::same))]
+fn stream_of<N: Net + Clock + Eprint + Wait + Copy + Drop>(
+    net: N,
+    accepted: io::Result<(N::Stream, SocketAddr)>,
+    reactor: &mut Reactor<N::Stream>,
+    accepting: &mut Accepting,
+) -> Option<N::Stream>
+    ensures accounts { Accounts 0 (slab_len reactor.old.waiting + deque_len reactor.old.ready) reactor.old.ended
+        (slab_len reactor.new.waiting + deque_len reactor.new.ready) reactor.new.ended }
+    ensures exact { MatchResult accepted (λ given. result ≡ Some given.0) (λ _. result ≡ None) }
+    ensures counts { (accepting.new.bound ≡ accepting.old.bound) × (accepting.new.accepted ≡ accepting.old.accepted) }
+{
+    match accepted {
+        Ok((stream, _)) => {
+            accepting.note_well(&net);
+            Some(stream)
         }
-        if !reactor.make_room() && reactor.has_ready() {
-            return;
-        }
-        match listener.accept() {
-            Ok((stream, _)) => {
-                accepting.note_well(&net);
-                take_in(alloc, net, stream, reactor, accepting);
-            }
-            Err(fault) if fault.kind() == ErrorKind::WouldBlock => reactor.may_accept = false,
-            Err(fault) if passes(&fault) => {
-                if !(is_shortage(&fault) && reactor.note_shortage()) {
-                    accepting.note_fault(&net, &fault);
-                    return;
-                }
-            }
-            Err(fault) => {
-                accepting.note_end(fault);
-                reactor.call_last(false);
-                return;
-            }
+        Err(fault) => {
+            note_failed(net, fault, reactor, accepting);
+            None
         }
     }
 }
 
-/// Takes in a connection that was accepted.
+/// Deals with an accept that failed, since no connection is there, for now, or for good.
+#[tactic(auto, using(crate::proofs::Accounting::same))]
+fn note_failed<N: Net + Clock + Eprint + Wait + Copy + Drop>(
+    net: N,
+    fault: io::Error,
+    reactor: &mut Reactor<N::Stream>,
+    accepting: &mut Accepting,
+)
+    ensures accounts { Accounts 0 (slab_len reactor.old.waiting + deque_len reactor.old.ready) reactor.old.ended
+        (slab_len reactor.new.waiting + deque_len reactor.new.ready) reactor.new.ended }
+    ensures counts { (accepting.new.bound ≡ accepting.old.bound) × (accepting.new.accepted ≡ accepting.old.accepted) }
+{
+    if fault.kind() == ErrorKind::WouldBlock {
+        reactor.may_accept = false;
+        return;
+    }
+    if !passes(&fault) {
+        accepting.note_end(fault);
+        return reactor.begin_ending(moment(&net));
+    }
+    if is_shortage(&fault) {
+        return note_shortage(net, fault, reactor, accepting);
+    }
+    accepting.note_fault(&net, &fault);
+}
+
+/// Deals with a shortage of descriptors or memory: closes connections that wait, or if there are none, pauses.
+#[tactic(auto, using(crate::proofs::Accounting::same))]
+fn note_shortage<N: Net + Clock + Eprint + Wait + Copy + Drop>(
+    net: N,
+    fault: io::Error,
+    reactor: &mut Reactor<N::Stream>,
+    accepting: &mut Accepting,
+)
+    ensures accounts { Accounts 0 (slab_len reactor.old.waiting + deque_len reactor.old.ready) reactor.old.ended
+        (slab_len reactor.new.waiting + deque_len reactor.new.ready) reactor.new.ended }
+    ensures counts { (accepting.new.bound ≡ accepting.old.bound) × (accepting.new.accepted ≡ accepting.old.accepted) }
+{
+    if !reactor.note_shortage() {
+        accepting.note_fault(&net, &fault);
+    }
+}
+
+/// Takes in the stream of a connection that was accepted. A stream that can't be set up is dropped, and not counted as accepted.
 fn take_in<N: Net + Clock + Eprint + Wait + Copy + Drop>(
     alloc: Global,
     net: N,
     stream: N::Stream,
     reactor: &mut Reactor<N::Stream>,
     accepting: &mut Accepting,
-) {
-    // A stream that can't be set up is dropped, and not counted.
-    let Ok(connection) = Connection::new(alloc, stream) else {
-        return;
-    };
-    if accepting.is_full() {
-        return;
+)
+    requires { nat_le accepting.old.bound accepting.old.accepted ≡ false }
+    ensures accounts { Accounts 1 (slab_len reactor.old.waiting + deque_len reactor.old.ready) reactor.old.ended
+        (slab_len reactor.new.waiting + deque_len reactor.new.ready) reactor.new.ended }
+    ensures counts { (accepting.new.accepted ≡ accepting.old.accepted) ⊎ (accepting.new.accepted ≡ accepting.old.accepted + 1) }
+{
+    match Connection::new(alloc, stream) {
+        Ok(connection) => take_in_counted(net, connection, reactor, accepting),
+        Err(fault) => reactor.note_unset(fault),
     }
+}
+
+/// Takes in a connection that was accepted, and counts it.
+#[tactic(auto, using(crate::proofs::Accounting::then_one))]
+fn take_in_counted<N: Net + Clock + Eprint + Wait + Copy + Drop>(
+    net: N,
+    connection: Connection<N::Stream>,
+    reactor: &mut Reactor<N::Stream>,
+    accepting: &mut Accepting,
+)
+    requires { nat_le accepting.old.bound accepting.old.accepted ≡ false }
+    ensures accounts { Accounts 1 (slab_len reactor.old.waiting + deque_len reactor.old.ready) reactor.old.ended
+        (slab_len reactor.new.waiting + deque_len reactor.new.ready) reactor.new.ended }
+    ensures counts { accepting.new.accepted ≡ accepting.old.accepted + 1 }
+{
     accepting.count();
-    if accepting.is_full() {
-        reactor.call_last(true);
-    }
+    call_last_if_full(reactor, accepting);
     reactor.take_in(&net, connection);
+}
+
+/// Calls the last connections if as many were accepted as the bound allows.
+#[tactic(auto, using(crate::proofs::Accounting::same))]
+fn call_last_if_full<S: Read + Write + OpenStream + AsRawFd + Drop>(
+    reactor: &mut Reactor<S>,
+    accepting: &Accepting,
+)
+    ensures accounts { Accounts 0 (slab_len reactor.old.waiting + deque_len reactor.old.ready) reactor.old.ended
+        (slab_len reactor.new.waiting + deque_len reactor.new.ready) reactor.new.ended }
+{
+    if accepting.is_full() {
+        reactor.call_last();
+    }
 }
 
 /// Listens at a port, on IPv6 and IPv4 if the first socket does both. It does if the port is taken for a second one.

@@ -8,6 +8,7 @@ ghost use Rattle.unl_net.specs.Phases.{phase_of};
 
 use crate::connection::{Connection, PIECE};
 use crate::cuts::{Cut, Cuts, EndReason, cut_of};
+use crate::ending::CLOSED_AT_ONCE;
 use crate::moment::moment;
 use crate::phase::Phase;
 use crate::shared::Shared;
@@ -25,9 +26,6 @@ use std::time::{Clock, Duration, Instant};
 
 /// How many events are taken at once at most.
 const MOST_EVENTS: usize = 256;
-
-/// How many connections are closed at once if the system gives no more descriptors.
-const CLOSED_AT_ONCE: usize = 8;
 
 /// The token of the listener.
 const LISTENER: usize = 0;
@@ -60,6 +58,12 @@ pub(crate) struct Reactor<S: Read + Write + OpenStream + AsRawFd + Drop> {
     pub(crate) ended: u64,
     /// Whether the door closes with the last connection that is served.
     pub(crate) closes: bool,
+    /// Whether accepting failed for good: each connection is then closed behind its answers.
+    pub(crate) is_ending: bool,
+    /// When it did.
+    pub(crate) ending_since: Option<Instant>,
+    /// The error with which a wait for events failed for good: no connection waits any more.
+    pub(crate) wait_fault: Option<io::Error>,
     /// Whether a connection may be there to be accepted.
     pub may_accept: bool,
     /// The counts of the connections that were cut off and not logged yet.
@@ -97,6 +101,9 @@ impl<S: Read + Write + OpenStream + AsRawFd + Drop> Reactor<S> {
             most,
             ended: 0,
             closes: false,
+            is_ending: false,
+            ending_since: None,
+            wait_fault: None,
             may_accept: true,
             cuts: Cuts::new(),
         })
@@ -166,17 +173,6 @@ impl<S: Read + Write + OpenStream + AsRawFd + Drop> Reactor<S> {
         closes
     }
 
-    /// Closes the connections that have waited longest, as many as are closed at once.
-    #[tactic(auto, using(crate::proofs::Accounting::same, crate::proofs::Accounting::step))]
-    fn close_some(&mut self)
-        ensures accounts { Accounts 0 (slab_len self.old.waiting + deque_len self.old.ready) self.old.ended
-            (slab_len self.new.waiting + deque_len self.new.ready) self.new.ended }
-    {
-        'closed: for _closed in 0..CLOSED_AT_ONCE {
-            self.close_oldest();
-        }
-    }
-
     /// Takes in a connection that was just accepted.
     pub fn take_in<C: Clock>(&mut self, clock: &C, connection: Connection<S>)
         ensures accounts { Accounts 1 (slab_len self.old.waiting + deque_len self.old.ready) self.old.ended
@@ -214,6 +210,9 @@ impl<S: Read + Write + OpenStream + AsRawFd + Drop> Reactor<S> {
         }
         connection.open(self.alloc);
         connection.received.shrink(self.alloc);
+        if self.is_ending {
+            connection.close_behind();
+        }
         match connection.phase() {
             Phase::Draining => self.go_on(clock, connection),
             _ => self.place(connection),
@@ -248,11 +247,14 @@ impl<S: Read + Write + OpenStream + AsRawFd + Drop> Reactor<S> {
         if self.is_served(phase) {
             return self.make_ready(connection);
         }
-        self.wait_for(connection)
+        match self.wait_fault {
+            Some(fault) => self.finish(connection, EndReason::Failed(fault)),
+            None => self.wait_for(connection),
+        }
     }
 
-    /// Whether a connection in this phase is handed out as a link. Once no more connections are accepted, one without a whole request
-    /// is too.
+    /// Whether a connection in this phase is handed out as a link. Once as many were accepted as may be, one without a whole request is
+    /// too.
     fn is_served(&self, phase: Phase) -> bool {
         phase == Phase::Ready
             || (self.shared.is_last_call() && (phase == Phase::Idle || phase == Phase::Receiving))

@@ -20,8 +20,10 @@ pub(crate) struct Shared<S: Read + Write + OpenStream + Drop> {
     waker: Waker,
     /// Whether the door waits, and is to be woken.
     sleeps: AtomicBool,
-    /// Whether no more connections are accepted: each is then served to its end by one link.
+    /// Whether as many connections were accepted as may be: each is then served to its end by one link.
     is_last_call: AtomicBool,
+    /// Whether answers may be kept to be sent later.
+    keeps_answers: AtomicBool,
     /// How many bytes of answers are kept to be sent later.
     unsent: AtomicU64,
     /// How many answers had a status of 500 or more.
@@ -40,6 +42,7 @@ impl<S: Read + Write + OpenStream + Drop> Shared<S> {
             waker,
             sleeps: AtomicBool::new(false),
             is_last_call: AtomicBool::new(false),
+            keeps_answers: AtomicBool::new(true),
             unsent: AtomicU64::new(0),
             faults: AtomicU64::new(0),
             lost: AtomicU64::new(0),
@@ -72,18 +75,26 @@ impl<S: Read + Write + OpenStream + Drop> Shared<S> {
         self.sleeps.store(sleeps, Ordering::SeqCst);
     }
 
-    /// Notes that no more connections are accepted.
+    /// Notes that as many connections were accepted as may be.
     pub fn call_last(&self) {
         self.is_last_call.store(true, Ordering::SeqCst);
     }
 
-    /// Whether no more connections are accepted.
+    /// Whether as many connections were accepted as may be.
     pub fn is_last_call(&self) -> bool {
         self.is_last_call.load(Ordering::SeqCst)
     }
 
+    /// Notes that no more answers may be kept to be sent later: the door can't wait for their clients.
+    pub fn keep_no_answers(&self) {
+        self.keeps_answers.store(false, Ordering::SeqCst);
+    }
+
     /// Whether `count` more bytes may be kept. If so, they are counted.
     pub fn may_hold(&self, count: usize) -> bool {
+        if !self.keeps_answers.load(Ordering::SeqCst) {
+            return false;
+        }
         let before = self.unsent.fetch_add(count as u64, Ordering::SeqCst);
         if before < MOST_UNSENT {
             return true;
