@@ -1,5 +1,7 @@
 pub mod GoingOn
 pub mod Boards
+pub mod Ordered
+pub mod Looks
 pub mod Writings
 pub mod Sent
 pub mod Stood

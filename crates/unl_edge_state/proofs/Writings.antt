@@ -16,7 +16,7 @@ use Rattle.unl_delta.specs.declared.version.Place.{Place}
 use Rattle.unl_delta.specs.Batch.{empty_place, next_version, verdict_of}
 use Rattle.unl_delta.specs.Installing.{after_install, place_of}
 use Rattle.unl_delta.specs.Valid.{IsValidPlace, IsValidVersion}
-use Rattle.unl_edge_state.specs.Editions.{BoardAt, board_known, opening_at}
+use Rattle.unl_edge_state.specs.Editions.{BoardAt, board_known, opening_of}
 use Rattle.unl_edge_state.specs.Orderly.{KnowsOrderly}
 use Rattle.unl_edge_state.specs.Writing.{Writing, IsWriting, Stays, after_batch, after_hold, installed_by, with_install, with_version}
 use Rattle.unl_edge_state.proofs.Boards.{known_more, knows_more}
@@ -28,9 +28,9 @@ tokens_stand : (board : Board) (places : List Place) (book : List Token) → IsS
 tokens_stand board places book s = record { slots = s.slots; versions = s.versions; valid = s.valid }
 
 -- An opening board, and the places of its slots.
-pub writing_begun : (board : Board) (known : Knowledge BoardAt Install) (table : ℕ) (places : List Place) → AreSlots board.slots → known ≡ knows_opening table (opening_at board)
+pub writing_begun : (orderly : Bool) (board : Board) (known : Knowledge BoardAt Install) (table : ℕ) (places : List Place) → AreSlots board.slots → known ≡ knows_opening table (opening_of orderly board)
     → places ≡ map place_at board.slots → All IsValidPlace places → IsWriting known places
-writing_begun board known table places slots is made valid = subst (λ (k : Knowledge BoardAt Install). IsWriting k places) (sym is) (record {
+writing_begun orderly board known table places slots is made valid = subst (λ (k : Knowledge BoardAt Install). IsWriting k places) (sym is) (record {
   begun = refl;
   represents = standing_begun board places slots made valid;
 })

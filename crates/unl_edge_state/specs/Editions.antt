@@ -1,22 +1,32 @@
 -- The published board, and its changes.
-use Rattle.std.specs.Prelude.{ℕ, ◌+◌, [], Option, option_map, unwrap_or}
+use Rattle.std.specs.Prelude.{ℕ, ◌+◌, Bool, true, false, [], Option, option_map, unwrap_or}
 use Rattle.unl_core.specs.declared.board.Board.{Board}
 use Rattle.unl_core.specs.declared.board.Install.{Install}
 use Rattle.unl_core.specs.Board.{board_after, installed}
 use Rattle.unl_publication.specs.declared.knowledge.Knowledge.{Knowledge}
 
--- A board, and the number of installs that led to it.
+-- A board, the number of installs that led to it, and whether the publication is orderly: each version that is installed is
+-- then the next one at its slot.
 pub record BoardAt : Type 0 where
   pub board : Board
   pub front : ℕ
+  pub orderly : Bool
 
 -- An opening board, before any install.
+abbrev pub opening_of : Bool → Board → BoardAt
+opening_of orderly board = record { board = board; front = 0; orderly = orderly }
+
+-- The opening board of a publication that takes any install.
 abbrev pub opening_at : Board → BoardAt
-opening_at board = record { board = board; front = 0 }
+opening_at board = opening_of false board
+
+-- The opening board of an orderly publication.
+abbrev pub orderly_opening : Board → BoardAt
+orderly_opening board = opening_of true board
 
 -- The board after one more install.
 abbrev pub edited : BoardAt → Install → BoardAt
-edited old what = record { board = installed what old.board; front = old.front + 1 }
+edited old what = record { board = installed what old.board; front = old.front + 1; orderly = old.orderly }
 
 -- An empty board.
 abbrev pub no_board : Board

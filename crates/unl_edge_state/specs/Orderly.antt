@@ -1,5 +1,5 @@
 -- Lists of installs in which each version follows the one at its slot.
-use Rattle.std.specs.Prelude.{◌≡◌, ℕ, ⊤, List, [], ◌∷◌, IfSome}
+use Rattle.std.specs.Prelude.{◌≡◌, ℕ, Bool, true, false, ⊤, List, [], ◌∷◌, IfSome, option_map, unwrap_or}
 use Rattle.unl_core.specs.declared.board.Board.{Board}
 use Rattle.unl_core.specs.declared.board.Install.{Install}
 use Rattle.unl_core.specs.declared.board.Install.TheVariants.{Tokens, Env}
@@ -10,7 +10,7 @@ use Rattle.unl_delta.specs.declared.batch.Verdict.TheVariants.{Apply}
 use Rattle.unl_delta.specs.declared.version.EnvVersion.{EnvVersion}
 use Rattle.unl_delta.specs.declared.version.Place.{Place}
 use Rattle.unl_delta.specs.Batch.{next_version, verdict_of}
-use Rattle.unl_edge_state.specs.Editions.{BoardAt}
+use Rattle.unl_edge_state.specs.Editions.{BoardAt, board_known}
 use Rattle.unl_publication.specs.declared.knowledge.Knowledge.{Knowledge}
 
 -- The version is the next one after a batch that applies at a place with the slot's version, whether held or not.
@@ -34,3 +34,19 @@ IsOrderly board (what ∷ more) = IsInOrder board what × IsOrderly (installed w
 -- What is known to be published is orderly from the opening board on.
 abbrev pub KnowsOrderly : Knowledge BoardAt Install → Type 0
 KnowsOrderly known = IfSome known.opening (λ opening. IsOrderly opening.board known.installs)
+
+-- The installs that may come after a board: any, or in an orderly publication those that follow it.
+abbrev pub AllowsInstall : BoardAt → Install → Type 0
+AllowsInstall edition what = edition.orderly ≡ true → IsInOrder edition.board what
+
+-- Whether what is known is an orderly publication. This is fixed with the opening board.
+abbrev pub is_orderly : Knowledge BoardAt Install → Bool
+is_orderly known = unwrap_or (option_map (λ opening. opening.orderly) known.opening) false
+
+-- The install may be published next: any, or in an orderly publication one that follows the published board.
+abbrev pub MayInstall : Knowledge BoardAt Install → Install → Type 0
+MayInstall known what = is_orderly known ≡ true → IsInOrder (board_known known) what
+
+-- What is known of an orderly publication is orderly.
+abbrev pub KeepsOrder : Knowledge BoardAt Install → Type 0
+KeepsOrder known = is_orderly known ≡ true → KnowsOrderly known

@@ -3,8 +3,8 @@ ghost use Rattle.std.specs.Prelude.{◌≡◌, ℕ, ◌<◌, ◌≤◌, All, IfO
 ghost use Rattle.std.specs.Prelude.{is_some, true};
 ghost use Rattle.unl_core.specs.Board.{AreSlots};
 ghost use Rattle.unl_core.specs.DeskStates.{place_at};
-ghost use Rattle.unl_edge_state.specs.Editions.{opening_at};
-ghost use Rattle.unl_edge_state.specs.Reading.{HasBegun};
+ghost use Rattle.unl_edge_state.specs.Editions.{opening_at, opening_of, orderly_opening};
+ghost use Rattle.unl_edge_state.specs.Reading.{HasBegun, IsNewReader};
 ghost use Rattle.unl_publication.specs.Rule.{knows_opening, told_by};
 ghost use Rattle.unl_publication.specs.Seen.{is_closed, written};
 
@@ -17,8 +17,8 @@ use unl_core::{Board, Install, Slot, places_at};
 use unl_documents::{List, Memory, Text, TryClone};
 use unl_publication::{Ruled, Writer, new_reader};
 
-/// Creates a writer of a board, and `readers` readers that know only the opening board. There is room for one list per
-/// reader that the writer has reported and the reader has not learned yet.
+/// Creates a writer of a board that takes any install, and `readers` readers that know only the opening board. There is room
+/// for one list per reader that the writer has reported and the reader has not learned yet.
 ///
 /// # Errors
 ///
@@ -39,14 +39,64 @@ pub fn begin<'a, W: Wait>(
     ensures count { IfOk result (λ r. length r.1.items ≡ readers) }
     ensures readers { IfOk result (λ r. All (HasBegun r.0.known) r.1.items) }
 {
+    begin_with(rt, alloc, board, readers, false)
+}
+
+/// As `begin`, but the publication is orderly: each version that is installed must be the next one at its slot, after a batch
+/// that applies there. So no reader sees an older version at a larger front.
+///
+/// # Errors
+///
+/// Fails if it runs out of memory or a reader can't be made.
+pub fn begin_orderly<'a, W: Wait>(
+    rt: &'a W,
+    alloc: Global,
+    board: Board,
+    readers: u32,
+) -> Result<(EdgeWriter<'a, W>, Vec<EdgeReader>), Memory>
+    requires readers { (0 < readers) × (readers ≤ 16) }
+    requires slots { AreSlots board.slots }
+    ensures writer { IfOk result (λ r. (table : ℕ) × (r.0 ≡ record {
+      known = knows_opening table (orderly_opening board);
+      places = map place_at board.slots;
+      closed = false;
+    })) }
+    ensures count { IfOk result (λ r. length r.1.items ≡ readers) }
+    ensures readers { IfOk result (λ r. All (HasBegun r.0.known) r.1.items) }
+    ensures new { IfOk result (λ r. All IsNewReader r.1.items) }
+{
+    match begin_with(rt, alloc, board, readers, true) {
+        Ok((writer, readers)) => Ok((writer, readers)),
+        Err(Memory) => Err(Memory),
+    }
+}
+
+/// As `begin`, with the publication orderly or not.
+fn begin_with<'a, W: Wait>(
+    rt: &'a W,
+    alloc: Global,
+    board: Board,
+    readers: u32,
+    orderly: bool,
+) -> Result<(EdgeWriter<'a, W>, Vec<EdgeReader>), Memory>
+    requires readers { (0 < readers) × (readers ≤ 16) }
+    requires slots { AreSlots board.slots }
+    ensures writer { IfOk result (λ r. (table : ℕ) × (r.0 ≡ record {
+      known = knows_opening table (opening_of orderly board);
+      places = map place_at board.slots;
+      closed = false;
+    })) }
+    ensures count { IfOk result (λ r. length r.1.items ≡ readers) }
+    ensures readers { IfOk result (λ r. All (HasBegun r.0.known) r.1.items) }
+{
     let places = places_at(alloc, board.slots.as_slice())?;
     let second = copy_of(alloc, &board)?;
     let count = readers as usize;
     let mut writer = Writer::new(
         rt,
         alloc,
-        Edition::new(board),
-        Edition::new(second),
+        Edition::new(board, orderly),
+        Edition::new(second, orderly),
         count + count,
     )?;
     match readers_at(alloc, &mut writer, count) {

@@ -1,7 +1,7 @@
 //! The published value: a board and its number.
 ghost use Rattle.std.specs.Prelude.{◌≡◌, IfOk};
 ghost use Rattle.unl_core.specs.Board.{AreSlots};
-ghost use Rattle.unl_edge_state.specs.Editions.{opening_at};
+ghost use Rattle.unl_edge_state.specs.Editions.{opening_of};
 
 use left_right::Absorb;
 use std::alloc::AllocError;
@@ -10,11 +10,12 @@ use unl_core::{Board, Install, install};
 use unl_documents::Memory;
 use unl_publication::Counted;
 
-/// A board, and how many installs led to it.
+/// A board, how many installs led to it, and whether its publication is orderly.
 #[derive(Drop)]
 pub struct Edition {
     board: Board,
     front: u64,
+    orderly: bool,
 }
 
 impl Model for Edition {
@@ -23,18 +24,27 @@ impl Model for Edition {
 
     ghost Value = { BoardAt };
 
-    ghost view = { λ edition. record { board = edition.board; front = edition.front } };
+    ghost view = { λ edition. record {
+      board = edition.board;
+      front = edition.front;
+      orderly = edition.orderly;
+    } };
 
     ghost invariant = { λ edition. AreSlots edition.board.slots };
 }
 
 impl Edition {
-    /// An opening board, before any install.
-    pub fn new(board: Board) -> Edition
+    /// An opening board, before any install. In an orderly publication each version that is installed is the next one at its
+    /// slot; in another one any install may come.
+    pub fn new(board: Board, orderly: bool) -> Edition
         requires { AreSlots board.slots }
-        ensures { result ≡ opening_at board }
+        ensures { result ≡ opening_of orderly board }
     {
-        Edition { board, front: 0 }
+        Edition {
+            board,
+            front: 0,
+            orderly,
+        }
     }
 
     /// The board.
@@ -77,8 +87,11 @@ impl Absorb<Install> for Edition {
 
 impl Counted<Install> for Edition {
     ghost use Rattle.std.specs.Prelude.{refl};
+    ghost use Rattle.unl_edge_state.specs.Orderly.{AllowsInstall};
 
     ghost front_of = { λ edition. edition.front };
+
+    ghost allows = { AllowsInstall };
 
     fn front(&self) -> u64 {
         self.front

@@ -1,5 +1,5 @@
 //! Laws of all lists of installs.
-ghost use Rattle.std.specs.Prelude.{◌≡◌, ◌≤◌, ℕ, List, [], IfSome, Some, length, take};
+ghost use Rattle.std.specs.Prelude.{◌≡◌, ◌≤◌, ℕ, List, [], IfSome, Some, length, take, true};
 ghost use Rattle.unl_core.specs.declared.board.Board.{Board};
 ghost use Rattle.unl_core.specs.declared.board.Install.{Install};
 ghost use Rattle.unl_core.specs.Board.{board_after};
@@ -8,8 +8,9 @@ ghost use Rattle.unl_delta.specs.History.{Era, IsNotBelow};
 ghost use Rattle.unl_delta.specs.View.{Sees};
 ghost use Rattle.unl_edge_state.specs.Editions.{BoardAt};
 ghost use Rattle.unl_edge_state.specs.Histories.{HasStood, SlotRepresented};
-ghost use Rattle.unl_edge_state.specs.Orderly.{IsOrderly};
-ghost use Rattle.unl_edge_state.specs.Reading.{ContinuedFromOpening, board_of};
+ghost use Rattle.unl_edge_state.specs.Orderly.{IsOrderly, is_orderly};
+ghost use Rattle.unl_edge_state.specs.Reading.{ContinuedFromOpening, IsOfList, IsSteady, SeesInOrder, board_of, seen_by};
+ghost use Rattle.unl_edge_state.specs.declared.reader.EdgeReader.{EdgeReader};
 ghost use Rattle.unl_publication.specs.declared.knowledge.Knowledge.{Knowledge};
 
 /// The board at a front `k` is the opening board after the first `k` installs that were seen, if the reader never
@@ -24,6 +25,21 @@ pub fn boards_are_after_installs()
 pub fn versions_never_fall()
     ensures { (board : Board) (list : List Install) (j k slot : ℕ) → IsOrderly board list → j ≤ k
         → IsNotBelow (snapshot_at (board_after board (take j list)).slots slot) (snapshot_at (board_after board (take k list)).slots slot) }
+{}
+
+/// In each reader of an orderly publication, of two boards of the list that it knows, the one at the larger front has no older
+/// version at any slot, and none of its slots became empty.
+pub fn readers_see_order()
+    ensures { (reader : EdgeReader) (opening : BoardAt) (j k slot : ℕ) (first later : Board) → (seen_by reader).opening ≡ Some opening
+        → is_orderly (seen_by reader) ≡ true → IsOfList opening (seen_by reader) j → j ≤ k
+        → board_of (seen_by reader) j ≡ Some first → board_of (seen_by reader) k ≡ Some later
+        → IsNotBelow (snapshot_at first.slots slot) (snapshot_at later.slots slot) }
+{}
+
+/// A reader of an orderly publication that never continued from a learned list, or only from the opening board, saw an orderly
+/// list; and of any two boards that it knows, the one at the larger front has no older version at any slot.
+pub fn steady_readers_see_in_order()
+    ensures { (reader : EdgeReader) → IsSteady reader → SeesInOrder reader }
 {}
 
 /// If each version that a slot has had is a revision of a line of histories, filtered by `sees`, so is the slot's

@@ -9,7 +9,7 @@ pub mod laws;
 mod reader;
 mod writer;
 
-pub use beginning::begin;
+pub use beginning::{begin, begin_orderly};
 pub use crossing::{readers_are_send, writers_are_send};
 pub use edition::Edition;
 pub use reader::{EdgeReader, Told};

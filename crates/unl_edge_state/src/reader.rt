@@ -1,6 +1,6 @@
 //! A desk that answers over the board published when it looks.
 ghost use Rattle.std.specs.Prelude.{max, ◌≡◌, ◌≤◌, true, is_some, unwrap_or, option_map, IfSome};
-ghost use Rattle.unl_publication.specs.Looking.{SameOrigin, goes_on};
+ghost use Rattle.unl_publication.specs.Looking.{SameOrigin, goes_on, remembers};
 ghost use Rattle.unl_publication.specs.Rule.{knows_nothing};
 ghost use Rattle.unl_publication.specs.Seen.{next, told_front, told_list};
 
@@ -23,7 +23,7 @@ pub struct EdgeReader {
 }
 
 impl EdgeReader {
-    ghost use Rattle.unl_edge_state.specs.Reading.{HasBegun, next_of, seen_by, told_to};
+    ghost use Rattle.unl_edge_state.specs.Reading.{HasBegun, next_of, past_of, seen_by, told_to};
 
     /// A desk over a reader that knows the opening board.
     pub(crate) fn new(seat: Reader<Edition, Install, Ruled<Install>>) -> EdgeReader
@@ -42,6 +42,7 @@ impl EdgeReader {
         ensures least { told_to self.new ≡ max (told_to self.old) (told_front told) }
         ensures seen { seen_by self.new ≡ seen_by self.old }
         ensures next { next_of self.new ≡ goes_on (told_front told) (told_list told) (next_of self.old) }
+        ensures past { past_of self.new ≡ remembers (told_front told) (told_list told) (past_of self.old) (next_of self.old) }
     {
         let Some(mut seat) = self.seat.take() else {
             unreachable!()
@@ -56,10 +57,11 @@ impl Desk for EdgeReader {
     ghost use Rattle.unl_core.specs.declared.board.Board.{Board};
     ghost use Rattle.unl_core.specs.Answer.{answer_of};
     ghost use Rattle.unl_core.specs.Desk.{Keeps, Enters, EntersAtMostOnce};
-    ghost use Rattle.unl_edge_state.specs.Editions.{board_known};
-    ghost use Rattle.unl_edge_state.specs.Reading.{board_of, next_of, seen_by, told_to};
+    ghost use Rattle.unl_edge_state.specs.Editions.{board_known, edited};
+    ghost use Rattle.unl_edge_state.specs.Orderly.{KeepsOrder};
+    ghost use Rattle.unl_edge_state.specs.Reading.{board_of, next_of, past_of, seen_by, told_to};
     ghost use Rattle.unl_metrics.specs.Reports.{IsReport};
-    ghost use Rattle.unl_publication.specs.Looking.{LooksBelow, SameOrigin};
+    ghost use Rattle.unl_publication.specs.Looking.{LooksBelow, SameOrigin, StaysOrTakes};
     ghost use Rattle.unl_publication.specs.Meaning.{front_seen};
     ghost use Rattle.unl_publication.specs.Rule.{StartsWith};
 
@@ -93,12 +95,18 @@ impl Desk for EdgeReader {
         // The answer is over the opening board after all installs of the list that it took. The front is their number.
         ensures over { IfOk result (λ a. a.1 ≡ answer_of (board_known (seen_by self.new)) request.now draw.entry.now) }
 
+        // In an orderly publication the list that it took is orderly.
+        ensures orderly { IfOk result (λ _. KeepsOrder (seen_by self.new)) }
+
         // The list that it took starts with the one it continues from, and has no fewer installs than it has learned of.
         ensures list { IfOk result (λ _. StartsWith (seen_by self.new).installs (next_of self.old).installs) }
         ensures told { IfOk result (λ a. told_to self.old ≤ a.0) }
         ensures next { IfOk result (λ _. next_of self.new ≡ seen_by self.new) }
         ensures origin { SameOrigin (next_of self.new) (next_of self.old) }
         ensures still_told { told_to self.new ≡ told_to self.old }
+
+        // Whether it answered or not, it is as it was, or it took a list.
+        ensures took { StaysOrTakes edited (past_of self.old) (next_of self.old) (past_of self.new) (next_of self.new) }
     {
         let Some(seat) = self.seat.take() else {
             return Err(Memory);

@@ -11,7 +11,7 @@ ghost use Rattle.unl_delta.specs.View.{Sees};
 ghost use Rattle.unl_core.specs.Board.{AreSlots};
 ghost use Rattle.unl_edge_state.specs.Editions.{board_known};
 ghost use Rattle.unl_edge_state.specs.Histories.{HasStood};
-ghost use Rattle.unl_edge_state.specs.Orderly.{KnowsOrderly};
+ghost use Rattle.unl_edge_state.specs.Orderly.{KeepsOrder, KnowsOrderly, MayInstall};
 ghost use Rattle.unl_edge_state.specs.Writing as writing;
 ghost use Rattle.unl_edge_state.specs.Writing.{after_publish, installed_by, with_install, with_version, IsWithin, IsWriting, Stays};
 ghost use Rattle.unl_publication.specs.Rule.{told_by};
@@ -75,8 +75,8 @@ impl<'a, W: Wait> EdgeWriter<'a, W> {
         self.publisher.value().board()
     }
 
-    /// Publishes an install and returns the new front. Whether a slot is held doesn't change. Waits for readers that still
-    /// look at an older board.
+    /// Publishes an install and returns the new front. If the publication is orderly, the install has to follow the published
+    /// board. Whether a slot is held doesn't change. Waits for readers that still look at an older board.
     ///
     /// # Errors
     ///
@@ -85,8 +85,10 @@ impl<'a, W: Wait> EdgeWriter<'a, W> {
     pub fn publish(&mut self, alloc: Global, what: Install) -> Result<u64, Memory>
         requires front { length self.old.known.installs < 2 ^ 64 - 1 }
         requires within { IsWithin what (length self.old.places) }
+        requires order { MayInstall self.old.known what }
         ensures published { OnOk result (self.new ≡ record (after_publish what self.old) { closed = self.new.closed }) }
         ensures front { IfOk result (λ front. front ≡ length self.new.known.installs) }
+        ensures ordered { OnOk result (KeepsOrder self.new.known) }
         ensures memory { OnErr result (Stays self.old self.new) }
         ensures closed { self.old.closed ≡ true → (self.new.closed ≡ true) × IsErr result }
     {
@@ -122,13 +124,14 @@ impl<'a, W: Wait> EdgeWriter<'a, W> {
         requires front { length self.old.known.installs < 2 ^ 64 - 1 }
         ensures published { OnOk result (self.new ≡ record (with_install (Tokens book) self.old) { closed = self.new.closed }) }
         ensures front { IfOk result (λ front. front ≡ length self.new.known.installs) }
+        ensures ordered { OnOk result (KeepsOrder self.new.known) }
         ensures memory { OnErr result (Stays self.old self.new) }
         ensures closed { self.old.closed ≡ true → (self.new.closed ≡ true) × IsErr result }
     {
         Ok(self.publisher.publish(Install::Tokens(book))?)
     }
 
-    /// Publishes a version at a slot, and sets whether the slot is held.
+    /// Publishes a version at a slot, and sets whether the slot is held. In an orderly publication it follows the one there.
     fn publish_version(
         &mut self,
         alloc: Global,
@@ -138,8 +141,10 @@ impl<'a, W: Wait> EdgeWriter<'a, W> {
     ) -> Result<u64, Memory>
         requires front { length self.old.known.installs < 2 ^ 64 - 1 }
         requires slot { slot < length self.old.places }
+        requires order { MayInstall self.old.known (Env slot snapshot) }
         ensures published { OnOk result (self.new ≡ record (with_version slot snapshot held self.old) { closed = self.new.closed }) }
         ensures front { IfOk result (λ front. front ≡ length self.new.known.installs) }
+        ensures ordered { OnOk result (KeepsOrder self.new.known) }
         ensures memory { OnErr result (Stays self.old self.new) }
         ensures closed { self.old.closed ≡ true → (self.new.closed ≡ true) × IsErr result }
     {
@@ -186,6 +191,7 @@ impl<W: Wait> Installer for EdgeWriter<'_, W> {
         ensures memory { OnErr result (installed_by self.new ≡ installed_by self.old) }
         ensures same { OnErr result (Stays self.old self.new) }
         ensures orderly { KnowsOrderly self.old.known → KnowsOrderly self.new.known }
+        ensures ordered { OnOk result (KeepsOrder self.new.known) }
         ensures stood { (line : List Era) (sees : Sees) → IsLine line → HasStood line sees slot self.old.known → IsSent line sees batch.now
             → HasStood line sees slot self.new.known }
     {
@@ -213,6 +219,7 @@ impl<W: Wait> Installer for EdgeWriter<'_, W> {
             (self.new ≡ record (with_install (Tokens book) self.old) { closed = self.new.closed })) }
         ensures same { OnErr result (Stays self.old self.new) }
         ensures orderly { KnowsOrderly self.old.known → KnowsOrderly self.new.known }
+        ensures ordered { IfOk result (λ front. OnSome front (KeepsOrder self.new.known)) }
     {
         if self.publisher.value().board().book.get().is_same(&book) {
             return Ok(None);

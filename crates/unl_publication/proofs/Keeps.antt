@@ -1,11 +1,11 @@
 -- Each kind of step keeps the invariant.
-use Rattle.std.proofs.Common.{◌≡◌, ℕ, zero, suc, ◌+◌, ◌≤◌, ◌≢◌, List, [], ◌∷◌, ◌++◌, length, fold, set, Option, Some, refl, sym, ap, ◌∙◌, subst, ⊎_elim, le_refl, le_trans, add-zero, zero-le, append_assoc, append-nil, length-append, arith}
+use Rattle.std.proofs.Common.{◌≡◌, ℕ, zero, suc, ◌+◌, ◌≤◌, ◌≢◌, List, [], ◌∷◌, ◌++◌, length, fold, set, Option, Some, None, IfSome, refl, sym, ap, ◌∙◌, subst, ⊎_elim, le_refl, le_trans, add-zero, zero-le, append_assoc, append-nil, length-append, arith}
 use Rattle.std.proofs.lemmas.List.Sums.{fold-append}
 use mathlib.Core.Option.{some, some-injective, some-ne-none}
 use lib.ListN.{get_elem?}
 use Rattle.atomic_table.proofs.Lists.{at_set, at_snoc}
 use Rattle.unl_publication.specs.declared.knowledge.Knowledge.{Knowledge}
-use Rattle.unl_publication.specs.Rule.{Rise, StartsWith, knows_nothing, Fits, IsKept, Opens, Publishes, Enters, told_by, with_installs}
+use Rattle.unl_publication.specs.Rule.{Rise, StartsWith, knows_nothing, AreAllowed, KnowsAllowed, Fits, IsKept, Opens, Publishes, Enters, told_by, with_installs}
 
 -- ---- numbers that never fall
 
@@ -35,6 +35,24 @@ module _ {I : Type 0} where
 
   pub StartsWith-whole : (xs front : List I) → StartsWith xs front → length front ≡ length xs → xs ≡ front
   StartsWith-whole xs front h e = h.1 ∙ nothing_left front h.0 (e ∙ ap (λ (l : List I). length l) h.1)
+
+-- ---- lists whose installs are allowed
+
+module _ {S I : Type 0} (installed : S → I → S) (allows : S → I → Type 0) where
+  AreAllowed-append : (value : S) (list more : List I) → AreAllowed installed allows value list → AreAllowed installed allows (fold installed value list) more
+      → AreAllowed installed allows value (list ++ more)
+  AreAllowed-append value [] more first later = later
+  AreAllowed-append value (what ∷ list) more first later = (first.0, AreAllowed-append (installed value what) list more first.1 later)
+
+  -- Who knows the opening value, if any, and the list, knows that.
+  knows_allowed : (opening : Option S) (kept : S) (list : List I) → ((o : S) → opening ≡ Some o → o ≡ kept) → AreAllowed installed allows kept list
+      → IfSome opening (λ o. AreAllowed installed allows o list)
+  knows_allowed None kept list opened allowed = tt
+  knows_allowed (Some o) kept list opened allowed = subst (λ (s : S). AreAllowed installed allows s list) (sym (opened o refl)) allowed
+
+  -- One install is a list.
+  pub AreAllowed-one : (value : S) (what : I) (given : List I) → given ≡ what ∷ [] → allows value what → AreAllowed installed allows value given
+  AreAllowed-one value what given is allowed = subst (AreAllowed installed allows value) (sym is) (allowed, tt)
 
 module _ {S I : Type 0} where
   -- ---- the knowledge of one writer or reader
@@ -78,34 +96,34 @@ module _ {S I : Type 0} where
 
   -- ---- the steps
 
-  module _ (installed : S → I → S) (front_of : S → ℕ) where
-    IsKept-views : (value : S) (views others : List (Knowledge S I)) (k : IsKept installed front_of value views)
-        → ((j : ℕ) (v : Knowledge S I) → get_elem? others j ≡ some v → Fits k.opening k.list v) → IsKept installed front_of value others
-    IsKept-views value views others k fits = record { opening = k.opening; list = k.list; begins = k.begins; value_is = k.value_is; front_is = k.front_is; fits = fits }
+  module _ (installed : S → I → S) (front_of : S → ℕ) (allows : S → I → Type 0) where
+    IsKept-views : (value : S) (views others : List (Knowledge S I)) (k : IsKept installed front_of allows value views)
+        → ((j : ℕ) (v : Knowledge S I) → get_elem? others j ≡ some v → Fits k.opening k.list v) → IsKept installed front_of allows value others
+    IsKept-views value views others k fits = record { opening = k.opening; list = k.list; begins = k.begins; allowed = k.allowed; value_is = k.value_is; front_is = k.front_is; fits = fits }
 
-    pub starts : (opening : S) → front_of opening ≡ 0 → IsKept installed front_of opening (knows_nothing ∷ [])
-    starts opening zero_is = record { opening = opening; list = []; begins = zero_is; value_is = refl; front_is = zero_is; fits = fits_first opening }
+    pub starts : (opening : S) → front_of opening ≡ 0 → IsKept installed front_of allows opening (knows_nothing ∷ [])
+    starts opening zero_is = record { opening = opening; list = []; begins = zero_is; allowed = tt; value_is = refl; front_is = zero_is; fits = fits_first opening }
 
-    pub admits : (value : S) (views : List (Knowledge S I)) → IsKept installed front_of value views → IsKept installed front_of value (views ++ knows_nothing ∷ [])
+    pub admits : (value : S) (views : List (Knowledge S I)) → IsKept installed front_of allows value views → IsKept installed front_of allows value (views ++ knows_nothing ∷ [])
     admits value views k = IsKept-views value views (views ++ knows_nothing ∷ []) k (AllFit-snoc k.opening k.list views knows_nothing k.fits (Fits-knows_nothing k.opening k.list))
 
-    pub forks : (seat : ℕ) (v : Knowledge S I) (value : S) (views : List (Knowledge S I)) → IsKept installed front_of value views → get_elem? views seat ≡ some v
-        → IsKept installed front_of value (set views seat v ++ told_by v ∷ [])
+    pub forks : (seat : ℕ) (v : Knowledge S I) (value : S) (views : List (Knowledge S I)) → IsKept installed front_of allows value views → get_elem? views seat ≡ some v
+        → IsKept installed front_of allows value (set views seat v ++ told_by v ∷ [])
     forks seat v value views k at = let f = k.fits seat v at in
         IsKept-views value views (set views seat v ++ told_by v ∷ []) k
         (AllFit-snoc k.opening k.list (set views seat v) (told_by v) (AllFit-set k.opening k.list views seat v k.fits f) (Fits-note k.opening k.list v f))
 
-    pub greets : (seat : ℕ) (v : Knowledge S I) (other : ℕ) (w : Knowledge S I) (value : S) (views : List (Knowledge S I)) → IsKept installed front_of value views
+    pub greets : (seat : ℕ) (v : Knowledge S I) (other : ℕ) (w : Knowledge S I) (value : S) (views : List (Knowledge S I)) → IsKept installed front_of allows value views
         → get_elem? views seat ≡ some v → ¬ (other ≡ seat) → get_elem? (set views seat (told_by w)) other ≡ some w
-        → IsKept installed front_of value (set (set views seat (told_by w)) other knows_nothing)
+        → IsKept installed front_of allows value (set (set views seat (told_by w)) other knows_nothing)
     greets seat v other w value views k at apart there =
         let f = Fits-note k.opening k.list w (k.fits other w (other_there views seat other (told_by w) w apart there)) in
         IsKept-views value views (set (set views seat (told_by w)) other knows_nothing) k
         (AllFit-set k.opening k.list (set views seat (told_by w)) other knows_nothing (AllFit-set k.opening k.list views seat (told_by w) k.fits f) (Fits-knows_nothing k.opening k.list))
 
     pub enters : (before : List (Option S)) (fronts : List ℕ) (seat : ℕ) (v : Knowledge S I) (value : S) → Rise 0 fronts (length v.installs)
-        → (views : List (Knowledge S I)) → IsKept installed front_of value views → get_elem? views seat ≡ some v
-        → (w : Knowledge S I) × IsKept installed front_of value (set views seat w) × Enters installed front_of before fronts value v w
+        → (views : List (Knowledge S I)) → IsKept installed front_of allows value views → get_elem? views seat ≡ some v
+        → (w : Knowledge S I) × IsKept installed front_of allows value (set views seat w) × Enters installed front_of allows before fronts value v w
     enters before fronts seat v value rises views k at =
         let f = k.fits seat v at in
         let n : ℕ = length k.list in
@@ -120,13 +138,14 @@ module _ {S I : Type 0} where
           record {
             same = refl;
             seen = f.seen;
+            allowed = knows_allowed installed allows v.opening k.opening k.list f.opened k.allowed;
             value_is = λ o e. k.value_is ∙ ap (λ s. fold installed s k.list) (sym (f.opened o e));
             front_is = k.front_is;
           },
         )
 
     -- A reader that knows as many installs as the front counts knows the whole list, as the writer does.
-    pub knows_all : (value : S) (views : List (Knowledge S I)) (k : IsKept installed front_of value views) (seat : ℕ) (v : Knowledge S I) → get_elem? views seat ≡ some v
+    pub knows_all : (value : S) (views : List (Knowledge S I)) (k : IsKept installed front_of allows value views) (seat : ℕ) (v : Knowledge S I) → get_elem? views seat ≡ some v
         → front_of value ≡ length v.installs → v.installs ≡ k.list
     knows_all value views k seat v at whole = sym (StartsWith-whole k.list v.installs (k.fits seat v at).seen (sym whole ∙ k.front_is))
 
@@ -135,13 +154,15 @@ module _ {S I : Type 0} where
     counted counts s (what ∷ given) = omega (arith, counted counts (installed s what) given, counts s what)
 
     pub publishes : ((s : S) (what : I) → front_of (installed s what) ≡ front_of s + 1)
-        → (seat : ℕ) (v : Knowledge S I) (given : List I) (value next : S) → front_of value ≡ length v.installs → next ≡ fold installed value given
-        → (views : List (Knowledge S I)) → IsKept installed front_of value views → get_elem? views seat ≡ some v
-        → (w : Knowledge S I) × IsKept installed front_of next (set views seat w) × Publishes given v w
-    publishes counts seat v given value next whole next_is views k at =
+        → (seat : ℕ) (v : Knowledge S I) (given : List I) (value next : S) → front_of value ≡ length v.installs → AreAllowed installed allows value given
+        → next ≡ fold installed value given → (views : List (Knowledge S I)) → IsKept installed front_of allows value views → get_elem? views seat ≡ some v
+        → (w : Knowledge S I) × IsKept installed front_of allows next (set views seat w) × Publishes installed allows given v w
+    publishes counts seat v given value next whole allowed next_is views k at =
         let f = k.fits seat v at in
         let all : k.list ≡ v.installs = StartsWith-whole k.list v.installs f.seen (sym whole ∙ k.front_is) in
         let w : Knowledge S I = with_installs given v in
+        let longer : AreAllowed installed allows k.opening (k.list ++ given) = AreAllowed-append installed allows k.opening k.list given k.allowed
+        (subst (λ (s : S). AreAllowed installed allows s given) k.value_is allowed) in
         let fits : Fits k.opening (k.list ++ given) w = record {
           opened = f.opened;
           seen = ([], ap (λ l. l ++ given) all ∙ sym (append-nil (v.installs ++ given)));
@@ -152,11 +173,16 @@ module _ {S I : Type 0} where
             opening = k.opening;
             list = k.list ++ given;
             begins = k.begins;
+            allowed = longer;
             value_is = next_is ∙ ap (λ s. fold installed s given) k.value_is ∙ sym (fold-append installed k.opening k.list given);
             front_is = ap front_of next_is ∙ counted counts value given ∙ ap (λ (n : ℕ). n + length given) k.front_is ∙ sym (length-append k.list given);
             fits = AllFit-set k.opening (k.list ++ given) views seat w (λ j u e. Fits-longer k.opening k.list given u (k.fits j u e)) fits;
           },
-          refl,
+          record {
+            same = refl;
+            allowed = knows_allowed installed allows v.opening k.opening (v.installs ++ given) f.opened
+                (subst (λ (l : List I). AreAllowed installed allows k.opening (l ++ given)) all longer);
+          },
         )
 
     nothing_installed : (opening value : S) (list : List I) → value ≡ fold installed opening list → 0 ≡ length list → value ≡ opening
@@ -164,8 +190,8 @@ module _ {S I : Type 0} where
     nothing_installed opening value (x ∷ list) is none = absurd (omega arith)
 
     pub opens : (table : ℕ) (seat : ℕ) (v : Knowledge S I) (value next : S) → front_of value ≡ 0 → next ≡ value
-        → (views : List (Knowledge S I)) → IsKept installed front_of value views → get_elem? views seat ≡ some v
-        → (w : Knowledge S I) × IsKept installed front_of next (set views seat w) × Opens table value v w
+        → (views : List (Knowledge S I)) → IsKept installed front_of allows value views → get_elem? views seat ≡ some v
+        → (w : Knowledge S I) × IsKept installed front_of allows next (set views seat w) × Opens table value v w
     opens table seat v value next none next_is views k at =
         let f = k.fits seat v at in
         let first : value ≡ k.opening = nothing_installed k.opening value k.list k.value_is (sym none ∙ k.front_is) in
@@ -180,6 +206,7 @@ module _ {S I : Type 0} where
             opening = k.opening;
             list = k.list;
             begins = k.begins;
+            allowed = k.allowed;
             value_is = next_is ∙ k.value_is;
             front_is = ap front_of next_is ∙ k.front_is;
             fits = AllFit-set k.opening k.list views seat w k.fits fits;

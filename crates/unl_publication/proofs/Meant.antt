@@ -1,10 +1,10 @@
 -- How a look changes what a reader's knowledge means.
-use Rattle.std.proofs.Common.{◌≡◌, ℕ, zero, suc, ◌<◌, ◌≤◌, leb, List, [], ◌∷◌, length, take, fold, Bool, true, false, Option, Some, None, refl, sym, ap, ◌∙◌, subst, arith, take_all, is_some, inr}
+use Rattle.std.proofs.Common.{◌≡◌, ℕ, zero, suc, ◌<◌, ◌≤◌, leb, List, [], ◌∷◌, length, take, fold, Bool, true, false, Option, Some, None, refl, sym, ap, ◌∙◌, subst, arith, take_all, is_some, inl, inr}
 use Rattle.std.specs.Option.{option_map}
 use Rattle.std.proofs.lemmas.List.{take-append-le}
 use Rattle.std.proofs.lemmas.Bool.Decides.{nat_tests}
 use Rattle.unl_publication.specs.declared.knowledge.Knowledge.{Knowledge}
-use Rattle.unl_publication.specs.Looking.{IsAhead, Takes, Follows, LooksBelow}
+use Rattle.unl_publication.specs.Looking.{IsAhead, Takes, Follows, LooksBelow, StaysOrTakes}
 use Rattle.unl_publication.specs.Meaning.{some_if, item_or, first_of, front_seen, value_at, values, known}
 use Rattle.unl_publication.proofs.Keeps.{StartsWith-length}
 
@@ -86,6 +86,14 @@ module _ {S I : Type 0} (installed : S → I → S) where
       → ((o : S) → w.opening ≡ Some o → value ≡ fold installed o w.installs) → value_at installed w (front_seen w) ≡ Some value
   shown_here w value (Some opening) is there short means = value_at-here w opening short is ∙ sym (ap (λ (s : S). Some s) (means opening is))
   shown_here w value None is there short means = absurd cc
+
+  -- A reader that looked and left.
+  pub took : (past late : Option (Knowledge S I)) (v w now : Knowledge S I) → Takes installed past v w → late ≡ None → now ≡ w → StaysOrTakes installed past v late now
+  took past late v w now t none is = inr (none, subst (λ (k : Knowledge S I). Takes installed past v k) (sym is) t)
+
+  -- A reader that did not look.
+  pub stayed : (past : Option (Knowledge S I)) (v now : Knowledge S I) → now ≡ v → StaysOrTakes installed past v past now
+  stayed past v now is = inl (refl, is)
 
   -- A look that saw fewer installs than it had to.
   pub refuses : (least : ℕ) (past late : Option (Knowledge S I)) (v w now : Knowledge S I) → IsAhead past v → Takes installed past v w → length w.installs < least → late ≡ None → now ≡ w

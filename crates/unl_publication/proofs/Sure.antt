@@ -1,15 +1,15 @@
 -- The invariants of the writer and the readers, inside and outside of ghost fields.
-use Rattle.std.proofs.Common.{◌≡◌, ℕ, suc, ◌+◌, ◌<◌, ◌≤◌, zero-le, List, [], ◌∷◌, length, fold, Some, false, is_err, Result, Ok, Err, MatchResult, IfSome, sym, ap, ◌∙◌, subst, add-zero, length-append, arith}
-use mathlib.Core.Logic.{∥∥₁_elim, ∥∥₁_map}
+use Rattle.std.proofs.Common.{◌≡◌, ℕ, suc, ◌+◌, ◌<◌, ◌≤◌, zero-le, List, [], ◌∷◌, length, fold, Some, true, false, is_err, is_some, Result, Ok, Err, MatchResult, IfSome, sym, refl, ap, ◌∙◌, subst, add-zero, length-append, arith}
+use mathlib.Core.Logic.{∥∥₁_elim, ∥∥₁_map, ∥∥₁_map₂}
 use base.Stored.{Coded, Coded-set}
 use Rattle.std.specs.Coded.{le_prop, coded_ℕ}
 use Rattle.std.specs.declared.option.Option.{Option}
 use Rattle.std.specs.declared.option.Option.TheVariants.{None}
 use Rattle.std.proofs.lemmas.List.Sums.{fold-append}
 use Rattle.unl_publication.specs.declared.knowledge.Knowledge.{Knowledge}
-use Rattle.unl_publication.specs.Rule.{Rise, Enters, with_installs}
+use Rattle.unl_publication.specs.Rule.{AreAllowed, KnowsAllowed, MayPublish, Opens, Rise, Enters, knows_nothing, knows_opening, told_by, with_installs}
 use Rattle.unl_publication.specs.Meaning.{known, before_of, value_at}
-use Rattle.unl_publication.specs.Looking.{Shows, AreFronts, IsAhead, IsBetweenLooks, IsLooking, Takes}
+use Rattle.unl_publication.specs.Looking.{AreBothAllowed, Shows, AreFronts, IsAhead, IsBetweenLooks, IsLooking, Takes}
 use Rattle.unl_publication.proofs.Meant.{length-first_of}
 use Rattle.unl_publication.proofs.Keeps.{Rise-higher, Rise-push, StartsWith-length}
 
@@ -58,7 +58,7 @@ module _ {S I : Type 0} where
   }
 
   module _ (installed : S → I → S) (front_of : S → ℕ) where
-    pub Takes-from : (value : S) (past : Option (Knowledge S I)) (v w : Knowledge S I) → Enters installed front_of (before_of installed past v) (known past v).fronts value v w → Takes installed past v w
+    pub Takes-from : {allows : S → I → Type 0} (value : S) (past : Option (Knowledge S I)) (v w : Knowledge S I) → Enters installed front_of allows (before_of installed past v) (known past v).fronts value v w → Takes installed past v w
     Takes-from value past v w e = record { same = e.same; seen = e.seen }
 
     before_fits : (past : Option (Knowledge S I)) (now : Knowledge S I) → IsAhead past now → length (before_of installed past now) ≤ length now.installs
@@ -79,7 +79,7 @@ module _ {S I : Type 0} where
     }
 
     -- The value shown by a look.
-    pub Shows-entered : (before : List (Option S)) (fronts : List ℕ) (value : S) (v w : Knowledge S I) → Enters installed front_of before fronts value v w → Shows installed front_of value w
+    pub Shows-entered : {allows : S → I → Type 0} (before : List (Option S)) (fronts : List ℕ) (value : S) (v w : Knowledge S I) → Enters installed front_of allows before fronts value v w → Shows installed front_of value w
     Shows-entered before fronts value v w e = record { value_is = λ o is. e.value_is o (sym (ap (λ (k : Knowledge S I). k.opening) e.same) ∙ is); front_is = e.front_is }
 
     counted : ((s : S) (what : I) → front_of (installed s what) ≡ front_of s + 1) → (s : S) (given : List I) → front_of (fold installed s given) ≡ front_of s + length given
@@ -93,6 +93,49 @@ module _ {S I : Type 0} where
       value_is = λ o e. is ∙ ap (λ s. fold installed s given) (h.value_is o e) ∙ sym (fold-append installed o v.installs given);
       front_is = ap front_of is ∙ counted counts value given ∙ ap (λ (n : ℕ). n + length given) h.front_is ∙ sym (length-append v.installs given);
     }
+
+-- ---- installs that the values before them allow
+
+module _ {S I : Type 0} (installed : S → I → S) (allows : S → I → Type 0) where
+  -- One that knows the same list.
+  pub KnowsAllowed-same : (v w : Knowledge S I) → w ≡ v → ∥ KnowsAllowed installed allows v ∥₁ → ∥ KnowsAllowed installed allows w ∥₁
+  KnowsAllowed-same v w same h = subst (λ (k : Knowledge S I). ∥ KnowsAllowed installed allows k ∥₁) (sym same) h
+
+  -- One that was told the list.
+  pub KnowsAllowed-told : (v w : Knowledge S I) → w ≡ told_by v → ∥ KnowsAllowed installed allows v ∥₁ → ∥ KnowsAllowed installed allows w ∥₁
+  KnowsAllowed-told v w same h = KnowsAllowed-same (told_by v) w same h
+
+  -- A writer that knows the opening value alone.
+  pub KnowsAllowed-opened : (table : ℕ) (value : S) (v w : Knowledge S I) → v ≡ knows_nothing → Opens table value v w → ∥ KnowsAllowed installed allows w ∥₁
+  KnowsAllowed-opened table value v w none opens =
+      KnowsAllowed-same (knows_opening table value) w
+      (opens ∙ (λ i. record { table = Some table; opening = Some value; installs = (none i).installs; before = (none i).before; fronts = (none i).fronts })) ∣ tt ∣₁
+
+  -- A reader that did not continue from a learned list.
+  pub AreBothAllowed-alone : (late : Option (Knowledge S I)) (now : Knowledge S I) → late ≡ None → ∥ KnowsAllowed installed allows now ∥₁ → ∥ AreBothAllowed installed allows late now ∥₁
+  AreBothAllowed-alone late now none h = subst (λ (o : Option (Knowledge S I)). ∥ AreBothAllowed installed allows o now ∥₁) (sym none)
+      (∥∥₁_map h (λ (x : KnowsAllowed installed allows now). both x))
+    where
+      both : KnowsAllowed installed allows now → AreBothAllowed installed allows None now
+      both x = record { seen = x; next = x }
+
+  -- A reader that continues from a learned list.
+  pub AreBothAllowed-told : (past : Option (Knowledge S I)) (now told kept : Knowledge S I) → kept ≡ known past now → ∥ AreBothAllowed installed allows past now ∥₁
+      → ∥ KnowsAllowed installed allows told ∥₁ → ∥ AreBothAllowed installed allows (Some kept) told ∥₁
+  AreBothAllowed-told past now told kept is h more = ∥∥₁_map₂ h more both
+    where
+      both : AreBothAllowed installed allows past now → KnowsAllowed installed allows told → AreBothAllowed installed allows (Some kept) told
+      both x y = record { seen = subst (λ (k : Knowledge S I). KnowsAllowed installed allows k) (sym is) x.seen; next = y }
+
+  allowed_by : (opening : Option S) (list : List I) (value : S) (what : I) → is_some opening ≡ true → ((o : S) → opening ≡ Some o → value ≡ fold installed o list)
+      → ((o : S) → opening ≡ Some o → allows (fold installed o list) what) → allows value what
+  allowed_by None list value what there is may = absurd cc
+  allowed_by (Some o) list value what there is may = subst (λ (s : S). allows s what) (sym (is o refl)) (may o refl)
+
+  -- The value shown allows what may be published.
+  pub MayPublish-allows : (v : Knowledge S I) (value : S) (what : I) → is_some v.opening ≡ true → ((o : S) → v.opening ≡ Some o → value ≡ fold installed o v.installs)
+      → MayPublish installed allows v what → allows value what
+  MayPublish-allows v value what there is may = allowed_by v.opening v.installs value what there is may
 
 -- The `Ok` case of a result.
 pub when_ok : {A B : Type 0} (r : Result A B) (P : Type 0) (Q : B → Type 0) → is_err r ≡ false → MatchResult r (λ _. P) Q → P

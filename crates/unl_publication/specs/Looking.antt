@@ -1,7 +1,7 @@
 -- Invariants of what the writer and a reader know, and the steps of a reader.
-use Rattle.std.specs.Prelude.{◌≡◌, ℕ, ◌<◌, ◌≤◌, [], ◌∷◌, ◌++◌, ◌⊎◌, length, fold, leb, if◌then◌else◌, Option, Some, None, unwrap_or}
+use Rattle.std.specs.Prelude.{◌≡◌, ℕ, ◌<◌, ◌≤◌, [], ◌∷◌, ◌++◌, ◌⊎◌, length, fold, leb, if◌then◌else◌, Option, Some, None, option_map, unwrap_or}
 use Rattle.unl_publication.specs.declared.knowledge.Knowledge.{Knowledge}
-use Rattle.unl_publication.specs.Rule.{Rise, StartsWith}
+use Rattle.unl_publication.specs.Rule.{KnowsAllowed, Rise, StartsWith}
 use Rattle.unl_publication.specs.Meaning.{known, before_of, front_seen, value_at}
 
 module _ {S I : Type 0} where
@@ -28,6 +28,12 @@ module _ {S I : Type 0} where
     pub fronts : AreFronts (known past now)
     pub ahead : IsAhead past now
 
+  -- The installs that it saw are allowed, each by the value before it, and so are those that it continues from.
+  pub record AreBothAllowed (installed : S → I → S) (allows : S → I → Type 0) (past : Option (Knowledge S I)) (now : Knowledge S I)
+      : Type 0 where
+    pub seen : KnowsAllowed installed allows (known past now)
+    pub next : KnowsAllowed installed allows now
+
   -- The invariant of a reader that is looking.
   pub record IsLooking (v : Knowledge S I) : Type 0 where
     pub fronts : AreFronts v
@@ -44,6 +50,12 @@ module _ {S I : Type 0} where
     }
     pub seen : StartsWith new.installs now.installs
 
+  -- The reader is as it was, or it took a list and left.
+  abbrev pub StaysOrTakes :
+      (S → I → S) → Option (Knowledge S I) → Knowledge S I → Option (Knowledge S I) → Knowledge S I → Type 0
+  StaysOrTakes installed past now past_after after =
+      ((past_after ≡ past) × (after ≡ now)) ⊎ ((past_after ≡ None) × Takes installed past now after)
+
   -- What was known is still known, and is the same.
   pub record Follows (installed : S → I → S) (old new : Knowledge S I) : Type 0 where
     pub rises : front_seen old ≤ front_seen new
@@ -57,3 +69,9 @@ module _ {S I : Type 0} where
   -- is one; otherwise its own.
   abbrev pub goes_on : ℕ → Option (Knowledge S I) → Knowledge S I → Knowledge S I
   goes_on front told own = if leb front (front_seen own) then own else unwrap_or told own
+
+  -- What a reader remembers of its last look after it learned a front: if it continues from the list that came with it, what it
+  -- knew at that look; otherwise what it remembered.
+  abbrev pub remembers : ℕ → Option (Knowledge S I) → Option (Knowledge S I) → Knowledge S I → Option (Knowledge S I)
+  remembers front told past own =
+      if leb front (front_seen own) then past else unwrap_or (option_map (λ _. Some (known past own)) told) past

@@ -1,5 +1,5 @@
 -- The invariant of the published value, and what each step makes known.
-use Rattle.std.specs.Prelude.{◌≡◌, ℕ, ◌≤◌, List, [], ◌∷◌, ◌++◌, length, fold, Option, Some, None}
+use Rattle.std.specs.Prelude.{◌≡◌, ℕ, ◌≤◌, ⊤, List, [], ◌∷◌, ◌++◌, length, fold, Option, Some, None, IfSome}
 use mathlib.Core.Option.{some}
 use lib.ListN.{get_elem?}
 use Rattle.unl_publication.specs.declared.knowledge.Knowledge.{Knowledge}
@@ -37,18 +37,37 @@ module _ {S I : Type 0} where
   abbrev pub told_by : Knowledge S I → Knowledge S I
   told_by v = record { table = v.table; opening = v.opening; installs = v.installs; before = []; fronts = [] }
 
+  -- ---- which installs may come next
+
+  -- The value before each install allows it.
+  abbrev pub AreAllowed : (S → I → S) → (S → I → Type 0) → S → List I → Type 0
+  AreAllowed installed allows value [] = ⊤
+  AreAllowed installed allows value (what ∷ more) = allows value what × AreAllowed installed allows (installed value what) more
+
+  -- So it is for the installs that are known, from the opening value on.
+  abbrev pub KnowsAllowed : (S → I → S) → (S → I → Type 0) → Knowledge S I → Type 0
+  KnowsAllowed installed allows v = IfSome v.opening (λ opening. AreAllowed installed allows opening v.installs)
+
+  -- The value after the known installs allows this one.
+  abbrev pub MayPublish : (S → I → S) → (S → I → Type 0) → Knowledge S I → I → Type 0
+  MayPublish installed allows v what = (opening : S) → v.opening ≡ Some opening → allows (fold installed opening v.installs) what
+
+  -- ---- the invariant
+
   -- The knowledge agrees with the opening value and the list of installs.
   pub record Fits (opening : S) (list : List I) (v : Knowledge S I) : Type 0 where
     pub opened : (o : S) → v.opening ≡ Some o → o ≡ opening
     pub seen : StartsWith list v.installs
     pub fronts : Rise 0 v.fronts (length v.installs)
 
-  -- There is one opening value, with front 0, and one list of installs. The published value is the opening value after the
-  -- list, its front is the list's length, and everyone's knowledge agrees with both.
-  pub record IsKept (installed : S → I → S) (front_of : S → ℕ) (value : S) (views : List (Knowledge S I)) : Type 0 where
+  -- There is one opening value, with front 0, and one list of installs, each allowed by the value before it. The published
+  -- value is the opening value after the list, its front is the list's length, and everyone's knowledge agrees with both.
+  pub record IsKept (installed : S → I → S) (front_of : S → ℕ) (allows : S → I → Type 0) (value : S) (views : List (Knowledge S I))
+      : Type 0 where
     pub opening : S
     pub list : List I
     pub begins : front_of opening ≡ 0
+    pub allowed : AreAllowed installed allows opening list
     pub value_is : value ≡ fold installed opening list
     pub front_is : front_of value ≡ length list
     pub fits : (seat : ℕ) (v : Knowledge S I) → get_elem? views seat ≡ some v → Fits opening list v
@@ -65,14 +84,15 @@ module _ {S I : Type 0} where
     fronts = v.fronts;
   }
 
-  -- Installs were appended to the list.
-  abbrev pub Publishes : List I → Knowledge S I → Knowledge S I → Type 0
-  Publishes given v w = w ≡ with_installs given v
+  -- Installs were appended to the list, each allowed by the value before it.
+  pub record Publishes (installed : S → I → S) (allows : S → I → Type 0) (given : List I) (v w : Knowledge S I) : Type 0 where
+    pub same : w ≡ with_installs given v
+    pub allowed : KnowsAllowed installed allows w
 
-  -- A list was taken that starts with the one before. The value shown is the opening value after it, and its length is the
-  -- front, which is appended to the earlier fronts.
-  pub record Enters (installed : S → I → S) (front_of : S → ℕ) (before : List (Option S)) (fronts : List ℕ) (value : S)
-      (v w : Knowledge S I) : Type 0 where
+  -- A list was taken that starts with the one before. The value before each install allows it. The value shown is the opening
+  -- value after the list, and its length is the front, which is appended to the earlier fronts.
+  pub record Enters (installed : S → I → S) (front_of : S → ℕ) (allows : S → I → Type 0) (before : List (Option S)) (fronts : List ℕ)
+      (value : S) (v w : Knowledge S I) : Type 0 where
     pub same : w ≡ record {
       table = v.table;
       opening = v.opening;
@@ -81,5 +101,6 @@ module _ {S I : Type 0} where
       fronts = fronts ++ length w.installs ∷ [];
     }
     pub seen : StartsWith w.installs v.installs
+    pub allowed : KnowsAllowed installed allows w
     pub value_is : (o : S) → v.opening ≡ Some o → value ≡ fold installed o w.installs
     pub front_is : front_of value ≡ length w.installs

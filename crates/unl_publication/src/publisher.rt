@@ -2,7 +2,7 @@
 ghost use Rattle.std.specs.Prelude.{◌≡◌, true, false, [], ◌∷◌, length, fold, Some, is_some, unwrap_or, option_map};
 ghost use Rattle.std.specs.Prelude.{IfSome, IsErr, MatchResult, OnOk};
 ghost use Rattle.unl_publication.specs.Meaning.{front_seen};
-ghost use Rattle.unl_publication.specs.Rule.{knows_nothing, told_by, with_installs};
+ghost use Rattle.unl_publication.specs.Rule.{KnowsAllowed, MayPublish, knows_nothing, told_by, with_installs};
 
 use crate::rule::Rules;
 use crate::value::Counted;
@@ -32,16 +32,19 @@ impl<'a, W: Wait, T: Counted<I> + Drop, I: Drop, P: Rules<T, I>> Publisher<'a, W
         }
     }
 
-    /// Publishes an install and returns how many were published. Waits for readers that still look at an older copy.
+    /// Publishes an install that the published value allows, and returns how many were published. Waits for readers that still
+    /// look at an older copy.
     ///
     /// # Errors
     ///
     /// Fails if it runs out of memory, or if the install or its copy can't be absorbed. Nothing is published then. If this
     /// happens after the install was logged, every later call fails too.
     pub fn publish(&mut self, what: I) -> Result<u64, AllocError>
+        requires { MayPublish T.applied T.allows (published self.old) what }
         ensures published { MatchResult result
             (λ front. (published self.new ≡ with_installs (what ∷ []) (published self.old)) × (front ≡ front_seen (published self.new)))
             (λ _. published self.new ≡ published self.old) }
+        ensures allowed { OnOk result (KnowsAllowed T.applied T.allows (published self.new)) }
         ensures open { OnOk result (stays_closed self.new ≡ false) }
         ensures closed { stays_closed self.old ≡ true → (stays_closed self.new ≡ true) × IsErr result }
     {
@@ -67,8 +70,8 @@ impl<'a, W: Wait, T: Counted<I> + Drop, I: Drop, P: Rules<T, I>> Publisher<'a, W
         writer.value()
     }
 
-    /// What the writer knows now, for one reader to learn: its list if there is room for one more reader, otherwise only the
-    /// list's length.
+    /// What the writer knows now, for one reader to learn: its list, or only the list's length if `left_right` makes no reader
+    /// for it. It makes none if it finds each place in use, and its contract names no cause.
     pub fn tell(&mut self) -> Told<T, I, P>
         ensures same { published self.new ≡ published self.old }
         ensures closed { stays_closed self.new ≡ stays_closed self.old }

@@ -2,9 +2,10 @@
 ghost use Rattle.std.specs.Prelude.{max, ◌≡◌, ◌≤◌, ◌<◌, true, IfOk, IfErr, IfSome, MatchResult, Some, None, is_some, option_map, fold};
 ghost use Rattle.std.specs.Prelude.{length};
 ghost use Rattle.left_right.specs.Sides.{view};
-ghost use Rattle.unl_publication.specs.Rule.{Rise, Enters};
+ghost use Rattle.unl_publication.specs.Rule.{KnowsAllowed, Rise, Enters};
 ghost use Rattle.unl_publication.specs.Meaning.{known, before_of, front_seen, value_at};
-ghost use Rattle.unl_publication.specs.Looking.{SameOrigin, Shows, goes_on, IsBetweenLooks, IsLooking, Follows, LooksBelow, Takes};
+ghost use Rattle.unl_publication.specs.Looking.{AreBothAllowed, IsBetweenLooks, IsLooking, SameOrigin, Shows, Takes};
+ghost use Rattle.unl_publication.specs.Looking.{Follows, LooksBelow, StaysOrTakes, goes_on, remembers};
 
 use crate::knowledge::Knowledge;
 use crate::rule::{Enter, Past, Rules};
@@ -26,6 +27,7 @@ pub struct Reader<T: Counted<I> + Drop, I: Drop, P: Rules<T, I>> {
     pub(crate) least: u64,
     ghost counted: { front ≡ length (view seat.place).installs },
     ghost stands: { ∥ IsBetweenLooks (option_map (λ s. view s.value.place) past) (view seat.place) ∥₁ },
+    ghost allowed: { ∥ AreBothAllowed T.applied T.allows (option_map (λ s. view s.value.place) past) (view seat.place) ∥₁ },
 }
 
 /// A reader that is looking at the value. It isn't `Drop`: end the look with `leave`.
@@ -36,6 +38,7 @@ pub struct Guard<T: Counted<I> + Drop, I: Drop, P: Rules<T, I>> {
     ghost counted: { front ≡ length (view reading.place).installs },
     ghost shows: { ∥ Shows T.applied T.front_of (T.state reading.part.value) (view reading.place) ∥₁ },
     ghost sits: { ∥ IsLooking (view reading.place) ∥₁ },
+    ghost allowed: { ∥ KnowsAllowed T.applied T.allows (view reading.place) ∥₁ },
 }
 
 impl<T: Counted<I> + Drop, I: Drop, P: Rules<T, I>> Reader<T, I, P> {
@@ -50,6 +53,7 @@ impl<T: Counted<I> + Drop, I: Drop, P: Rules<T, I>> Reader<T, I, P> {
         ensures least { told_of self.new ≡ max (told_of self.old) (told_front told) }
         ensures seen { seen self.new ≡ seen self.old }
         ensures next { next self.new ≡ goes_on (told_front told) (told_list told) (next self.old) }
+        ensures past { past self.new ≡ remembers (told_front told) (told_list told) (past self.old) (next self.old) }
     {
         let Told { seat, front } = told;
         self.least = self.least.max(front);
@@ -78,10 +82,12 @@ impl<T: Counted<I> + Drop, I: Drop, P: Rules<T, I>> Reader<T, I, P> {
             (λ guard. SameOrigin (taken guard) (next self))
             (λ reader. SameOrigin (next reader) (next self)) }
         ensures takes { IfOk result (λ guard. Takes T.applied (past self) (next self) (taken guard)) }
+        ensures allowed { IfOk result (λ guard. KnowsAllowed T.applied T.allows (taken guard)) }
         ensures follows { MatchResult result
             (λ guard. Follows T.applied (seen self) (taken guard))
             (λ reader. Follows T.applied (seen self) (seen reader)) }
         ensures refused { IfErr result (λ reader. LooksBelow (told_of self) (seen self) (seen reader)) }
+        ensures kept { IfErr result (λ reader. StaysOrTakes T.applied (past self) (next self) (past reader) (next reader)) }
     {
         let Reader {
             seat,
@@ -133,7 +139,7 @@ fn enter_past<T: Counted<I> + Drop, I: Drop, P: Rules<T, I>, K: Past<T::State>>(
     requires fronts { K.fronts ≡ (known (option_map (λ s. view s.value.place) past.now) (view seat.place)).fronts }
     requires rises { Rise 0 K.fronts (length (view seat.place).installs) }
     ensures { MatchResult result
-        (λ r. Enters T.applied T.front_of (before_of T.applied (option_map (λ s. view s.value.place) past.now) (view seat.place))
+        (λ r. Enters T.applied T.front_of T.allows (before_of T.applied (option_map (λ s. view s.value.place) past.now) (view seat.place))
         (known (option_map (λ s. view s.value.place) past.now) (view seat.place)).fronts
         (T.state r.part.value) (view seat.place) (view r.place))
         (λ r. view r.place ≡ view seat.place) }

@@ -6,17 +6,18 @@ use crossbeam_utils::rule::{Outcome, Protocol};
 use std::marker::{Brand, PhantomData};
 
 /// The invariant of the publications: `Ruled`, or a caller's own type with the same members. The invariant is `IsKept`:
-/// there is one opening value and one list of installs, and the writer and each reader know a prefix of that list.
+/// there is one opening value and one list of installs, the value before each install allows it, and the writer and each
+/// reader know a prefix of that list.
 pub trait Rules<T: Counted<I>, I: Drop>: Protocol<T, Knowledge<T::State, I>> {
     ghost use Rattle.std.specs.Prelude.{◌≡◌, List};
     ghost use Rattle.unl_publication.specs.declared.knowledge.Knowledge.{Knowledge};
     ghost use Rattle.unl_publication.specs.Rule.{IsKept, knows_nothing};
 
     /// What the protocol holds of the value and of everyone's knowledge implies `IsKept`.
-    ghost kept: { (x : T) (views : List (Knowledge T.State I)) → Self.holds x views → IsKept T.applied T.front_of (T.state x) views };
+    ghost kept: { (x : T) (views : List (Knowledge T.State I)) → Self.holds x views → IsKept T.applied T.front_of T.allows (T.state x) views };
 
     /// `IsKept` implies what the protocol holds.
-    ghost keeps: { (x : T) (views : List (Knowledge T.State I)) → IsKept T.applied T.front_of (T.state x) views → Self.holds x views };
+    ghost keeps: { (x : T) (views : List (Knowledge T.State I)) → IsKept T.applied T.front_of T.allows (T.state x) views → Self.holds x views };
 
     /// At first nothing is known.
     ghost begins: { Self.first ≡ knows_nothing };
@@ -30,7 +31,7 @@ pub struct Ruled<I> {
 impl<T: Counted<I>, I: Drop> Protocol<T, Knowledge<T::State, I>> for Ruled<I> {
     ghost use Rattle.unl_publication.specs.Rule.{IsKept, knows_nothing};
 
-    ghost holds = { λ x views. IsKept T.applied T.front_of (T.state x) views };
+    ghost holds = { λ x views. IsKept T.applied T.front_of T.allows (T.state x) views };
 
     ghost first = { knows_nothing };
 }
@@ -86,7 +87,7 @@ pub(crate) struct Publish<K> {
 impl<T: Counted<I>, I: Drop, K: Given<I>> Outcome<T, Knowledge<T::State, I>> for Publish<K> {
     ghost use Rattle.unl_publication.specs.Rule.{Publishes};
 
-    ghost then = { λ v _ _ w. Publishes K.given v w };
+    ghost then = { λ v _ _ w. Publishes T.applied T.allows K.given v w };
 }
 
 /// What a reader knew before a look. Each look chooses it.
@@ -114,7 +115,7 @@ pub(crate) struct Enter<K> {
 impl<T: Counted<I>, I: Drop, K: Past<T::State>> Outcome<T, Knowledge<T::State, I>> for Enter<K> {
     ghost use Rattle.unl_publication.specs.Rule.{Enters};
 
-    ghost then = { λ v x _ w. Enters T.applied T.front_of K.before K.fronts (T.state x) v w };
+    ghost then = { λ v x _ w. Enters T.applied T.front_of T.allows K.before K.fronts (T.state x) v w };
 }
 
 pub(crate) struct Tell;

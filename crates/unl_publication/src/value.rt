@@ -8,6 +8,9 @@ pub trait Counted<I: Drop>: Absorb<I> {
     /// The front of a copy's state.
     ghost front_of: { Self.State → ℕ };
 
+    /// The installs that may come after a value. Without one of the type's own, any may.
+    ghost allows: { Self.State → I → Type 0 } = { λ _ _. Unit {0} };
+
     /// The number of installs that this copy has absorbed.
     fn front(&self) -> u64
         ensures { result ≡ front_of (Self.state self.now) };

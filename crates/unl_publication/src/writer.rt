@@ -1,9 +1,9 @@
 //! The writer of the published value.
 ghost use Rattle.std.specs.Prelude.{◌≡◌, ◌^◌, ◌<◌, ◌≤◌, false, [], ◌∷◌, ◌++◌, ℕ, length, drop, fold};
 ghost use Rattle.std.specs.Prelude.{IfOk, IfSome, IsErr, MatchResult, OnOk};
-ghost use Rattle.std.specs.Prelude.{true, Some};
+ghost use Rattle.std.specs.Prelude.{true, Some, is_some};
 ghost use Rattle.left_right.specs.Sides.{view};
-ghost use Rattle.unl_publication.specs.Rule.{Opens, knows_opening, told_by, with_installs};
+ghost use Rattle.unl_publication.specs.Rule.{AreAllowed, KnowsAllowed, MayPublish, Opens, Publishes, knows_opening, told_by, with_installs};
 ghost use Rattle.unl_publication.specs.Looking.{Shows};
 ghost use Rattle.unl_publication.specs.Meaning.{front_seen};
 
@@ -23,6 +23,8 @@ pub struct Writer<T: Counted<I> + Drop, I: Drop, P: Rules<T, I>> {
     pub(crate) refused: bool,
     ghost shows: { ∥ Shows T.applied T.front_of (T.state sides.desk.shown.value) (view sides.desk.place) ∥₁ },
     ghost clear: { refused ≡ false → drop sides.behind sides.log.items ≡ [] },
+    ghost begun: { is_some (view sides.desk.place).opening ≡ true },
+    ghost allowed: { ∥ KnowsAllowed T.applied T.allows (view sides.desk.place) ∥₁ },
 }
 
 /// What a writer knew at one moment, for one reader to learn.
@@ -33,6 +35,21 @@ pub struct Told<T: Counted<I> + Drop, I: Drop, P: Rules<T, I>> {
     /// The number of installs that the writer knew.
     pub(crate) front: u64,
     ghost counted: { ∥ IfSome seat (λ r. length (view r.place).installs ≡ front) ∥₁ },
+    ghost allowed: { ∥ IfSome seat (λ r. KnowsAllowed T.applied T.allows (view r.place)) ∥₁ },
+}
+
+impl<T: Counted<I> + Drop, I: Drop, P: Rules<T, I>> Told<T, I, P> {
+    ghost use Rattle.unl_publication.specs.Seen.{told_list};
+
+    /// Whether the list is in it.
+    pub fn has_list(&self) -> bool
+        ensures { result ≡ is_some (told_list self.now) }
+    {
+        match &self.seat {
+            Some(_) => true,
+            None => false,
+        }
+    }
 }
 
 impl<T: Counted<I> + Drop, I: Drop, P: Rules<T, I>> Writer<T, I, P> {
@@ -79,8 +96,8 @@ impl<T: Counted<I> + Drop, I: Drop, P: Rules<T, I>> Writer<T, I, P> {
         self.sides.published()
     }
 
-    /// What the writer knows now, for one reader to learn: its list if there is room for one more reader, otherwise only the
-    /// list's length.
+    /// What the writer knows now, for one reader to learn: its list, or only the list's length if `left_right` makes no reader
+    /// for it. It makes none if it finds each place in use, and its contract names no cause.
     pub fn tell(&mut self) -> Told<T, I, P>
         ensures same { written self.new ≡ written self.old }
         ensures closed { is_closed self.new ≡ is_closed self.old }
@@ -97,17 +114,19 @@ impl<T: Counted<I> + Drop, I: Drop, P: Rules<T, I>> Writer<T, I, P> {
         }
     }
 
-    /// Publishes an install and returns the writer, and how many installs were published. Waits for readers that still look
-    /// at an older copy.
+    /// Publishes an install that the published value allows. Returns the writer, and how many installs were published. Waits
+    /// for readers that still look at an older copy.
     ///
     /// # Errors
     ///
     /// Fails if it runs out of memory, or if the install or its copy can't be absorbed. Nothing is published then. If this
     /// happens after the install was logged, every later call fails too.
     pub fn publish<W: Wait>(self, rt: &W, what: I) -> (Writer<T, I, P>, Result<u64, AllocError>)
+        requires { MayPublish T.applied T.allows (written self) what }
         ensures published { MatchResult result.1
             (λ front. (written result.0 ≡ with_installs (what ∷ []) (written self)) × (front ≡ front_seen (written result.0)))
             (λ _. written result.0 ≡ written self) }
+        ensures allowed { OnOk result.1 (KnowsAllowed T.applied T.allows (written result.0)) }
         ensures open { OnOk result.1 (is_closed result.0 ≡ false) }
         ensures closed { is_closed self ≡ true → (is_closed result.0 ≡ true) × IsErr result.1 }
     {
@@ -188,8 +207,9 @@ fn publish_given<T: Counted<I> + Drop, I: Drop, P: Rules<T, I>, K: Given<I>, W: 
 )
     requires pending { drop sides.behind sides.log.items ≡ K.given }
     requires whole { T.front_of (T.state sides.desk.shown.value) ≡ length (view sides.desk.place).installs }
+    requires allowed { AreAllowed T.applied T.allows (T.state sides.desk.shown.value) K.given }
     ensures known { MatchResult result.1
-        (λ _. view result.0.desk.place ≡ with_installs K.given (view sides.desk.place))
+        (λ _. Publishes T.applied T.allows K.given (view sides.desk.place) (view result.0.desk.place))
         (λ _. view result.0.desk.place ≡ view sides.desk.place) }
     ensures pending { MatchResult result.1
         (λ _. drop result.0.behind result.0.log.items ≡ [])

@@ -7,7 +7,7 @@ use unl_base::{Draw, Job, RealSpawner, Spawner};
 use unl_core::{Board, Desk, Install};
 use unl_delta::Installer;
 use unl_documents::{List, Memory, Shared, Text};
-use unl_edge_state::{EdgeReader, EdgeWriter, begin, readers_are_send};
+use unl_edge_state::{EdgeReader, EdgeWriter, begin, begin_orderly, readers_are_send};
 use unl_http_api::{Method, Request};
 use unl_tokens::Book;
 
@@ -16,13 +16,17 @@ const TOKENS: &[u8] = br#"{"tokens":[{"token":"*:dev.f","type":"frontend"}]}"#;
 /// The front and the status of an answer.
 type Look = (u64, u16);
 
-/// Returns a writer and two readers of a board with one empty slot.
+/// Returns a writer and two readers of a board with one empty slot, of an orderly publication or not.
 fn begun<'a, W: Wait>(
     rt: &'a W,
     alloc: Global,
+    orderly: bool,
 ) -> Result<(EdgeWriter<'a, W>, Vec<EdgeReader>), Memory> {
     let environments = List::from_vec(vec![in alloc; Text::new(alloc, "dev")?]?);
     let board = Board::new(alloc, 0, "", &environments)?;
+    if orderly {
+        return begin_orderly(rt, alloc, board, 2);
+    }
     begin(rt, alloc, board, 2)
 }
 
@@ -159,18 +163,27 @@ fn publish_beside<R: Threads + Wait>(
     }
 }
 
-fn side_by_side<R: Threads + Wait>(rt: &R, alloc: Global) -> Result<bool, Memory> {
-    let (mut writer, readers) = begun(rt, alloc)?;
+/// Whether what the writer tells has its list, for each of the two readers.
+fn tells_lists<W: Wait>(writer: &mut EdgeWriter<'_, W>) -> bool {
+    let first = writer.tell();
+    let second = writer.tell();
+    first.has_list() && second.has_list()
+}
+
+fn side_by_side<R: Threads + Wait>(rt: &R, alloc: Global, orderly: bool) -> Result<bool, Memory> {
+    let (mut writer, readers) = begun(rt, alloc, orderly)?;
+    let whole = tells_lists(&mut writer);
     let good = match askers(alloc, readers) {
         Ok(asking) => publish_beside(rt, alloc, &mut writer, asking),
         Err(Memory) => false,
     };
     writer.end();
-    Ok(good)
+    Ok(good && whole)
 }
 
 #[test]
 fn a_writer_publishes_beside_readers(rt: HostRuntime) -> Result<(), Fail> {
-    assert!(rt; side_by_side(&rt, rt.alloc())?);
+    assert!(rt; side_by_side(&rt, rt.alloc(), false)?);
+    assert!(rt; side_by_side(&rt, rt.alloc(), true)?);
     Ok(())
 }

@@ -132,6 +132,36 @@ fn a_told_reader_sees_what_was_published(rt: HostRuntime) -> Result<(), Fail> {
     Ok(())
 }
 
+/// Whether what the writer tells has its list, with one reader and room for this many seats.
+fn tells_its_list<W: Wait>(rt: &W, alloc: Global, seats: usize) -> Result<bool, AllocError>
+    requires { (0 < seats) × (seats ≤ 16) }
+{
+    let mut writer = Writer::<Setting, u64, Ruled<u64>>::new(
+        rt,
+        alloc,
+        opening(),
+        opening(),
+        seats,
+    )?;
+    let reader = new_reader(&mut writer);
+    let told = writer.tell();
+    let whole = told.has_list();
+    writer.end(rt);
+    match reader {
+        Ok(_) => Ok(whole),
+        Err(e) => Err(e),
+    }
+}
+
+/// `tell` has the list if there is room for one more reader.
+#[test]
+fn the_list_is_told_where_there_is_room(rt: HostRuntime) -> Result<(), Fail> {
+    for seats in 1..5 {
+        assert_eq!(rt; tells_its_list(&rt, rt.alloc(), seats)?, seats > 1);
+    }
+    Ok(())
+}
+
 /// The reader learns once after each of two looks, then twice without a look, and at last of an older publication.
 fn learn_again<W: Wait>(
     writer: &mut Publisher<'_, W, Setting, u64, Ruled<u64>>,

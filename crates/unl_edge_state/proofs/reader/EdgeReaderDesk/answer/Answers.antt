@@ -1,9 +1,12 @@
 use Rattle.std.proofs.Common.{◌≡◌, ap, sym, ◌∙◌, true, is_some, option_map, unwrap_or}
+use Rattle.std.specs.Option.{option_and_then}
 use Rattle.unl_core.specs.declared.board.Board.{Board}
 use Rattle.unl_core.specs.Answer.{answer_of}
 use Rattle.unl_edge_state.specs.Editions.{board_known}
-use Rattle.unl_edge_state.specs.Reading.{seen_by}
+use Rattle.unl_edge_state.specs.Reading.{next_of, past_of, seen_by}
 use Rattle.unl_edge_state.proofs.Boards.{keeps_left, seen_left, shown_known}
+use Rattle.unl_edge_state.proofs.Looks.{took_back, took_left}
+use Rattle.unl_edge_state.proofs.Ordered.{keeps_order}
 use Rattle.unl_publication.specs.Rule.{knows_nothing}
 use Rattle.unl_publication.specs.Seen.{next, past, seen, taken}
 use Rattle.unl_edge_state.proofs.reader.EdgeReaderDesk.answer.Goals as goal
@@ -27,3 +30,26 @@ returns-in_ok-given-in-Ok-clause-over c =
     c.in_ok-given-in-Ok.ensures.answer ∙ ap (λ (b : Board). answer_of b c.args.request.now c.args.draw.now)
     (c.board.ensures.board ∙ shown_known (taken c.in-Ok.guard) c.value.result.now there c.value.ensures.list
     ∙ ap board_known (sym (seen_left (past c.leave.result) (next c.leave.result) (taken c.in-Ok.guard) c.leave.ensures.past c.leave.ensures.same)))
+
+pub returns-in_ok-given-in-Ok-clause-orderly : goal.returns-in_ok-given-in-Ok-clause-orderly
+returns-in_ok-given-in-Ok-clause-orderly c =
+    keeps_order (taken c.in-Ok.guard) (seen c.leave.result)
+    (seen_left (past c.leave.result) (next c.leave.result) (taken c.in-Ok.guard) c.leave.ensures.past c.leave.ensures.same) c.in-Ok.ensures.allowed
+
+pub returns-in_err-given-in-Ok-clause-took : goal.returns-in_err-given-in-Ok-clause-took
+returns-in_err-given-in-Ok-clause-took c =
+    took_left (past_of c.args.self.now) (past c.in-Some.seat) (past c.leave.result) (next_of c.args.self.now) (next c.in-Some.seat) (next c.leave.result) (taken c.in-Ok.guard)
+    (ap (λ o. option_and_then past o) (sym c.in-Some.ensures.value)) (ap (λ o. unwrap_or (option_map next o) knows_nothing) (sym c.in-Some.ensures.value))
+    c.leave.ensures.past c.leave.ensures.same c.in-Ok.ensures.takes
+
+pub returns-in_ok-given-in-Ok-clause-took : goal.returns-in_ok-given-in-Ok-clause-took
+returns-in_ok-given-in-Ok-clause-took c =
+    took_left (past_of c.args.self.now) (past c.in-Some.seat) (past c.leave.result) (next_of c.args.self.now) (next c.in-Some.seat) (next c.leave.result) (taken c.in-Ok.guard)
+    (ap (λ o. option_and_then past o) (sym c.in-Some.ensures.value)) (ap (λ o. unwrap_or (option_map next o) knows_nothing) (sym c.in-Some.ensures.value))
+    c.leave.ensures.past c.leave.ensures.same c.in-Ok.ensures.takes
+
+pub returns-in-Err-clause-took : goal.returns-in-Err-clause-took
+returns-in-Err-clause-took c =
+    took_back (past_of c.args.self.now) (past c.in-Some.seat) (past c.in-Err.seat) (next_of c.args.self.now) (next c.in-Some.seat) (next c.in-Err.seat)
+    (ap (λ o. option_and_then past o) (sym c.in-Some.ensures.value)) (ap (λ o. unwrap_or (option_map next o) knows_nothing) (sym c.in-Some.ensures.value))
+    c.in-Err.ensures.kept

@@ -9,6 +9,7 @@ use Rattle.unl_delta.proofs.Installs.{install_follows}
 use Rattle.unl_edge_state.specs.Editions.{board_known}
 use Rattle.unl_edge_state.specs.Writing.{Writing, installed_by}
 use Rattle.unl_edge_state.proofs.Boards.{shown_known}
+use Rattle.unl_edge_state.proofs.Ordered.{version_in_order}
 use Rattle.unl_edge_state.proofs.Stood.{batch_stood}
 use Rattle.unl_edge_state.proofs.Writings.{batch_is, batch_orderly, batch_told, place_is}
 use Rattle.unl_publication.specs.Seen.{published}
@@ -25,6 +26,15 @@ snapshot_after-requires-clause-applies g c =
     let low : c.args.slot < length c.self.inside.places.items = subst (λ (w : Writing). c.args.slot < length w.places) (sym c.self.view_is) c.requires.slot in
     let here = place_is _ c.self.inside.places.items _ c.args.slot c.index.result.now c.args.self.now c.self.view_is low c.index.ensures in
     subst (λ (p : Place). verdict_of p c.args.batch.now ≡ Apply) here c.requires.applies
+
+pub publish_version-requires-clause-order : goal.publish_version-requires-clause-order
+publish_version-requires-clause-order g c =
+    let low : c.args.slot < length c.self.inside.places.items = subst (λ (w : Writing). c.args.slot < length w.places) (sym c.self.view_is) c.requires.slot in
+    let here = place_is _ c.self.inside.places.items _ c.args.slot c.index.result.now c.args.self.now c.self.view_is low c.index.ensures in
+    let represents = ap (λ (p : Place). p.version) here ∙ stands_at _ c.self.inside.places.items c.args.slot c.index.result.now c.self.invariant.represents low c.index.ensures
+    ∙ ap (λ (w : Writing). snapshot_at (board_known w.known).slots c.args.slot) c.self.view_is in
+    version_in_order c.args.self.now c.args.slot c.args.batch.now c.index.result.now c.in_ok-snapshot.snapshot c.in_ok-snapshot-2.snapshot here represents c.requires.applies
+    c.in_ok-snapshot.ensures.snapshot c.in_ok-snapshot-2.ensures
 
 pub returns-clause-published : goal.returns-clause-published
 returns-clause-published g c =

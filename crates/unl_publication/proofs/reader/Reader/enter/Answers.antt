@@ -1,5 +1,5 @@
 use Rattle.std.proofs.Common.{arith, ap, ◌∙◌}
-use Rattle.unl_publication.proofs.Meant.{follows, refuses}
+use Rattle.unl_publication.proofs.Meant.{follows, refuses, stayed, took}
 use Rattle.unl_publication.proofs.Sure.{IsBetweenLooks-from, IsBetweenLooks-rises, IsLooking-taken, Takes-from, Shows-entered}
 use Rattle.unl_publication.proofs.reader.Reader.enter.Goals as goal
 
@@ -11,6 +11,7 @@ invariant_of-guard g c = let applied = g.T.Absorb.applied in let front = g.T.Cou
   counted = c.front-front.ensures ∙ (ap (λ x. front (g.T.Absorb.state x)) c.get.ensures ∙ e.front_is);
   shows = ∣ Shows-entered applied front _ _ _ _ _ e ∣₁;
   sits = ∣ IsLooking-taken applied front _ _ _ (Takes-from applied front _ _ _ _ e) (IsBetweenLooks-from {S = g.row.T-State.Denot} {I = g.row.I.Denot} _ _ c.args.self.stands) ∣₁;
+  allowed = ∣ e.allowed ∣₁;
 }
 
 pub invariant_of-guard-in-Ok : goal.invariant_of-guard-in-Ok
@@ -18,6 +19,7 @@ invariant_of-guard-in-Ok g c = let applied = g.T.Absorb.applied in let front = g
   counted = c.front-front.ensures ∙ (ap (λ x. front (g.T.Absorb.state x)) c.get.ensures ∙ e.front_is);
   shows = ∣ Shows-entered applied front _ _ _ _ _ e ∣₁;
   sits = ∣ IsLooking-taken applied front _ _ _ (Takes-from applied front _ _ _ _ e) (IsBetweenLooks-from {S = g.row.T-State.Denot} {I = g.row.I.Denot} _ _ c.args.self.stands) ∣₁;
+  allowed = ∣ e.allowed ∣₁;
 }
 
 pub returns-then-front-least-clause-follows : goal.returns-then-front-least-clause-follows
@@ -31,6 +33,13 @@ returns-then-front-least-clause-refused g c = let applied = g.T.Absorb.applied i
     (refuses applied _ _ _ _ _ _ (IsBetweenLooks-from {S = g.row.T-State.Denot} {I = g.row.I.Denot} _ _ c.args.self.stands).ahead (Takes-from applied front _ _ _ _ c.in-Ok.ensures)
     (omega (arith, c.if-front-least.true, c.front-front.ensures, ap (λ x. front (g.T.Absorb.state x)) c.get.ensures, c.in-Ok.ensures.front_is))
     c.leave.ensures.past c.leave.ensures.same).1
+
+pub returns-then-front-least-clause-kept : goal.returns-then-front-least-clause-kept
+returns-then-front-least-clause-kept g c = let applied = g.T.Absorb.applied in let front = g.T.Counted.front_of in
+    took applied _ _ _ _ _ (Takes-from applied front _ _ _ _ c.in-Ok.ensures) c.leave.ensures.past c.leave.ensures.same
+
+pub returns-in-Err-clause-kept : goal.returns-in-Err-clause-kept
+returns-in-Err-clause-kept g c = stayed g.T.Absorb.applied _ _ _ c.in-Err.ensures
 
 pub returns-else-front-least-clause-follows : goal.returns-else-front-least-clause-follows
 returns-else-front-least-clause-follows g c = let applied = g.T.Absorb.applied in let front = g.T.Counted.front_of in
