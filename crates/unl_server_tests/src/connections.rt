@@ -12,19 +12,19 @@ use unl_http_api::End;
 use unl_metrics::MetricsBook;
 use unl_tokens::Book;
 
-const HEALTH: &[u8] = b"GET /internal-backstage/health HTTP/1.1\r\nHost: x\r\n\r\n";
+pub(crate) const HEALTH: &[u8] = b"GET /internal-backstage/health HTTP/1.1\r\nHost: x\r\n\r\n";
 
-const HEALTHY: &[u8] =
+pub(crate) const HEALTHY: &[u8] =
     b"HTTP/1.1 200 OK\r\nContent-Type: application/json\r\nContent-Length: 15\r\n\r\n{\"status\":\"OK\"}";
 
 const DRAW: Draw = Draw { now: 1, word: 2 };
 
 /// The bytes that a connection was sent, the notes of the answered requests, and how it ended.
 #[derive(Drop)]
-struct Outcome {
-    sent: Vec<u8>,
-    served: Served,
-    end: End,
+pub(crate) struct Outcome {
+    pub sent: Vec<u8>,
+    pub served: Served,
+    pub end: End,
 }
 
 const TOKENS: &[u8] =
@@ -42,7 +42,7 @@ fn desk(alloc: Global) -> Result<OneDesk, Memory> {
 }
 
 /// Serves a connection whose reads give at most `most` of the bytes at a time.
-fn serve(alloc: Global, bytes: &[u8], most: usize) -> Result<Outcome, Memory>
+pub(crate) fn serve(alloc: Global, bytes: &[u8], most: usize) -> Result<Outcome, Memory>
     requires { 0 < most }
 {
     let mut desk = desk(alloc)?;

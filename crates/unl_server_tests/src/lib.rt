@@ -8,4 +8,6 @@ mod links;
 #[cfg(test)]
 mod network;
 #[cfg(test)]
+mod requests;
+#[cfg(test)]
 mod workers;

@@ -231,10 +231,12 @@ fn one_connection_is_many_links(rt: HostRuntime) -> Result<(), Fail> {
     Ok(())
 }
 
-/// A network whose listeners accept two connections, and then fail for good.
+/// A network whose listeners accept two connections, and then fail for good. Its clock goes on by `step` seconds with each reading.
 #[derive(Clone, Copy)]
-struct Failing<R> {
+struct Failing<'a, R> {
     rt: R,
+    seconds: &'a Cell<u64>,
+    step: u64,
 }
 
 /// Linux's number of the error of an argument that is not valid, which says that nothing listens there.
@@ -271,7 +273,7 @@ impl<L: OpenListener + Drop> OpenListener for FailingListener<L> {
     }
 }
 
-impl<R: Net> Net for Failing<R> {
+impl<'a, R: Net> Net for Failing<'a, R> {
     type Stream = R::Stream;
 
     type Listener = FailingListener<R::Listener>;
@@ -288,9 +290,11 @@ impl<R: Net> Net for Failing<R> {
     }
 }
 
-impl<R: Clock> Clock for Failing<R> {
+impl<'a, R: Clock> Clock for Failing<'a, R> {
     fn monotonic(&self) -> io::Result<Duration> {
-        self.rt.monotonic()
+        let seconds = self.seconds.get().saturating_add(self.step);
+        self.seconds.set(seconds);
+        Ok(Duration::from_secs(seconds))
     }
 
     fn since_1970(&self) -> io::Result<Duration> {
@@ -298,7 +302,7 @@ impl<R: Clock> Clock for Failing<R> {
     }
 }
 
-impl<R> Eprint for Failing<R> {
+impl<'a, R> Eprint for Failing<'a, R> {
     fn eprint<D: Display + Drop>(&self, _value: D) -> io::Result<()> {
         Ok(())
     }
@@ -308,35 +312,65 @@ impl<R> Eprint for Failing<R> {
     }
 }
 
-impl<R: Wait> Wait for Failing<R> {}
+impl<'a, R: Wait> Wait for Failing<'a, R> {}
+
+/// Reads the answer of a connection, and the end behind it.
+fn answer_of(client: &mut TcpStream) -> io::Result<[usize; 2]> {
+    let mut room = [0u8; 64];
+    let answer = client.read(&mut room)?;
+    Ok([answer, client.read(&mut room)?])
+}
 
 #[test]
 fn connections_are_served_after_an_accept_that_fails(rt: HostRuntime) -> Result<(), Fail> {
-    let mut door = RealDoor::new(rt.alloc(), Failing { rt }, None, 0)?;
+    let seconds = Cell::new(0);
+    let network = Failing {
+        rt,
+        seconds: &seconds,
+        step: 0,
+    };
+    let mut door = RealDoor::new(rt.alloc(), network, None, 0)?;
     if door.listen(21_078).is_err() {
         return Ok(());
     }
     let mut first = TcpStream::connect(&rt, (Ipv4Addr::LOCALHOST, 21_078))?;
     let mut second = TcpStream::connect(&rt, (Ipv4Addr::LOCALHOST, 21_078))?;
     first.write_all(ASKS)?;
-    first.shutdown(Shutdown::Write)?;
     second.write_all(&ASKS[..9])?;
     // The third accept fails before this link is handed out.
     assert_eq!(rt; serve_one(&mut door), Ok(Some(TURN)));
-    // A request that had begun is read as it comes.
+    // A request that had begun is waited for, and each connection is closed behind its answer.
     second.write_all(&ASKS[9..])?;
+    assert_eq!(rt; serve_one(&mut door), Ok(Some(TURN)));
+    assert_eq!(rt; answer_of(&mut first)?, [27, 0]);
+    first.shutdown(Shutdown::Write)?;
     second.shutdown(Shutdown::Write)?;
-    let in_pieces = PeriodicTask {
-        read: [Ok(9), Ok(18)],
-        written: Ok(27),
-    };
-    assert_eq!(rt; serve_one(&mut door), Ok(Some(in_pieces)));
-    let mut room = [0u8; 64];
-    assert_eq!(rt; first.read(&mut room)?, 27);
-    assert_eq!(rt; second.read(&mut room)?, 27);
     // Only then the door fails, and it does so from then on.
     assert_eq!(rt; serve_one(&mut door), Err(Failed));
     assert_eq!(rt; serve_one(&mut door), Err(Failed));
+    assert_eq!(rt; answer_of(&mut second)?, [27, 0]);
+    Ok(())
+}
+
+#[test]
+fn silent_clients_keep_no_door_open(rt: HostRuntime) -> Result<(), Fail> {
+    let seconds = Cell::new(0);
+    let network = Failing {
+        rt,
+        seconds: &seconds,
+        step: 10,
+    };
+    let mut door = RealDoor::new(rt.alloc(), network, None, 0)?;
+    if door.listen(21_079).is_err() {
+        return Ok(());
+    }
+    let mut silent = TcpStream::connect(&rt, (Ipv4Addr::LOCALHOST, 21_079))?;
+    let mut slow = TcpStream::connect(&rt, (Ipv4Addr::LOCALHOST, 21_079))?;
+    slow.write_all(&ASKS[..9])?;
+    // The third accept fails. After 30 seconds the door fails too, and closes both connections.
+    assert_eq!(rt; serve_one(&mut door), Err(Failed));
+    assert_eq!(rt; answer_of(&mut silent)?, [0, 0]);
+    assert_eq!(rt; answer_of(&mut slow)?, [0, 0]);
     Ok(())
 }
 

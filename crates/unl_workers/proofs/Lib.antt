@@ -1,4 +1,9 @@
+mod Balancing
 mod Chains
+mod Collecting
 mod Handing
 mod Lasts
+mod Shares
+mod Takings
+mod Weights
 mod WorkerSlots

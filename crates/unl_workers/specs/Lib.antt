@@ -1,5 +1,11 @@
 pub mod Links
+pub mod Tallies
+pub mod Balance
+pub mod Passes
 pub mod Accepting
-pub mod Pool
+pub mod Queueing
 pub mod Serving
+pub mod Taking
+pub mod Shares
+pub mod Pool
 pub mod Periodic

@@ -1,14 +1,17 @@
 //! Jobs that run concurrently with the thread that accepts links.
-ghost use Rattle.std.specs.Prelude.{◌≡◌, ◌<◌, ◌≤◌, ◌+◌, ◌++◌, [], IfOk, OnErr, OnOk};
-ghost use Rattle.std.specs.Prelude.{filter_map, length, option_to_list, vec_capacity, vec_len};
-ghost use Rattle.std.specs.List.{AllZip};
+ghost use Rattle.std.specs.Prelude.{◌≡◌, ◌<◌, ◌≤◌, ◌+◌, ◌-◌, ◌++◌, [], IfOk, OnErr, OnOk};
+ghost use Rattle.std.specs.Prelude.{filter_map, flat_map, length, map, option_to_list, vec_capacity, vec_len};
+ghost use Rattle.std.specs.List.{All, AllZip};
+ghost use Rattle.crossbeam_queue.specs.Passes.{view, IsSamePass};
 ghost use Rattle.unl_base.specs.Faults.{HasCause};
-ghost use Rattle.unl_workers.specs.Pool.{PoolJobWorked, post_of};
-ghost use Rattle.unl_workers.specs.Serving.{ServesSlot};
+ghost use Rattle.unl_server.specs.Links.{link_state};
+ghost use Rattle.unl_workers.specs.Passes.{IsPassOfQueue};
+ghost use Rattle.unl_workers.specs.Pool.{PoolJobWorked, RunsWorker, slot_of, taken_by, worker_of};
+ghost use Rattle.unl_workers.specs.Tallies.{new_tally, tally};
 
-use crate::LinkQueue;
 use crate::with_last::with_last;
 use crate::worker::{LinkHandler, Worker, WorkerSlot, serve_all};
+use crate::{LinkQueue, QueuePass};
 use std::alloc::{AllocError, Global};
 use std::sync::Wait;
 use unl_base::{Draws, Failed, Job, Link, Spawner};
@@ -22,7 +25,8 @@ pub(crate) enum PoolJob<'a, S, R, L, W, B> {
 
 impl<'a, S: LinkHandler, R: Draws, L: Link + Drop, W: Wait, B: Job> Job
     for PoolJob<'a, S, R, L, W, B> {
-    ghost worked = { PoolJobWorked (ServesSlot S.serves S.keeps R.coming) B.worked };
+    ghost worked = { PoolJobWorked (RunsWorker S.serves S.keeps R.coming
+        (λ l. link_state (L.Source.left l) (L.Sink.sent l) (L.Source.faults l))) B.worked };
 
     ghost cancelled = { λ before after. Unit {0} };
 
@@ -36,7 +40,8 @@ impl<'a, S: LinkHandler, R: Draws, L: Link + Drop, W: Wait, B: Job> Job
     fn cancel(&mut self) {}
 }
 
-/// A worker for each slot, with capacity for one more job; and an empty vector with capacity for all slots.
+/// A worker for each slot, each with a pass of its own, with capacity for one more job; and an empty vector with capacity for all
+/// slots.
 ///
 /// # Errors
 /// Out of memory.
@@ -44,13 +49,22 @@ pub(crate) fn workers_of<'a, S, R, L, W, B>(
     alloc: Global,
     rt: &'a W,
     queue: &'a LinkQueue<L>,
+    pass: &mut QueuePass<L>,
     posts: Vec<WorkerSlot<S, R>>,
 ) -> Result<(Vec<PoolJob<'a, S, R, L, W, B>>, Vec<WorkerSlot<S, R>>), AllocError>
 where
     S: Drop,
     R: Drop,
+    L: Drop,
     B: Drop,
-    ensures workers { IfOk result (λ made. filter_map post_of made.0.items ≡ posts.items) }
+    requires queue { IsPassOfQueue queue.now pass.old }
+    requires parts { length posts.items < (view pass.old).parts }
+    ensures queue { IsSamePass pass.old pass.new }
+    ensures parts { IfOk result (λ made. view pass.new ≡ tally ((view pass.old).parts - length posts.items)
+        (view pass.old).put (view pass.old).taken (view pass.old).may_put (view pass.old).ends_seen) }
+    ensures workers { IfOk result (λ made. map slot_of (filter_map worker_of made.0.items) ≡ posts.items) }
+    ensures passes { IfOk result (λ made. All (λ worker. IsPassOfQueue queue.now worker.pass × (view worker.pass ≡ new_tally))
+        (filter_map worker_of made.0.items)) }
     ensures more { IfOk result (λ made. vec_len made.0 < vec_capacity made.0) }
     ensures room { IfOk result (λ made. length posts.items ≤ vec_capacity made.1) }
     ensures empty { IfOk result (λ made. made.1.items ≡ []) }
@@ -58,41 +72,55 @@ where
     let room = Vec::with_capacity(alloc, posts.len())?;
     let mut jobs = Vec::new(alloc);
     for post in posts {
-        jobs.push(PoolJob::Worker(Worker {
-            post,
-            queue,
-            rt,
-            alloc,
-        }))?;
+        let worker = new_worker(alloc, rt, queue, queue.split_pass(pass), post);
+        jobs.push(PoolJob::Worker(worker))?;
     }
     jobs.reserve_exact(1)?;
     Ok((jobs, room))
 }
 
-/// Runs workers and another job concurrently, and `here` on this thread. Returns `here`, the slots, in the vector `room`,
-/// and the other job.
+/// A worker for a slot, with this pass.
+fn new_worker<'a, S, R, L, W>(
+    alloc: Global,
+    rt: &'a W,
+    queue: &'a LinkQueue<L>,
+    pass: QueuePass<L>,
+    post: WorkerSlot<S, R>,
+) -> Worker<'a, S, R, L, W>
+    requires queue { IsPassOfQueue queue.now pass }
+    requires parts { 0 < (view pass).parts }
+    ensures post { result.post ≡ post }
+    ensures pass { result.pass ≡ pass }
+{
+    Worker {
+        post,
+        queue,
+        pass,
+        rt,
+        alloc,
+    }
+}
+
+/// Runs workers and another job concurrently, and `here` on this thread. Returns `here`, the workers and the other job.
 ///
 /// # Errors
 /// `Failed`: a job couldn't be started. The spawner increments its fault count.
-pub(crate) fn run_jobs<S, R, L, W, P: Spawner, B: Job, M: Job>(
+pub(crate) fn run_jobs<'a, S, R, L, W, P: Spawner, B: Job, M: Job>(
     spawner: &mut P,
-    workers: Vec<PoolJob<'_, S, R, L, W, B>>,
+    workers: Vec<PoolJob<'a, S, R, L, W, B>>,
     other: B,
     here: M,
-    room: Vec<WorkerSlot<S, R>>,
-) -> (M, Result<(Vec<WorkerSlot<S, R>>, B), Failed>)
+) -> (M, Result<(Vec<PoolJob<'a, S, R, L, W, B>>, B), Failed>)
 where
     S: LinkHandler + Drop + Send,
     R: Draws + Drop + Send,
     L: Link + Drop + Send,
     W: Wait + Sync,
     B: Drop + Send,
-    requires more { vec_len workers < vec_capacity workers }
-    requires room { length (filter_map post_of workers.items) ≤ vec_capacity room }
-    requires empty { room.items ≡ [] }
+    requires { vec_len workers < vec_capacity workers }
     ensures here { OnOk result.1 (M.worked here result.0) }
-    ensures posts { IfOk result.1 (λ done.
-        AllZip (ServesSlot S.serves S.keeps R.coming) (filter_map post_of workers.entry.items) done.0.items) }
+    ensures each { IfOk result.1 (λ done. AllZip (PoolJobWorked (RunsWorker S.serves S.keeps R.coming
+        (λ l. link_state (L.Source.left l) (L.Sink.sent l) (L.Source.faults l))) B.worked) workers.entry.items done.0.items) }
     ensures other { IfOk result.1 (λ done. B.worked other done.1) }
     ensures cancelled { OnErr result.1 (M.cancelled here result.0) }
     ensures cause { HasCause (P.faults spawner.old) (P.faults spawner.new) result.1 }
@@ -100,40 +128,68 @@ where
     let (here, done) = with_last(spawner, workers, PoolJob::Other(other), here);
     match done {
         Ok((workers, last)) => match last {
-            PoolJob::Other(other) => (here, Ok((posts_of(workers, room), other))),
+            PoolJob::Other(other) => (here, Ok((workers, other))),
             PoolJob::Worker(_) => unreachable!(),
         },
         Err(failed) => (here, Err(failed)),
     }
 }
 
-/// The slots of the workers, in the vector `room`.
-fn posts_of<S: Drop, R: Drop, L, W, B: Drop>(
+/// The slots of the workers that have taken the end, in the vector `room`. Their passes are joined to `pass`.
+pub(crate) fn collect_slots<S: Drop, R: Drop, L: Drop, W, B: Drop>(
+    queue: &LinkQueue<L>,
+    pass: &mut QueuePass<L>,
     jobs: Vec<PoolJob<'_, S, R, L, W, B>>,
     room: Vec<WorkerSlot<S, R>>,
 ) -> Vec<WorkerSlot<S, R>>
-    requires room { length (filter_map post_of jobs.items) ≤ vec_capacity room }
+    requires queue { IsPassOfQueue queue.now pass.old }
+    requires parts { 0 < (view pass.old).parts }
+    requires passes { All (λ worker. IsPassOfQueue queue.now worker.pass
+        × (view worker.pass ≡ tally 1 [] (taken_by worker) 0 1)) (filter_map worker_of jobs.items) }
+    requires room { length (filter_map worker_of jobs.items) ≤ vec_capacity room }
     requires empty { room.items ≡ [] }
-    ensures { result.items ≡ filter_map post_of jobs.entry.items }
+    ensures queue { IsSamePass pass.old pass.new }
+    ensures posts { result.items ≡ map slot_of (filter_map worker_of jobs.entry.items) }
+    ensures whole { view pass.new ≡ tally ((view pass.old).parts + length (filter_map worker_of jobs.entry.items)) (view pass.old).put
+        ((view pass.old).taken ++ flat_map taken_by (filter_map worker_of jobs.entry.items))
+        (view pass.old).may_put ((view pass.old).ends_seen + length (filter_map worker_of jobs.entry.items)) }
 {
     let mut posts = room;
     for job in jobs {
-        keep(&mut posts, job);
+        collect_slot(queue, pass, &mut posts, job);
     }
     posts
 }
 
-/// Appends the slot of a worker. There is capacity for it.
-fn keep<S: Drop, R: Drop, L, W, B: Drop>(
+/// Appends the slot of a worker, for which there is capacity, and joins its pass to `pass`.
+fn collect_slot<S: Drop, R: Drop, L: Drop, W, B: Drop>(
+    queue: &LinkQueue<L>,
+    pass: &mut QueuePass<L>,
     posts: &mut Vec<WorkerSlot<S, R>>,
     job: PoolJob<'_, S, R, L, W, B>,
 )
-    requires { vec_len posts.old + length (option_to_list (post_of job)) ≤ vec_capacity posts.old }
-    ensures items { posts.new.items ≡ posts.old.items ++ option_to_list (post_of job.entry) }
+    requires queue { IsPassOfQueue queue.now pass.old }
+    requires parts { 0 < (view pass.old).parts }
+    requires passes { All (λ worker. IsPassOfQueue queue.now worker.pass
+        × (view worker.pass ≡ tally 1 [] (taken_by worker) 0 1)) (option_to_list (worker_of job)) }
+    requires room { length posts.old.items + length (option_to_list (worker_of job)) ≤ vec_capacity posts.old }
+    ensures queue { IsSamePass pass.old pass.new }
+    ensures items { posts.new.items ≡ posts.old.items ++ map slot_of (option_to_list (worker_of job.entry)) }
+    ensures whole { view pass.new ≡ tally ((view pass.old).parts + length (option_to_list (worker_of job.entry))) (view pass.old).put
+        ((view pass.old).taken ++ flat_map taken_by (option_to_list (worker_of job.entry)))
+        (view pass.old).may_put ((view pass.old).ends_seen + length (option_to_list (worker_of job.entry))) }
     ensures room { vec_capacity posts.old ≤ vec_capacity posts.new }
 {
     match job {
-        PoolJob::Worker(worker) => posts.push(worker.post).unwrap(),
+        PoolJob::Worker(worker) => {
+            let Worker {
+                post,
+                pass: theirs,
+                ..
+            } = worker;
+            queue.join_pass(pass, theirs);
+            posts.push(post).unwrap();
+        }
         PoolJob::Other(_) => {}
     }
 }

@@ -75,7 +75,7 @@ impl<L> LinkState<L> {
     }
 
     /// Appends a link to a queue that is not full.
-    pub(crate) fn append(&mut self, link: L)
+    fn append(&mut self, link: L)
         requires { is_full self.old ≡ false }
         ensures { self.new ≡ record self.old { links = self.old.links ++ link ∷ [] } }
     {

@@ -1,9 +1,13 @@
 //! Workers, which serve links.
-ghost use Rattle.std.specs.Prelude.{◌≡◌};
+ghost use Rattle.std.specs.Prelude.{◌≡◌, ◌<◌};
+ghost use Rattle.crossbeam_queue.specs.Passes.{view, IsSamePass};
+ghost use Rattle.unl_server.specs.Links.{link_state};
+ghost use Rattle.unl_workers.specs.Passes.{IsPassOfQueue};
 ghost use Rattle.unl_workers.specs.Serving.{ServesSlot, ServesMany, ServesOne, serving};
+ghost use Rattle.unl_workers.specs.Taking.{ServesLink, TakesAndServes, TakesAndServesAt, with_draws};
 
-use crate::LinkQueue;
 use crate::ever::wait_forever;
+use crate::{LinkQueue, QueuePass};
 use std::alloc::Global;
 use std::sync::Wait;
 use unl_base::{Draws, Link};
@@ -44,39 +48,52 @@ impl<S, R> WorkerSlot<S, R> {
 pub(crate) struct Worker<'a, S, R, L, W> {
     pub post: WorkerSlot<S, R>,
     pub queue: &'a LinkQueue<L>,
+    pub pass: QueuePass<L>,
     pub rt: &'a W,
     pub alloc: Global,
+    ghost queue_is: { IsPassOfQueue queue.now pass },
+    ghost parts: { 0 < (view pass).parts },
 }
 
 /// Takes links from the queue and serves each, until the queue is closed and empty. It may block.
 pub(crate) fn serve_all<S: LinkHandler, R: Draws, L: Link + Drop, W: Wait>(
     worker: &mut Worker<'_, S, R, L, W>,
 )
-    ensures { ServesSlot S.serves S.keeps R.coming worker.old.post worker.new.post }
+    ensures slot { ServesSlot S.serves S.keeps R.coming worker.old.post worker.new.post }
+    ensures same { IsSamePass worker.old.pass worker.new.pass }
+    ensures took { TakesAndServesAt S.serves R.coming (λ l. link_state (L.Source.left l) (L.Sink.sent l) (L.Source.faults l))
+        (view worker.old.pass) worker.old.post (view worker.new.pass) worker.new.post }
 {
     worker.post.links = run_worker(
         worker.alloc,
         worker.rt,
         worker.queue,
+        &mut worker.pass,
         &mut worker.post.server,
         &mut worker.post.draws,
     );
 }
 
-/// Does the work of one worker: takes links from a queue and serves each, until the queue is closed and empty. Returns how many
-/// were served. It may block.
+/// Does the work of one worker, which has a pass of the queue: takes links from the queue and serves each, until the queue is
+/// closed and empty. Returns how many were served. It may block.
 pub fn run_worker<S: LinkHandler, R: Draws, L: Link + Drop, W: Wait>(
     alloc: Global,
     rt: &W,
     queue: &LinkQueue<L>,
+    pass: &mut QueuePass<L>,
     server: &mut S,
     draws: &mut R,
 ) -> u64
+    requires queue { IsPassOfQueue queue.now pass.old }
+    requires parts { 0 < (view pass.old).parts }
     ensures served { ServesMany S.serves result (serving server.old (R.coming draws.old)) (serving server.new (R.coming draws.new)) }
     ensures keeps { S.keeps server.old server.new }
+    ensures same { IsSamePass pass.old pass.new }
+    ensures took { TakesAndServes (with_draws S.serves) (λ l. link_state (L.Source.left l) (L.Sink.sent l) (L.Source.faults l)) result 1
+        (view pass.old) (serving server.old (R.coming draws.old)) (view pass.new) (serving server.new (R.coming draws.new)) }
 {
     for served in 0..u64::MAX {
-        match queue.take(rt) {
+        match queue.take(rt, pass) {
             Some(link) => serve_one(alloc, link, server, draws),
             None => return served,
         }
@@ -87,12 +104,15 @@ pub fn run_worker<S: LinkHandler, R: Draws, L: Link + Drop, W: Wait>(
 /// Serves a link, and drops it.
 fn serve_one<S: LinkHandler, R: Draws, L: Link + Drop>(
     alloc: Global,
-    mut link: L,
+    link: L,
     server: &mut S,
     draws: &mut R,
 )
     ensures served { ServesOne S.serves (serving server.old (R.coming draws.old)) (serving server.new (R.coming draws.new)) }
     ensures keeps { S.keeps server.old server.new }
+    ensures this { ServesLink (with_draws S.serves) (link_state (L.Source.left link) (L.Sink.sent link) (L.Source.faults link))
+        (serving server.old (R.coming draws.old)) (serving server.new (R.coming draws.new)) }
 {
+    let mut link = link;
     server.serve_link(alloc, &mut link, draws);
 }

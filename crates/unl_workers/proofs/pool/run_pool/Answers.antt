@@ -1,54 +1,20 @@
-use Rattle.std.proofs.Common.{rules, ◌≤◌}
-use Rattle.unl_base.specs.Faults.{Rose}
-use Rattle.unl_workers.specs.Accepting.{HandsOut}
-use Rattle.unl_workers.specs.Periodic.{MakesTurns}
+use Rattle.std.proofs.Common.{◌≡◌, ◌-◌, ℕ, [], ap, sym, ◌∙◌, length}
+use Rattle.std.specs.Prelude.{filter_map}
+use Rattle.std.proofs.lemmas.List.{length-map}
+use Rattle.crossbeam_queue.specs.Passes.{Pass, view}
+use Rattle.unl_workers.specs.declared.tally.Entry.{Entry}
+use Rattle.unl_workers.specs.declared.tally.Tally.{Tally}
+use Rattle.unl_workers.specs.Tallies.{tally}
+use Rattle.unl_workers.specs.Pool.{slot_of, worker_of}
 use Rattle.unl_workers.proofs.pool.run_pool.Goals as goal
 
--- Each fact is about the values behind the references after the jobs, which are the references that were passed.
-pub returns-in-Ok-outcome-clause-turns : goal.returns-in-Ok-outcome-clause-turns
-returns-in-Ok-outcome-clause-turns g c =
-    let refreshed =
-    rw (c.in-Ok-done.is, c.new-refresher.ensures.turn, c.new-refresher.ensures.pace) at c.run_jobs-acceptor.ensures.other in
-    let fact : MakesTurns g.N.PeriodicTask.turned g.N.PeriodicTask.keeps c.in-Ok-done.refresher.turns c.args.turn.now c.in-Ok-done.refresher.turn.now
-    (g.T.Pace.turns c.args.pace.now) (g.T.Pace.turns c.in-Ok-done.refresher.pace.now) = refreshed.2 in
-    search rules
-
-pub returns-in-Ok-outcome-clause-causes : goal.returns-in-Ok-outcome-clause-causes
-returns-in-Ok-outcome-clause-causes g c =
-    let worked = rw (c.in-Ok-done.is, c.new-acceptor.ensures.door) at c.run_jobs-acceptor.ensures.here in
-    let fact : g.D.Door.faults c.args.door.now ≤ g.D.Door.faults c.run_jobs-acceptor.result.0.door.now = worked.2.later in
-    record {
-      door_later = search rules;
-      spawner_later = c.run_jobs-acceptor.ensures.cause.later;
-      door = search rules;
-      spawner = search rules;
-    }
-
-pub returns-in_default-done-clause-causes : goal.returns-in_default-done-clause-causes
-returns-in_default-done-clause-causes g c =
-    record {
-      door_later = search rules;
-      spawner_later = c.run_jobs-acceptor.ensures.cause.later;
-      door = search rules;
-      spawner = search rules;
-    }
-
-pub returns-clause-accepts : goal.returns-clause-accepts
-returns-clause-accepts g c =
-    let worked = rw (c.in-Ok-done.is, c.new-acceptor.ensures.door) at c.run_jobs-acceptor.ensures.here in
-    let some = rw (c.in-Err.is) at worked.1 in
-    let fact : HandsOut some.0 (g.D.Door.state c.args.door.now) (g.D.Door.state c.run_jobs-acceptor.result.0.door.now) = some.1 in
-    (some.0, search rules)
-
-pub returns-clause-causes : goal.returns-clause-causes
-returns-clause-causes g c =
-    let worked = rw (c.in-Ok-done.is, c.new-acceptor.ensures.door) at c.run_jobs-acceptor.ensures.here in
-    let later : g.D.Door.faults c.args.door.now ≤ g.D.Door.faults c.run_jobs-acceptor.result.0.door.now = worked.2.later in
-    let rose : Rose (g.D.Door.faults c.args.door.now) (g.D.Door.faults c.run_jobs-acceptor.result.0.door.now) =
-    rw (c.in-Err.is) at worked.2.failed in
-    record {
-      door_later = search rules;
-      spawner_later = c.run_jobs-acceptor.ensures.cause.later;
-      door = search rules;
-      spawner = search rules;
-    }
+pub run_prepared-lent-requires-clause-knows : goal.run_prepared-lent-requires-clause-knows
+run_prepared-lent-requires-clause-knows g c =
+    let many : length (filter_map worker_of c.in-Ok-workers_of.workers.items) ≡ length c.args.posts.items =
+    sym (length-map (filter_map worker_of c.in-Ok-workers_of.workers.items) slot_of)
+    ∙ ap length c.in-Ok-workers_of.ensures.workers in
+    let fact = ap (λ (pass : Pass (Entry g.row.D-L.Denot) (Tally g.row.D-L.Denot)). view pass) c.new-acceptor.ensures.pass
+    ∙ c.in-Ok-workers_of.ensures.parts
+    ∙ ap (λ (v : Tally g.row.D-L.Denot). tally (v.parts - length c.args.posts.items) v.put v.taken v.may_put v.ends_seen) c.in-Ok.ensures.1
+    ∙ ap (λ (k : ℕ). tally (18446744073709551616 - k) [] [] 1 0) (sym many) in
+    λ κs outlives. fact

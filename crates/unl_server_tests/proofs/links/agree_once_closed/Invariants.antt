@@ -1,0 +1,11 @@
+use Rattle.std.proofs.Common.{◌<◌}
+use Rattle.crossbeam_queue.specs.Passes.{view}
+use Rattle.unl_workers.specs.Passes.{IsPassOfQueue}
+use Rattle.unl_server_tests.proofs.links.agree_once_closed.Given as goal
+
+-- the pass is still one of the queue
+abbrev pub invariant-loop : goal.invariant-loop
+invariant-loop g l = record {
+  queue : IsPassOfQueue l.queue l.pass;
+  parts : 0 < (view l.pass).parts;
+}

@@ -1,0 +1,13 @@
+use Rattle.std.proofs.Common.{◌≡◌}
+use Rattle.crossbeam_queue.specs.Passes.{view, IsSamePass}
+use Rattle.unl_workers.specs.Passes.{IsPassOfQueue}
+use Rattle.unl_workers.proofs.queue.LinkQueue.push.Given as goal
+
+-- nothing was put yet
+abbrev pub invariant-loop : goal.invariant-loop
+invariant-loop g l = record {
+  queue : IsPassOfQueue l.self l.pass;
+  same : IsSamePass l.initial.pass l.pass;
+  view : view l.pass ≡ view l.initial.pass;
+  entry : l.entry ≡ l.initial.entry;
+}

@@ -1,0 +1,44 @@
+-- The links of a door, shared among worker slots. `Serves` and `coming_of` are those of `ServesSlot`.
+use Rattle.std.specs.Prelude.{◌≡◌, ℕ, List, [], ◌∷◌, Option, flat_map, length, map, sum_by}
+use Rattle.unl_base.specs.Doors.{DoorState}
+use Rattle.unl_server.specs.Handling.{Coming}
+use Rattle.unl_server.specs.Links.{LinkState, link_state}
+use Rattle.unl_workers.specs.Queueing.{HandsOutEach}
+use Rattle.unl_workers.specs.Serving.{serving}
+use Rattle.unl_workers.specs.Taking.{ServesEach, with_draws}
+use Rattle.unl_workers.specs.Tallies.{SameLinks}
+use Rattle.unl_workers.specs.declared.worker.WorkerSlot.{WorkerSlot}
+
+-- a slot served these links, one after another, and counts them
+pub record ServedAt
+    {S R L : Type 0} (Serves : S → Coming → LinkState → LinkState → S → Coming → Type 0) (coming_of : R → Coming) (state_of : L → LinkState)
+    (links : List L) (before after : WorkerSlot S R) : Type 0 where
+  pub served : ServesEach (with_draws Serves) (map state_of links) (serving before.server (coming_of before.draws))
+      (serving after.server (coming_of after.draws))
+  pub counted : length links ≡ after.links
+
+-- each slot served its share, a list of links
+abbrev pub ServedAtEach :
+    {S R L : Type 0} → (S → Coming → LinkState → LinkState → S → Coming → Type 0) → (R → Coming) → (L → LinkState)
+    → List (List L) → List (WorkerSlot S R) → List (WorkerSlot S R) → Type 0
+ServedAtEach Serves coming_of state_of [] [] [] = Unit {0}
+ServedAtEach Serves coming_of state_of (links ∷ shares) (before ∷ posts) (after ∷ done) =
+    ServedAt Serves coming_of state_of links before after × ServedAtEach Serves coming_of state_of shares posts done
+ServedAtEach Serves coming_of state_of [] [] (after ∷ done) = ⊥
+ServedAtEach Serves coming_of state_of [] (before ∷ posts) done = ⊥
+ServedAtEach Serves coming_of state_of (links ∷ shares) [] done = ⊥
+ServedAtEach Serves coming_of state_of (links ∷ shares) (before ∷ posts) [] = ⊥
+
+-- The door handed out `count` links. Each was served once, at one of the slots, from the state in which it was handed out, and
+-- no other link was served. So the counts of the slots add up to `count`.
+pub record EachLinkServedOnce
+    {S R L : Type 0} (Serves : S → Coming → LinkState → LinkState → S → Coming → Type 0) (coming_of : R → Coming)
+    (left sent : L → Option (List ℕ)) (faults : L → ℕ)
+    (door door_after : DoorState) (count : ℕ) (posts done : List (WorkerSlot S R)) : Type 0 where
+  pub given : List L
+  pub shares : List (List L)
+  pub handed : HandsOutEach left sent faults given door door_after
+  pub counted : length given ≡ count
+  pub served : ServedAtEach Serves coming_of (λ link. link_state (left link) (sent link) (faults link)) shares posts done
+  pub same : SameLinks given (flat_map (λ share. share) shares)
+  pub total : sum_by (λ (post : WorkerSlot S R). post.links) done ≡ count
