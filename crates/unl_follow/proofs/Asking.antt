@@ -1,5 +1,5 @@
 -- The effect of one request, by the reply that was read or the fault.
-use Rattle.std.proofs.Common.{◌≡◌, ◌≤◌, ℕ, List, Option, Some, None, ap, subst, sym}
+use Rattle.std.proofs.Common.{◌≡◌, ℕ, List, Option, Some, None, ap, subst, sym}
 use Rattle.unl_base.specs.Faults.{Rose}
 use Rattle.unl_base.specs.Doors.{next_of}
 use Rattle.unl_base.specs.Peers.{PeerState}
@@ -27,16 +27,16 @@ pub replied : (ask : Ask) (before after : Kept) (tag : Option (List ℕ)) (outco
     (sent sent_after : Option (List ℕ)) (faults faults_after : ℕ) → peer.sent ≡ sent → peer_after.sent ≡ sent_after
     → Refreshes 0 ask (installed_by before) (option_map next_of peer.replies)
     (record { outcome = outcome; installed = installed_by after; tag = tag })
-    → Asks (request_at ask (standing before ask.tag)) peer.replies sent peer_after.replies sent_after → faults ≤ faults_after
+    → Asks (request_at ask (standing before ask.tag)) peer.replies sent peer_after.replies sent_after → faults_after ≡ faults
     → AsksOnce ask (standing before ask.tag) peer faults (record { outcome = Some outcome; stand = standing after tag }) peer_after faults_after
 unfolding turned_to
-replied ask before after tag outcome peer peer_after sent sent_after faults faults_after same same_after takes asks later = record {
+replied ask before after tag outcome peer peer_after sent sent_after faults faults_after same same_after takes asks still = record {
   came = Some takes.reading;
   meets = (
     takes.is_read,
     told (λ old new. Asks (request_at ask (standing before ask.tag)) peer.replies old peer_after.replies new)
         sent sent_after peer peer_after same same_after asks,
-    later,
+    still,
   );
   turned_so = ap (λ (r : Refreshed). turned_by r) takes.gives;
 }

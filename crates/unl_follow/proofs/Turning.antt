@@ -2,7 +2,7 @@
 use Rattle.std.proofs.Common.{◌≡◌, ◌<◌, ◌≤◌, ◌+◌, ◌-◌, ◌++◌, ◌∙◌, ℕ, List, [], ◌∷◌, drop, length, Option, Some, None, Result, Err, true, false, true≢false, zero, suc, nat_lt, ap, append_assoc, append-nil, arith, inl, inr, ⊎_elim, refl, subst, sym}
 use Rattle.std.proofs.lemmas.Bool.Decides.{nat_tests}
 use Rattle.std.proofs.lemmas.List.{drop-drop}
-use Rattle.std.specs.Prelude.{IfSome}
+use Rattle.std.specs.Prelude.{IfNone, IfSome}
 use Rattle.std.specs.Option.{option_map}
 use Rattle.unl_base.specs.declared.draws.Draw.{Draw}
 use Rattle.unl_base.specs.Doors.{next_of}
@@ -11,14 +11,14 @@ use Rattle.unl_base.specs.Faults.{Rose}
 use Rattle.unl_base.specs.Peers.{PeerState}
 use Rattle.unl_base.specs.Streams.{Sends, SendsFront}
 use Rattle.unl_refresh.specs.declared.ask.Ask.{Ask}
-use Rattle.unl_refresh.specs.Exchange.{IsRead}
+use Rattle.unl_refresh.specs.Exchange.{IsRead, ReplyOrFault}
 use Rattle.unl_refresh.specs.Refresh.{with_tag}
 use Rattle.unl_follow.specs.Replica.{Subject}
 use Rattle.unl_follow.specs.declared.fault.FollowFault.{FollowFault}
 use Rattle.unl_follow.specs.declared.fault.FollowFault.TheVariants.{WriteFault, Memory}
 use Rattle.unl_refresh.specs.declared.outcome.Outcome.{Outcome}
 use Rattle.unl_follow.specs.Run.{AreAsMany, AsksOnce, Ends, Follows, Meets, RoseBy, Runs, TakesTurn}
-use Rattle.unl_follow.specs.Turns.{ReplyOrFault, Comes, IsAsked, TurnState, Turn, TurnEffect, first_stand, follow_text, reply_at, request_at, state_after, turn_line, turned_to}
+use Rattle.unl_follow.specs.Turns.{Comes, IsAsked, TurnState, Turn, TurnEffect, first_stand, follow_text, reply_at, request_at, state_after, turn_line, turned_to}
 
 -- ---- what is sent
 
@@ -77,7 +77,7 @@ came_on (Some reading) request replies between peer_after i k before mid after l
   failed = k;
   comes = (subst (λ (o : Option (List ℕ)). IsRead o reading) (ap (option_map next_of) left ∙ next_is replies i) meets.0, refl, refl);
   left = meets.1.one_reply ∙ ap (option_map (λ list. drop 1 list)) left ∙ taken_more replies i;
-  counted = later_still k before mid after counted meets.2;
+  counted = later_still k before mid after counted (omega (arith, meets.2));
 }
 came_on None request replies between peer_after i k before mid after left counted (inl kept, rose) = record {
   taken = i;
@@ -210,9 +210,10 @@ all_made asked made (Some n) now turns paced many all = omega (arith, many, all,
 
 -- the pace had no more turns
 pub pace_ended : (asked made : ℕ) (start mid : Option ℕ) (turns : List Turn) → Paced start mid made → length turns ≡ made → made < asked
-    → 0 < made → IfSome mid (λ n. false ≡ nat_lt 0 n) → AreAsMany asked start turns
-pace_ended asked made None mid turns paced many few later told = omega (arith, many, few)
-pace_ended asked made (Some n) mid turns paced many few later told =
+    → 0 < made → IfSome mid (λ n. false ≡ nat_lt 0 n) → IfNone mid (false ≡ true) → AreAsMany asked start turns
+pace_ended asked made None mid turns paced many few later told unobservable =
+    absurd (true≢false (sym (subst (λ (o : Option ℕ). IfNone o (false ≡ true)) paced.left unobservable)))
+pace_ended asked made (Some n) mid turns paced many few later told unobservable =
     let none : false ≡ nat_lt 0 (n - (made - 1)) = subst (λ (o : Option ℕ). IfSome o (λ n. false ≡ nat_lt 0 n)) paced.left told in
     let most : made ≤ n + 1 = paced.most in
     let over : n + 1 ≤ made = grind (arith, nat_tests) in
@@ -227,10 +228,12 @@ went_on start mid now (suc made) paced first takes told =
 
 -- the run stopped because the pace had no more turns
 pub stopped : (asked made : ℕ) (start mid now : Option ℕ) (turns : List Turn) → Paced start mid made → length turns ≡ made → made < asked
-    → (made ≡ 0 → (false ≡ true) × (now ≡ mid)) → (0 < made → IfSome mid (λ n. false ≡ nat_lt 0 n)) → AreAsMany asked start turns
-stopped asked zero start mid now turns paced many few first told = absurd (true≢false (sym (first refl).0))
-stopped asked (suc made) start mid now turns paced many few first told =
-    let later : 0 < suc made = omega arith in pace_ended asked (suc made) start mid turns paced many few later (told later)
+    → (made ≡ 0 → (false ≡ true) × (now ≡ mid)) → (0 < made → IfSome mid (λ n. false ≡ nat_lt 0 n)) → (0 < made → IfNone mid (false ≡ true))
+    → AreAsMany asked start turns
+stopped asked zero start mid now turns paced many few first told unobservable = absurd (true≢false (sym (first refl).0))
+stopped asked (suc made) start mid now turns paced many few first told unobservable =
+    let later : 0 < suc made = omega arith in
+    pace_ended asked (suc made) start mid turns paced many few later (told later) (unobservable later)
 
 -- ---- one turn of the code
 

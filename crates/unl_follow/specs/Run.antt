@@ -2,17 +2,15 @@
 use Rattle.std.specs.Prelude.{◌≡◌, ◌≤◌, ℕ, ◌+◌, ◌-◌, ◌^◌, min, List, drop, length, Option, Some, None, option_map}
 use Rattle.std.specs.Prelude.{Result, Ok, Err}
 use Rattle.unl_base.specs.declared.draws.Draw.{Draw}
-use Rattle.unl_base.specs.Doors.{next_of}
 use Rattle.unl_base.specs.Draws.{TakesDraw}
-use Rattle.unl_base.specs.Faults.{Rose}
 use Rattle.unl_base.specs.Peers.{PeerState}
 use Rattle.unl_base.specs.Streams.{Sends, SendsFront}
 use Rattle.unl_refresh.specs.declared.ask.Ask.{Ask}
-use Rattle.unl_refresh.specs.Exchange.{Asks, AsksAtMostOnce, IsRead}
+use Rattle.unl_refresh.specs.Exchange.{Meets as MeetsPeer, ReplyOrFault, peer_view}
 use Rattle.unl_follow.specs.declared.fault.FollowFault.{FollowFault}
 use Rattle.unl_follow.specs.declared.fault.FollowFault.TheVariants.{WriteFault, Memory}
 use Rattle.unl_follow.specs.Replica.{Subject}
-use Rattle.unl_follow.specs.Turns.{ReplyOrFault, HaveAsked, HaveDrawn, HaveTurned, TurnState, Turn, TurnEffect, follow_text, request_at, turn_line}
+use Rattle.unl_follow.specs.Turns.{HaveAsked, HaveDrawn, HaveTurned, TurnState, Turn, TurnEffect, follow_text, request_at, turn_line}
 use Rattle.unl_follow.specs.Turns.{turned_to}
 
 -- The ends of a run: the peer (what it was sent on its last connection, and what its next ones give to read) with its count of
@@ -25,13 +23,10 @@ pub record Ends : Type 0 where
 
 -- ---- one turn
 
--- The peer was sent the request and used up one reply; or it failed, with at most one connection.
+-- The peer was sent the request, and the next reply was read; or it failed, after at most one connection.
 abbrev pub Meets : ReplyOrFault → List ℕ → PeerState → ℕ → PeerState → ℕ → Type 0
-Meets (Some reading) request peer faults peer_after faults_after =
-    IsRead (option_map next_of peer.replies) reading × Asks request peer.replies peer.sent peer_after.replies peer_after.sent
-    × (faults ≤ faults_after)
-Meets None request peer faults peer_after faults_after =
-    AsksAtMostOnce request peer.replies peer.sent peer_after.replies peer_after.sent × Rose faults faults_after
+Meets came request peer faults peer_after faults_after =
+    MeetsPeer came request (peer_view peer.replies peer.sent faults) (peer_view peer_after.replies peer_after.sent faults_after)
 
 -- One request was made in state `stand`, and it had this outcome and effect.
 pub record AsksOnce
@@ -72,9 +67,9 @@ pub record Follows
   pub sends : Sent before.sent (follow_text ask.delta subject turns) after.sent
 
 -- The number of turns is the smaller of `asked` and what the pace allowed: the first turn, and one for each of the pace.
--- If the pace is not observable, it is at most `asked`.
+-- A pace that is not observable always goes on, so then it is `asked`.
 abbrev pub AreAsMany : ℕ → Option ℕ → List Turn → Type 0
-AreAsMany asked None turns = length turns ≤ asked
+AreAsMany asked None turns = length turns ≡ asked
 AreAsMany asked (Some more) turns = length turns ≡ min asked (more + 1)
 
 -- How a run ends: after its turns; after a failed write, with a prefix of some turns' text sent; or out of memory, with the whole

@@ -1,24 +1,18 @@
 -- The turns of a replica and what it prints. A list of turns has the last one first.
-use Rattle.std.specs.Prelude.{◌≡◌, ℕ, ◌+◌, ◌⊎◌, Bool, List, [], ◌∷◌, ◌++◌, drop, length, Option, Some, None, option_map, Result}
+use Rattle.std.specs.Prelude.{◌≡◌, ℕ, ◌+◌, ◌⊎◌, Bool, List, [], ◌∷◌, ◌++◌, drop, length, Option, Some, None, option_map}
 use Rattle.unl_base.specs.declared.draws.Draw.{Draw}
 use Rattle.unl_base.specs.Doors.{next_of}
 use Rattle.unl_base.specs.Draws.{TakesDraw}
 use Rattle.unl_base.specs.Streams.{SendsFront}
 use Rattle.unl_delta.specs.declared.version.EnvVersion.{EnvVersion}
 use Rattle.unl_delta.specs.Installing.{Installed, place_of}
-use Rattle.unl_http_api.specs.declared.got.BadReply.{BadReply}
-use Rattle.unl_http_api.specs.declared.got.Got.{Got}
 use Rattle.unl_refresh.specs.declared.ask.Ask.{Ask}
 use Rattle.unl_refresh.specs.declared.outcome.Outcome.{Outcome}
-use Rattle.unl_refresh.specs.Exchange.{IsRead}
+use Rattle.unl_refresh.specs.Exchange.{IsRead, ReplyOrFault}
 use Rattle.unl_refresh.specs.Refresh.{Refreshed, after_reading, refresh_request}
 use Rattle.unl_strategies.specs.Moment.{Moment}
 use Rattle.unl_follow.specs.Line.{line_of, number_text, on_text, word_of}
 use Rattle.unl_follow.specs.Replica.{Subject, found_in, installed_by, new_replica}
-
--- what a request received: a reply, as it was parsed, or nothing if the peer failed
-abbrev pub ReplyOrFault : Type 0
-ReplyOrFault = Option (Result Got BadReply)
 
 -- a turn: its draw, and what its request received
 pub record Turn : Type 0 where

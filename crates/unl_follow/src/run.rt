@@ -1,5 +1,5 @@
 //! A run of turns.
-ghost use Rattle.std.specs.Prelude.{◌≡◌, ◌<◌, ◌≤◌, ◌-◌, true, None, IfSome, IsTrue, Err, nat_lt, option_map};
+ghost use Rattle.std.specs.Prelude.{◌≡◌, ◌<◌, ◌≤◌, ◌-◌, true, None, IfNone, IfSome, IsTrue, Err, nat_lt, option_map};
 ghost use Rattle.unl_base.specs.Faults.{Rose};
 ghost use Rattle.unl_follow.specs.Run.{Runs};
 ghost use Rattle.unl_http_api.specs.RequestText.{fits_line};
@@ -82,6 +82,7 @@ fn goes_on<T: Pace>(made: u32, pace: &mut T) -> bool
     ensures first { made ≡ 0 → (result ≡ true) × (T.turns pace.new ≡ T.turns pace.old) }
     ensures takes { 0 < made → T.turns pace.new ≡ option_map (λ n. n - 1) (T.turns pace.old) }
     ensures told { 0 < made → IfSome (T.turns pace.old) (λ n. result ≡ nat_lt 0 n) }
+    ensures unobservable { 0 < made → IfNone (T.turns pace.old) (result ≡ true) }
 {
     if made == 0 {
         return true;

@@ -1,8 +1,7 @@
 -- Properties of what is installed that a refresh preserves.
-use Rattle.std.proofs.Common.{◌≡◌, ◌<◌, ◌==◌, ℕ, Bool, true, false, cond, length, not, List, Option, Some, None, Result, Ok, Err, IfOk, OnErr, arith, refl, subst, sym}
+use Rattle.std.proofs.Common.{◌≡◌, ◌<◌, ◌==◌, ℕ, Bool, true, false, cond, length, not, List, Option, Result, Ok, Err, IfOk, OnErr, arith, refl, subst, sym}
 use Rattle.std.proofs.lemmas.Bool.Decides.{nat_tests}
 use Rattle.unl_delta.specs.declared.batch.Batch.{Batch}
-use Rattle.unl_delta.specs.declared.version.EnvVersion.{EnvVersion}
 use Rattle.unl_delta.specs.declared.version.Place.{Place}
 use Rattle.unl_delta.specs.Batch.{verdict_of}
 use Rattle.unl_delta.specs.History.{Era, IsLine, IsNotBelow, PlaceRepresents}

@@ -1,5 +1,5 @@
 -- The bytes held decide how the whole stream is parsed.
-use Rattle.std.proofs.Common.{◌≡◌, ◌≤◌, ◌⊎◌, inl, inr, ℕ, List, [], ◌++◌, length, sym, ap, ◌∙◌, subst, append-nil, Option, Some, None, Result}
+use Rattle.std.proofs.Common.{◌≡◌, ◌≤◌, ◌⊎◌, inl, inr, ℕ, List, [], ◌++◌, length, sym, ap, ◌∙◌, subst, append-nil, Option, Some, None, Result, Ok, Err, arith}
 use Rattle.std.proofs.lemmas.Option.{none-some, same_Some}
 use Rattle.std.specs.Option.{option_map}
 use Rattle.unl_base.specs.Doors.{next_of}
@@ -8,7 +8,8 @@ use Rattle.unl_http_api.specs.declared.got.Got.{Got}
 use Rattle.unl_http_api.specs.declared.got.BadReply.{BadReply}
 use Rattle.unl_http_api.specs.Received.{IsReply}
 use Rattle.unl_http_api.proofs.ReceivedLemmas.{IsReply-append, IsReply_unique}
-use Rattle.unl_refresh.specs.Exchange.{HoldsEnough, IsRead}
+use Rattle.unl_refresh.specs.Exchange.{HasPeerCause, HoldsEnough, IsRead}
+use Rattle.unl_refresh.specs.declared.outcome.RefreshFault.{RefreshFault}
 
 -- The bytes held were taken from the bytes to come.
 pub record Taking (start : Option (List ℕ)) (held : List ℕ) (left : Option (List ℕ)) : Type 0 where
@@ -36,3 +37,20 @@ same_reading None list read reading is told one = absurd (none-some list told)
 same_reading (Some other) list read reading is told one =
     IsReply_unique (next_of list) read reading
     (subst (λ (l : List (List ℕ)). IsReply (next_of l) read) (same_Some other list told) is) one
+
+-- ---- causes
+
+-- the error of a result, if it has one
+abbrev err_of : {T : Type 0} → RefreshFault → Result T RefreshFault → RefreshFault
+err_of other (Ok x) = other
+err_of other (Err fault) = fault
+
+-- the causes of a call that handed on the error of another, before which the count was the same
+pub causes_on : {A B : Type 0} (fault : RefreshFault) (before mid after : ℕ) → mid ≡ before → HasPeerCause {T = A} (Err fault) mid after
+    → HasPeerCause {T = B} (Err fault) before after
+causes_on {A} {B} fault before mid after same causes = record {
+  later = omega (arith, same, causes.later);
+  cause = λ is. omega (arith, same, causes.cause (ap (λ (f : RefreshFault). Err f) (ap (err_of fault) is)));
+  still = tt;
+  untouched = λ is. causes.untouched (ap (λ (f : RefreshFault). Err f) (ap (err_of fault) is)) ∙ same;
+}

@@ -1,8 +1,8 @@
--- Each token has its feeder.
-use Rattle.std.proofs.Common.{◌≡◌, ◌<◌, ◌≤◌, ◌+◌, ◌∙◌, ℕ, Bool, List, [], ◌∷◌, ◌++◌, None, length, drop, map, get_or, ap, sym, arith, append-nil, append_assoc}
+-- Each token has its poller.
+use Rattle.std.proofs.Common.{◌≡◌, ◌<◌, ◌≤◌, ◌+◌, ◌∙◌, ℕ, Bool, List, [], ◌∷◌, ◌++◌, Option, None, length, drop, map, get_or, ap, sym, arith, append-nil, append_assoc}
 use Rattle.std.proofs.lemmas.List.{drop_all, drop_more, map-append}
 use Rattle.unl_refresh.specs.declared.ask.Ask.{Ask}
-use Rattle.unl_refresh.specs.SlotParameters.{SlotParameters, parameters_of, slot_parameters}
+use Rattle.unl_refresh.specs.SlotParameters.{SlotParameters, no_tags, parameters_of, slot_parameters, tag_of}
 use Rattle.unl_refresh.specs.declared.slot_poller.SlotPoller.{SlotPoller}
 
 -- after one more token
@@ -50,3 +50,31 @@ all_fed host delta tokens environments place made few is =
   where
     none : slot_parameters host delta (drop place tokens) (drop place environments) ≡ []
     none = ap (λ (ts : List (List ℕ)). slot_parameters host delta ts (drop place environments)) (drop_all place tokens few)
+
+-- ---- their tags
+
+-- after one more token, whose poller has no tag
+pub untagged_next : (tokens : List (List ℕ)) (place : ℕ) (before after : List SlotPoller) (slot_poller : SlotPoller) → place < length tokens
+    → slot_poller.ask.tag ≡ None → after ≡ before ++ slot_poller ∷ [] → map tag_of before ++ no_tags (drop place tokens) ≡ no_tags tokens
+    → map tag_of after ++ no_tags (drop (place + 1) tokens) ≡ no_tags tokens
+untagged_next tokens place before after slot_poller inside none more made =
+    ap (λ (fs : List SlotPoller). map tag_of fs ++ rest) more
+    ∙ ap (λ (ts : List (Option (List ℕ))). ts ++ rest) (map-append tag_of before (slot_poller ∷ []))
+    ∙ append_assoc (map tag_of before) (tag_of slot_poller ∷ []) rest
+    ∙ ap (λ (ts : List (Option (List ℕ))). map tag_of before ++ ts) (ap (λ (t : Option (List ℕ)). t ∷ rest) none ∙ sym split)
+    ∙ made
+  where
+    rest : List (Option (List ℕ))
+    rest = no_tags (drop (place + 1) tokens)
+
+    split : no_tags (drop place tokens) ≡ None ∷ rest
+    split = ap no_tags (drop_more tokens place [] inside)
+
+-- after all tokens
+pub all_untagged : (tokens : List (List ℕ)) (place : ℕ) (made : List (Option (List ℕ))) → length tokens ≤ place
+    → made ++ no_tags (drop place tokens) ≡ no_tags tokens → made ≡ no_tags tokens
+all_untagged tokens place made few is =
+    sym (append-nil made) ∙ ap (λ (ts : List (Option (List ℕ))). made ++ ts) (sym none) ∙ is
+  where
+    none : no_tags (drop place tokens) ≡ []
+    none = ap no_tags (drop_all place tokens few)

@@ -1,10 +1,14 @@
 -- One exchange with a peer: a connect, a request, and the reply to it.
 use Rattle.std.specs.Prelude.{◌≡◌, ℕ, ◌<◌, ◌≤◌, ◌⊎◌, Bool, true, false, List, [], ◌++◌, drop, length, Option, Some, None, option_map}
-use Rattle.std.specs.Prelude.{Result, ⊤}
+use Rattle.std.specs.Prelude.{Result, Err, OnOk, ⊤}
+use Rattle.unl_base.specs.Doors.{next_of}
+use Rattle.unl_base.specs.Faults.{Rose}
 use Rattle.unl_base.specs.Streams.{Takes, HasEnded, SendsFront}
 use Rattle.unl_http_api.specs.declared.got.Got.{Got}
 use Rattle.unl_http_api.specs.declared.got.BadReply.{BadReply}
 use Rattle.unl_http_api.specs.Received.{IsReply}
+use Rattle.unl_refresh.specs.declared.outcome.RefreshFault.{RefreshFault}
+use Rattle.unl_refresh.specs.declared.outcome.RefreshFault.TheVariants.{PeerFault, Memory}
 
 -- ---- what is sent
 
@@ -58,3 +62,36 @@ HoldsEnough (Some bytes) held = IsEnough bytes held
 abbrev pub IsRead : Option (List ℕ) → Result Got BadReply → Type 0
 IsRead None reading = (bytes : List ℕ) × IsReply bytes reading
 IsRead (Some bytes) reading = IsReply bytes reading
+
+-- ---- the whole exchange
+
+-- What contracts see of a peer: the replies to come, the bytes sent on its current connection, and its fault count.
+pub record PeerView : Type 0 where
+  pub replies : Option (List (List ℕ))
+  pub sent : Option (List ℕ)
+  pub faults : ℕ
+
+-- a constructor of `PeerView`
+abbrev pub peer_view : Option (List (List ℕ)) → Option (List ℕ) → ℕ → PeerView
+peer_view replies sent faults = record { replies = replies; sent = sent; faults = faults }
+
+-- what a request received: a reply, as it was parsed, or nothing if the peer failed
+abbrev pub ReplyOrFault : Type 0
+ReplyOrFault = Option (Result Got BadReply)
+
+-- The request was sent on a new connection, and the next reply was read. Or the peer failed and counted that, after at most one
+-- connection.
+abbrev pub Meets : ReplyOrFault → List ℕ → PeerView → PeerView → Type 0
+Meets (Some reading) request before after =
+    IsRead (option_map next_of before.replies) reading × Asks request before.replies before.sent after.replies after.sent
+    × (after.faults ≡ before.faults)
+Meets None request before after =
+    AsksAtMostOnce request before.replies before.sent after.replies after.sent × Rose before.faults after.faults
+
+-- The causes of a call that makes at most one exchange: the peer's fault count rose if the result is `PeerFault`, and is unchanged
+-- otherwise.
+pub record HasPeerCause {T : Type 0} (result : Result T RefreshFault) (before after : ℕ) : Type 0 where
+  pub later : before ≤ after
+  pub cause : result ≡ Err PeerFault → Rose before after
+  pub still : OnOk result (after ≡ before)
+  pub untouched : result ≡ Err Memory → after ≡ before

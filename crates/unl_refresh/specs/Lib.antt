@@ -2,6 +2,7 @@ pub mod Exchange
 pub mod Metrics
 pub mod Named
 pub mod Refresh
+pub mod Once
 pub mod Tokens
 pub mod Connects
 pub mod SlotParameters

@@ -1,16 +1,20 @@
 -- The outcome of sending metrics.
 use Rattle.std.specs.Prelude.{◌≡◌, ◌≢◌, ◌==◌, ◌||◌, ℕ, List, Option, Some, None, Result, Ok, Err, codes, if◌then◌else◌, ⊤}
+use Rattle.std.specs.Prelude.{IfOk, OnErr, OnOk, option_map}
 use Rattle.serde_json.specs.Data.{Data}
 use Rattle.serde_json.specs.Written.{compact_text}
+use Rattle.unl_base.specs.Doors.{next_of}
 use Rattle.unl_http_api.specs.declared.got.BadReply.{BadReply}
 use Rattle.unl_http_api.specs.declared.got.BadReply.TheVariants.{Memory as no_memory}
 use Rattle.unl_http_api.specs.declared.got.Got.{Got}
 use Rattle.unl_http_api.specs.declared.request.Method.TheVariants.{Post}
 use Rattle.unl_http_api.specs.RequestText.{request_text}
 use Rattle.unl_metrics.specs.Book.{Book, acknowledge}
+use Rattle.unl_metrics.specs.Bulk.{bulk}
 use Rattle.unl_refresh.specs.declared.outcome.MetricsOutcome.{MetricsOutcome}
 use Rattle.unl_refresh.specs.declared.outcome.MetricsOutcome.TheVariants.{Nothing, Sent, Refused, BadAnswer}
-use Rattle.unl_refresh.specs.Exchange.{Asks, AsksAtMostOnce, IsRead}
+use Rattle.unl_refresh.specs.declared.outcome.RefreshFault.{RefreshFault}
+use Rattle.unl_refresh.specs.Exchange.{Asks, AsksAtMostOnce, IsRead, PeerView}
 
 -- the request that carries a report, for a host and with a token
 unfoldable pub metrics_request : List ℕ → List ℕ → Data → List ℕ
@@ -66,3 +70,18 @@ IsNamedMetrics (BadAnswer bad) = bad ≢ no_memory
 IsNamedMetrics Nothing = ⊤
 IsNamedMetrics (Sent count) = ⊤
 IsNamedMetrics (Refused status) = ⊤
+
+-- What sending the metrics of an environment leaves, for a host and with a token.
+pub record SentMetrics
+    (environment host token : List ℕ) (before : Book) (peer : PeerView) (result : Result MetricsOutcome RefreshFault)
+    (after : Book) (peer_after : PeerView) : Type 0 where
+  -- If there is something to send, a reply is read, and it determines the outcome.
+  pub sends : IfOk result (SendsBulk (bulk environment before) (option_map next_of peer.replies))
+  -- No outcome reports an allocation failure.
+  pub named : IfOk result IsNamedMetrics
+  -- The keys that the server accepted are dropped, and nothing else.
+  pub book : IfOk result (λ outcome. after ≡ book_after environment outcome before)
+  pub fault : OnErr result (after ≡ before)
+  -- If there is something to send, one connection is made, and one request is sent on it; on an error perhaps none, or a prefix.
+  pub asks : OnOk result (AsksBulk (bulk environment before) host token peer.replies peer.sent peer_after.replies peer_after.sent)
+  pub once : AsksBulkAtMostOnce (bulk environment before) host token peer.replies peer.sent peer_after.replies peer_after.sent

@@ -1,5 +1,5 @@
 -- The request parameters of each slot.
-use Rattle.std.specs.Prelude.{ℕ, Bool, List, [], ◌∷◌}
+use Rattle.std.specs.Prelude.{ℕ, Bool, List, [], ◌∷◌, Option, None, map}
 use Rattle.unl_refresh.specs.declared.slot_poller.SlotPoller.{SlotPoller}
 
 -- the environment of a slot, the server and the token that it is refreshed with, and whether changes or whole feeds are requested
@@ -9,7 +9,7 @@ pub record SlotParameters : Type 0 where
   pub token : List ℕ
   pub delta : Bool
 
--- the parameters of a feeder, without its tag
+-- the parameters of a slot's poller, without its tag
 abbrev pub parameters_of : SlotPoller → SlotParameters
 parameters_of slot_poller = record {
   environment = slot_poller.environment;
@@ -17,6 +17,14 @@ parameters_of slot_poller = record {
   token = slot_poller.ask.token;
   delta = slot_poller.ask.delta;
 }
+
+-- the tag of its next request
+abbrev pub tag_of : SlotPoller → Option (List ℕ)
+tag_of slot_poller = slot_poller.ask.tag
+
+-- no tag for each of these tokens
+abbrev pub no_tags : List (List ℕ) → List (Option (List ℕ))
+no_tags tokens = map (λ _. None) tokens
 
 -- one for each token, for one server; the environments are in the order of the tokens
 abbrev pub slot_parameters : List ℕ → Bool → List (List ℕ) → List (List ℕ) → List SlotParameters

@@ -1,6 +1,8 @@
 -- The effect of a server's reply on the book of tokens.
 use Rattle.std.specs.Prelude.{◌≡◌, ◌==◌, ℕ, not, List, Option, Some, None, Result, Ok, Err, codes, if◌then◌else◌}
+use Rattle.std.specs.Prelude.{IfOk, OnErr, OnOk, option_map}
 use Rattle.serde_json.specs.Written.{compact_text}
+use Rattle.unl_base.specs.Doors.{next_of}
 use Rattle.unl_delta.specs.Installing.{Installed, IsBookInstalled}
 use Rattle.unl_http_api.specs.declared.got.BadReply.{BadReply}
 use Rattle.unl_http_api.specs.declared.got.Got.{Got}
@@ -12,7 +14,9 @@ use Rattle.unl_tokens.specs.Requests.{request_data}
 use Rattle.unl_refresh.specs.declared.outcome.Bad.TheVariants.{Reply, Book}
 use Rattle.unl_refresh.specs.declared.outcome.Outcome.{Outcome}
 use Rattle.unl_refresh.specs.declared.outcome.Outcome.TheVariants.{Published, Unchanged, Repeat, Old, Gap, Held, Refused, BadAnswer}
-use Rattle.unl_refresh.specs.Exchange.{IsRead}
+use Rattle.unl_refresh.specs.declared.outcome.RefreshFault.{RefreshFault}
+use Rattle.unl_refresh.specs.Exchange.{Asks, AsksAtMostOnce, IsRead, PeerView}
+use Rattle.unl_refresh.specs.Named.{IsNamedOutcome}
 
 -- the request for a book of these texts, for a host
 unfoldable pub tokens_request : List (List ℕ) → List ℕ → List ℕ
@@ -51,3 +55,17 @@ pub record RefreshesTokens
   pub reading : Result Got BadReply
   pub is_read : IsRead coming reading
   pub installs : Installs (book_in_reply texts reading) before outcome after
+
+-- What refreshing the book leaves.
+pub record RefreshedTokens
+    (texts : List (List ℕ)) (host : List ℕ) (before : Installed) (peer : PeerView) (result : Result Outcome RefreshFault)
+    (after : Installed) (peer_after : PeerView) : Type 0 where
+  -- A reply is read, and it determines the outcome and what is installed.
+  pub takes : IfOk result (λ outcome. RefreshesTokens texts before (option_map next_of peer.replies) outcome after)
+  -- No outcome reports an allocation failure.
+  pub named : IfOk result IsNamedOutcome
+  -- On an error nothing is applied.
+  pub fault : OnErr result (after ≡ before)
+  -- One connection is made, and one request is sent on it; on an error perhaps none, or a prefix of it.
+  pub asks : OnOk result (Asks (tokens_request texts host) peer.replies peer.sent peer_after.replies peer_after.sent)
+  pub once : AsksAtMostOnce (tokens_request texts host) peer.replies peer.sent peer_after.replies peer_after.sent

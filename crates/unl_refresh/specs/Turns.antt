@@ -1,77 +1,182 @@
--- The replies that a turn uses up: the first is the upstream's book, the next ones are for the slots, in order.
-use Rattle.std.specs.Prelude.{◌≡◌, ◌≤◌, ◌+◌, ℕ, List, [], ◌∷◌, Option, drop, length, option_map}
-use Rattle.unl_base.specs.Doors.{next_of}
+-- A turn of a poller: its exchanges with the upstream, one after another, and what each of them changes. The first is for the
+-- upstream's book; then each slot has two, in order: one for what is new in it, and one that sends the metrics of its environment.
+use Rattle.std.specs.Prelude.{◌≡◌, ◌≤◌, ◌+◌, ◌⊎◌, ℕ, Bool, List, [], ◌∷◌, Option, Some, None, Result, Ok, Err, get_or, length, set}
+use Rattle.serde_json.specs.Data.{Data}
 use Rattle.unl_delta.specs.Installing.{Installed}
-use Rattle.unl_refresh.specs.Refresh.{Refreshes}
-use Rattle.unl_refresh.specs.Tokens.{RefreshesTokens}
-use Rattle.unl_refresh.specs.declared.ask.Ask.{Ask}
+use Rattle.unl_documents.specs.declared.memory.Memory.{Memory}
+use Rattle.unl_metrics.specs.Book.{Book}
+use Rattle.unl_metrics.specs.Bulk.{bulk}
+use Rattle.unl_refresh.specs.Exchange.{AsksAtMostOnce, Meets, PeerView, ReplyOrFault}
+use Rattle.unl_refresh.specs.Metrics.{book_after, metrics_request, sent_by}
+use Rattle.unl_refresh.specs.Refresh.{after_reading, refresh_request}
+use Rattle.unl_refresh.specs.Tokens.{Installs, book_in_reply, tokens_request}
 use Rattle.unl_refresh.specs.declared.outcome.Outcome.{Outcome}
 use Rattle.unl_refresh.specs.SlotParameters.{SlotParameters}
 
--- the texts of the tokens that may be known, the number of slots, the request parameters of each slot, and the server that is
--- asked for the book
+-- What a poller works with: the texts of the tokens that may be known, the number of slots, the request parameters of each slot,
+-- and the server that is asked for the book. And what it has between two turns: the tag of each slot's next request, and the
+-- metrics that are not sent yet.
 pub record Duty : Type 0 where
   pub known : List (List ℕ)
   pub slots : ℕ
   pub slot_pollers : List SlotParameters
   pub upstream : List ℕ
+  pub tags : List (Option (List ℕ))
+  pub metrics : Book
 
--- what is installed, and the replies to come
+-- what a turn changes: what is installed, the tag of each slot's next request, the metrics that are not sent yet, and the peer
 pub record PollState : Type 0 where
   pub installed : Installed
-  pub replies : Option (List (List ℕ))
+  pub tags : List (Option (List ℕ))
+  pub metrics : Book
+  pub peer : PeerView
 
 -- a constructor of `PollState`
-abbrev pub poll_state : Installed → Option (List (List ℕ)) → PollState
-poll_state installed replies = record { installed = installed; replies = replies }
+abbrev pub poll_state : Installed → List (Option (List ℕ)) → Book → PeerView → PollState
+poll_state installed tags metrics peer = record { installed = installed; tags = tags; metrics = metrics; peer = peer }
 
 -- The number of places is unchanged, and at most one publication was made.
 pub record PublishesAtMostOnce (before after : Installed) : Type 0 where
   pub places : length after.places ≡ length before.places
   pub front : after.front ≤ before.front + 1
 
--- `count` of the replies to come were used up.
-abbrev pub UsesReplies : ℕ → PollState → PollState → Type 0
-UsesReplies count before after = after.replies ≡ option_map (λ list. drop count list) before.replies
+-- one of two effects, by the result of a call: the first if it succeeded, the second if memory ran out
+abbrev pub ByResult :
+    Result Unit Memory → (PollState → PollState → Type 0) → (PollState → PollState → Type 0) → PollState → PollState → Type 0
+ByResult (Ok u) Done Stopped before after = Done before after
+ByResult (Err e) Done Stopped before after = Stopped before after
 
--- One reply was used up, and the book in it, limited to these texts, is installed.
-pub record TakesBook (texts : List (List ℕ)) (before after : PollState) : Type 0 where
-  pub outcome : Outcome
-  pub refreshes : RefreshesTokens texts before.installed (option_map next_of before.replies) outcome after.installed
-  pub one_reply : UsesReplies 1 before after
+-- Memory ran out in an exchange: nothing is installed, at most one connection was made, and the request or a prefix of it was sent.
+-- The peer didn't fail. These are the tags after it.
+pub record Stops (request : List ℕ) (tags_after : List (Option (List ℕ))) (before after : PollState) : Type 0 where
+  pub installed : after.installed ≡ before.installed
+  pub tags : after.tags ≡ tags_after
+  pub metrics : after.metrics ≡ before.metrics
+  pub once : AsksAtMostOnce request before.peer.replies before.peer.sent after.peer.replies after.peer.sent
+  pub still : after.peer.faults ≡ before.peer.faults
 
--- One reply to the ask was used up and applied to the slot. The next ask has this tag.
-pub record TakesSlot (slot : ℕ) (ask : Ask) (tag : Option (List ℕ)) (before after : PollState) : Type 0 where
-  pub outcome : Outcome
-  pub refreshes : Refreshes slot ask before.installed (option_map next_of before.replies)
-      (record { outcome = outcome; installed = after.installed; tag = tag })
-  pub one_reply : UsesReplies 1 before after
+-- ---- the book
 
--- Metrics were sent, which used up one reply or none.
-pub record SendsMetrics (before after : PollState) : Type 0 where
-  pub same : after.installed ≡ before.installed
-  pub count : ℕ
-  pub once : count ≤ 1
-  pub replies : UsesReplies count before after
+-- The book in a reply, limited to these texts, is installed unless it is the current one. After a fault nothing changes.
+abbrev pub AppliesBook : List (List ℕ) → ReplyOrFault → Installed → Installed → Type 0
+AppliesBook texts None before after = after ≡ before
+AppliesBook texts (Some reading) before after = (outcome : Outcome) × Installs (book_in_reply texts reading) before outcome after
 
--- The ask has the server and token of the feeding, and requests changes or whole feeds as it does.
-pub record AsksFor (feeding : SlotParameters) (ask : Ask) : Type 0 where
-  pub host : ask.host ≡ feeding.host
-  pub token : ask.token ≡ feeding.token
-  pub delta : ask.delta ≡ feeding.delta
+-- The server at this host was asked for the book of these texts.
+pub record TakesBook (texts : List (List ℕ)) (host : List ℕ) (before after : PollState) : Type 0 where
+  pub came : ReplyOrFault
+  pub meets : Meets came (tokens_request texts host) before.peer after.peer
+  pub applies : AppliesBook texts came before.installed after.installed
+  pub tags : after.tags ≡ before.tags
+  pub metrics : after.metrics ≡ before.metrics
 
--- The slot was refreshed with its feeding, and then metrics were sent.
-abbrev pub PollsSlot : SlotParameters → ℕ → PollState → PollState → Type 0
-PollsSlot feeding slot before after =
-    (ask : Ask) × AsksFor feeding ask × (tag : Option (List ℕ)) × (middle : PollState) × TakesSlot slot ask tag before middle
-    × SendsMetrics middle after
+-- Memory ran out while it was asked for the book.
+abbrev pub StopsAtBook : List (List ℕ) → List ℕ → PollState → PollState → Type 0
+StopsAtBook texts host before after = Stops (tokens_request texts host) before.tags before after
 
--- The same for each slot from `slot` on, in order.
+-- ---- a slot
+
+-- the tag of a slot's next request
+abbrev pub tag_at : List (Option (List ℕ)) → ℕ → Option (List ℕ)
+tag_at tags slot = get_or tags slot None
+
+-- the request of a slot: to its server, with its token, in its mode, and with this tag
+abbrev pub slot_request : SlotParameters → Option (List ℕ) → List ℕ
+slot_request parameters tag = refresh_request parameters.delta parameters.host parameters.token tag
+
+-- what is installed after what a slot's request with this tag received: the effect of a reply; a fault changes nothing
+abbrev pub installed_after : ℕ → Bool → Option (List ℕ) → Installed → ReplyOrFault → Installed
+installed_after slot delta tag before None = before
+installed_after slot delta tag before (Some reading) = (after_reading slot delta tag before reading).installed
+
+-- and the tag of the slot's next request: none after a fault
+abbrev pub tag_then : ℕ → Bool → Option (List ℕ) → Installed → ReplyOrFault → Option (List ℕ)
+tag_then slot delta tag before None = None
+tag_then slot delta tag before (Some reading) = (after_reading slot delta tag before reading).tag
+
+-- One request was made for what is new in the slot, with this tag. The tags of the other slots stay.
+pub record TakesSlot (slot : ℕ) (parameters : SlotParameters) (tag : Option (List ℕ)) (before after : PollState) : Type 0 where
+  pub came : ReplyOrFault
+  pub meets : Meets came (slot_request parameters tag) before.peer after.peer
+  pub installed : after.installed ≡ installed_after slot parameters.delta tag before.installed came
+  pub tags : after.tags ≡ set before.tags slot (tag_then slot parameters.delta tag before.installed came)
+  pub metrics : after.metrics ≡ before.metrics
+
+-- Memory ran out in that request. The slot's next request has no tag.
+abbrev pub StopsRefreshing : ℕ → SlotParameters → Option (List ℕ) → PollState → PollState → Type 0
+StopsRefreshing slot parameters tag before after = Stops (slot_request parameters tag) (set before.tags slot None) before after
+
+-- ---- metrics
+
+-- the metrics after what a report of `count` keys received: the keys that the server accepted are dropped
+abbrev pub metrics_after : List ℕ → ℕ → ReplyOrFault → Book → Book
+metrics_after environment count None book = book
+metrics_after environment count (Some reading) book = book_after environment (sent_by count reading) book
+
+-- A report of `count` keys was sent to the slot's server, with its token.
+pub record SendsReport (report : Data) (count : ℕ) (parameters : SlotParameters) (before after : PollState) : Type 0 where
+  pub came : ReplyOrFault
+  pub meets : Meets came (metrics_request parameters.host parameters.token report) before.peer after.peer
+  pub metrics : after.metrics ≡ metrics_after parameters.environment count came before.metrics
+  pub installed : after.installed ≡ before.installed
+  pub tags : after.tags ≡ before.tags
+
+-- The report, if there is one, was sent.
+abbrev pub SendsIfAny : Option (Data × ℕ) → SlotParameters → PollState → PollState → Type 0
+SendsIfAny None parameters before after = after ≡ before
+SendsIfAny (Some (report, count)) parameters before after = SendsReport report count parameters before after
+
+-- Memory ran out while the report, if there is one, was sent.
+abbrev pub StopsIfAny : Option (Data × ℕ) → SlotParameters → PollState → PollState → Type 0
+StopsIfAny None parameters before after = after ≡ before
+StopsIfAny (Some (report, count)) parameters before after =
+    Stops (metrics_request parameters.host parameters.token report) before.tags before after
+
+-- The metrics of the slot's environment were sent, if there are any.
+abbrev pub SendsMetrics : SlotParameters → PollState → PollState → Type 0
+SendsMetrics parameters before after = SendsIfAny (bulk parameters.environment before.metrics) parameters before after
+
+-- Memory ran out while they were sent.
+abbrev pub StopsSending : SlotParameters → PollState → PollState → Type 0
+StopsSending parameters before after = StopsIfAny (bulk parameters.environment before.metrics) parameters before after
+
+-- ---- the turn
+
+-- A request was made for what is new in the slot, with its tag, and then its metrics were sent.
+abbrev pub PollsSlot : ℕ → SlotParameters → PollState → PollState → Type 0
+PollsSlot slot parameters before after =
+    (middle : PollState) × TakesSlot slot parameters (tag_at before.tags slot) before middle × SendsMetrics parameters middle after
+
+-- Memory ran out in one of the two.
+abbrev pub StopsAtSlot : ℕ → SlotParameters → PollState → PollState → Type 0
+StopsAtSlot slot parameters before after =
+    StopsRefreshing slot parameters (tag_at before.tags slot) before after
+    ⊎ ((middle : PollState) × TakesSlot slot parameters (tag_at before.tags slot) before middle × StopsSending parameters middle after)
+
+-- Each slot from `slot` on was polled, in order.
 abbrev pub PollsSlotsFrom : ℕ → List SlotParameters → PollState → PollState → Type 0
 PollsSlotsFrom slot [] before after = after ≡ before
-PollsSlotsFrom slot (feeding ∷ slot_parameters) before after =
-    (middle : PollState) × PollsSlot feeding slot before middle × PollsSlotsFrom (slot + 1) slot_parameters middle after
+PollsSlotsFrom slot (parameters ∷ more) before after =
+    (middle : PollState) × PollsSlot slot parameters before middle × PollsSlotsFrom (slot + 1) more middle after
 
--- One turn for these tokens and feedings: the book first, and then the slots.
-abbrev pub MakesTurn : List (List ℕ) → List SlotParameters → PollState → PollState → Type 0
-MakesTurn texts slot_parameters before after = (middle : PollState) × TakesBook texts before middle × PollsSlotsFrom 0 slot_parameters middle after
+-- Memory ran out at one of them, and the slots after it were not polled.
+abbrev pub StopsFrom : ℕ → List SlotParameters → PollState → PollState → Type 0
+StopsFrom slot [] before after = ⊥
+StopsFrom slot (parameters ∷ more) before after =
+    StopsAtSlot slot parameters before after
+    ⊎ ((middle : PollState) × PollsSlot slot parameters before middle × StopsFrom (slot + 1) more middle after)
+
+-- A turn: the server at this host was asked for the book of these texts, and then each slot was polled.
+abbrev pub MakesTurn : List (List ℕ) → List ℕ → List SlotParameters → PollState → PollState → Type 0
+MakesTurn texts host parameters before after =
+    (middle : PollState) × TakesBook texts host before middle × PollsSlotsFrom 0 parameters middle after
+
+-- A turn that ended because memory ran out.
+abbrev pub StopsInTurn : List (List ℕ) → List ℕ → List SlotParameters → PollState → PollState → Type 0
+StopsInTurn texts host parameters before after =
+    StopsAtBook texts host before after
+    ⊎ ((middle : PollState) × TakesBook texts host before middle × StopsFrom 0 parameters middle after)
+
+-- Only the tags and the metrics change.
+abbrev pub KeepsDuty : Duty → Duty → Type 0
+KeepsDuty before after = after ≡ record before { tags = after.tags; metrics = after.metrics }

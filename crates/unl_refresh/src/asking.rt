@@ -1,17 +1,14 @@
 //! The requests of one poll: refreshing the book and the slots, and sending metrics. A fault of the peer fails no call; the
 //! only error is out of memory.
-ghost use Rattle.std.specs.Prelude.{◌≡◌, ◌≢◌, ◌<◌, ◌≤◌, ◌+◌, ◌-◌, ◌^◌, ◌⊎◌, ℕ, Err, IsTrue, OnErr, OnOk, length, map};
-ghost use Rattle.unl_base.specs.Faults.{Rose};
+ghost use Rattle.std.specs.Prelude.{◌≡◌, ◌≢◌, ◌<◌, ◌≤◌, ◌+◌, ◌-◌, ◌^◌, ℕ, Err, IsTrue, List, OnErr, OnOk, Option, length, map, set};
 ghost use Rattle.unl_delta.specs.Installing.{Installed};
-ghost use Rattle.unl_metrics.specs.Book.{acknowledge};
-ghost use Rattle.unl_metrics.specs.Bulk.{bulk as bulk_of};
-ghost use Rattle.unl_refresh.specs.Exchange.{Asks};
-ghost use Rattle.unl_refresh.specs.Metrics.{AsksBulk};
-ghost use Rattle.unl_refresh.specs.Refresh.{refresh_request};
-ghost use Rattle.unl_refresh.specs.Connects.{Connects};
-ghost use Rattle.unl_refresh.specs.SlotParameters.{parameters_of};
-ghost use Rattle.unl_refresh.specs.Turns.{PollsSlotsFrom, PollsSlot, PublishesAtMostOnce, TakesBook, TakesSlot, SendsMetrics, poll_state};
 ghost use Rattle.unl_http_api.specs.RequestText.{fits_line};
+ghost use Rattle.unl_metrics.specs.Book.{Book};
+ghost use Rattle.unl_refresh.specs.Connects.{Connects};
+ghost use Rattle.unl_refresh.specs.Exchange.{peer_view};
+ghost use Rattle.unl_refresh.specs.SlotParameters.{parameters_of, tag_of};
+ghost use Rattle.unl_refresh.specs.Turns.{ByResult, PollsSlot, PollsSlotsFrom, PublishesAtMostOnce, SendsMetrics, TakesBook, TakesSlot};
+ghost use Rattle.unl_refresh.specs.Turns.{StopsAtBook, StopsAtSlot, StopsFrom, StopsRefreshing, StopsSending, poll_state, tag_at};
 
 use crate::slot_poller::SlotPoller;
 use crate::{RefreshFault, refresh_once, refresh_tokens, send_metrics};
@@ -35,15 +32,18 @@ pub(crate) fn refresh_book<I: Installer, P: Peer>(
         (P.state peer.old).replies (P.Source.faults peer.old) (P.state peer.new).replies (P.Source.faults peer.new)) }
     ensures connects { Connects 0
         (P.state peer.old).replies (P.Source.faults peer.old) (P.state peer.new).replies (P.Source.faults peer.new) }
-    ensures takes { (I.installed to.old).front < 2 ^ 64 - 1 → ¬ (Rose (P.Source.faults peer.old) (P.Source.faults peer.new))
-        → OnOk result (TakesBook known.now (poll_state (I.installed to.old) (P.state peer.old).replies)
-        (poll_state (I.installed to.new) (P.state peer.new).replies)) }
+    ensures polls { (I.installed to.old).front < 2 ^ 64 - 1 → (tags : List (Option (List ℕ))) (metrics : Book)
+        → ByResult result (TakesBook known.now host.now) (StopsAtBook known.now host.now)
+        (poll_state (I.installed to.old) tags metrics
+        (peer_view (P.state peer.old).replies (P.Sink.sent peer.old) (P.Source.faults peer.old)))
+        (poll_state (I.installed to.new) tags metrics
+        (peer_view (P.state peer.new).replies (P.Sink.sent peer.new) (P.Source.faults peer.new))) }
 {
     if to.front() == u64::MAX {
         return Ok(());
     }
-    let told = refresh_tokens(alloc, to, known, host.as_str(), peer);
-    unless_memory(told)
+    let kept = refresh_tokens(alloc, to, known, host.as_str(), peer);
+    unless_memory(kept)
 }
 
 /// Makes one request for what is new in a slot, unless the front is at its maximum.
@@ -60,22 +60,23 @@ fn refresh_slot<I: Installer, P: Peer>(
         (P.state peer.old).replies (P.Source.faults peer.old) (P.state peer.new).replies (P.Source.faults peer.new)) }
     ensures connects { Connects 0
         (P.state peer.old).replies (P.Source.faults peer.old) (P.state peer.new).replies (P.Source.faults peer.new) }
-    ensures takes { (I.installed to.old).front < 2 ^ 64 - 1 → ¬ (Rose (P.Source.faults peer.old) (P.Source.faults peer.new))
-        → OnOk result (TakesSlot slot slot_poller.old.ask slot_poller.new.ask.tag (poll_state (I.installed to.old) (P.state peer.old).replies)
-        (poll_state (I.installed to.new) (P.state peer.new).replies)) }
-    ensures sends { (I.installed to.old).front < 2 ^ 64 - 1 → ¬ (Rose (P.Source.faults peer.old) (P.Source.faults peer.new))
-        → OnOk result (Asks (refresh_request slot_poller.old.ask.delta slot_poller.old.ask.host slot_poller.old.ask.token slot_poller.old.ask.tag)
-        (P.state peer.old).replies (P.Sink.sent peer.old) (P.state peer.new).replies (P.Sink.sent peer.new)) }
+    ensures polls { (I.installed to.old).front < 2 ^ 64 - 1 → (tags : List (Option (List ℕ))) (metrics : Book)
+        → ByResult result (TakesSlot slot (parameters_of slot_poller.old) (tag_of slot_poller.old))
+        (StopsRefreshing slot (parameters_of slot_poller.old) (tag_of slot_poller.old))
+        (poll_state (I.installed to.old) tags metrics
+        (peer_view (P.state peer.old).replies (P.Sink.sent peer.old) (P.Source.faults peer.old)))
+        (poll_state (I.installed to.new) (set tags slot (tag_of slot_poller.new)) metrics
+        (peer_view (P.state peer.new).replies (P.Sink.sent peer.new) (P.Source.faults peer.new))) }
     ensures same { parameters_of slot_poller.new ≡ parameters_of slot_poller.old }
 {
     if to.front() == u64::MAX {
         return Ok(());
     }
-    let told = refresh_once(alloc, to, slot, &mut slot_poller.ask, peer);
-    unless_memory(told)
+    let refreshed = refresh_once(alloc, to, slot, &mut slot_poller.ask, peer);
+    unless_memory(refreshed)
 }
 
-/// Makes one request that sends the metrics of a slot's environment.
+/// Makes one request that sends the metrics of a slot's environment, if there are any.
 fn send_slot_metrics<P: Peer>(
     alloc: Global,
     book: &mut MetricsBook,
@@ -84,25 +85,24 @@ fn send_slot_metrics<P: Peer>(
 ) -> Result<(), Memory>
     ensures connects { Connects 0
         (P.state peer.old).replies (P.Source.faults peer.old) (P.state peer.new).replies (P.Source.faults peer.new) }
-    ensures tells { (installed : Installed)
-        → SendsMetrics (poll_state installed (P.state peer.old).replies) (poll_state installed (P.state peer.new).replies) }
-    ensures sends { ¬ (Rose (P.Source.faults peer.old) (P.Source.faults peer.new)) → OnOk result (AsksBulk
-        (bulk_of slot_poller.now.environment book.old) slot_poller.now.ask.host slot_poller.now.ask.token
-        (P.state peer.old).replies (P.Sink.sent peer.old) (P.state peer.new).replies (P.Sink.sent peer.new)) }
-    ensures book { (book.new ≡ book.old)
-        ⊎ ((count : ℕ) × (book.new ≡ acknowledge slot_poller.now.environment count book.old)) }
+    ensures sends { (installed : Installed) (tags : List (Option (List ℕ)))
+        → ByResult result (SendsMetrics (parameters_of slot_poller.now)) (StopsSending (parameters_of slot_poller.now))
+        (poll_state installed tags book.old
+        (peer_view (P.state peer.old).replies (P.Sink.sent peer.old) (P.Source.faults peer.old)))
+        (poll_state installed tags book.new
+        (peer_view (P.state peer.new).replies (P.Sink.sent peer.new) (P.Source.faults peer.new))) }
 {
     let environment = slot_poller.environment.as_str();
     let (token, host) = (
         slot_poller.ask.token.as_str(),
         slot_poller.ask.host.as_str(),
     );
-    let told = send_metrics(alloc, book, environment, token, host, peer);
-    unless_memory(told)
+    let sent = send_metrics(alloc, book, environment, token, host, peer);
+    unless_memory(sent)
 }
 
 /// Makes one request for what is new in a slot, then sends the metrics of its environment.
-fn feed_slot<I: Installer, P: Peer>(
+fn poll_slot<I: Installer, P: Peer>(
     alloc: Global,
     to: &mut I,
     book: &mut MetricsBook,
@@ -116,9 +116,13 @@ fn feed_slot<I: Installer, P: Peer>(
         (P.state peer.old).replies (P.Source.faults peer.old) (P.state peer.new).replies (P.Source.faults peer.new)) }
     ensures connects { Connects 0
         (P.state peer.old).replies (P.Source.faults peer.old) (P.state peer.new).replies (P.Source.faults peer.new) }
-    ensures takes { (I.installed to.old).front < 2 ^ 64 - 1 → ¬ (Rose (P.Source.faults peer.old) (P.Source.faults peer.new))
-        → OnOk result (PollsSlot (parameters_of slot_poller.old) slot (poll_state (I.installed to.old) (P.state peer.old).replies)
-        (poll_state (I.installed to.new) (P.state peer.new).replies)) }
+    ensures polls { (I.installed to.old).front < 2 ^ 64 - 1 → (tags : List (Option (List ℕ)))
+        → tag_at tags slot ≡ tag_of slot_poller.old
+        → ByResult result (PollsSlot slot (parameters_of slot_poller.old)) (StopsAtSlot slot (parameters_of slot_poller.old))
+        (poll_state (I.installed to.old) tags book.old
+        (peer_view (P.state peer.old).replies (P.Sink.sent peer.old) (P.Source.faults peer.old)))
+        (poll_state (I.installed to.new) (set tags slot (tag_of slot_poller.new)) book.new
+        (peer_view (P.state peer.new).replies (P.Sink.sent peer.new) (P.Source.faults peer.new))) }
     ensures same { parameters_of slot_poller.new ≡ parameters_of slot_poller.old }
 {
     match refresh_slot(alloc, to, slot, slot_poller, peer) {
@@ -127,8 +131,8 @@ fn feed_slot<I: Installer, P: Peer>(
     }
 }
 
-/// Does the same for each slot that has a feeder.
-pub(crate) fn feed_slots<I: Installer, P: Peer>(
+/// Does the same for each slot that has a poller.
+pub(crate) fn poll_slots<I: Installer, P: Peer>(
     alloc: Global,
     to: &mut I,
     book: &mut MetricsBook,
@@ -141,16 +145,18 @@ pub(crate) fn feed_slots<I: Installer, P: Peer>(
         (P.state peer.old).replies (P.Source.faults peer.old) (P.state peer.new).replies (P.Source.faults peer.new)) }
     ensures connects { Connects 0
         (P.state peer.old).replies (P.Source.faults peer.old) (P.state peer.new).replies (P.Source.faults peer.new) }
-    ensures takes { (I.installed to.old).front + length slot_pollers.old < 2 ^ 64 - 1
+    ensures polls { (I.installed to.old).front + length slot_pollers.old < 2 ^ 64 - 1
         → length slot_pollers.old ≤ length (I.installed to.old).places
-        → ¬ (Rose (P.Source.faults peer.old) (P.Source.faults peer.new))
-        → OnOk result (PollsSlotsFrom 0 (map parameters_of slot_pollers.old) (poll_state (I.installed to.old) (P.state peer.old).replies)
-        (poll_state (I.installed to.new) (P.state peer.new).replies)) }
+        → ByResult result (PollsSlotsFrom 0 (map parameters_of slot_pollers.old)) (StopsFrom 0 (map parameters_of slot_pollers.old))
+        (poll_state (I.installed to.old) (map tag_of slot_pollers.old) book.old
+        (peer_view (P.state peer.old).replies (P.Sink.sent peer.old) (P.Source.faults peer.old)))
+        (poll_state (I.installed to.new) (map tag_of slot_pollers.new) book.new
+        (peer_view (P.state peer.new).replies (P.Sink.sent peer.new) (P.Source.faults peer.new))) }
     ensures same { map parameters_of slot_pollers.new ≡ map parameters_of slot_pollers.old }
 {
     let count = to.slots().min(slot_pollers.len());
     for slot in 0..count {
-        match feed_slot(alloc, to, book, slot, &mut slot_pollers[slot], peer) {
+        match poll_slot(alloc, to, book, slot, &mut slot_pollers[slot], peer) {
             Ok(()) => {}
             Err(Memory) => return Err(Memory),
         }
@@ -159,11 +165,11 @@ pub(crate) fn feed_slots<I: Installer, P: Peer>(
 }
 
 /// Returns an error only if out of memory. Drops every other result.
-fn unless_memory<T: Drop>(told: Result<T, RefreshFault>) -> Result<(), Memory>
-    ensures ok { OnOk result (told ≢ Err RefreshFault.Memory) }
-    ensures err { OnErr result (told ≡ Err RefreshFault.Memory) }
+fn unless_memory<T: Drop>(exchange: Result<T, RefreshFault>) -> Result<(), Memory>
+    ensures ok { OnOk result (exchange ≢ Err RefreshFault.Memory) }
+    ensures err { OnErr result (exchange ≡ Err RefreshFault.Memory) }
 {
-    match told {
+    match exchange {
         Ok(_) => Ok(()),
         Err(RefreshFault::PeerFault) => Ok(()),
         Err(RefreshFault::Memory) => Err(Memory),

@@ -1,11 +1,9 @@
 //! One exchange with a peer: a connect, a request, and the reply to it.
-ghost use Rattle.std.specs.Prelude.{◌≡◌, ◌≢◌, ◌<◌, ◌≤◌, [], Err, IfOk, IfErr, OnOk, OnErr, IsTrue, drop, length, option_map};
+ghost use Rattle.std.specs.Prelude.{◌≡◌, ◌≢◌, ◌<◌, [], IfOk, IfErr, OnOk, IsTrue, length, option_map};
 ghost use Rattle.unl_base.specs.Doors.{next_of};
-ghost use Rattle.unl_base.specs.Faults.{Rose};
-ghost use Rattle.unl_base.specs.Streams.{Sends, SendsFront};
 ghost use Rattle.unl_http_api.specs.Received.{IsReply};
 ghost use Rattle.unl_http_api.specs.RequestText.{fits_if_any};
-ghost use Rattle.unl_refresh.specs.Exchange.{Asks, AsksAtMostOnce, HoldsEnough, IsRead, TakesPiece};
+ghost use Rattle.unl_refresh.specs.Exchange.{Asks, AsksAtMostOnce, HasPeerCause, HoldsEnough, IsRead, TakesPiece};
 
 use crate::outcome::RefreshFault;
 use std::alloc::Global;
@@ -33,10 +31,7 @@ pub(crate) fn exchange<P: Peer>(
         (P.state peer.old).replies (P.Sink.sent peer.old) (P.state peer.new).replies (P.Sink.sent peer.new)) }
     ensures once { AsksAtMostOnce request.now
         (P.state peer.old).replies (P.Sink.sent peer.old) (P.state peer.new).replies (P.Sink.sent peer.new) }
-    ensures later { P.Source.faults peer.old ≤ P.Source.faults peer.new }
-    ensures cause { result ≡ Err RefreshFault.PeerFault → Rose (P.Source.faults peer.old) (P.Source.faults peer.new) }
-    ensures still { OnOk result (P.Source.faults peer.new ≡ P.Source.faults peer.old) }
-    ensures untouched { result ≡ Err RefreshFault.Memory → P.Source.faults peer.new ≡ P.Source.faults peer.old }
+    ensures causes { HasPeerCause result (P.Source.faults peer.old) (P.Source.faults peer.new) }
 {
     peer.connect()?;
     write_all(peer, request)?;
@@ -49,10 +44,7 @@ fn read_reply<P: Peer>(alloc: Global, peer: &mut P) -> Result<Result<Got, BadRep
     ensures tag { IfOk result (λ reading. IfOk reading (λ got. IsTrue (fits_if_any got.tag))) }
     ensures named { IfOk result (λ reading. IfErr reading (λ e. e ≢ BadReply.Memory)) }
     ensures beside { P.Source.beside peer.new ≡ P.Source.beside peer.old }
-    ensures later { P.Source.faults peer.old ≤ P.Source.faults peer.new }
-    ensures cause { result ≡ Err RefreshFault.PeerFault → Rose (P.Source.faults peer.old) (P.Source.faults peer.new) }
-    ensures still { OnOk result (P.Source.faults peer.new ≡ P.Source.faults peer.old) }
-    ensures untouched { result ≡ Err RefreshFault.Memory → P.Source.faults peer.new ≡ P.Source.faults peer.old }
+    ensures causes { HasPeerCause result (P.Source.faults peer.old) (P.Source.faults peer.new) }
 {
     let mut reader = ReplyReader::new(alloc);
     receive(peer, &mut reader)?;
@@ -82,10 +74,7 @@ fn receive<P: Peer>(peer: &mut P, reader: &mut ReplyReader) -> Result<(), Refres
     requires { reader.old ≡ [] }
     ensures held { OnOk result (HoldsEnough (P.Source.left peer.old) reader.new) }
     ensures beside { P.Source.beside peer.new ≡ P.Source.beside peer.old }
-    ensures later { P.Source.faults peer.old ≤ P.Source.faults peer.new }
-    ensures cause { result ≡ Err RefreshFault.PeerFault → Rose (P.Source.faults peer.old) (P.Source.faults peer.new) }
-    ensures still { OnOk result (P.Source.faults peer.new ≡ P.Source.faults peer.old) }
-    ensures untouched { result ≡ Err RefreshFault.Memory → P.Source.faults peer.new ≡ P.Source.faults peer.old }
+    ensures causes { HasPeerCause result (P.Source.faults peer.old) (P.Source.faults peer.new) }
 {
     let mut room = [0; PIECE];
     while reader.held() < ENOUGH {
@@ -107,10 +96,7 @@ fn read_piece<P: Peer>(
     requires { 0 < length room.old }
     ensures piece { IfOk result (λ some. TakesPiece some reader.old (P.Source.left peer.old) reader.new (P.Source.left peer.new)) }
     ensures beside { P.Source.beside peer.new ≡ P.Source.beside peer.old }
-    ensures later { P.Source.faults peer.old ≤ P.Source.faults peer.new }
-    ensures cause { result ≡ Err RefreshFault.PeerFault → Rose (P.Source.faults peer.old) (P.Source.faults peer.new) }
-    ensures still { OnOk result (P.Source.faults peer.new ≡ P.Source.faults peer.old) }
-    ensures untouched { result ≡ Err RefreshFault.Memory → P.Source.faults peer.new ≡ P.Source.faults peer.old }
+    ensures causes { HasPeerCause result (P.Source.faults peer.old) (P.Source.faults peer.new) }
 {
     match peer.read(room) {
         Ok(0) => Ok(false),

@@ -23,6 +23,6 @@ pub use crate::metrics::send_metrics;
 pub use crate::outcome::{Bad, MetricsOutcome, Outcome, RefreshFault};
 pub use crate::poller::Poller;
 pub use crate::refreshing::refresh_once;
-pub use crate::shared_book::flush_into_shared;
+pub use crate::shared_book::{flush_into_shared, move_metrics};
 pub use crate::slot_poller::first_ask;
 pub use crate::tokens::refresh_tokens;

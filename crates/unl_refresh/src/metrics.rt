@@ -1,17 +1,17 @@
 //! Sending metrics to a server.
-ghost use Rattle.std.specs.Prelude.{◌≡◌, ◌≢◌, ◌≤◌, List, ℕ, Some, None, Err, Result, Option, IfOk, IfErr, IfSome, OnErr, IsTrue};
+ghost use Rattle.std.specs.Prelude.{◌≡◌, ◌≢◌, List, ℕ, Some, None, Result, Option, IfOk, IfErr, IfSome, IsTrue};
 ghost use Rattle.std.specs.Prelude.{option_map, false};
 ghost use Rattle.serde_json.specs.View.{view};
 ghost use Rattle.serde_json.specs.Written.{has_float};
 ghost use Rattle.unl_base.specs.Doors.{next_of};
-ghost use Rattle.unl_base.specs.Faults.{Rose};
 ghost use Rattle.unl_http_api.specs.declared.got.BadReply.{BadReply};
 ghost use Rattle.unl_http_api.specs.declared.got.Got.{Got};
 ghost use Rattle.unl_http_api.specs.Received.{IsReply};
 ghost use Rattle.unl_http_api.specs.RequestText.{fits_line};
 ghost use Rattle.unl_metrics.specs.Bulk.{bulk as bulk_of};
-ghost use Rattle.unl_refresh.specs.Metrics.{AsksBulk, AsksBulkAtMostOnce, IsNamedMetrics, OutcomeFromReply, SendsBulk, book_after};
-ghost use Rattle.unl_refresh.specs.Metrics.{metrics_request, sent_by};
+ghost use Rattle.unl_refresh.specs.Exchange.{HasPeerCause, peer_view};
+ghost use Rattle.unl_refresh.specs.Metrics.{AsksBulk, AsksBulkAtMostOnce, IsNamedMetrics, OutcomeFromReply, SendsBulk, SentMetrics};
+ghost use Rattle.unl_refresh.specs.Metrics.{book_after, metrics_request, sent_by};
 
 use crate::exchange::exchange;
 use crate::outcome::{MetricsOutcome, RefreshFault};
@@ -40,32 +40,22 @@ pub fn send_metrics<P: Peer>(
     requires host { IsTrue (fits_line host.now) }
     requires token { IsTrue (fits_line token.now) }
 
-    // If there is something to send, a reply is read, and it determines the outcome.
-    ensures sends { IfOk result (SendsBulk (bulk_of environment.now book.old) (option_map next_of (P.state peer.old).replies)) }
+    // What is sent, and what is dropped from the book.
+    ensures leaves { SentMetrics environment.now host.now token.now book.old
+        (peer_view (P.state peer.old).replies (P.Sink.sent peer.old) (P.Source.faults peer.old))
+        result book.new
+        (peer_view (P.state peer.new).replies (P.Sink.sent peer.new) (P.Source.faults peer.new)) }
 
     // If the peer's replies are observable, the reply is the next one of them.
-    ensures told { (list : List (List ℕ)) (reading : Result Got BadReply) → (P.state peer.old).replies ≡ Some list
+    ensures next_reply { (list : List (List ℕ)) (reading : Result Got BadReply) → (P.state peer.old).replies ≡ Some list
         → IsReply (next_of list) reading
         → IfOk result (OutcomeFromReply (bulk_of environment.now book.old) reading) }
 
-    // No outcome reports an allocation failure.
-    ensures named { IfOk result IsNamedMetrics }
-
-    // The keys that the server accepted are dropped, and nothing else.
-    ensures book { IfOk result (λ outcome. book.new ≡ book_after environment.now outcome book.old) }
-    ensures fault { OnErr result (book.new ≡ book.old) }
-
-    // If there is something to send, one connection is made, and one request is sent on it.
-    ensures asks { IfOk result (λ _. AsksBulk (bulk_of environment.now book.old) host.now token.now
-        (P.state peer.old).replies (P.Sink.sent peer.old) (P.state peer.new).replies (P.Sink.sent peer.new)) }
-    ensures once { AsksBulkAtMostOnce (bulk_of environment.now book.old) host.now token.now
-        (P.state peer.old).replies (P.Sink.sent peer.old) (P.state peer.new).replies (P.Sink.sent peer.new) }
+    // If there is nothing to send, the peer is unchanged.
     ensures silent { bulk_of environment.now book.old ≡ None → peer.new ≡ peer.old }
 
-    // `PeerFault` is returned only if the peer's fault count rose, and `Memory` only if it didn't change.
-    ensures later { P.Source.faults peer.old ≤ P.Source.faults peer.new }
-    ensures cause { result ≡ Err RefreshFault.PeerFault → Rose (P.Source.faults peer.old) (P.Source.faults peer.new) }
-    ensures untouched { result ≡ Err RefreshFault.Memory → P.Source.faults peer.new ≡ P.Source.faults peer.old }
+    // `PeerFault` is returned only if the peer's fault count rose, and otherwise it didn't change.
+    ensures causes { HasPeerCause result (P.Source.faults peer.old) (P.Source.faults peer.new) }
 {
     send(alloc, book, environment, token, host, peer)
 }
@@ -81,18 +71,12 @@ fn send<P: Peer>(
 ) -> Result<MetricsOutcome, RefreshFault>
     requires host { IsTrue (fits_line host.now) }
     requires token { IsTrue (fits_line token.now) }
-    ensures sends { IfOk result (SendsBulk (bulk_of environment.now book.old) (option_map next_of (P.state peer.old).replies)) }
-    ensures named { IfOk result IsNamedMetrics }
-    ensures book { IfOk result (λ outcome. book.new ≡ book_after environment.now outcome book.old) }
-    ensures fault { OnErr result (book.new ≡ book.old) }
-    ensures asks { IfOk result (λ _. AsksBulk (bulk_of environment.now book.old) host.now token.now
-        (P.state peer.old).replies (P.Sink.sent peer.old) (P.state peer.new).replies (P.Sink.sent peer.new)) }
-    ensures once { AsksBulkAtMostOnce (bulk_of environment.now book.old) host.now token.now
-        (P.state peer.old).replies (P.Sink.sent peer.old) (P.state peer.new).replies (P.Sink.sent peer.new) }
+    ensures leaves { SentMetrics environment.now host.now token.now book.old
+        (peer_view (P.state peer.old).replies (P.Sink.sent peer.old) (P.Source.faults peer.old))
+        result book.new
+        (peer_view (P.state peer.new).replies (P.Sink.sent peer.new) (P.Source.faults peer.new)) }
     ensures silent { bulk_of environment.now book.old ≡ None → peer.new ≡ peer.old }
-    ensures later { P.Source.faults peer.old ≤ P.Source.faults peer.new }
-    ensures cause { result ≡ Err RefreshFault.PeerFault → Rose (P.Source.faults peer.old) (P.Source.faults peer.new) }
-    ensures untouched { result ≡ Err RefreshFault.Memory → P.Source.faults peer.new ≡ P.Source.faults peer.old }
+    ensures causes { HasPeerCause result (P.Source.faults peer.old) (P.Source.faults peer.new) }
 {
     let found = book.bulk(alloc, environment)?;
     let outcome = send_found(alloc, found, token, host, peer)?;
@@ -119,9 +103,7 @@ fn send_found<P: Peer>(
     ensures once { AsksBulkAtMostOnce (option_map (λ sent. (view sent.0, sent.1)) found) host.now token.now
         (P.state peer.old).replies (P.Sink.sent peer.old) (P.state peer.new).replies (P.Sink.sent peer.new) }
     ensures silent { found ≡ None → peer.new ≡ peer.old }
-    ensures later { P.Source.faults peer.old ≤ P.Source.faults peer.new }
-    ensures cause { result ≡ Err RefreshFault.PeerFault → Rose (P.Source.faults peer.old) (P.Source.faults peer.new) }
-    ensures untouched { result ≡ Err RefreshFault.Memory → P.Source.faults peer.new ≡ P.Source.faults peer.old }
+    ensures causes { HasPeerCause result (P.Source.faults peer.old) (P.Source.faults peer.new) }
 {
     let Some((report, count)) = found else {
         return Ok(MetricsOutcome::Nothing);

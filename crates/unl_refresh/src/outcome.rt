@@ -31,17 +31,22 @@ pub enum Outcome {
 }
 
 /// Why a reply can't be parsed. None of these is ever out of memory, which is an error of the call.
-#[derive(Debug, Drop, PartialEq)]
+#[derive(Debug, Drop, PartialEq, Error)]
 pub enum Bad {
     /// The bytes are not a valid HTTP reply.
+    #[error("the bytes are not a reply")]
     Reply(BadReply),
     /// The body is not a feed.
+    #[error("the body is not a feed")]
     Feed(BadDocument),
     /// The body is a feed without a number.
+    #[error("the feed has no number")]
     NoNumber,
     /// The body is not a batch.
+    #[error("the body is not a batch")]
     Batch(BadBatch),
     /// The body is not a book of tokens.
+    #[error("the body is not a book of tokens")]
     Book(BadBook),
 }
 

@@ -1,12 +1,13 @@
 //! The state that keeps a board up to date.
-ghost use Rattle.std.specs.Prelude.{◌≡◌, ◌≤◌, ◌+◌, All, IfOk, IsTrue, OnOk, length};
-ghost use Rattle.unl_base.specs.Faults.{Rose};
+ghost use Rattle.std.specs.Prelude.{◌≡◌, ◌<◌, ◌≤◌, ◌+◌, ◌-◌, ◌^◌, [], All, IfOk, IsTrue, OnOk, length};
 ghost use Rattle.unl_http_api.specs.RequestText.{fits_line};
 ghost use Rattle.unl_refresh.specs.Connects.{Connects};
-ghost use Rattle.unl_refresh.specs.SlotParameters.{slot_parameters};
-ghost use Rattle.unl_refresh.specs.Turns.{MakesTurn, poll_state};
+ghost use Rattle.unl_refresh.specs.Exchange.{peer_view};
+ghost use Rattle.unl_refresh.specs.Handing.{DrainsShared};
+ghost use Rattle.unl_refresh.specs.SlotParameters.{no_tags, slot_parameters};
+ghost use Rattle.unl_refresh.specs.Turns.{ByResult, KeepsDuty, MakesTurn, StopsInTurn, poll_state};
 
-use crate::asking::{feed_slots, refresh_book};
+use crate::asking::{poll_slots, refresh_book};
 use crate::shared_book::drain_shared;
 use crate::slot_poller::SlotPoller;
 use crate::slot_pollers::slot_pollers;
@@ -18,8 +19,8 @@ use unl_delta::Installer;
 use unl_documents::{List, Memory, Text};
 use unl_metrics::MetricsBook;
 
-/// The feeders of a board's slots, the texts of the tokens that may be known, the upstream server, and the metrics that aren't
-/// sent yet. Contracts see all of it except the metrics and the tags.
+/// The pollers of a board's slots, the texts of the tokens that may be known, the upstream server, and the metrics that aren't
+/// sent yet.
 #[derive(Drop)]
 pub struct Poller {
     slot_pollers: Vec<SlotPoller>,
@@ -31,7 +32,7 @@ pub struct Poller {
 impl Model for Poller {
     ghost use Rattle.std.specs.Prelude.{IsTrue, length, map};
     ghost use Rattle.unl_http_api.specs.RequestText.{fits_line};
-    ghost use Rattle.unl_refresh.specs.SlotParameters.{parameters_of};
+    ghost use Rattle.unl_refresh.specs.SlotParameters.{parameters_of, tag_of};
     ghost use Rattle.unl_refresh.specs.Turns.{Duty};
 
     ghost Value = { Duty };
@@ -41,6 +42,8 @@ impl Model for Poller {
       slots = length poller.slot_pollers.items;
       slot_pollers = map parameters_of poller.slot_pollers.items;
       upstream = poller.upstream;
+      tags = map tag_of poller.slot_pollers.items;
+      metrics = poller.book;
     } };
 
     ghost invariant = { λ poller. IsTrue (fits_line poller.upstream) };
@@ -68,6 +71,8 @@ impl Poller {
           slots = length upstream_tokens.now;
           slot_pollers = slot_parameters upstream.now delta upstream_tokens.now environments.now;
           upstream = upstream.now;
+          tags = no_tags upstream_tokens.now;
+          metrics = [];
         }) }
     {
         let slot_pollers = slot_pollers(alloc, upstream, upstream_tokens, environments, delta)?;
@@ -92,26 +97,37 @@ impl Poller {
         to: &mut I,
         peer: &mut P,
     ) -> Result<(), Memory>
-        ensures same { self.new ≡ self.old }
-        ensures asks { (I.installed to.old).front ≡ 0 → self.old.slots ≤ length (I.installed to.old).places → self.old.slots ≤ 8
-            → OnOk result (Connects (self.old.slots + 1)
+        // The tags of the next requests and the metrics may change, and nothing else.
+        ensures same { KeepsDuty self.old self.new }
+
+        // Unless the front is near its maximum: each exchange is made in order, with its request and its effect, whether it
+        // got a reply or the peer failed.
+        ensures polls { (I.installed to.old).front + self.old.slots + 1 < 2 ^ 64 - 1
+            → self.old.slots ≤ length (I.installed to.old).places
+            → ByResult result (MakesTurn self.old.known self.old.upstream self.old.slot_pollers)
+            (StopsInTurn self.old.known self.old.upstream self.old.slot_pollers)
+            (poll_state (I.installed to.old) self.old.tags self.old.metrics
+            (peer_view (P.state peer.old).replies (P.Sink.sent peer.old) (P.Source.faults peer.old)))
+            (poll_state (I.installed to.new) self.new.tags self.new.metrics
+            (peer_view (P.state peer.new).replies (P.Sink.sent peer.new) (P.Source.faults peer.new))) }
+
+        // So one connection is made for the book and one for each slot, unless the peer failed.
+        ensures asks { (I.installed to.old).front + self.old.slots + 1 < 2 ^ 64 - 1
+            → self.old.slots ≤ length (I.installed to.old).places → OnOk result (Connects (self.old.slots + 1)
             (P.state peer.old).replies (P.Source.faults peer.old) (P.state peer.new).replies (P.Source.faults peer.new)) }
         ensures connects { Connects 0
             (P.state peer.old).replies (P.Source.faults peer.old) (P.state peer.new).replies (P.Source.faults peer.new) }
-        ensures takes { (I.installed to.old).front ≡ 0 → self.old.slots ≤ length (I.installed to.old).places → self.old.slots ≤ 8
-            → ¬ (Rose (P.Source.faults peer.old) (P.Source.faults peer.new))
-            → OnOk result (MakesTurn self.old.known self.old.slot_pollers
-            (poll_state (I.installed to.old) (P.state peer.old).replies) (poll_state (I.installed to.new) (P.state peer.new).replies)) }
     {
         match refresh_book(alloc, to, &self.known, &self.upstream, peer) {
-            Ok(()) => feed_slots(alloc, to, &mut self.book, &mut self.slot_pollers, peer),
+            Ok(()) => poll_slots(alloc, to, &mut self.book, &mut self.slot_pollers, peer),
             Err(Memory) => Err(Memory),
         }
     }
 
     /// Moves the shared metrics into this book, unless they wouldn't fit or memory runs out. The lock is held only for that.
     pub fn drain_shared<W: Wait>(&mut self, alloc: Global, rt: &W, shared: &Mutex<MetricsBook>)
-        ensures same { self.new ≡ self.old }
+        ensures same { self.new ≡ record self.old { metrics = self.new.metrics } }
+        ensures drains { DrainsShared self.old.metrics self.new.metrics }
     {
         drain_shared(alloc, rt, shared, &mut self.book);
     }

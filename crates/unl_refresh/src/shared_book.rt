@@ -19,7 +19,7 @@ pub fn flush_into_shared<W: Wait>(
         return;
     }
     let mut all = shared.lock(rt);
-    move_all(alloc, book, &mut all);
+    move_metrics(alloc, book, &mut all);
 }
 
 /// Adds the contents of the shared book to another and empties it. If they wouldn't fit, or if out of memory, both stay
@@ -33,11 +33,12 @@ pub(crate) fn drain_shared<W: Wait>(
     ensures { DrainsShared book.old book.new }
 {
     let mut all = shared.lock(rt);
-    move_all(alloc, &mut all, book);
+    move_metrics(alloc, &mut all, book);
 }
 
-/// Adds the contents of one book to another and empties it. If they wouldn't fit, or if out of memory, both stay unchanged.
-fn move_all(alloc: Global, from: &mut MetricsBook, to: &mut MetricsBook)
+/// Adds the contents of one book to another and empties it. If they wouldn't fit, or if out of memory, both stay unchanged. This is
+/// what happens to the shared book while its lock is held.
+pub fn move_metrics(alloc: Global, from: &mut MetricsBook, to: &mut MetricsBook)
     ensures { Moves from.old to.old from.new to.new }
 {
     match to.merge(alloc, from) {

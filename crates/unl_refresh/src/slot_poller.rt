@@ -16,8 +16,8 @@ pub(crate) struct SlotPoller {
     ghost tag: { IsTrue (fits_if_any ask.tag) },
 }
 
-/// Returns a feeder that uses a token.
-pub(crate) fn feeder_with(
+/// Returns a poller that uses a token.
+pub(crate) fn poller_with(
     alloc: Global,
     host: &Text,
     token: &Text,

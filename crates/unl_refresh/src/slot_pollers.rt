@@ -1,13 +1,13 @@
-//! The feeders of all slots of a board.
+//! The pollers of all slots of a board.
 ghost use Rattle.std.specs.Prelude.{◌≡◌, All, IfOk, IsTrue, length, map};
 ghost use Rattle.unl_http_api.specs.RequestText.{fits_line};
-ghost use Rattle.unl_refresh.specs.SlotParameters.{parameters_of, slot_parameters};
+ghost use Rattle.unl_refresh.specs.SlotParameters.{no_tags, parameters_of, slot_parameters, tag_of};
 
-use crate::slot_poller::{SlotPoller, feeder_with};
+use crate::slot_poller::{SlotPoller, poller_with};
 use std::alloc::Global;
 use unl_documents::{List, Memory, Text};
 
-/// Returns one feeder for each token, in the order of the tokens. The environments are in the same order.
+/// Returns one poller for each token, in the order of the tokens. The environments are in the same order.
 pub(crate) fn slot_pollers(
     alloc: Global,
     host: &Text,
@@ -20,8 +20,9 @@ pub(crate) fn slot_pollers(
     requires environments { length environments.now ≡ length tokens.now }
     ensures count { IfOk result (λ slot_pollers. length slot_pollers.items ≡ length tokens.now) }
     ensures made { IfOk result (λ slot_pollers. map parameters_of slot_pollers.items ≡ slot_parameters host.now delta tokens.now environments.now) }
+    ensures tags { IfOk result (λ slot_pollers. map tag_of slot_pollers.items ≡ no_tags tokens.now) }
 {
-    feeders_of(
+    pollers_of(
         alloc,
         host,
         tokens.as_slice(),
@@ -30,8 +31,8 @@ pub(crate) fn slot_pollers(
     )
 }
 
-/// Returns one feeder for each token.
-fn feeders_of(
+/// Returns one poller for each token.
+fn pollers_of(
     alloc: Global,
     host: &Text,
     tokens: &[Text],
@@ -43,10 +44,11 @@ fn feeders_of(
     requires environments { length environments.now ≡ length tokens.now }
     ensures count { IfOk result (λ slot_pollers. length slot_pollers.items ≡ length tokens.now) }
     ensures made { IfOk result (λ slot_pollers. map parameters_of slot_pollers.items ≡ slot_parameters host.now delta tokens.now environments.now) }
+    ensures tags { IfOk result (λ slot_pollers. map tag_of slot_pollers.items ≡ no_tags tokens.now) }
 {
     let mut slot_pollers = Vec::new(alloc);
     for place in 0..tokens.len() {
-        slot_pollers.push(feeder_with(alloc, host, &tokens[place], &environments[place], delta)?)?;
+        slot_pollers.push(poller_with(alloc, host, &tokens[place], &environments[place], delta)?)?;
     }
     Ok(slot_pollers)
 }

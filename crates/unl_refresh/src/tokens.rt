@@ -1,17 +1,15 @@
 //! Refreshing the book of tokens.
-ghost use Rattle.std.specs.Prelude.{◌≡◌, ◌≢◌, ◌<◌, ◌≤◌, ◌-◌, ◌^◌, List, ℕ, Some, Err, Result, IfOk, IfErr, OnOk, OnErr, IsTrue, drop};
-ghost use Rattle.std.specs.Prelude.{option_map, string_bytes, false};
-ghost use Rattle.serde_json.specs.View.{view};
-ghost use Rattle.serde_json.specs.Written.{compact_text, has_float};
+ghost use Rattle.std.specs.Prelude.{◌≡◌, ◌≢◌, ◌<◌, ◌-◌, ◌^◌, List, ℕ, Some, Err, Result, IfOk, IfErr, OnErr, IsTrue, drop};
+ghost use Rattle.std.specs.Prelude.{option_map};
 ghost use Rattle.unl_base.specs.Doors.{next_of};
 ghost use Rattle.unl_base.specs.Faults.{Rose};
 ghost use Rattle.unl_http_api.specs.declared.got.BadReply.{BadReply};
 ghost use Rattle.unl_http_api.specs.declared.got.Got.{Got};
 ghost use Rattle.unl_http_api.specs.Received.{IsReply};
 ghost use Rattle.unl_http_api.specs.RequestText.{fits_line};
-ghost use Rattle.unl_refresh.specs.Exchange.{Asks, AsksAtMostOnce};
+ghost use Rattle.unl_refresh.specs.Exchange.{HasPeerCause, peer_view};
 ghost use Rattle.unl_refresh.specs.Named.{IsNamedOutcome};
-ghost use Rattle.unl_refresh.specs.Tokens.{Installs, RefreshesTokens, book_in_reply, book_read, tokens_request};
+ghost use Rattle.unl_refresh.specs.Tokens.{Installs, RefreshedTokens, book_in_reply, book_read, tokens_request};
 
 use crate::exchange::exchange;
 use crate::outcome::{Bad, Outcome, RefreshFault};
@@ -40,35 +38,23 @@ pub fn refresh_tokens<I: Installer, P: Peer>(
     requires front { (I.installed to.old).front < 2 ^ 64 - 1 }
     requires host { IsTrue (fits_line host.now) }
 
-    // A reply is read, and it determines the outcome and what is installed.
-    ensures takes { IfOk result (λ outcome. RefreshesTokens texts.now (I.installed to.old) (option_map next_of (P.state peer.old).replies)
-        outcome (I.installed to.new)) }
+    // What is applied and what is sent.
+    ensures leaves { RefreshedTokens texts.now host.now (I.installed to.old)
+        (peer_view (P.state peer.old).replies (P.Sink.sent peer.old) (P.Source.faults peer.old))
+        result (I.installed to.new)
+        (peer_view (P.state peer.new).replies (P.Sink.sent peer.new) (P.Source.faults peer.new)) }
 
     // If the peer's replies are observable, the reply is the next one of them.
-    ensures told { (list : List (List ℕ)) (reading : Result Got BadReply) → (P.state peer.old).replies ≡ Some list
+    ensures next_reply { (list : List (List ℕ)) (reading : Result Got BadReply) → (P.state peer.old).replies ≡ Some list
         → IsReply (next_of list) reading
         → IfOk result (λ outcome. Installs (book_in_reply texts.now reading) (I.installed to.old) outcome (I.installed to.new)) }
-
-    // No outcome reports an allocation failure.
-    ensures named { IfOk result IsNamedOutcome }
-
-    // On an error nothing is applied.
-    ensures fault { OnErr result (I.installed to.new ≡ I.installed to.old) }
-
-    // One connection is made, and one request is sent on it.
-    ensures asks { OnOk result (Asks (tokens_request texts.now host.now)
-        (P.state peer.old).replies (P.Sink.sent peer.old) (P.state peer.new).replies (P.Sink.sent peer.new)) }
-    ensures once { AsksAtMostOnce (tokens_request texts.now host.now)
-        (P.state peer.old).replies (P.Sink.sent peer.old) (P.state peer.new).replies (P.Sink.sent peer.new) }
 
     // Unless the peer failed or memory ran out, exactly one reply is used up.
     ensures one_reply { ¬ (Rose (P.Source.faults peer.old) (P.Source.faults peer.new)) → result ≢ Err RefreshFault.Memory
         → (P.state peer.new).replies ≡ option_map (λ list. drop 1 list) (P.state peer.old).replies }
 
-    // `PeerFault` is returned only if the peer's fault count rose, and `Memory` only if it didn't change.
-    ensures later { P.Source.faults peer.old ≤ P.Source.faults peer.new }
-    ensures cause { result ≡ Err RefreshFault.PeerFault → Rose (P.Source.faults peer.old) (P.Source.faults peer.new) }
-    ensures untouched { result ≡ Err RefreshFault.Memory → P.Source.faults peer.new ≡ P.Source.faults peer.old }
+    // `PeerFault` is returned only if the peer's fault count rose, and otherwise it didn't change.
+    ensures causes { HasPeerCause result (P.Source.faults peer.old) (P.Source.faults peer.new) }
 {
     refresh(alloc, to, texts, host, peer)
 }
@@ -83,17 +69,11 @@ fn refresh<I: Installer, P: Peer>(
 ) -> Result<Outcome, RefreshFault>
     requires front { (I.installed to.old).front < 2 ^ 64 - 1 }
     requires host { IsTrue (fits_line host.now) }
-    ensures takes { IfOk result (λ outcome. RefreshesTokens texts.now (I.installed to.old) (option_map next_of (P.state peer.old).replies)
-        outcome (I.installed to.new)) }
-    ensures named { IfOk result IsNamedOutcome }
-    ensures fault { OnErr result (I.installed to.new ≡ I.installed to.old) }
-    ensures asks { OnOk result (Asks (tokens_request texts.now host.now)
-        (P.state peer.old).replies (P.Sink.sent peer.old) (P.state peer.new).replies (P.Sink.sent peer.new)) }
-    ensures once { AsksAtMostOnce (tokens_request texts.now host.now)
-        (P.state peer.old).replies (P.Sink.sent peer.old) (P.state peer.new).replies (P.Sink.sent peer.new) }
-    ensures later { P.Source.faults peer.old ≤ P.Source.faults peer.new }
-    ensures cause { result ≡ Err RefreshFault.PeerFault → Rose (P.Source.faults peer.old) (P.Source.faults peer.new) }
-    ensures untouched { result ≡ Err RefreshFault.Memory → P.Source.faults peer.new ≡ P.Source.faults peer.old }
+    ensures leaves { RefreshedTokens texts.now host.now (I.installed to.old)
+        (peer_view (P.state peer.old).replies (P.Sink.sent peer.old) (P.Source.faults peer.old))
+        result (I.installed to.new)
+        (peer_view (P.state peer.new).replies (P.Sink.sent peer.new) (P.Source.faults peer.new)) }
+    ensures causes { HasPeerCause result (P.Source.faults peer.old) (P.Source.faults peer.new) }
 {
     let request = request_of(alloc, texts, host)?;
     let reading = exchange(alloc, peer, request.as_slice())?;

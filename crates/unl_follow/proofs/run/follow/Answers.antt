@@ -50,7 +50,7 @@ returns-then-not-goes_on-clause-runs g c =
     let so_far = c.loop-made.invariant in
     let paces = c.if-not-goes_on.ensures in (
       so_far.reached.turns,
-      stopped _ _ _ _ _ _ so_far.paced so_far.reached.many c.loop-made-test.true paces.first paces.told,
+      stopped _ _ _ _ _ _ so_far.paced so_far.reached.many c.loop-made-test.true paces.first paces.told paces.unobservable,
       so_far.reached.follows,
     )
 

@@ -5,15 +5,19 @@ use Rattle.unl_follow.proofs.turn.ask_once.Goals as goal
 
 pub returns-in-Ok-clause-asks : goal.returns-in-Ok-clause-asks
 returns-in-Ok-clause-asks g c =
+    let leaves = c.in-Ok.ensures.leaves in
+    let causes = c.in-Ok.ensures.causes in
     replied c.args.ask.now c.args.replica.now c.follow_once.new.replica c.follow_once.new.ask.tag c.in-Ok.outcome _ _ _ _ _ _
     (ap (λ (p : PeerState). p.sent) (g.met.P.Peer.writes c.args.peer.now))
     (ap (λ (p : PeerState). p.sent) (g.met.P.Peer.writes c.follow_once.new.peer))
-    c.in-Ok.ensures.takes c.in-Ok.ensures.asks c.in-Ok.ensures.later
+    leaves.takes leaves.asks causes.still
 
 pub returns-in-Err-PeerFault-clause-asks : goal.returns-in-Err-PeerFault-clause-asks
 returns-in-Err-PeerFault-clause-asks g c =
+    let leaves = c.in-Err-PeerFault.ensures.leaves in
+    let causes = c.in-Err-PeerFault.ensures.causes in
     parted c.args.ask.now c.args.replica.now c.follow_once.new.replica c.follow_once.new.ask.tag _ _ _ _ _ _
     (ap (λ (p : PeerState). p.sent) (g.met.P.Peer.writes c.args.peer.now))
     (ap (λ (p : PeerState). p.sent) (g.met.P.Peer.writes c.follow_once.new.peer))
-    c.in-Err-PeerFault.ensures.fault c.in-Err-PeerFault.ensures.no_tag c.in-Err-PeerFault.ensures.once
-    (c.in-Err-PeerFault.ensures.cause (ap Err c.in-Err-PeerFault.field-0-is))
+    c.in-Err-PeerFault.ensures.fault leaves.no_tag leaves.once
+    (causes.cause (ap Err c.in-Err-PeerFault.field-0-is))

@@ -1,19 +1,24 @@
 use Rattle.unl_refresh.proofs.Connecting.{asked_once, book_told, none_or_one}
-use Rattle.unl_refresh.proofs.TurnsTaken.{book_taken}
+use Rattle.unl_refresh.proofs.TurnsTaken.{book_polled}
 use Rattle.unl_refresh.proofs.asking.refresh_book.Goals as goal
 
 pub returns-clause-asks : goal.returns-clause-asks
 returns-clause-asks g c room =
-    asked_once _ _ _ _ _ c.refresh_tokens-told.result c.unless_memory.result c.unless_memory.ensures.ok c.refresh_tokens-told.ensures.asks
-    c.refresh_tokens-told.ensures.cause c.refresh_tokens-told.ensures.later
+    let leaves = c.refresh_tokens-kept.ensures.leaves in
+    let causes = c.refresh_tokens-kept.ensures.causes in
+    asked_once _ _ _ _ _ c.refresh_tokens-kept.result c.unless_memory.result c.unless_memory.ensures.ok leaves.asks causes.cause causes.later
 
 pub returns-clause-connects : goal.returns-clause-connects
-returns-clause-connects g c = none_or_one c.refresh_tokens-told.ensures.once c.refresh_tokens-told.ensures.later
+returns-clause-connects g c =
+    let leaves = c.refresh_tokens-kept.ensures.leaves in
+    let causes = c.refresh_tokens-kept.ensures.causes in
+    none_or_one leaves.once causes.later
 
 pub returns-clause-goes : goal.returns-clause-goes
-returns-clause-goes g c = book_told _ _ c.refresh_tokens-told.result c.refresh_tokens-told.ensures.takes c.refresh_tokens-told.ensures.fault
+returns-clause-goes g c =
+    let leaves = c.refresh_tokens-kept.ensures.leaves in book_told _ _ c.refresh_tokens-kept.result leaves.takes leaves.fault
 
-pub returns-clause-takes : goal.returns-clause-takes
-returns-clause-takes g c room none =
-    book_taken _ _ _ _ _ c.refresh_tokens-told.result c.unless_memory.result c.unless_memory.ensures.ok c.refresh_tokens-told.ensures.takes
-    c.refresh_tokens-told.ensures.cause none c.refresh_tokens-told.ensures.one_reply
+pub returns-clause-polls : goal.returns-clause-polls
+returns-clause-polls g c room tags metrics =
+    book_polled _ _ _ _ _ _ _ tags metrics c.refresh_tokens-kept.result c.unless_memory.result c.as_str.ensures c.unless_memory.ensures.ok c.unless_memory.ensures.err
+    c.refresh_tokens-kept.ensures.leaves c.refresh_tokens-kept.ensures.causes

@@ -1,26 +1,19 @@
-use Rattle.std.proofs.Common.{◌≡◌}
+use Rattle.std.proofs.Common.{ap}
+use Rattle.unl_refresh.specs.Exchange.{peer_view}
+use Rattle.unl_refresh.specs.SlotParameters.{parameters_of}
 use Rattle.unl_refresh.proofs.Connecting.{told_at_most_once}
-use Rattle.unl_refresh.proofs.TurnsTaken.{dropped, if_taken, told_once}
+use Rattle.unl_refresh.proofs.TurnsTaken.{metrics_sent}
 use Rattle.unl_refresh.proofs.asking.send_slot_metrics.Goals as goal
 
 pub returns-clause-connects : goal.returns-clause-connects
-returns-clause-connects g c = told_at_most_once _ _ _ _ _ _ _ _ _ c.send_metrics-told.ensures.once c.send_metrics-told.ensures.later
-
-pub returns-clause-tells : goal.returns-clause-tells
-returns-clause-tells g c installed = told_once installed _ _ _ _ _ _ _ c.send_metrics-told.ensures.once
+returns-clause-connects g c =
+    let leaves = c.send_metrics-sent.ensures.leaves in
+    let causes = c.send_metrics-sent.ensures.causes in
+    told_at_most_once _ _ _ _ _ _ _ _ _ leaves.once causes.later
 
 pub returns-clause-sends : goal.returns-clause-sends
-returns-clause-sends g c none =
-    let named : c.as_str-environment.result.now ≡ c.args.slot_poller.now.environment = c.as_str-environment.ensures in
-    let asked : c.as_str-host.result.now ≡ c.args.slot_poller.now.ask.host = c.as_str-host.ensures in
-    let shown : c.as_str-token.result.now ≡ c.args.slot_poller.now.ask.token = c.as_str-token.ensures in
-    rw (← named, ← asked, ← shown)
-    (if_taken _ c.send_metrics-told.result c.unless_memory.result c.unless_memory.ensures.ok c.send_metrics-told.ensures.asks
-    c.send_metrics-told.ensures.cause none)
-
-pub returns-clause-book : goal.returns-clause-book
-returns-clause-book g c =
-    let named : c.as_str-environment.result.now ≡ c.args.slot_poller.now.environment = c.as_str-environment.ensures in
-    rw (← named)
-    (dropped c.as_str-environment.result.now c.args.book.now c.send_metrics-told.new.book c.send_metrics-told.result
-    c.send_metrics-told.ensures.book c.send_metrics-told.ensures.fault)
+returns-clause-sends g c installed tags =
+    metrics_sent (parameters_of c.args.slot_poller.now) _ _ _ installed tags _ _ _ _ c.send_metrics-sent.result c.unless_memory.result
+    c.as_str-environment.ensures c.as_str-host.ensures c.as_str-token.ensures c.unless_memory.ensures.ok c.unless_memory.ensures.err
+    c.send_metrics-sent.ensures.leaves c.send_metrics-sent.ensures.causes
+    (λ none. ap (λ p. peer_view (g.P.Peer.state p).replies (g.P.Sink.sent p) (g.P.Source.faults p)) (c.send_metrics-sent.ensures.silent none))

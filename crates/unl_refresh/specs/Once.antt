@@ -1,0 +1,78 @@
+-- What one refresh of a slot leaves.
+use Rattle.std.specs.Prelude.{◌≡◌, ◌≢◌, ◌+◌, ℕ, List, Some, None, Result, Ok, Err, IfOk, OnErr, OnOk, IsTrue, drop, option_map}
+use Rattle.unl_base.specs.Doors.{next_of}
+use Rattle.unl_base.specs.Faults.{Rose}
+use Rattle.unl_delta.specs.declared.batch.Batch.{Batch}
+use Rattle.unl_delta.specs.declared.batch.Verdict.TheVariants.{Apply}
+use Rattle.unl_delta.specs.Batch.{verdict_of}
+use Rattle.unl_delta.specs.History.{Era, IsLine, IsNotBelow, PlaceRepresents}
+use Rattle.unl_delta.specs.Installing.{Installed, after_install, place_of}
+use Rattle.unl_delta.specs.View.{Sees}
+use Rattle.unl_http_api.specs.declared.got.BadReply.{BadReply}
+use Rattle.unl_http_api.specs.declared.got.Got.{Got}
+use Rattle.unl_http_api.specs.Received.{IsReply}
+use Rattle.unl_http_api.specs.RequestText.{fits_if_any}
+use Rattle.unl_refresh.specs.declared.ask.Ask.{Ask}
+use Rattle.unl_refresh.specs.declared.outcome.Outcome.{Outcome}
+use Rattle.unl_refresh.specs.declared.outcome.Outcome.TheVariants.{Published}
+use Rattle.unl_refresh.specs.declared.outcome.RefreshFault.{RefreshFault}
+use Rattle.unl_refresh.specs.declared.outcome.RefreshFault.TheVariants.{Memory}
+use Rattle.unl_refresh.specs.Exchange.{Asks, AsksAtMostOnce, PeerView}
+use Rattle.unl_refresh.specs.Named.{IsNamedOutcome}
+use Rattle.unl_refresh.specs.Refresh.{Brings, Refreshes, after_reading, batch_in, number_held, refresh_request, with_tag}
+
+-- what a refresh changes: what is installed, the ask, and the peer
+pub record RefreshState : Type 0 where
+  pub installed : Installed
+  pub ask : Ask
+  pub peer : PeerView
+
+-- a constructor of `RefreshState`
+abbrev pub refresh_state : Installed → Ask → PeerView → RefreshState
+refresh_state installed ask peer = record { installed = installed; ask = ask; peer = peer }
+
+-- the request of an ask, with its tag
+abbrev pub asked_by : Ask → List ℕ
+asked_by ask = refresh_request ask.delta ask.host ask.token ask.tag
+
+-- What a refresh of a slot leaves.
+pub record RefreshedOnce (slot : ℕ) (before : RefreshState) (result : Result Outcome RefreshFault) (after : RefreshState) : Type 0 where
+  -- A reply is read, and it determines the outcome, what is installed, and the tag.
+  pub takes : IfOk result (λ outcome. Refreshes slot before.ask before.installed (option_map next_of before.peer.replies)
+      (record { outcome = outcome; installed = after.installed; tag = after.ask.tag }))
+  -- No outcome reports an allocation failure.
+  pub named : IfOk result IsNamedOutcome
+  -- On an error nothing is applied, and the ask has no tag.
+  pub fault : OnErr result (after.installed ≡ before.installed)
+  pub no_tag : OnErr result (after.ask.tag ≡ None)
+  -- Only the ask's tag changes, and the new tag is fit to be sent in the next request.
+  pub same_ask : after.ask ≡ with_tag after.ask.tag before.ask
+  pub next_tag : IsTrue (fits_if_any after.ask.tag)
+  -- One connection is made, and one request is sent on it; on an error perhaps none, or a prefix of it.
+  pub asks : OnOk result (Asks (asked_by before.ask) before.peer.replies before.peer.sent after.peer.replies after.peer.sent)
+  pub once : AsksAtMostOnce (asked_by before.ask) before.peer.replies before.peer.sent after.peer.replies after.peer.sent
+
+-- What a refresh of a slot makes of the peer's replies.
+pub record TakesNextReply (slot : ℕ) (before : RefreshState) (result : Result Outcome RefreshFault) (after : RefreshState) : Type 0 where
+  -- If they are observable, the reply is the next one of them.
+  pub next_reply : (list : List (List ℕ)) (reading : Result Got BadReply) → before.peer.replies ≡ Some list → IsReply (next_of list) reading
+      → IfOk result (λ outcome. record { outcome = outcome; installed = after.installed; tag = after.ask.tag }
+      ≡ after_reading slot before.ask.delta before.ask.tag before.installed reading)
+  -- So a batch that applies is published, unless the peer failed or memory ran out.
+  pub complete : (list : List (List ℕ)) (got : Got) (batch : Batch) → before.peer.replies ≡ Some list → IsReply (next_of list) (Ok got)
+      → got.status ≡ 200 → batch_in before.ask.delta (number_held (place_of before.installed slot)) got.body ≡ Ok batch
+      → verdict_of (place_of before.installed slot) batch ≡ Apply
+      → ¬ (Rose before.peer.faults after.peer.faults) → result ≢ Err Memory
+      → (result ≡ Ok (Published (before.installed.front + 1))) × (after.installed ≡ after_install slot batch before.installed)
+  -- Unless the peer failed or memory ran out, exactly one reply is used up.
+  pub one_reply : ¬ (Rose before.peer.faults after.peer.faults) → result ≢ Err Memory
+      → after.peer.replies ≡ option_map (λ list. drop 1 list) before.peer.replies
+
+-- Batches may be lost, duplicated or out of order: if the server sends batches from a line of histories, the slot has one revision
+-- of that line, as seen through the projects, and its epoch and number don't fall.
+abbrev pub Delivers : ℕ → RefreshState → RefreshState → Type 0
+Delivers slot before after =
+    (line : List Era) (sees : Sees) → IsLine line → PlaceRepresents line sees (place_of before.installed slot)
+    → Brings line sees before.ask.delta (place_of before.installed slot) (option_map next_of before.peer.replies)
+    → PlaceRepresents line sees (place_of after.installed slot)
+    × IsNotBelow (place_of before.installed slot).version (place_of after.installed slot).version
