@@ -11,6 +11,7 @@ use Rattle.unl_core.specs.declared.board.Board.{Board}
 use Rattle.unl_core.specs.Answer.{answer_of}
 use Rattle.unl_core.specs.Desk.{Keeps, Enters, EntersAtMostOnce}
 use Rattle.unl_core.specs.Recording.{final_book, final_reply}
+use Rattle.unl_core.proofs.Showing.{shows_revision}
 use Rattle.unl_server.specs.Handling.{HandlerState, Answers, RunsOutOfMemory}
 use Rattle.unl_server.specs.Conversation.{Answered, Reaches}
 use Rattle.unl_server.specs.Exchange.{Unreplied}
@@ -108,6 +109,8 @@ noted_over seen board_at before after q reply keeps step = record {
       ∙ ap (λ (d : Draw). final_reply (noted_of seen before).book (answer_of step.given.board q d)) (sym step.given.its_draw);
   summed = step.given.summed
       ∙ ap (λ (d : Draw). final_book (noted_of seen before).book (answer_of step.given.board q d)) (sym step.given.its_draw);
+  revisions = λ histories represented request kind ready shown.
+      shows_revision histories step.given.board request kind ready represented shown;
 }
 
 -- a chain of answers is a chain of notes

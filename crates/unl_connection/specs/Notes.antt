@@ -9,6 +9,7 @@ use Rattle.unl_http_api.specs.declared.request.Request.{Request}
 use Rattle.unl_core.specs.declared.board.Board.{Board}
 use Rattle.unl_core.specs.Answer.{answer_of}
 use Rattle.unl_core.specs.Desk.{Keeps, Enters, EntersAtMostOnce}
+use Rattle.unl_core.specs.Histories.{AllRepresented, Histories, ShowsRevisions}
 use Rattle.unl_core.specs.Recording.{final_book, final_reply}
 use Rattle.unl_metrics.specs.Book.{Book}
 use Rattle.unl_connection.specs.declared.served.ServedOne.{ServedOne}
@@ -23,7 +24,8 @@ abbrev pub noted : List ServedOne → Book → Noted
 noted ones book = record { ones = ones; book = book }
 
 -- One more answer is noted: it is computed from the board at the front of its note, with the draw of its note. The reply is
--- that of the answer, or says that the book is full. The book has what the answer reports, unless it is full.
+-- that of the answer, or says that the book is full. The book has what the answer reports, unless it is full. If each slot of
+-- that board holds a version from the line of histories of its environment, what a token sees of it is one revision of that line.
 pub record Notes
     (board_at : ℕ → Option Board) (before : Noted) (request : Request) (reply : Reply) (after : Noted) : Type 0 where
   pub one : ServedOne
@@ -32,6 +34,7 @@ pub record Notes
   pub known : board_at one.front ≡ Some board
   pub is : reply ≡ final_reply before.book (answer_of board request one.draw)
   pub summed : after.book ≡ final_book before.book (answer_of board request one.draw)
+  pub revisions : (histories : Histories) → AllRepresented histories board.slots → ShowsRevisions histories board
 
 -- nothing is noted or added to the book for a request
 abbrev pub NotesNothing : Noted → Request → Noted → Type 0

@@ -1,7 +1,6 @@
 //! Serves a whole connection.
-ghost use Rattle.std.specs.Prelude.{◌≡◌, ℕ, [], length};
+ghost use Rattle.std.specs.Prelude.{◌≡◌, [], length};
 ghost use Rattle.unl_core.specs.Desk.{Keeps};
-ghost use Rattle.unl_core.specs.Histories.{Histories, ShowsIfRepresented};
 ghost use Rattle.unl_server.specs.Conversation.{Converses};
 ghost use Rattle.unl_server.specs.Links.{link_state};
 ghost use Rattle.unl_connection.specs.Notes.{DrawsAtLeast, LooksFor, Notes, NotesNothing, Rise, noted};
@@ -29,7 +28,9 @@ pub fn serve_connection<D: Desk, L: Link, R: Draws>(
     requires { served.old ≡ [] }
 
     // The conversation of a handler whose steps are the notes: its session, its replies, its end, and the cause of each
-    // fault. In every case, the book has what the noted requests report, in order, unless it was full.
+    // fault. In every case, the book has what the noted requests report, in order, unless it was full. If each slot of a board
+    // that was answered from holds a version from the line of histories of its environment, what a token sees of it is one
+    // revision of that line.
     ensures converses { Converses (Notes (D.board_at desk.new)) NotesNothing
         (link_state (L.left link.old) (L.sent link.old) (L.Source.faults link.old))
         (noted served.old book.old) result (noted served.new book.new) (length served.new)
@@ -40,10 +41,6 @@ pub fn serve_connection<D: Desk, L: Link, R: Draws>(
     ensures looks { LooksFor (D.fronts desk.old) served.new result (D.fronts desk.new) }
     ensures drawn { DrawsAtLeast (R.coming draws.old) served.new (R.coming draws.new) }
     ensures keeps { Keeps (D.board_at desk.old) (D.board_at desk.new) }
-
-    // If each slot of a board holds a version from the line of histories of its environment, what a token sees is one
-    // revision of that line.
-    ensures revisions { (told : Histories) (front : ℕ) → ShowsIfRepresented told (D.board_at desk.new front) }
 {
     let mut attended = DeskHandler { desk, book, served };
     let conversed = serve_requests::<ByDesk<D>, L, R>(alloc, &mut attended, link, draws);

@@ -9,7 +9,7 @@ use Rattle.std.proofs.lemmas.List.Sums.{sum_by-append, passes_at_first, prefix_l
 use Rattle.std.proofs.lemmas.List.Folds.{list_any-append}
 use Rattle.unl_base.specs.Streams.{Takes, Sends, SendsFront}
 use Rattle.unl_input.specs.Lines.{is_end, has_end, lines, begun_with, ended_lines}
-use Rattle.unl_input.specs.Reading.{Gets, IsAtEnd, IsLine, EndsLine, GrowsLine, BeginsLong, longest_line}
+use Rattle.unl_input.specs.Reading.{Gets, IsAtEnd, IsLine, EndsLine, GrowsLine, Begins, BeginsLong, longest_line}
 
 -- ---- bytes consumed one after another
 
@@ -21,7 +21,7 @@ then_none xs ys (Some z) = ap Some (sym (append_assoc xs ys z))
 pub takes_trans : (a b c : Option (List ℕ)) (xs ys : List ℕ) → Takes a xs b → Takes b ys c → Takes a (xs ++ ys) c
 takes_trans a b c xs ys one two = one ∙ ap (option_map (λ rest. xs ++ rest)) two ∙ then_none xs ys c
 
-takes_nothing : (a : Option (List ℕ)) → Takes a [] a
+pub takes_nothing : (a : Option (List ℕ)) → Takes a [] a
 takes_nothing None = refl
 takes_nothing (Some x) = refl
 
@@ -152,8 +152,9 @@ before_first_end (x ∷ xs) = by_first (is_end x) refl (before_first_end xs)
         ap (λ n. has_end (take n (x ∷ xs))) (one_more (position_or_len is_end xs))
         ∙ ap (λ t. t || has_end (take (position_or_len is_end xs) xs)) is ∙ rest
 
-taken_twice : (xs : List ℕ) (most k : ℕ) → k ≤ length (take most xs) → take k (take most xs) ≡ take k xs
-taken_twice xs most k within =
+-- the first items of a list's first items
+pub take_of_first : {A : Type 0} (xs : List A) (most k : ℕ) → k ≤ length (take most xs) → take k (take most xs) ≡ take k xs
+take_of_first xs most k within =
     sym (take-append-le k (take most xs) (drop most xs) within) ∙ ap (take k) (take-append-drop most xs)
 
 -- the held bytes were searched up to the limit of the line, and those before the first line feed were appended to the line
@@ -172,7 +173,7 @@ looks_front : (line held : List ℕ) (most : ℕ) (front : List ℕ) (k : ℕ) (
     → Looks line held most front k after → take k front ≡ take k held
 looks_front line held most front k after looks =
     ap (take k) looks.0
-    ∙ taken_twice held most k (subst (λ xs. k ≤ length xs) looks.0 (looks_within line held most front k after looks))
+    ∙ take_of_first held most k (subst (λ xs. k ≤ length xs) looks.0 (looks_within line held most front k after looks))
 
 looks_len : (line held : List ℕ) (most : ℕ) (front : List ℕ) (k : ℕ) (after : List ℕ)
     → Looks line held most front k after → length after ≡ length line + k
@@ -264,6 +265,13 @@ whole_more bytes line whole none =
           ∙ sym (ap length all ∙ length-append (lines bytes) (line ∷ []));
     }
 
+-- the lines of complete lines are the first of what follows them
+pub first_whole : (bytes rest : List ℕ) → IsWhole bytes → take (length (lines bytes)) (lines (bytes ++ rest)) ≡ lines bytes
+first_whole bytes rest whole =
+    ap (take (length (lines bytes))) (whole.first rest)
+    ∙ take-append-le (length (lines bytes)) (lines bytes) (lines rest) (omega arith)
+    ∙ take_all (length (lines bytes)) (lines bytes) (omega arith)
+
 -- part of a line after complete lines adds no complete line
 pub ended_whole : (bytes front : List ℕ) → IsWhole bytes → has_end front ≡ false → ended_lines (bytes ++ front) ≡ lines bytes
 ended_whole bytes front whole none =
@@ -277,6 +285,16 @@ ended_whole bytes front whole none =
 
 unbroken_both : (xs ys : List ℕ) → has_end xs ≡ false → has_end ys ≡ false → has_end (xs ++ ys) ≡ false
 unbroken_both xs ys one two = list_any-append is_end xs ys ∙ ap (λ t. t || has_end ys) one ∙ two
+
+-- memory ran out in a line: no more of it was consumed
+pub stops_in_line : (h i j k : List ℕ) (l m n : Option (List ℕ)) (line : List ℕ) → has_end line ≡ false → Gets h l line i m → Gets i m [] j n → k ≡ j
+    → Begins h l k n
+stops_in_line h i j k l m n line none got filled same = record {
+  front = line;
+  unbroken = none;
+  got = subst (λ held. Gets h l line held n) (sym same)
+      (subst (λ xs. Gets h l xs j n) (append-nil line) (gets_trans h i j l m n line [] got filled));
+}
 
 -- bytes that were held
 gets_front : (h i : List ℕ) (l : Option (List ℕ)) (out : List ℕ) → h ≡ out ++ i → Gets h l out i l

@@ -5,10 +5,10 @@ use Rattle.unl_base.specs.Streams.{Sends}
 use Rattle.unl_input.specs.declared.taking.LinesFault.{LinesFault}
 use Rattle.unl_input.specs.declared.taking.LinesFault.TheVariants.{Bad, ReadFault, WriteFault, Memory}
 use Rattle.unl_input.specs.Lines.{lines, has_end}
-use Rattle.unl_input.specs.Reading.{IsAtEnd, IsLine, BeginsLong, longest_line}
+use Rattle.unl_input.specs.Reading.{Begins, BeginsLong, IsAtEnd, IsLine, longest_line}
 use Rattle.unl_input.specs.Taken.{LineResult, Outcome, Taking, done, followed, take_from, most_lines}
 use Rattle.unl_input.specs.Whole.{TakesLines}
-use Rattle.unl_input.specs.Turns.{Scene, Takes, Prints, Refuses, ComesToEnd, StopsReading, Turns}
+use Rattle.unl_input.specs.Turns.{Scene, Takes, Prints, Refuses, ComesToEnd, RunsOut, StopsReading, Turns}
 use Rattle.unl_input.proofs.Lines.{line_first, last_line, long_first, some_first, sends_nothing}
 use Rattle.unl_input.proofs.Whole.{Heads, Sofar, ends_at, errs, within_limits, past_limit, past_last}
 
@@ -121,6 +121,11 @@ stops before after broken same = record {
   none = broken.1;
   sent = same;
 }
+
+-- memory ran out in a line
+pub runs_out : {D : Type 0} (before after : Scene D) → Begins before.held before.left after.held after.left → after.sent ≡ before.sent
+    → RunsOut before after
+runs_out before after begun same = record { out = begun.front; got = begun.got; sent = same }
 
 -- the first line past the limit was begun
 pub ends_past : {D : Type 0} (taking : Taking D) (first : D) (fault : LinesFault) (start sent : Option (List ℕ)) (k : ℕ) (before after : Scene D) (b : ℕ)

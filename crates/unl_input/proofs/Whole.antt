@@ -1,6 +1,6 @@
 -- The lines of a whole input, from their turns.
 use Rattle.std.proofs.Common.{◌≡◌, ℕ, ◌+◌, ◌<◌, ◌≤◌, List, [], ◌∷◌, ◌++◌, length, false, cond, ltb, Result, Ok, Err, Option, Some, None, IfSome, refl, sym, ap, subst, ◌∙◌, append_assoc, append-nil, arith}
-use Rattle.std.specs.Prelude.{codes, IsErrOf}
+use Rattle.std.specs.Prelude.{codes, take}
 use Rattle.std.proofs.lemmas.Bool.{lt-ltb}
 use Rattle.std.proofs.lemmas.Bool.Decides.{nat_tests}
 use Rattle.unl_base.specs.Streams.{HasEnded, Sends, SendsFront}
@@ -9,10 +9,10 @@ use Rattle.unl_input.specs.declared.taking.LinesFault.{LinesFault}
 use Rattle.unl_input.specs.declared.taking.LinesFault.TheVariants.{Bad, ReadFault, WriteFault, Memory}
 use Rattle.unl_input.specs.Lines.{lines, ended_lines}
 use Rattle.unl_input.specs.Reading.{Gets, longest_line}
-use Rattle.unl_input.specs.Taken.{LineResult, Outcome, Taking, done, refused, IsRefused, ending_text, whole_text, printed, refused_text, begun_by, followed, take_line, take_from, outcome_of, outcome_of_ended, most_lines}
-use Rattle.unl_input.specs.Turns.{Scene, Takes, MayFollow, Prints, GoesOn, ComesToEnd, IsRefusedAt, BreaksOff, BeginsWith, StopsReading, Turns}
-use Rattle.unl_input.specs.Whole.{IsRefusing, AnswersRead, AnswersAll, HoldsOfRead, TakesLines}
-use Rattle.unl_input.proofs.Lines.{gets_trans, sends_nothing, sends_trans, sends_then_front, front_of_longer, IsWhole, whole_more, ended_whole, line_first}
+use Rattle.unl_input.specs.Taken.{LineResult, Outcome, Taking, done, refused, IsRefused, ending_text, whole_text, printed, refused_text, begun_by, followed, take_line, take_from, outcome_of, outcome_of_ended, outcome_of_first, most_lines}
+use Rattle.unl_input.specs.Turns.{Scene, Takes, MayFollow, Prints, GoesOn, ComesToEnd, IsRefusedAt, BreaksOff, BeginsWith, RunsOut, StopsReading, Turns}
+use Rattle.unl_input.specs.Whole.{IsRefusing, AnswersAll, AnswersFirst, AnswersInput, AnswersRead, HoldsOfRead, TakesLines}
+use Rattle.unl_input.proofs.Lines.{gets_trans, takes_nothing, sends_nothing, sends_trans, sends_then_front, front_of_longer, IsWhole, whole_more, ended_whole, first_whole, line_first}
 
 -- ---- one line
 
@@ -80,7 +80,7 @@ errs taking WriteFault k before after out comes desk prints got heads = record {
       subst (BeginsWith (printed k comes)) (sym told.1) (prints_first k before.desk comes (λ next. take_from taking (k + 1) next told.0));
   sent = prints;
 }
-errs taking Memory k before after out comes desk prints got heads = prints
+errs taking Memory k before after out comes desk prints got heads = record { out = out; got = got; sent = prints }
 
 -- ---- the lines so far
 
@@ -137,6 +137,12 @@ ends_all {D = D} taking first start sent k before after sofar now =
       leaves = ap (λ r. r.desk) is;
     }
 
+-- so it was answered whole
+pub answers_input : {D : Type 0} (taking : Taking D) (first last : D) (start left old new : Option (List ℕ))
+    → AnswersAll taking first last start left old new → AnswersInput taking first start left old new
+answers_input taking first last start left old new all =
+    record { read = all.read; took = all.took; end = all.end; answered = all.answered }
+
 -- the outcome of the bytes read and any that follow, from the outcome of the bytes consumed last
 read_of : {D : Type 0} (taking : Taking D) (first : D) (start sent : Option (List ℕ)) (k : ℕ) (before after : Scene D) (out rest : List ℕ)
     → (sofar : Sofar taking first start sent k before) → (got : Takes before out after)
@@ -168,7 +174,7 @@ ends_refused {D = D} taking first start sent k before after sofar now =
     record {
       read = all.read;
       took = all.took;
-      stands = λ rest may. record {
+      holds = λ rest may. record {
         ending = subst IsRefused (sym (ap (λ r. r.ending) (is rest may))) tt;
         sent = subst (λ t. Sends sent t after.sent) (sym (text rest may)) sends;
       };
@@ -192,17 +198,25 @@ ends_broken taking first start sent k before after sofar now =
     record {
       read = all.read;
       took = all.took;
-      stands = λ rest may. front_of_longer sent after.sent (sofar.text ++ now.text) (tail rest may).0
+      holds = λ rest may. front_of_longer sent after.sent (sofar.text ++ now.text) (tail rest may).0
           (whole_text (outcome_of taking first (all.read ++ rest))) front (text rest may);
     }
 
 -- what holds whatever follows holds for an observable input
-pub stands_told : (P : List ℕ → Type 0) (start left : Option (List ℕ)) → HoldsOfRead start left P → IfSome start P
-stands_told P None left stands = tt
-stands_told P (Some x) None stands = absurd (let took = stands.took in cc)
-stands_told P (Some x) (Some y) stands =
-    let parts : x ≡ stands.read ++ y = let took = stands.took in cc in
-    subst P (sym parts) (stands.stands y (λ end. end))
+pub holds_of_observable : (P : List ℕ → Type 0) (start left : Option (List ℕ)) → HoldsOfRead start left P → IfSome start P
+holds_of_observable P None left of_read = tt
+holds_of_observable P (Some x) None of_read = absurd (let took = of_read.took in cc)
+holds_of_observable P (Some x) (Some y) of_read =
+    let parts : x ≡ of_read.read ++ y = let took = of_read.took in cc in
+    subst P (sym parts) (of_read.holds y (λ end. end))
+
+-- an observable input that was read to its end is the bytes read
+pub whole_read : (left left_after : Option (List ℕ)) (read : List ℕ) → stream.Takes left read left_after → HasEnded left_after
+    → IfSome left (λ bytes. bytes ≡ read)
+whole_read None left_after read took end = tt
+whole_read (Some bytes) None read took end = absurd (cc took)
+whole_read (Some bytes) (Some rest) read took end =
+    let parts : bytes ≡ read ++ rest = let t = took in cc in parts ∙ ap (λ (r : List ℕ). read ++ r) end ∙ append-nil read
 
 pub ends_unread : {D : Type 0} (taking : Taking D) (first : D) (start sent : Option (List ℕ)) (k : ℕ) (before after : Scene D)
     → Sofar taking first start sent k before → StopsReading before after → AnswersRead taking first start after.left sent after.sent
@@ -223,41 +237,60 @@ ends_unread {D = D} taking first start sent k before after sofar now =
       };
     }
 
--- the bytes to come after those that were read
-rest_of : (x read : List ℕ) (left : Option (List ℕ)) → stream.Takes (Some x) read left → (rest : List ℕ) × (x ≡ read ++ rest)
-rest_of x read None took = absurd (cc took)
-rest_of x read (Some y) took = let parts : x ≡ read ++ y = let t = took in cc in (y, parts)
+-- ---- out of memory
 
--- if nothing was sent, that is a prefix of any text
-pub sent_none : (start sent : Option (List ℕ)) (text : List ℕ → List ℕ) → IfSome start (λ bytes. SendsFront sent (text bytes) sent)
-sent_none None sent text = tt
-sent_none (Some x) sent text = record { part = []; after = text x; split = refl; sends = sends_nothing sent }
-
--- what was sent before a turn is a prefix of the text
-pub sent_before : {D : Type 0} (taking : Taking D) (first : D) (start sent after : Option (List ℕ)) (k : ℕ) (before : Scene D)
-    → Sofar taking first start sent k before → after ≡ before.sent
-    → IfSome start (λ bytes. SendsFront sent (whole_text (outcome_of taking first bytes)) after)
-sent_before taking first None sent after k before sofar same = tt
-sent_before {D = D} taking first (Some x) sent after k before sofar same =
-    let rest = rest_of x sofar.got.read before.left sofar.got.took in
-    let bytes : List ℕ = before.held ++ rest.0 in
-    let more : Outcome D = take_from taking k before.desk (lines bytes) in
-    let is : x ≡ sofar.taken ++ bytes = rest.1 ∙ ap (λ xs. xs ++ rest.0) sofar.got.split ∙ append_assoc sofar.taken before.held rest.0 in
+-- the first lines of some bytes print what was sent, and other bytes follow these lines
+first_of : {D : Type 0} (taking : Taking D) (first : D) (start sent after : Option (List ℕ)) (k : ℕ) (before : Scene D) (bytes rest : List ℕ)
+    → (sofar : Sofar taking first start sent k before) → after ≡ before.sent → bytes ≡ sofar.taken ++ rest → AnswersFirst taking first bytes sent after
+first_of {D = D} taking first start sent after k before bytes rest sofar same parts =
+    let count : ℕ = length (lines sofar.taken) in
+    let whole : Outcome D = record { text = sofar.text ++ []; ending = done; desk = before.desk } in
+    let more : Outcome D = take_from taking k before.desk (lines rest) in
+    let sends : Sends sent sofar.text after = subst (λ (s : Option (List ℕ)). Sends sent sofar.text s) (sym same) sofar.sends in
+    let is : outcome_of_first taking first count bytes ≡ whole =
+    ap (λ xs. take_from taking 1 first (take count (lines xs))) parts
+    ∙ ap (take_from taking 1 first) (first_whole sofar.taken rest sofar.whole ∙ ap lines (sym (append-nil sofar.taken)))
+    ∙ sofar.leads [] in
     record {
-      part = sofar.text;
-      after = whole_text more;
-      split = ap (λ xs. whole_text (outcome_of taking first xs)) is ∙ ap whole_text (sofar.leads bytes) ∙ append_assoc sofar.text more.text (ending_text more.ending);
-      sends = subst (λ (s : Option (List ℕ)). Sends sent sofar.text s) (sym same) sofar.sends;
+      count = count;
+      answered = record {
+        ending = ap (λ r. r.ending) is;
+        sent = subst (λ t. Sends sent t after) (sym (ap (λ r. r.text) is ∙ append-nil sofar.text)) sends;
+      };
+      front = record {
+        part = sofar.text;
+        after = whole_text more;
+        split = ap (λ xs. whole_text (outcome_of taking first xs)) parts ∙ ap whole_text (sofar.leads rest)
+            ∙ append_assoc sofar.text more.text (ending_text more.ending);
+        sends = sends;
+      };
     }
 
--- so is what was sent when memory runs out in a turn
-pub sent_at_want : {D : Type 0} (taking : Taking D) (first : D) (fault : LinesFault) (start sent : Option (List ℕ)) (k : ℕ) (before after : Scene D)
-    → Sofar taking first start sent k before → Turns taking (Err fault) k before after
-    → (let r : Result (Unit {0}) LinesFault = Err fault in IsErrOf r Memory)
-    → IfSome start (λ bytes. SendsFront sent (whole_text (outcome_of taking first bytes)) after.sent)
-sent_at_want taking first fault start sent k before after sofar now is =
-    let wants : fault ≡ Memory = let h = is in cc in
-    sent_before taking first start sent after.sent k before sofar (subst (λ (f : LinesFault). Turns taking (Err f) k before after) wants now)
+-- memory ran out in a turn
+pub ends_out_of_memory : {D : Type 0} (taking : Taking D) (first : D) (start sent : Option (List ℕ)) (k : ℕ) (before after : Scene D)
+    → Sofar taking first start sent k before → RunsOut before after
+    → HoldsOfRead start after.left (λ bytes. AnswersFirst taking first bytes sent after.sent)
+ends_out_of_memory taking first start sent k before after sofar now =
+    let all = gets_trans [] before.held after.held start before.left after.left sofar.taken now.out sofar.got now.got in
+    record {
+      read = all.read;
+      took = all.took;
+      holds = λ rest may. first_of taking first start sent after.sent k before (all.read ++ rest) (now.out ++ (after.held ++ rest)) sofar now.sent
+          (ap (λ xs. xs ++ rest) all.split ∙ append_assoc (sofar.taken ++ now.out) after.held rest
+          ∙ append_assoc sofar.taken now.out (after.held ++ rest));
+    }
+
+-- memory ran out before anything was read or sent
+pub ends_at_once : {D : Type 0} (taking : Taking D) (first : D) (start sent : Option (List ℕ)) → TakesLines taking first (Err Memory) start start sent sent
+ends_at_once taking first start sent = record {
+  read = [];
+  took = takes_nothing start;
+  holds = λ rest may. record {
+    count = 0;
+    answered = record { ending = refl; sent = sends_nothing sent };
+    front = record { part = []; after = whole_text (outcome_of taking first rest); split = refl; sends = sends_nothing sent };
+  };
+}
 
 -- how the lines end if a turn fails
 pub ends_at : {D : Type 0} (taking : Taking D) (first : D) (fault : LinesFault) (start sent : Option (List ℕ)) (k : ℕ) (before after : Scene D)
@@ -265,4 +298,4 @@ pub ends_at : {D : Type 0} (taking : Taking D) (first : D) (fault : LinesFault) 
 ends_at taking first Bad start sent k before after sofar now = ends_refused taking first start sent k before after sofar now
 ends_at taking first ReadFault start sent k before after sofar now = ends_unread taking first start sent k before after sofar now
 ends_at taking first WriteFault start sent k before after sofar now = ends_broken taking first start sent k before after sofar now
-ends_at taking first Memory start sent k before after sofar now = tt
+ends_at taking first Memory start sent k before after sofar now = ends_out_of_memory taking first start sent k before after sofar now

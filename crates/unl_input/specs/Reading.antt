@@ -1,5 +1,5 @@
 -- What reading a line consumes of the held bytes and the source.
-use Rattle.std.specs.Prelude.{◌≡◌, ◌≢◌, ⊤, ℕ, ◌<◌, ◌≤◌, List, [], ◌∷◌, ◌++◌, length, Option, Bool, true, false}
+use Rattle.std.specs.Prelude.{◌≡◌, ◌≢◌, ℕ, ◌<◌, ◌≤◌, List, [], ◌∷◌, ◌++◌, length, Option, Bool, true, false}
 use Rattle.unl_base.specs.Streams.{Takes, HasEnded}
 use Rattle.unl_input.specs.declared.reader.NextLine.{NextLine}
 use Rattle.unl_input.specs.declared.reader.NextLine.TheVariants.{Line, Last, End}
@@ -75,4 +75,4 @@ pub record BeginsLong (held : List ℕ) (left : Option (List ℕ)) (held_after :
 abbrev pub Breaks : ReadFault → List ℕ → Option (List ℕ) → List ℕ → Option (List ℕ) → Type 0
 Breaks Failed held left held_after left_after = Begins held left held_after left_after × (held_after ≡ [])
 Breaks TooLong held left held_after left_after = BeginsLong held left held_after left_after
-Breaks Memory held left held_after left_after = ⊤
+Breaks Memory held left held_after left_after = Begins held left held_after left_after

@@ -1,5 +1,5 @@
 -- What the lines of an input print, the state after them, and how they end.
-use Rattle.std.specs.Prelude.{ℕ, ◌+◌, List, [], ◌∷◌, ◌++◌, length, codes, decimal, if◌then◌else◌, nat_lt, Result, Ok, Err}
+use Rattle.std.specs.Prelude.{ℕ, ◌+◌, List, [], ◌∷◌, ◌++◌, length, take, codes, decimal, if◌then◌else◌, nat_lt, Result, Ok, Err}
 use Rattle.unl_input.specs.Lines.{lines, ended_lines}
 use Rattle.unl_input.specs.Reading.{longest_line}
 
@@ -85,3 +85,7 @@ outcome_of taking d bytes = take_from taking 1 d (lines bytes)
 -- the outcome of the lines that end with a line feed in these bytes
 abbrev pub outcome_of_ended : {D : Type 0} → Taking D → D → List ℕ → Outcome D
 outcome_of_ended taking d bytes = take_from taking 1 d (ended_lines bytes)
+
+-- the outcome of the first `count` lines of these bytes
+abbrev pub outcome_of_first : {D : Type 0} → Taking D → D → ℕ → List ℕ → Outcome D
+outcome_of_first taking d count bytes = take_from taking 1 d (take count (lines bytes))

@@ -1,5 +1,5 @@
 -- One turn: the bytes consumed, and the text sent.
-use Rattle.std.specs.Prelude.{◌≡◌, ⊤, ℕ, ◌+◌, ◌≤◌, List, [], ◌∷◌, ◌++◌, Option, Result, Ok, Err, false}
+use Rattle.std.specs.Prelude.{◌≡◌, ℕ, ◌+◌, ◌≤◌, List, [], ◌∷◌, ◌++◌, Option, Result, Ok, Err, false}
 use Rattle.unl_base.specs.Streams.{Sends, SendsFront}
 use Rattle.unl_input.specs.declared.taking.LinesFault.{LinesFault}
 use Rattle.unl_input.specs.declared.taking.LinesFault.TheVariants.{Bad, ReadFault, WriteFault, Memory}
@@ -89,11 +89,17 @@ pub record StopsReading {D : Type 0} (before after : Scene D) : Type 0 where
   pub none : after.held ≡ []
   pub sent : after.sent ≡ before.sent
 
--- the effect of one turn: a line is processed, the input has ended, or it failed
+-- memory ran out: nothing was printed, and at most one line was consumed
+pub record RunsOut {D : Type 0} (before after : Scene D) : Type 0 where
+  pub out : List ℕ
+  pub got : Takes before out after
+  pub sent : after.sent ≡ before.sent
+
+-- the effect of one turn: a line is processed, the input has ended, or it failed, or memory ran out
 abbrev pub Turns : {D : Type 0} → Taking D → Result Progress LinesFault → ℕ → Scene D → Scene D → Type 0
 Turns taking (Ok Line) k before after = GoesOn taking k before after
 Turns taking (Ok Over) k before after = ComesToEnd taking k before after
 Turns taking (Err Bad) k before after = IsRefusedAt taking k before after
 Turns taking (Err ReadFault) k before after = StopsReading before after
 Turns taking (Err WriteFault) k before after = BreaksOff taking k before after
-Turns taking (Err Memory) k before after = after.sent ≡ before.sent
+Turns taking (Err Memory) k before after = RunsOut before after

@@ -1,9 +1,9 @@
 -- How the lines of a whole input end: what was read from the source, and what was sent.
-use Rattle.std.specs.Prelude.{◌≡◌, ⊤, List, [], ◌++◌, ℕ, Option, IfSome, Result, Ok, Err}
+use Rattle.std.specs.Prelude.{◌≡◌, List, [], ◌++◌, ℕ, Option, Result, Ok, Err}
 use Rattle.unl_base.specs.Streams.{Takes, HasEnded, Sends, SendsFront}
 use Rattle.unl_input.specs.declared.taking.LinesFault.{LinesFault}
 use Rattle.unl_input.specs.declared.taking.LinesFault.TheVariants.{Bad, ReadFault, WriteFault, Memory}
-use Rattle.unl_input.specs.Taken.{Outcome, Taking, done, IsRefused, whole_text, outcome_of, outcome_of_ended}
+use Rattle.unl_input.specs.Taken.{Outcome, Taking, done, IsRefused, whole_text, outcome_of, outcome_of_ended, outcome_of_first}
 
 -- every line was processed, and all output was sent
 pub record IsAnswered {D : Type 0} (outcome : Outcome D) (old new : Option (List ℕ)) : Type 0 where
@@ -25,7 +25,20 @@ pub record AnswersRead {D : Type 0} (taking : Taking D) (desk : D) (left left_af
 pub record HoldsOfRead (left left_after : Option (List ℕ)) (P : List ℕ → Type 0) : Type 0 where
   pub read : List ℕ
   pub took : Takes left read left_after
-  pub stands : (rest : List ℕ) → (HasEnded left_after → rest ≡ []) → P (read ++ rest)
+  pub holds : (rest : List ℕ) → (HasEnded left_after → rest ≡ []) → P (read ++ rest)
+
+-- Just the output of the first `count` lines was sent, none of which is refused. It is a prefix of the whole text.
+pub record AnswersFirst {D : Type 0} (taking : Taking D) (desk : D) (bytes : List ℕ) (old new : Option (List ℕ)) : Type 0 where
+  pub count : ℕ
+  pub answered : IsAnswered (outcome_of_first taking desk count bytes) old new
+  pub front : SendsFront old (whole_text (outcome_of taking desk bytes)) new
+
+-- the input was read to its end, every line was processed, and all output was sent
+pub record AnswersInput {D : Type 0} (taking : Taking D) (desk : D) (left left_after old new : Option (List ℕ)) : Type 0 where
+  pub read : List ℕ
+  pub took : Takes left read left_after
+  pub end : HasEnded left_after
+  pub answered : IsAnswered (outcome_of taking desk read) old new
 
 -- the input was read to its end, its lines were processed, and the state is the one that they leave
 pub record AnswersAll {D : Type 0} (taking : Taking D) (desk desk_after : D) (left left_after old new : Option (List ℕ)) : Type 0 where
@@ -35,13 +48,15 @@ pub record AnswersAll {D : Type 0} (taking : Taking D) (desk desk_after : D) (le
   pub answered : IsAnswered (outcome_of taking desk read) old new
   pub leaves : (outcome_of taking desk read).desk ≡ desk_after
 
--- How the lines end, given the bytes to come and the bytes sent, before and after.
+-- How the lines end, given the bytes to come and the bytes sent, before and after. This doesn't depend on whether either is
+-- observable.
 abbrev pub TakesLines : {D : Type 0} → Taking D → D → Result (Unit {0}) LinesFault → Option (List ℕ) → Option (List ℕ) → Option (List ℕ)
     → Option (List ℕ) → Type 0
-TakesLines taking desk (Ok u) left left_after old new = IfSome left (λ bytes. IsAnswered (outcome_of taking desk bytes) old new)
+TakesLines taking desk (Ok u) left left_after old new = AnswersInput taking desk left left_after old new
 TakesLines taking desk (Err Bad) left left_after old new =
     HoldsOfRead left left_after (λ bytes. IsRefusing (outcome_of taking desk bytes) old new)
 TakesLines taking desk (Err ReadFault) left left_after old new = AnswersRead taking desk left left_after old new
 TakesLines taking desk (Err WriteFault) left left_after old new =
     HoldsOfRead left left_after (λ bytes. SendsFront old (whole_text (outcome_of taking desk bytes)) new)
-TakesLines taking desk (Err Memory) left left_after old new = ⊤
+TakesLines taking desk (Err Memory) left left_after old new =
+    HoldsOfRead left left_after (λ bytes. AnswersFirst taking desk bytes old new)

@@ -5,5 +5,5 @@ use crate::line::LineProcessor;
 
 /// If no line prints anything, only the cause of a refused line is printed.
 pub fn silent_lines<A: LineProcessor>()
-    ensures { IsSilent A.taken → PrintsCauseAlone A.taken }
+    ensures { IsSilent A.line_result → PrintsCauseAlone A.line_result }
 {}

@@ -47,7 +47,7 @@ pub trait LineProcessor {
 
     // The result of a line, by its number and the state before it: what it prints and the state after it, or the text of
     // the cause for which it is refused.
-    ghost taken: { ℕ → Self.Desk → List ℕ → Result (Taken Self.Desk) (List ℕ) };
+    ghost line_result: { ℕ → Self.Desk → List ℕ → Result (Taken Self.Desk) (List ℕ) };
 
     // The state has room for the line with this number.
     ghost fits: { ℕ → Self.Desk → Type 0 };
@@ -64,6 +64,6 @@ pub trait LineProcessor {
     ) -> Result<Vec<u8>, LineRefusal>
         requires room { fits number desk.old }
         requires few { number ≤ most_lines }
-        ensures taken { TakesLine result desk.new (taken number desk.old line.now) }
+        ensures processed { TakesLine result desk.new (line_result number desk.old line.now) }
         ensures room { OnOk result (fits (number + 1) desk.new) };
 }

@@ -176,11 +176,13 @@ impl LineReader {
     }
 
     /// Moves held bytes of the line into `line` in one step. Returns whether the line feed was found, which is consumed
-    /// too. Takes at most one byte more than a line may have, which is enough to see that the line is too long.
+    /// too. Takes at most one byte more than a line may have, which is enough to see that the line is too long. If memory runs
+    /// out, the buffer is unchanged.
     fn take_piece(&mut self, line: &mut Vec<u8>) -> Result<bool, AllocError>
         requires held { 0 < length self.old }
         requires short { length line.old.items ≤ longest_line }
-        ensures { IfOk result (λ ended. TakesPiece ended line.old.items self.old line.new.items self.new) }
+        ensures piece { IfOk result (λ ended. TakesPiece ended line.old.items self.old line.new.items self.new) }
+        ensures unchanged { OnErr result (self.new ≡ self.old) }
     {
         let front = self.front(LONGEST_LINE + 1 - line.len());
         let len = unbroken_len(front);

@@ -1,8 +1,7 @@
 //! Processes all lines of an input.
 ghost use Rattle.std.specs.Prelude.{◌≡◌, ◌≢◌, ◌+◌, ◌≤◌, ℕ, IfOk, IfSome, OnOk, IsErrOf, string_bytes};
 ghost use Rattle.unl_base.specs.Faults.{Rose};
-ghost use Rattle.unl_base.specs.Streams.{SendsFront};
-ghost use Rattle.unl_input.specs.Taken.{most_lines, outcome_of, refused_text, whole_text};
+ghost use Rattle.unl_input.specs.Taken.{most_lines, outcome_of, refused_text};
 ghost use Rattle.unl_input.specs.Turns.{FitsAfter, Prints, Refuses, Turns};
 ghost use Rattle.unl_input.specs.Whole.{AnswersAll, TakesLines};
 
@@ -100,7 +99,7 @@ fn print_answer<A: LineProcessor, K: Sink>(
 ) -> Result<(), LinesFault>
     requires room { A.fits number desk.old }
     requires few { number ≤ most_lines }
-    ensures prints { Prints result number (A.taken number desk.old line.now) desk.new (K.sent sink.old) (K.sent sink.new) }
+    ensures prints { Prints result number (A.line_result number desk.old line.now) desk.new (K.sent sink.old) (K.sent sink.new) }
     ensures room { OnOk result (A.fits (number + 1) desk.new) }
     ensures cause { IsErrOf result LinesFault.WriteFault → Rose (K.faults sink.old) (K.faults sink.new) }
     ensures later { K.faults sink.old ≤ K.faults sink.new }
@@ -126,7 +125,7 @@ fn turn<A: LineProcessor, S: Source, K: Sink>(
 ) -> Result<Progress, LinesFault>
     requires room { A.fits number desk.old }
     requires few { number ≤ most_lines }
-    ensures turns { Turns A.taken result number
+    ensures turns { Turns A.line_result result number
         (record { desk = desk.old; held = reader.old; left = S.left source.old; sent = K.sent sink.old })
         (record { desk = desk.new; held = reader.new; left = S.left source.new; sent = K.sent sink.new }) }
     ensures room { IfOk result (λ progress. FitsAfter A.fits number progress desk.new) }
@@ -146,8 +145,8 @@ fn turn<A: LineProcessor, S: Source, K: Sink>(
         },
         Ok(NextLine::End) => Ok(Progress::Over),
         Err(ReadFault::TooLong) => Err(refuse(alloc, sink, number, "LineTooLong")),
-        Err(ReadFault::Failed) => Err(LinesFault::ReadFault),
         Err(ReadFault::Memory) => Err(LinesFault::Memory),
+        Err(ReadFault::Failed) => Err(LinesFault::ReadFault),
     }
 }
 
@@ -166,18 +165,15 @@ pub fn process_lines<A: LineProcessor, S: Source, K: Sink>(
     sink: &mut K,
 ) -> Result<(), LinesFault>
     requires { A.fits 1 desk.old }
-    // What was sent. On success: the whole text. On `Bad`: the text up to the refused line, and the cause. On `ReadFault`:
-    // the output of the lines that were read in full. On `WriteFault`: a prefix of the text.
-    ensures lines { TakesLines A.taken desk.old result (S.left source.old) (S.left source.new) (K.sent sink.old) (K.sent sink.new) }
+    // What was read and sent. On success: the whole input, and the whole text. On `Bad`: the text up to the refused line, and the
+    // cause. On `ReadFault`: the output of the lines that were read in full. On `WriteFault`: a prefix of the text. On `Memory`:
+    // the output of the first lines.
+    ensures lines { TakesLines A.line_result desk.old result (S.left source.old) (S.left source.new) (K.sent sink.old) (K.sent sink.new) }
 
     // On success the input has ended, and the state is the one that its lines leave.
-    ensures all { OnOk result (AnswersAll A.taken desk.old desk.new
+    ensures all { OnOk result (AnswersAll A.line_result desk.old desk.new
         (S.left source.old) (S.left source.new) (K.sent sink.old) (K.sent sink.new)) }
-    ensures leaves { OnOk result (IfSome (S.left source.old) (λ bytes. (outcome_of A.taken desk.old bytes).desk ≡ desk.new)) }
-
-    // If memory runs out, only a prefix of the text was sent.
-    ensures memory { IsErrOf result LinesFault.Memory → IfSome (S.left source.old)
-        (λ bytes. SendsFront (K.sent sink.old) (whole_text (outcome_of A.taken desk.old bytes)) (K.sent sink.new)) }
+    ensures leaves { OnOk result (IfSome (S.left source.old) (λ bytes. (outcome_of A.line_result desk.old bytes).desk ≡ desk.new)) }
 
     // The state has room for one more line.
     ensures room { OnOk result ((number : ℕ) × (number ≤ most_lines + 1) × A.fits number desk.new) }

@@ -1,159 +1,36 @@
--- Along the lines of a replay, each slot represents the line of histories of its environment.
-use Rattle.std.proofs.Common.{◌≡◌, ℕ, ◌+◌, Bool, true, false, cond, List, [], ◌∷◌, length, ltb, Option, Some, None, Result, Ok, Err, IfOk, refl, ap}
-use Rattle.std.specs.Prelude.{IfSome, codes, ok_or}
+-- The lines of a replay that were answered, and what holds along them.
+use Rattle.std.proofs.Common.{◌≡◌, ℕ, ◌+◌, ◌≤◌, Bool, true, false, cond, List, [], ◌∷◌, ◌++◌, length, ltb, take, Option, Result, Ok, Err, IfOk, refl, sym, ap, ◌∙◌, subst, arith, append-nil, append_assoc}
+use Rattle.std.specs.List.{AllByRecursion, count_by}
+use Rattle.std.specs.Prelude.{codes, map, ok_or}
 use Rattle.std.specs.Str.{bytes_eq}
 use Rattle.serde_json.specs.Data.{Data}
-use Rattle.unl_core.specs.Histories.{AreLines, Histories}
-use Rattle.unl_core.specs.Same.{same_book}
-use Rattle.unl_core.specs.DeskStates.{DeskState, installed_by, with_book, with_name}
-use Rattle.unl_core.specs.Board.{place_in}
+use Rattle.unl_base.specs.Streams.{HasEnded, Sends, SendsFront, Takes}
+use Rattle.unl_core.specs.DeskStates.{with_name}
+use Rattle.unl_core.specs.Histories.{AreLines, Histories, RepresentedAt}
 use Rattle.unl_core.proofs.Showing.{shows_revision}
-use Rattle.unl_delta.specs.declared.batch.Batch.{Batch}
-use Rattle.unl_delta.specs.Batch.{verdict_of}
-use Rattle.unl_delta.specs.History.{IsSent}
-use Rattle.unl_delta.specs.Installing.{place_of}
+use Rattle.unl_delta.specs.History.{IsNotBelow}
 use Rattle.unl_documents.specs.declared.fault.BadDocument.TheVariants.{NotJson, WrongKind}
 use Rattle.unl_documents.specs.declared.field.Field.TheVariants as field
 use Rattle.unl_documents.specs.Kinds.{any_text, name, required}
 use Rattle.unl_documents.specs.Results.{object_in}
-use Rattle.unl_input.specs.Lines.{lines}
-use Rattle.unl_input.specs.Reading.{longest_line}
-use Rattle.unl_input.specs.Taken.{LineResult, Taken, most_lines, take_line}
-use Rattle.unl_metrics.specs.Book.{Book}
-use Rattle.unl_tokens.specs.declared.token.Token.{Token}
-use Rattle.unl_tokens.specs.Books.{book_of}
+use Rattle.unl_input.specs.Lines.{ended_lines, is_end, lines}
+use Rattle.unl_input.specs.Taken.{Ending, IsRefused, LineResult, Outcome, Taken, done, ending_text, followed, refused, refused_text, take_from, take_line, whole_text}
+use Rattle.unl_input.specs.Whole.{AnswersFirst, HoldsOfRead, IsRefusing, TakesLines}
+use Rattle.unl_input.specs.declared.taking.LinesFault.{LinesFault}
+use Rattle.unl_input.specs.declared.taking.LinesFault.TheVariants.{Bad, ReadFault, WriteFault, Memory}
+use Rattle.unl_input.proofs.Lines.{take_of_first}
+use Rattle.unl_input.proofs.Silent.{within_limits_of}
 use Rattle.unl_replay.specs.declared.ask.Ask.{Ask}
 use Rattle.unl_replay.specs.declared.bench.ReplayState.{ReplayState}
-use Rattle.unl_replay.specs.declared.refusal.Refusal.{Refusal}
 use Rattle.unl_replay.specs.declared.refusal.Refusal.TheVariants.{Document}
-use Rattle.unl_replay.specs.Delivery.{AllSent, AnswersFromHistories, AsksFromHistories, DeliversRevisions, Delivery, IsSentFromHistory, asked, asked_by, batch_brought, brought, brought_by, by_op, feed_brought, for_environment}
-use Rattle.unl_replay.specs.Forms.{ask_of, batch_in, feed_in}
-use Rattle.unl_replay.specs.Refusals.{LineReading, and_then, documented, refusing, refusal_for_book, refusal_text}
-use Rattle.unl_replay.specs.Replay.{Answered, LineEffect, answer_object, answer_op, answer_read, arrive, ask_of_line, at_desk, batch_of_line, leaving_book, environment_in, feed_of_line, judged, line_answer, metrics_of_line, number_in, opening, put_ask, put_batch, put_metrics, put_tokens, same_line, tokens_line, tokens_of_line}
-use Rattle.unl_replay.proofs.Slots.{DeskRepresents, all_stand, name_told, verdict_told}
-
--- two continuations of one reading: what holds of the second holds of the first
-and_both : {A B C : Type 0} (r : LineReading A) (f : A → LineReading B) (g : A → LineReading C) (P : B → Type 0) (Q : C → Type 0)
-    → ((x : A) → IfOk (g x) Q → IfOk (f x) P) → IfOk (and_then r g) Q → IfOk (and_then r f) P
-and_both (Ok x) f g P Q step premise = step x premise
-and_both (Err e) f g P Q step premise = tt
-
--- the continuation of a reading
-and_more : {A B : Type 0} (r : LineReading A) (f : A → LineReading B) (P : B → Type 0) → ((x : A) → IfOk (f x) P) → IfOk (and_then r f) P
-and_more (Ok x) f P step = step x
-and_more (Err e) f P step = tt
-
--- after a line, each slot of the desk represents its line of histories
-abbrev Leaves : Histories → LineReading Answered → Type 0
-Leaves told r = IfOk r (λ answered. DeskRepresents told answered.desk)
-
-abbrev LeavesBench : Histories → LineReading LineEffect → Type 0
-LeavesBench told r = IfOk r (λ turned. DeskRepresents told turned.desk.desk)
-
--- ---- batches and feeds
-
-arrives : (told : Histories) (environment : List ℕ) (k : ℕ) (batch : Batch) (d : DeskState) (slot : Option ℕ) → AreLines told → DeskRepresents told d
-    → IsSent (told.line environment) (told.sees environment) batch → place_in environment d.board.slots ≡ slot → Leaves told (arrive k batch d slot)
-arrives told environment k batch d None lines all sent named = tt
-arrives told environment k batch d (Some slot) lines all sent named =
-    verdict_told told environment slot batch d (verdict_of (place_of (installed_by d) slot) batch) lines all named sent refl
-
-puts_batch : (told : Histories) (environment : List ℕ) (k : ℕ) (d : DeskState) (batch : Batch) → AreLines told → DeskRepresents told d
-    → IsSent (told.line environment) (told.sees environment) batch → Leaves told (put_batch k environment d batch)
-puts_batch told environment k d batch lines all sent =
-    arrives told environment k batch (with_name environment d) (place_in environment (with_name environment d).board.slots) lines (name_told told environment d all) sent refl
-
-puts_read : (told : Histories) (environment : List ℕ) (k : ℕ) (d : DeskState) (reading : LineReading Batch) → AreLines told → DeskRepresents told d
-    → IfOk (for_environment environment reading) (IsSentFromHistory told) → Leaves told (and_then reading (put_batch k environment d))
-puts_read told environment k d (Ok batch) lines all sent = puts_batch told environment k d batch lines all sent
-puts_read told environment k d (Err e) lines all sent = tt
-
-batch_leaves : (told : Histories) (k : ℕ) (d : DeskState) (line : Data) → AreLines told → DeskRepresents told d → IfOk (batch_brought d line) (IsSentFromHistory told)
-    → Leaves told (batch_of_line k d line)
-batch_leaves told k d line lines all sent =
-    and_both (environment_in d line) (λ environment. and_then (batch_in (number_in environment d.board) line) (put_batch k environment d))
-    (λ environment. for_environment environment (batch_in (number_in environment d.board) line)) (λ (answered : Answered). DeskRepresents told answered.desk) (IsSentFromHistory told)
-    (λ environment here. puts_read told environment k d (batch_in (number_in environment d.board) line) lines all here) sent
-
-feed_leaves : (told : Histories) (k : ℕ) (d : DeskState) (line : Data) → AreLines told → DeskRepresents told d → IfOk (feed_brought d line) (IsSentFromHistory told)
-    → Leaves told (feed_of_line k d line)
-feed_leaves told k d line lines all sent =
-    and_both (environment_in d line) (λ environment. and_then (feed_in line) (put_batch k environment d))
-    (λ environment. for_environment environment (feed_in line)) (λ (answered : Answered). DeskRepresents told answered.desk) (IsSentFromHistory told)
-    (λ environment here. puts_read told environment k d (feed_in line) lines all here) sent
-
--- ---- the other lines
-
-abbrev either_put : List ℕ → DeskState → Answered
-either_put text d = record { text = text; desk = d }
-
-tokens_put : (told : Histories) (k : ℕ) (d : DeskState) (tokens : List Token) → DeskRepresents told d → DeskRepresents told (put_tokens k tokens d).desk
-tokens_put told k d tokens all = decided (same_book tokens d.board.book)
-  where
-    decided : (t : Bool) → DeskRepresents told (cond t (either_put (same_line k) d) (either_put (tokens_line k (with_book tokens d).board.generation (with_book tokens d).front) (with_book tokens d))).desk
-    decided true = all
-    decided false = all
-
-tokens_leave : (told : Histories) (k : ℕ) (d : DeskState) (line : Data) → DeskRepresents told d → Leaves told (tokens_of_line k d line)
-tokens_leave told k d line all =
-    and_more (refusing refusal_for_book (book_of line)) (λ tokens. Ok (put_tokens k tokens d)) (λ (answered : Answered). DeskRepresents told answered.desk)
-    (λ tokens. tokens_put told k d tokens all)
-
-ask_leaves : (told : Histories) (k : ℕ) (b : ReplayState) (line : Data) → DeskRepresents told b.desk → LeavesBench told (ask_of_line k b line)
-ask_leaves told k b line all = and_more (documented (ask_of line)) (λ ask. Ok (put_ask k b ask)) (λ (turned : LineEffect). DeskRepresents told turned.desk.desk) (λ ask. all)
-
-metrics_leave : (told : Histories) (k : ℕ) (b : ReplayState) (line : Data) → DeskRepresents told b.desk → LeavesBench told (metrics_of_line k b line)
-metrics_leave told k b line all =
-    and_more (documented (required name field.Environment line)) (λ environment. Ok (at_desk b.desk (put_metrics k environment b.book)))
-    (λ (turned : LineEffect). DeskRepresents told turned.desk.desk) (λ environment. all)
-
-beside_leaves : (told : Histories) (book : Book) (r : LineReading Answered) → Leaves told r → LeavesBench told (leaving_book book r)
-beside_leaves told book (Ok answered) leaves = leaves
-beside_leaves told book (Err e) leaves = tt
-
--- ---- one line
-
-op_leaves : (told : Histories) (k : ℕ) (b : ReplayState) (line : Data) (op : List ℕ) → AreLines told → DeskRepresents told b.desk → IfOk (brought_by b.desk line op) (IsSentFromHistory told)
-    → LeavesBench told (answer_op k b line op)
-op_leaves told k b line op lines all sent =
-    decided (bytes_eq op (codes "tokens")) (bytes_eq op (codes "batch")) (bytes_eq op (codes "feed")) (bytes_eq op (codes "ask")) (bytes_eq op (codes "metrics")) sent
-  where
-    decided : (tokens batch feed ask metrics : Bool)
-        → IfOk (cond tokens (Err (Document (WrongKind field.Op))) (cond batch (batch_brought b.desk line) (cond feed (feed_brought b.desk line) (Err (Document (WrongKind field.Op)))))) (IsSentFromHistory told)
-        → LeavesBench told (cond tokens (leaving_book b.book (tokens_of_line k b.desk line)) (cond batch (leaving_book b.book (batch_of_line k b.desk line)) (cond feed (leaving_book b.book (feed_of_line k b.desk line))
-        (cond ask (ask_of_line k b line) (cond metrics (metrics_of_line k b line) (Err (Document (WrongKind field.Op))))))))
-    decided true batch feed ask metrics here = beside_leaves told b.book (tokens_of_line k b.desk line) (tokens_leave told k b.desk line all)
-    decided false true feed ask metrics here = beside_leaves told b.book (batch_of_line k b.desk line) (batch_leaves told k b.desk line lines all here)
-    decided false false true ask metrics here = beside_leaves told b.book (feed_of_line k b.desk line) (feed_leaves told k b.desk line lines all here)
-    decided false false false true metrics here = ask_leaves told k b line all
-    decided false false false false true here = metrics_leave told k b line all
-    decided false false false false false here = tt
-
-object_leaves : (told : Histories) (k : ℕ) (b : ReplayState) (line : Data) → AreLines told → DeskRepresents told b.desk → IfOk (by_op (brought_by b.desk) line) (IsSentFromHistory told)
-    → LeavesBench told (answer_object k b line)
-object_leaves told k b line lines all sent =
-    and_both (documented (required any_text field.Op line)) (answer_op k b line) (brought_by b.desk line) (λ (turned : LineEffect). DeskRepresents told turned.desk.desk) (IsSentFromHistory told)
-    (λ op here. op_leaves told k b line op lines all here) sent
-
-read_leaves : (told : Histories) (k : ℕ) (b : ReplayState) (bytes : List ℕ) → AreLines told → DeskRepresents told b.desk → IfOk (brought b bytes) (IsSentFromHistory told)
-    → LeavesBench told (answer_read k b bytes)
-unfolding brought answer_read
-read_leaves told k b bytes lines all sent =
-    and_both (ok_or (object_in bytes) (Document NotJson)) (answer_object k b) (by_op (brought_by b.desk)) (λ (turned : LineEffect). DeskRepresents told turned.desk.desk) (IsSentFromHistory told)
-    (λ line here. object_leaves told k b line lines all here) sent
-
-refused_leaves : (told : Histories) (r : LineReading LineEffect) → LeavesBench told r → IfOk (refusing refusal_text r) (λ taken. DeskRepresents told taken.desk.desk)
-refused_leaves told (Ok turned) leaves = leaves
-refused_leaves told (Err e) leaves = tt
-
-line_leaves : (told : Histories) (k : ℕ) (b : ReplayState) (line : List ℕ) → AreLines told → DeskRepresents told b.desk → IfOk (brought b line) (IsSentFromHistory told)
-    → IfOk (take_line line_answer k b line) (λ taken. DeskRepresents told taken.desk.desk)
-line_leaves told k b line lines all sent = decided (ltb most_lines k) (ltb longest_line (length line))
-  where
-    decided : (many long : Bool) → IfOk (cond many (Err (codes "TooManyLines")) (cond long (Err (codes "LineTooLong")) (line_answer k b line))) (λ (taken : Taken ReplayState). DeskRepresents told taken.desk.desk)
-    decided true long = tt
-    decided false true = tt
-    decided false false = refused_leaves told (answer_read k b line) (read_leaves told k b line lines all sent)
+use Rattle.unl_replay.specs.Delivery.{AllSent, AnswersFromHistories, AsksFromHistories, DeliversRevisions, IsSentFromHistory, asked, asked_by, brought, by_op}
+use Rattle.unl_replay.specs.Forms.{ask_of}
+use Rattle.unl_replay.specs.Refusals.{LineReading, and_then, documented, refusing, refusal_text}
+use Rattle.unl_replay.specs.Replay.{LineEffect, answer_object, answer_op, answer_read, ask_of_line, batch_of_line, feed_of_line, leaving_book, line_answer, metrics_of_line, opening, put_ask, replay_of, tokens_of_line}
+use Rattle.unl_replay.specs.Replayed.{AllAnswerRevisions, AllSentFrom, AnswersLines, AnswersRevision, AreReplayed, DeliverRevisions, NeverFall, ReplayedLine, Replays, SendsAnswers, bytes_of, text_of, version_in}
+use Rattle.unl_replay.proofs.LineSteps.{Leads, line_leaves}
+use Rattle.unl_replay.proofs.Rising.{Agrees, Rises, leads_up}
+use Rattle.unl_replay.proofs.Slots.{DeskRepresents, all_represented, desk_named, verdict_represents}
 
 -- ---- one ask
 
@@ -189,6 +66,8 @@ answered : (k : ℕ) (b : ReplayState) (line : List ℕ) → IfOk (asked line) (
 unfolding asked answer_read
 answered k b line = read_answered k b (ok_or (object_in line) (Document NotJson))
 
+-- ---- the laws of all lines
+
 if_ok : {A E : Type 0} (r : Result A E) (P Q : A → Type 0) → ((x : A) → P x → Q x) → IfOk r P → IfOk r Q
 if_ok (Ok x) P Q step here = step x here
 if_ok (Err e) P Q step here = tt
@@ -197,16 +76,25 @@ if_both : {A E : Type 0} (r : Result A E) (O P Q : A → Type 0) → ((x : A) �
 if_both (Ok x) O P Q step one two = step x one two
 if_both (Err e) O P Q step one two = tt
 
+-- a line that brings what was sent from histories leaves each slot with its history
+leads_on : (histories : Histories) (b : ReplayState) → AreLines histories → DeskRepresents histories b.desk
+    → Leads b.desk (IsSentFromHistory histories) (DeskRepresents histories)
+leads_on histories b are all = record {
+  same = all;
+  book = λ tokens. all;
+  batch = λ environment batch sent slot named verdict is.
+      verdict_represents histories environment slot batch (with_name environment b.desk) verdict are
+      (desk_named (RepresentedAt histories) environment b.desk all tt) named sent is;
+}
+
 from_histories : (told : Histories) (k : ℕ) (b : ReplayState) (line : List ℕ) → DeskRepresents told b.desk → IfOk (asked line) (AnswersFromHistories told k b line)
 from_histories told k b line all =
     if_ok (asked line) (λ (ask : Ask). answer_read k b line ≡ Ok (put_ask k b ask)) (AnswersFromHistories told k b line)
     (λ ask is. record {
       answers = is;
-      stand = all_stand told b.desk.board.slots b.desk.places all;
-      shows = λ q kind ready shown. shows_revision told b.desk.board q kind ready (all_stand told b.desk.board.slots b.desk.places all) shown;
+      stand = all_represented told b.desk.board.slots b.desk.places all;
+      shows = λ q kind ready shown. shows_revision told b.desk.board q kind ready (all_represented told b.desk.board.slots b.desk.places all) shown;
     }) (answered k b line)
-
--- ---- all lines
 
 pub asks_from : (told : Histories) (k : ℕ) (b : ReplayState) (lines : List (List ℕ)) → AreLines told → DeskRepresents told b.desk → AllSent told k b lines → AsksFromHistories told k b lines
 asks_from told k b [] are all sent = tt
@@ -214,13 +102,215 @@ asks_from told k b (line ∷ more) are all sent = (
   from_histories told k b line all,
   if_both (take_line line_answer k b line) (λ (taken : Taken ReplayState). DeskRepresents told taken.desk.desk) (λ (taken : Taken ReplayState). AllSent told (k + 1) taken.desk more)
       (λ (taken : Taken ReplayState). AsksFromHistories told (k + 1) taken.desk more) (λ taken here next. asks_from told (k + 1) taken.desk more are here next)
-      (line_leaves told k b line are all sent.0) sent.1,
+      (line_leaves (IsSentFromHistory told) (DeskRepresents told) k b line (leads_on told b are all) sent.0) sent.1,
 )
 
 pub delivered : (bytes : List ℕ) → DeliversRevisions bytes
 delivered bytes told are sent = asks_from told 1 opening (lines bytes) are tt sent
 
--- the same for bytes that are observable
-pub delivered_where : (told : Option (List ℕ)) → IfSome told DeliversRevisions
-delivered_where None = tt
-delivered_where (Some bytes) = delivered bytes
+-- ---- answered lines
+
+-- what holds after a line that was answered
+after_line : (P : ReplayState → Type 0) (k : ℕ) (b after : ReplayState) (line text : List ℕ)
+    → IfOk (take_line line_answer k b line) (λ (taken : Taken ReplayState). P taken.desk)
+    → take_line line_answer k b line ≡ Ok (record { text = text; desk = after }) → P after
+after_line P k b after line text holds is =
+    subst (λ (r : LineResult ReplayState). IfOk r (λ (taken : Taken ReplayState). P taken.desk)) is holds
+
+-- the effect of a line, if it isn't refused
+abbrev effect_or : LineEffect → LineResult ReplayState → LineEffect
+effect_or other (Ok effect) = effect
+effect_or other (Err cause) = other
+
+-- a line that isn't refused has one effect
+same_effect : (x y : LineEffect) (r : LineReading LineEffect) → r ≡ Ok x → refusing refusal_text r ≡ Ok y → x ≡ y
+same_effect x y r one two =
+    ap (effect_or x) (subst (λ (o : LineReading LineEffect). refusing refusal_text o ≡ Ok y) one two)
+
+-- an ask that was answered
+answers_revision : (histories : Histories) (one : ReplayedLine) → DeskRepresents histories one.before.desk
+    → take_line line_answer one.number one.before one.line ≡ Ok (record { text = one.text; desk = one.after })
+    → IfOk (asked one.line) (AnswersRevision histories one)
+answers_revision histories one all is =
+    if_ok (asked one.line) (λ (ask : Ask). answer_read one.number one.before one.line ≡ Ok (put_ask one.number one.before ask)) (AnswersRevision histories one)
+    (λ ask reads. record {
+      answers = same_effect (put_ask one.number one.before ask) (record { text = one.text; desk = one.after }) (answer_read one.number one.before one.line) reads
+          (within_limits_of line_answer one.before one.line one.number (record { text = one.text; desk = one.after }) is);
+      represented = all_represented histories one.before.desk.board.slots one.before.desk.places all;
+      shows = λ q kind ready shown. shows_revision histories one.before.desk.board q kind ready
+          (all_represented histories one.before.desk.board.slots one.before.desk.places all) shown;
+    }) (answered one.number one.before one.line)
+
+-- each ask among the lines
+revisions_from : (histories : Histories) (k : ℕ) (b : ReplayState) (ones : List ReplayedLine) → AreLines histories → DeskRepresents histories b.desk
+    → AreReplayed k b ones → AllSentFrom histories ones → AllAnswerRevisions histories ones
+revisions_from histories k b [] are all replayed sent = tt
+revisions_from histories k b (one ∷ more) are all replayed sent =
+    let here : DeskRepresents histories one.before.desk = subst (λ (s : ReplayState). DeskRepresents histories s.desk) (sym replayed.1) all in
+    let next : DeskRepresents histories one.after.desk =
+    after_line (λ s. DeskRepresents histories s.desk) one.number one.before one.after one.line one.text
+    (line_leaves (IsSentFromHistory histories) (DeskRepresents histories) one.number one.before one.line (leads_on histories one.before are here) sent.0)
+    replayed.2 in (
+      answers_revision histories one here replayed.2,
+      revisions_from histories (k + 1) one.after more are next replayed.3 sent.1,
+    )
+
+anything : {A E : Type 0} (r : Result A E) → IfOk r (λ x. Unit {0})
+anything (Ok x) = tt
+anything (Err e) = tt
+
+-- no environment's version falls along the lines
+never_falls_from : (environment : List ℕ) (k : ℕ) (b : ReplayState) (ones : List ReplayedLine) → Agrees b.desk → AreReplayed k b ones
+    → AllByRecursion (λ one. IsNotBelow (version_in environment one.before) (version_in environment one.after)) ones
+never_falls_from environment k b [] agrees replayed = tt
+never_falls_from environment k b (one ∷ more) agrees replayed =
+    let here : Agrees one.before.desk = subst (λ (s : ReplayState). Agrees s.desk) (sym replayed.1) agrees in
+    let next : Rises one.before.desk one.after.desk =
+    after_line (λ s. Rises one.before.desk s.desk) one.number one.before one.after one.line one.text
+    (line_leaves (λ delivery. Unit {0}) (Rises one.before.desk) one.number one.before one.line (leads_up one.before.desk here) (anything (brought one.before one.line)))
+    replayed.2 in
+    (next.1 environment, never_falls_from environment (k + 1) one.after more next.0 replayed.3)
+
+-- ---- the answered lines of an input
+
+-- an answered line, and those after it, if it isn't refused
+abbrev replayed_by : ℕ → ReplayState → List ℕ → LineResult ReplayState → (ReplayState → List ReplayedLine) → List ReplayedLine
+replayed_by k b line (Ok taken) rest = record { number = k; before = b; line = line; text = taken.text; after = taken.desk } ∷ rest taken.desk
+replayed_by k b line (Err cause) rest = []
+
+-- the answered lines, from line `k` on
+abbrev replayed_from : ℕ → ReplayState → List (List ℕ) → List ReplayedLine
+replayed_from k b [] = []
+replayed_from k b (line ∷ more) = replayed_by k b line (take_line line_answer k b line) (λ after. replayed_from (k + 1) after more)
+
+-- the answered lines after a line
+abbrev rest_of : ℕ → List (List ℕ) → ReplayState → List ReplayedLine
+rest_of k more after = replayed_from (k + 1) after more
+
+-- they are the first lines
+are_first : (k : ℕ) (b : ReplayState) (ls : List (List ℕ)) → bytes_of (replayed_from k b ls) ≡ take (length (replayed_from k b ls)) ls
+are_first k b [] = refl
+are_first k b (line ∷ more) = by_result (take_line line_answer k b line) (λ after. are_first (k + 1) after more)
+  where
+    by_result : (r : LineResult ReplayState) → ((after : ReplayState) → bytes_of (rest_of k more after) ≡ take (length (rest_of k more after)) more)
+        → bytes_of (replayed_by k b line r (rest_of k more)) ≡ take (length (replayed_by k b line r (rest_of k more))) (line ∷ more)
+    by_result (Ok taken) others = ap (λ ls. line ∷ ls) (others taken.desk)
+    by_result (Err cause) others = refl
+
+-- they are no more than the lines
+no_more : (k : ℕ) (b : ReplayState) (ls : List (List ℕ)) → length (replayed_from k b ls) ≤ length ls
+no_more k b [] = omega arith
+no_more k b (line ∷ more) = by_result (take_line line_answer k b line) (λ after. no_more (k + 1) after more)
+  where
+    by_result : (r : LineResult ReplayState) → ((after : ReplayState) → length (rest_of k more after) ≤ length more)
+        → length (replayed_by k b line r (rest_of k more)) ≤ length (line ∷ more)
+    by_result (Ok taken) others = omega (arith, others taken.desk)
+    by_result (Err cause) others = omega arith
+
+-- each was answered over the state that the line before it left
+are_replayed : (k : ℕ) (b : ReplayState) (ls : List (List ℕ)) → AreReplayed k b (replayed_from k b ls)
+are_replayed k b [] = tt
+are_replayed k b (line ∷ more) = by_result (take_line line_answer k b line) refl (λ after. are_replayed (k + 1) after more)
+  where
+    by_result : (r : LineResult ReplayState) → take_line line_answer k b line ≡ r
+        → ((after : ReplayState) → AreReplayed (k + 1) after (rest_of k more after)) → AreReplayed k b (replayed_by k b line r (rest_of k more))
+    by_result (Ok taken) is others = (refl, refl, is, others taken.desk)
+    by_result (Err cause) is others = tt
+
+-- the outcome of the lines after a line
+abbrev outcome_after : ℕ → List (List ℕ) → ReplayState → Outcome ReplayState
+outcome_after k more after = take_from line_answer (k + 1) after more
+
+-- they print the text
+same_text : (k : ℕ) (b : ReplayState) (ls : List (List ℕ)) → (take_from line_answer k b ls).text ≡ text_of (replayed_from k b ls)
+same_text k b [] = refl
+same_text k b (line ∷ more) = by_result (take_line line_answer k b line) (λ after. same_text (k + 1) after more)
+  where
+    by_result : (r : LineResult ReplayState) → ((after : ReplayState) → (outcome_after k more after).text ≡ text_of (rest_of k more after))
+        → (followed k b r (outcome_after k more)).text ≡ text_of (replayed_by k b line r (rest_of k more))
+    by_result (Ok taken) others = ap (λ t. taken.text ++ t) (others taken.desk)
+    by_result (Err cause) others = refl
+
+-- they are all lines, if none is refused
+all_of : (k : ℕ) (b : ReplayState) (ls : List (List ℕ)) → (take_from line_answer k b ls).ending ≡ done → bytes_of (replayed_from k b ls) ≡ ls
+all_of k b [] ends = refl
+all_of k b (line ∷ more) ends = by_result (take_line line_answer k b line) (λ after. all_of (k + 1) after more) ends
+  where
+    by_result : (r : LineResult ReplayState) → ((after : ReplayState) → (outcome_after k more after).ending ≡ done → bytes_of (rest_of k more after) ≡ more)
+        → (followed k b r (outcome_after k more)).ending ≡ done → bytes_of (replayed_by k b line r (rest_of k more)) ≡ line ∷ more
+    by_result (Ok taken) others ends = ap (λ ls. line ∷ ls) (others taken.desk ends)
+    by_result (Err cause) others ends = absurd (cc ends)
+
+-- ---- the whole replay
+
+-- the answered lines among the first `n` of some bytes
+among_first : (bytes : List ℕ) (ls : List (List ℕ)) (end : Result Unit LinesFault) (old new : Option (List ℕ))
+    → ((k : ℕ) → k ≤ length ls → take k ls ≡ take k (lines bytes)) → SendsAnswers end bytes (replayed_from 1 opening ls) old new
+    → AnswersLines bytes end old new
+among_first bytes ls end old new are_first_lines sent = record {
+  ones = replayed_from 1 opening ls;
+  first = are_first 1 opening ls ∙ are_first_lines (length (replayed_from 1 opening ls)) (no_more 1 opening ls);
+  replayed = are_replayed 1 opening ls;
+  sent = sent;
+  revisions = λ histories are all_sent. revisions_from histories 1 opening (replayed_from 1 opening ls) are tt (are_replayed 1 opening ls) all_sent;
+  rising = λ environment. never_falls_from environment 1 opening (replayed_from 1 opening ls) tt (are_replayed 1 opening ls);
+}
+
+-- what holds of the bytes read, whatever follows them, if nothing does
+of_read : (P : List ℕ → Type 0) (left left_after : Option (List ℕ)) (holds : HoldsOfRead left left_after P) → P holds.read
+of_read P left left_after holds = subst P (append-nil holds.read) (holds.holds [] (λ end. refl))
+
+-- the text with the cause of a refused line
+refused_end : (text : List ℕ) (ending : Ending) (old new : Option (List ℕ)) → IsRefused ending → Sends old (text ++ ending_text ending) new
+    → (k : ℕ) × (cause : List ℕ) × Sends old (text ++ refused_text k cause) new
+refused_end text done old new is sends = absurd is
+refused_end text (refused k cause) old new is sends = (k, cause, sends)
+
+-- a replay, by its answered lines
+pub replays_lines : (end : Result Unit LinesFault) (left left_after old new : Option (List ℕ)) → TakesLines line_answer opening end left left_after old new
+    → Replays end left left_after old new
+replays_lines (Ok u) left left_after old new takes = record {
+  takes = takes;
+  read = takes.read;
+  took = takes.took;
+  answered = among_first takes.read (lines takes.read) (Ok u) old new (λ k few. refl)
+      (all_of 1 opening (lines takes.read) takes.answered.ending, subst (λ t. Sends old t new) (same_text 1 opening (lines takes.read)) takes.answered.sent);
+}
+replays_lines (Err Bad) left left_after old new takes =
+    let refuses : IsRefusing (replay_of takes.read) old new = of_read (λ bytes. IsRefusing (replay_of bytes) old new) left left_after takes in
+    record {
+      takes = takes;
+      read = takes.read;
+      took = takes.took;
+      answered = among_first takes.read (lines takes.read) (Err Bad) old new (λ k few. refl)
+          (refused_end (text_of (replayed_from 1 opening (lines takes.read))) (replay_of takes.read).ending old new refuses.ending
+          (subst (λ t. Sends old (t ++ ending_text (replay_of takes.read).ending) new) (same_text 1 opening (lines takes.read)) refuses.sent));
+    }
+replays_lines (Err ReadFault) left left_after old new takes =
+    let ls : List (List ℕ) = ended_lines takes.read in record {
+      takes = takes;
+      read = takes.read;
+      took = takes.took;
+      answered = among_first takes.read ls (Err ReadFault) old new (λ k few. take_of_first (lines takes.read) (count_by is_end takes.read) k few)
+          (all_of 1 opening ls takes.answered.ending, subst (λ t. Sends old t new) (same_text 1 opening ls) takes.answered.sent);
+    }
+replays_lines (Err WriteFault) left left_after old new takes =
+    let front : SendsFront old (whole_text (replay_of takes.read)) new = of_read (λ bytes. SendsFront old (whole_text (replay_of bytes)) new) left left_after takes in
+    record {
+      takes = takes;
+      read = takes.read;
+      took = takes.took;
+      answered = among_first takes.read (lines takes.read) (Err WriteFault) old new (λ k few. refl) (
+        (replay_of takes.read).ending,
+        subst (λ t. SendsFront old (t ++ ending_text (replay_of takes.read).ending) new) (same_text 1 opening (lines takes.read)) front,
+      );
+    }
+replays_lines (Err Memory) left left_after old new takes =
+    let firsts : AnswersFirst line_answer opening takes.read old new = of_read (λ bytes. AnswersFirst line_answer opening bytes old new) left left_after takes in
+    let ls : List (List ℕ) = take firsts.count (lines takes.read) in record {
+      takes = takes;
+      read = takes.read;
+      took = takes.took;
+      answered = among_first takes.read ls (Err Memory) old new (λ k few. take_of_first (lines takes.read) firsts.count k few)
+          (subst (λ t. Sends old t new) (same_text 1 opening ls) firsts.answered.sent);
+    }

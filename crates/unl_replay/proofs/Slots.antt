@@ -1,11 +1,11 @@
--- The slots of a board, and the places that a desk keeps for them, all of which represent lines of histories.
+-- The slots of a board, and the places that a desk keeps for them.
 use Rattle.std.proofs.Common.{◌≡◌, ℕ, zero, suc, ◌+◌, Bool, true, false, cond, List, [], ◌∷◌, ◌++◌, Option, Some, None, refl, sym, ◌∙◌, subst, arith, unwrap_or}
 use Rattle.std.specs.Prelude.{IfSome, slice_get, slice_set}
 use Rattle.std.specs.List.{position_from}
 use Rattle.unl_core.specs.declared.board.Slot.{Slot}
 use Rattle.unl_core.specs.Board.{empty_slot, is_named, place_in, taking}
 use Rattle.unl_core.specs.Histories.{AllRepresented, AreLines, Histories, RepresentedAt}
-use Rattle.unl_core.specs.DeskStates.{DeskState, installed_by, is_added, with_batch, with_hold, with_name, with_slot}
+use Rattle.unl_core.specs.DeskStates.{DeskState, installed_by, is_added, with_slot, with_name}
 use Rattle.unl_core.proofs.Same.{text_same}
 use Rattle.unl_delta.specs.declared.batch.Batch.{Batch}
 use Rattle.unl_delta.specs.declared.batch.Verdict.{Verdict}
@@ -18,60 +18,64 @@ use Rattle.unl_delta.specs.Installing.{place_of}
 use Rattle.unl_delta.proofs.Delivery.{next_follows}
 use Rattle.unl_replay.specs.Replay.{after_verdict}
 
--- each place has the version of its slot, and that represents the line of the slot's environment
-abbrev pub SlotsRepresent : Histories → List Slot → List Place → Type 0
-SlotsRepresent told [] [] = Unit {0}
-SlotsRepresent told [] (place ∷ places) = ⊥
-SlotsRepresent told (slot ∷ slots) [] = ⊥
-SlotsRepresent told (slot ∷ slots) (place ∷ places) = (place.version ≡ slot.snapshot) × RepresentedAt told slot.environment slot.snapshot × SlotsRepresent told slots places
-
-pub all_stand : (told : Histories) (slots : List Slot) (places : List Place) → SlotsRepresent told slots places → AllRepresented told slots
-all_stand told [] [] all = tt
-all_stand told [] (place ∷ places) all = absurd all
-all_stand told (slot ∷ slots) [] all = absurd all
-all_stand told (slot ∷ slots) (place ∷ places) all = (all.1, all_stand told slots places all.2)
+-- each place has the version of its slot, and `P` holds of the slot's environment and this version
+abbrev pub SlotsAre : (List ℕ → Option EnvVersion → Type 0) → List Slot → List Place → Type 0
+SlotsAre P [] [] = Unit {0}
+SlotsAre P [] (place ∷ places) = ⊥
+SlotsAre P (slot ∷ slots) [] = ⊥
+SlotsAre P (slot ∷ slots) (place ∷ places) = (place.version ≡ slot.snapshot) × P slot.environment slot.snapshot × SlotsAre P slots places
 
 -- one more slot, which is empty
-pub told_more : (told : Histories) (environment : List ℕ) (slots : List Slot) (places : List Place) → SlotsRepresent told slots places
-    → SlotsRepresent told (slots ++ empty_slot environment ∷ []) (places ++ empty_place ∷ [])
-told_more told environment [] [] all = (refl, tt, tt)
-told_more told environment [] (place ∷ places) all = absurd all
-told_more told environment (slot ∷ slots) [] all = absurd all
-told_more told environment (slot ∷ slots) (place ∷ places) all = (all.0, all.1, told_more told environment slots places all.2)
+pub slots_more : (P : List ℕ → Option EnvVersion → Type 0) (environment : List ℕ) (slots : List Slot) (places : List Place) → SlotsAre P slots places
+    → P environment None → SlotsAre P (slots ++ empty_slot environment ∷ []) (places ++ empty_place ∷ [])
+slots_more P environment [] [] all none = (refl, none, tt)
+slots_more P environment [] (place ∷ places) all none = absurd all
+slots_more P environment (slot ∷ slots) [] all none = absurd all
+slots_more P environment (slot ∷ slots) (place ∷ places) all none = (all.0, all.1, slots_more P environment slots places all.2 none)
 
 -- slot `i` is that of the environment
 abbrev IsOf : List ℕ → List Slot → ℕ → Type 0
 IsOf environment slots i = IfSome (slice_get slots i) (λ slot. slot.environment ≡ environment)
 
--- a slot and its place take a new version, which represents the line
-told_put : (told : Histories) (environment : List ℕ) (slots : List Slot) (places : List Place) (i : ℕ) (v : EnvVersion) (place : Place) → SlotsRepresent told slots places
-    → IsOf environment slots i → place.version ≡ Some v → RepresentedAt told environment (Some v) → SlotsRepresent told (taking i v slots) (slice_set places i place)
-told_put told environment [] [] i v place all named is represents = tt
-told_put told environment [] (p ∷ places) i v place all named is represents = absurd all
-told_put told environment (slot ∷ slots) [] i v place all named is represents = absurd all
-told_put told environment (slot ∷ slots) (p ∷ places) zero v place all named is represents =
-    (is, subst (λ (e : List ℕ). RepresentedAt told e (Some v)) (sym named) represents, all.2)
-told_put told environment (slot ∷ slots) (p ∷ places) (suc i) v place all named is represents =
-    (all.0, all.1, told_put told environment slots places i v place all.2 named is represents)
+-- a slot and its place take a new version
+slots_put : (P : List ℕ → Option EnvVersion → Type 0) (environment : List ℕ) (slots : List Slot) (places : List Place) (i : ℕ) (v : EnvVersion) (place : Place)
+    → SlotsAre P slots places → IsOf environment slots i → place.version ≡ Some v → P environment (Some v)
+    → SlotsAre P (taking i v slots) (slice_set places i place)
+slots_put P environment [] [] i v place all named is holds = tt
+slots_put P environment [] (p ∷ places) i v place all named is holds = absurd all
+slots_put P environment (slot ∷ slots) [] i v place all named is holds = absurd all
+slots_put P environment (slot ∷ slots) (p ∷ places) zero v place all named is holds =
+    (is, subst (λ (e : List ℕ). P e (Some v)) (sym named) holds, all.2)
+slots_put P environment (slot ∷ slots) (p ∷ places) (suc i) v place all named is holds =
+    (all.0, all.1, slots_put P environment slots places i v place all.2 named is holds)
 
 -- a place is replaced by one with the same version
-told_held : (told : Histories) (slots : List Slot) (places : List Place) (i : ℕ) (place : Place) → SlotsRepresent told slots places
-    → place.version ≡ (unwrap_or (slice_get places i) empty_place).version → SlotsRepresent told slots (slice_set places i place)
-told_held told [] [] i place all same = tt
-told_held told [] (p ∷ places) i place all same = absurd all
-told_held told (slot ∷ slots) [] i place all same = absurd all
-told_held told (slot ∷ slots) (p ∷ places) zero place all same = (same ∙ all.0, all.1, all.2)
-told_held told (slot ∷ slots) (p ∷ places) (suc i) place all same = (all.0, all.1, told_held told slots places i place all.2 same)
+slots_held : (P : List ℕ → Option EnvVersion → Type 0) (slots : List Slot) (places : List Place) (i : ℕ) (place : Place) → SlotsAre P slots places
+    → place.version ≡ (unwrap_or (slice_get places i) empty_place).version → SlotsAre P slots (slice_set places i place)
+slots_held P [] [] i place all same = tt
+slots_held P [] (p ∷ places) i place all same = absurd all
+slots_held P (slot ∷ slots) [] i place all same = absurd all
+slots_held P (slot ∷ slots) (p ∷ places) zero place all same = (same ∙ all.0, all.1, all.2)
+slots_held P (slot ∷ slots) (p ∷ places) (suc i) place all same = (all.0, all.1, slots_held P slots places i place all.2 same)
 
--- the place of an environment's slot represents its line
-told_at : (told : Histories) (environment : List ℕ) (slots : List Slot) (places : List Place) (i : ℕ) → SlotsRepresent told slots places → IsOf environment slots i
-    → RepresentedAt told environment (unwrap_or (slice_get places i) empty_place).version
-told_at told environment [] [] i all named = tt
-told_at told environment [] (p ∷ places) i all named = absurd all
-told_at told environment (slot ∷ slots) [] i all named = absurd all
-told_at told environment (slot ∷ slots) (p ∷ places) zero all named =
-    subst (λ (o : Option EnvVersion). RepresentedAt told environment o) (sym all.0) (subst (λ (e : List ℕ). RepresentedAt told e slot.snapshot) named all.1)
-told_at told environment (slot ∷ slots) (p ∷ places) (suc i) all named = told_at told environment slots places i all.2 named
+-- what holds of the place of an environment's slot
+slots_at : (P : List ℕ → Option EnvVersion → Type 0) (environment : List ℕ) (slots : List Slot) (places : List Place) (i : ℕ) → SlotsAre P slots places
+    → IsOf environment slots i → P environment None → P environment (unwrap_or (slice_get places i) empty_place).version
+slots_at P environment [] [] i all named none = none
+slots_at P environment [] (p ∷ places) i all named none = absurd all
+slots_at P environment (slot ∷ slots) [] i all named none = absurd all
+slots_at P environment (slot ∷ slots) (p ∷ places) zero all named none =
+    subst (λ (o : Option EnvVersion). P environment o) (sym all.0) (subst (λ (e : List ℕ). P e slot.snapshot) named all.1)
+slots_at P environment (slot ∷ slots) (p ∷ places) (suc i) all named none = slots_at P environment slots places i all.2 named none
+
+-- a slot has the version of its place
+pub version_at : (P : List ℕ → Option EnvVersion → Type 0) (slots : List Slot) (places : List Place) (i : ℕ) → SlotsAre P slots places
+    → IfSome (slice_get slots i) (λ slot. (unwrap_or (slice_get places i) empty_place).version ≡ slot.snapshot)
+version_at P [] [] i all = tt
+version_at P [] (p ∷ places) i all = absurd all
+version_at P (slot ∷ slots) [] i all = absurd all
+version_at P (slot ∷ slots) (p ∷ places) zero all = all.0
+version_at P (slot ∷ slots) (p ∷ places) (suc i) all = version_at P slots places i all.2
 
 same_number : (n r : ℕ) → Some n ≡ Some r → n ≡ r
 same_number n r same = cc
@@ -97,31 +101,57 @@ found environment slots slot is =
 
 -- ---- a desk
 
--- each slot of the desk represents its line of histories
-abbrev pub DeskRepresents : Histories → DeskState → Type 0
-DeskRepresents told d = SlotsRepresent told d.board.slots d.places
+-- the same for the slots and places of a desk
+abbrev pub DeskIs : (List ℕ → Option EnvVersion → Type 0) → DeskState → Type 0
+DeskIs P d = SlotsAre P d.board.slots d.places
 
 -- after an environment gets its slot
-pub name_told : (told : Histories) (environment : List ℕ) (d : DeskState) → DeskRepresents told d → DeskRepresents told (with_name environment d)
-name_told told environment d all = decided (is_added environment d.board.slots)
+pub desk_named : (P : List ℕ → Option EnvVersion → Type 0) (environment : List ℕ) (d : DeskState) → DeskIs P d → P environment None
+    → DeskIs P (with_name environment d)
+desk_named P environment d all none = decided (is_added environment d.board.slots)
   where
-    decided : (t : Bool) → DeskRepresents told (cond t (with_slot environment d) d)
-    decided true = told_more told environment d.board.slots d.places all
+    decided : (t : Bool) → DeskIs P (cond t (with_slot environment d) d)
+    decided true = slots_more P environment d.board.slots d.places all none
     decided false = all
 
--- after an environment takes a batch that was sent from its line
-pub verdict_told : (told : Histories) (environment : List ℕ) (slot : ℕ) (batch : Batch) (d : DeskState) (verdict : Verdict) → AreLines told → DeskRepresents told d
-    → place_in environment d.board.slots ≡ Some slot → IsSent (told.line environment) (told.sees environment) batch
-    → verdict_of (place_of (installed_by d) slot) batch ≡ verdict → DeskRepresents told (after_verdict verdict slot batch d)
-verdict_told told environment slot batch d Apply lines all named sent does =
+-- after a slot takes a batch with this verdict
+pub desk_after : (P : List ℕ → Option EnvVersion → Type 0) (environment : List ℕ) (slot : ℕ) (batch : Batch) (d : DeskState) (verdict : Verdict) → DeskIs P d
+    → place_in environment d.board.slots ≡ Some slot
+    → (verdict ≡ Apply → P environment (Some (next_version (place_of (installed_by d) slot) batch)))
+    → DeskIs P (after_verdict verdict slot batch d)
+desk_after P environment slot batch d Apply all named holds =
     let v : EnvVersion = next_version (place_of (installed_by d) slot) batch in
-    let here : IsOf environment d.board.slots slot = found environment d.board.slots slot named in
-    let follows : PreservesLines (place_of (installed_by d) slot).version batch (Some v) = next_follows (place_of (installed_by d) slot) batch v does refl in
-    let represents : RepresentsLine (told.line environment) (told.sees environment) v =
-    follows.represents (told.line environment) (told.sees environment) (lines environment) (told_at told environment d.board.slots d.places slot all here) sent in
-    told_put told environment d.board.slots d.places slot v (record { version = Some v; held = false }) all here refl represents
-verdict_told told environment slot batch d Gap lines all named sent does =
-    told_held told d.board.slots d.places slot (record { version = (place_of (installed_by d) slot).version; held = true }) all refl
-verdict_told told environment slot batch d Repeat lines all named sent does = all
-verdict_told told environment slot batch d Old lines all named sent does = all
-verdict_told told environment slot batch d Held lines all named sent does = all
+    slots_put P environment d.board.slots d.places slot v (record { version = Some v; held = false }) all (found environment d.board.slots slot named) refl (holds refl)
+desk_after P environment slot batch d Gap all named holds =
+    slots_held P d.board.slots d.places slot (record { version = (place_of (installed_by d) slot).version; held = true }) all refl
+desk_after P environment slot batch d Repeat all named holds = all
+desk_after P environment slot batch d Old all named holds = all
+desk_after P environment slot batch d Held all named holds = all
+
+-- ---- slots that represent lines of histories
+
+-- each slot of the desk represents the line of histories of its environment
+abbrev pub DeskRepresents : Histories → DeskState → Type 0
+DeskRepresents histories d = DeskIs (RepresentedAt histories) d
+
+pub all_represented : (histories : Histories) (slots : List Slot) (places : List Place) → SlotsAre (RepresentedAt histories) slots places
+    → AllRepresented histories slots
+all_represented histories [] [] all = tt
+all_represented histories [] (place ∷ places) all = absurd all
+all_represented histories (slot ∷ slots) [] all = absurd all
+all_represented histories (slot ∷ slots) (place ∷ places) all = (all.1, all_represented histories slots places all.2)
+
+-- after an environment takes a batch that was sent from its line
+pub verdict_represents : (histories : Histories) (environment : List ℕ) (slot : ℕ) (batch : Batch) (d : DeskState) (verdict : Verdict) → AreLines histories
+    → DeskRepresents histories d → place_in environment d.board.slots ≡ Some slot → IsSent (histories.line environment) (histories.sees environment) batch
+    → verdict_of (place_of (installed_by d) slot) batch ≡ verdict → DeskRepresents histories (after_verdict verdict slot batch d)
+verdict_represents histories environment slot batch d verdict lines all named sent is =
+    desk_after (RepresentedAt histories) environment slot batch d verdict all named (λ applies. represents (is ∙ applies))
+  where
+    represents : verdict_of (place_of (installed_by d) slot) batch ≡ Apply
+        → RepresentsLine (histories.line environment) (histories.sees environment) (next_version (place_of (installed_by d) slot) batch)
+    represents applies =
+        let v : EnvVersion = next_version (place_of (installed_by d) slot) batch in
+        let follows : PreservesLines (place_of (installed_by d) slot).version batch (Some v) = next_follows (place_of (installed_by d) slot) batch v applies refl in
+        follows.represents (histories.line environment) (histories.sees environment) (lines environment)
+        (slots_at (RepresentedAt histories) environment d.board.slots d.places slot all (found environment d.board.slots slot named) tt) sent

@@ -3,3 +3,4 @@ pub mod Forms
 pub mod Replay
 pub mod Steps
 pub mod Delivery
+pub mod Replayed

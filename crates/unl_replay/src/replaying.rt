@@ -1,19 +1,17 @@
 //! The replay of an input, line by line.
-ghost use Rattle.std.specs.Prelude.{◌≡◌, ◌<◌, ◌≤◌, ℕ, List, OnOk, IsErrOf};
+ghost use Rattle.std.specs.Prelude.{◌≡◌, ◌<◌, ◌≤◌, IfOk, IsErrOf};
 ghost use Rattle.unl_base.specs.Faults.{Rose};
-ghost use Rattle.unl_base.specs.Streams.{HasEnded};
 ghost use Rattle.unl_input.specs.Whole.{TakesLines};
-ghost use Rattle.unl_replay.specs.Delivery.{DeliversRevisions};
 ghost use Rattle.unl_replay.specs.Refusals.{Causes};
 ghost use Rattle.unl_replay.specs.Replay.{line_answer, opening};
+ghost use Rattle.unl_replay.specs.Replayed.{Replays};
 
 use crate::bench::{ReplayState, answer_line};
-use crate::laws;
 use crate::refusal::Refusal;
 use std::alloc::Global;
 use unl_base::{Sink, Source};
 use unl_core::{Board, OneDesk};
-use unl_documents::{List, Text};
+use unl_documents::{List, Memory, Text};
 use unl_input::{LineProcessor, LineRefusal, LinesFault, process_lines};
 use unl_metrics::MetricsBook;
 
@@ -23,7 +21,7 @@ struct Answers;
 impl LineProcessor for Answers {
     type Desk = ReplayState;
 
-    ghost taken = { line_answer };
+    ghost line_result = { line_answer };
 
     // Each earlier line made at most one publication.
     ghost fits = { λ k bench. bench.desk.front < k };
@@ -65,15 +63,11 @@ pub fn replay<S: Source, K: Sink>(
     source: &mut S,
     sink: &mut K,
 ) -> Result<(), LinesFault>
-    // What is sent, by the end: the whole text; the text up to the refused line, and the cause; the text of the lines that were
-    // read in full; a prefix of the text.
-    ensures replays { TakesLines line_answer opening result (S.left source.old) (S.left source.new) (K.sent sink.old) (K.sent sink.new) }
-    ensures ended { OnOk result (HasEnded (S.left source.new)) }
-
-    // Batches may be lost, duplicated or out of order. If all batches and feeds of an input were sent from one line of
-    // histories for each environment, each ask of it is answered over one revision of these, as both the recipient and the
+    // What is read and sent, by the end, as a list of answered lines. Batches may be lost, duplicated or out of order: an
+    // environment's epoch and number never fall along the list. If all batches and feeds were sent from one line of histories for
+    // each environment, the text printed for each ask is its answer over one revision of these, as both the recipient and the
     // token see it.
-    ensures delivery { (bytes : List ℕ) → DeliversRevisions bytes }
+    ensures replays { Replays result (S.left source.old) (S.left source.new) (K.sent sink.old) (K.sent sink.new) }
 
     // `ReadFault` and `WriteFault` are returned only if the source or the sink failed.
     ensures read { IsErrOf result LinesFault.ReadFault → Rose (S.faults source.old) (S.faults source.new) }
@@ -81,11 +75,34 @@ pub fn replay<S: Source, K: Sink>(
     ensures source_later { S.faults source.old ≤ S.faults source.new }
     ensures sink_later { K.faults sink.old ≤ K.faults sink.new }
 {
-    laws::asks_are_of_one_revision();
+    answer_lines(alloc, source, sink)
+}
+
+/// Answers the lines of an input, from a desk without environments and an empty metrics book on.
+fn answer_lines<S: Source, K: Sink>(
+    alloc: Global,
+    source: &mut S,
+    sink: &mut K,
+) -> Result<(), LinesFault>
+    ensures lines { TakesLines line_answer opening result (S.left source.old) (S.left source.new) (K.sent sink.old) (K.sent sink.new) }
+    ensures read { IsErrOf result LinesFault.ReadFault → Rose (S.faults source.old) (S.faults source.new) }
+    ensures write { IsErrOf result LinesFault.WriteFault → Rose (K.faults sink.old) (K.faults sink.new) }
+    ensures source_later { S.faults source.old ≤ S.faults source.new }
+    ensures sink_later { K.faults sink.old ≤ K.faults sink.new }
+{
+    let mut state = new_state(alloc)?;
+    process_lines::<Answers, S, K>(alloc, &mut state, source, sink)
+}
+
+/// Creates the state before the first line.
+fn new_state(alloc: Global) -> Result<ReplayState, Memory>
+    ensures is { IfOk result (λ state. state ≡ opening) }
+    ensures front { IfOk result (λ state. state.desk.front ≡ 0) }
+{
     let board = Board::new(alloc, 0, "", &List::new(alloc))?;
-    let mut bench = ReplayState {
-        desk: OneDesk::new(alloc, board)?,
+    let desk = OneDesk::new(alloc, board)?;
+    Ok(ReplayState {
+        desk,
         book: MetricsBook::new(alloc),
-    };
-    process_lines::<Answers, S, K>(alloc, &mut bench, source, sink)
+    })
 }

@@ -1,5 +1,4 @@
 use Rattle.std.proofs.Common.{◌≡◌, ℕ, length, rules, Some}
-use Rattle.unl_core.proofs.Showing.{shows_where_stands}
 use Rattle.unl_server.specs.Conversation.{Converses}
 use Rattle.unl_server.specs.Links.{link_state}
 use Rattle.unl_server.proofs.ShowsLemmas.{Converses_seen}
@@ -66,6 +65,3 @@ returns-clause-keeps g c k board there =
     _ _ c.serve_requests-conversed.result.1 c.serve_requests-conversed.result.0 c.requires c.serve_requests-conversed.ensures.converses.answered in
     let fact : g.D.Desk.board_at after.desk.now k ≡ Some board = told.keeps k board there in
     search rules
-
-pub returns-clause-revisions : goal.returns-clause-revisions
-returns-clause-revisions g c told front = shows_where_stands told _

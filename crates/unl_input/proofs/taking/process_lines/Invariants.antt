@@ -5,7 +5,7 @@ use Rattle.unl_input.proofs.taking.process_lines.Given as goal
 -- the earlier lines were processed, and the state has room for this one
 abbrev pub invariant-loop-number : goal.invariant-loop-number
 invariant-loop-number g l = record {
-  sofar : Sofar g.A.LineProcessor.taken l.initial.desk (g.S.Source.left l.initial.source) (g.K.Sink.sent l.initial.sink) l.number
+  sofar : Sofar g.A.LineProcessor.line_result l.initial.desk (g.S.Source.left l.initial.source) (g.K.Sink.sent l.initial.sink) l.number
       (record { desk = l.desk; held = l.reader; left = g.S.Source.left l.source; sent = g.K.Sink.sent l.sink });
   room : g.A.LineProcessor.fits l.number l.desk;
   source_later : g.S.Source.faults l.initial.source ≤ g.S.Source.faults l.source;

@@ -1,0 +1,164 @@
+-- No line of a replay replaces the version of an environment by an older one.
+use Rattle.std.proofs.Common.{◌≡◌, ℕ, zero, suc, ◌<◌, ◌≤◌, List, [], ◌∷◌, ◌++◌, Bool, true, false, cond, Option, Some, None, inr, refl, subst, sym, arith, leb, ltb, leb-false, unwrap_or}
+use Rattle.std.specs.Prelude.{IfSome, find, option_and_then, slice_get}
+use Rattle.unl_core.specs.Board.{empty_slot, is_named, place_in, snapshot_in, taking}
+use Rattle.unl_core.specs.DeskStates.{DeskState, installed_by, is_added, with_name, with_slot}
+use Rattle.unl_core.specs.declared.board.Slot.{Slot}
+use Rattle.unl_delta.specs.Batch.{changes_verdict, empty_place, empty_version, from_hydration, go_on, hydration_verdict, last_number, next_on, next_version, verdict_of, verdict_on}
+use Rattle.unl_delta.specs.History.{IsNotBelow}
+use Rattle.unl_delta.specs.Installing.{place_of}
+use Rattle.unl_delta.specs.Revision.{IsNotOlder, is_older, revision_of}
+use Rattle.unl_delta.specs.State.{number_of}
+use Rattle.unl_delta.specs.declared.batch.Batch.{Batch}
+use Rattle.unl_delta.specs.declared.batch.Verdict.{Verdict}
+use Rattle.unl_delta.specs.declared.batch.Verdict.TheVariants.{Apply, Repeat, Old, Gap, Held}
+use Rattle.unl_delta.specs.declared.event.Event.{Event}
+use Rattle.unl_delta.specs.declared.event.Event.TheVariants.{Hydration, FeatureUpdated, FeatureRemoved, SegmentUpdated, SegmentRemoved}
+use Rattle.unl_delta.specs.declared.version.EnvVersion.{EnvVersion}
+use Rattle.unl_delta.specs.declared.version.Place.{Place}
+use Rattle.unl_delta.proofs.Revisions.{not_older, up_to_both, up_to_itself}
+use Rattle.unl_replay.specs.Delivery.{Delivery}
+use Rattle.unl_replay.specs.Replay.{after_verdict}
+use Rattle.unl_replay.proofs.LineSteps.{Leads}
+use Rattle.unl_replay.proofs.Slots.{DeskIs, desk_after, desk_named, version_at}
+
+-- ---- the order of versions
+
+not_below_itself : (v : Option EnvVersion) → IsNotBelow v v
+not_below_itself None = tt
+not_below_itself (Some v) = up_to_itself (revision_of v)
+
+not_below_both : (a b c : Option EnvVersion) → IsNotBelow a b → IsNotBelow b c → IsNotBelow a c
+not_below_both None b c ab bc = tt
+not_below_both (Some a) None c ab bc = absurd ab
+not_below_both (Some a) (Some b) None ab bc = absurd bc
+not_below_both (Some a) (Some b) (Some c) ab bc = up_to_both (revision_of a) (revision_of b) (revision_of c) ab bc
+
+-- ---- a batch that applies leads to no older version
+
+hydrated : (version : Option EnvVersion) (held : Bool) (new : EnvVersion) → hydration_verdict version held new.epoch new.number ≡ Apply → IsNotBelow version (Some new)
+hydrated None held new is = tt
+hydrated (Some v) held new is = decided (is_older (revision_of new) (revision_of v)) _ refl is
+  where
+    decided : (t : Bool) (else_ : Verdict) → is_older (revision_of new) (revision_of v) ≡ t → cond t Old else_ ≡ Apply → IsNotOlder (revision_of v) (revision_of new)
+    decided true else_ t_is so = absurd cc
+    decided false else_ t_is so = not_older (revision_of v) (revision_of new) t_is
+
+changed : (version : Option EnvVersion) (held : Bool) (g : ℕ) (after : Option ℕ) (event : Event) (es : List Event) → changes_verdict version held g after (last_number (number_of event) es) ≡ Apply
+    → IsNotBelow version (Some (go_on (unwrap_or version empty_version) (event ∷ es)))
+changed None held g after event es is = tt
+changed (Some v) true g after event es is = absurd cc
+changed (Some v) false g after event es is = decided (ltb g v.epoch) (ltb v.epoch g) (leb (last_number (number_of event) es) v.number) _ refl is
+  where
+    decided : (p q s : Bool) (else_ : Verdict) → leb (last_number (number_of event) es) v.number ≡ s → cond p Old (cond q Gap (cond s Repeat else_)) ≡ Apply
+        → IsNotOlder (revision_of v) (revision_of (go_on v (event ∷ es)))
+    decided true q s else_ s_is so = absurd cc
+    decided false true s else_ s_is so = absurd cc
+    decided false false true else_ s_is so = absurd cc
+    decided false false false else_ s_is so = inr (refl, omega (arith, leb-false (last_number (number_of event) es) v.number s_is))
+
+next_on_not_below : (place : Place) (g : ℕ) (after : Option ℕ) (es : List Event) → verdict_on place g after es ≡ Apply → IsNotBelow place.version (Some (next_on g (unwrap_or place.version empty_version) es))
+next_on_not_below place g after [] is = absurd cc
+next_on_not_below place g after (Hydration n state ∷ es) is = hydrated place.version place.held (from_hydration g n state es) is
+next_on_not_below place g after (FeatureUpdated n feature ∷ es) is = changed place.version place.held g after (FeatureUpdated n feature) es is
+next_on_not_below place g after (FeatureRemoved n name project ∷ es) is = changed place.version place.held g after (FeatureRemoved n name project) es is
+next_on_not_below place g after (SegmentUpdated n segment ∷ es) is = changed place.version place.held g after (SegmentUpdated n segment) es is
+next_on_not_below place g after (SegmentRemoved n id ∷ es) is = changed place.version place.held g after (SegmentRemoved n id) es is
+
+next_not_below : (place : Place) (batch : Batch) → verdict_of place batch ≡ Apply → IsNotBelow place.version (Some (next_version place batch))
+next_not_below place batch is = next_on_not_below place batch.epoch batch.after batch.events is
+
+-- ---- the version of an environment
+
+-- the version of the slot that is found
+abbrev version_of : Option Slot → Option EnvVersion
+version_of slot = option_and_then (λ s. s.snapshot) slot
+
+-- a slot takes a version that is not below its own
+put_rises : (e : List ℕ) (slots : List Slot) (i : ℕ) (v : EnvVersion) → IfSome (slice_get slots i) (λ slot. IsNotBelow slot.snapshot (Some v))
+    → IsNotBelow (snapshot_in e slots) (snapshot_in e (taking i v slots))
+put_rises e [] i v up = tt
+put_rises e (slot ∷ slots) zero v up = decided (is_named e slot)
+  where
+    decided : (t : Bool) → IsNotBelow (version_of (cond t (Some slot) (find (is_named e) slots)))
+        (version_of (cond t (Some (record slot { snapshot = Some v })) (find (is_named e) slots)))
+    decided true = up
+    decided false = not_below_itself (version_of (find (is_named e) slots))
+put_rises e (slot ∷ slots) (suc i) v up = later (is_named e slot) (put_rises e slots i v up)
+  where
+    later : (t : Bool) → IsNotBelow (snapshot_in e slots) (snapshot_in e (taking i v slots)) → IsNotBelow (version_of (cond t (Some slot) (find (is_named e) slots)))
+        (version_of (cond t (Some slot) (find (is_named e) (taking i v slots))))
+    later true others = not_below_itself slot.snapshot
+    later false others = others
+
+-- one more slot, which is empty
+more_rises : (e environment : List ℕ) (slots : List Slot) → IsNotBelow (snapshot_in e slots) (snapshot_in e (slots ++ empty_slot environment ∷ []))
+more_rises e environment [] = tt
+more_rises e environment (slot ∷ slots) = decided (is_named e slot) (more_rises e environment slots)
+  where
+    decided : (t : Bool) → IsNotBelow (snapshot_in e slots) (snapshot_in e (slots ++ empty_slot environment ∷ [])) → IsNotBelow (version_of (cond t (Some slot) (find (is_named e) slots)))
+        (version_of (cond t (Some slot) (find (is_named e) (slots ++ empty_slot environment ∷ []))))
+    decided true others = not_below_itself slot.snapshot
+    decided false others = others
+
+-- ---- a line
+
+-- any version
+abbrev pub AnyVersion : List ℕ → Option EnvVersion → Type 0
+AnyVersion environment version = Unit {0}
+
+-- each place has the version of its slot
+abbrev pub Agrees : DeskState → Type 0
+Agrees d = DeskIs AnyVersion d
+
+-- the version of an environment is not below the one before
+abbrev pub RisesAt : List ℕ → DeskState → DeskState → Type 0
+RisesAt e d after = IsNotBelow (snapshot_in e d.board.slots) (snapshot_in e after.board.slots)
+
+-- each place still has the version of its slot, and no version fell
+abbrev pub Rises : DeskState → DeskState → Type 0
+Rises d after = Agrees after × ((e : List ℕ) → RisesAt e d after)
+
+-- an environment is named
+name_rises : (e environment : List ℕ) (d : DeskState) → RisesAt e d (with_name environment d)
+name_rises e environment d = decided (is_added environment d.board.slots)
+  where
+    decided : (t : Bool) → RisesAt e d (cond t (with_slot environment d) d)
+    decided true = more_rises e environment d.board.slots
+    decided false = not_below_itself (snapshot_in e d.board.slots)
+
+-- what is not below the version of a place is not below that of its slot
+at_its_slot : (d : DeskState) (i : ℕ) (v : EnvVersion) → Agrees d → IsNotBelow (place_of (installed_by d) i).version (Some v)
+    → IfSome (slice_get d.board.slots i) (λ slot. IsNotBelow slot.snapshot (Some v))
+at_its_slot d i v agrees up = of_slot (slice_get d.board.slots i) (version_at AnyVersion d.board.slots d.places i agrees)
+  where
+    of_slot : (o : Option Slot) → IfSome o (λ slot. (unwrap_or (slice_get d.places i) empty_place).version ≡ slot.snapshot)
+        → IfSome o (λ slot. IsNotBelow slot.snapshot (Some v))
+    of_slot None same = tt
+    of_slot (Some slot) same = subst (λ (o : Option EnvVersion). IsNotBelow o (Some v)) same up
+
+-- a batch is taken with this verdict
+verdict_rises : (e : List ℕ) (slot : ℕ) (batch : Batch) (d : DeskState) (verdict : Verdict) → Agrees d
+    → verdict_of (place_of (installed_by d) slot) batch ≡ verdict → RisesAt e d (after_verdict verdict slot batch d)
+verdict_rises e slot batch d Apply agrees is =
+    let v : EnvVersion = next_version (place_of (installed_by d) slot) batch in
+    put_rises e d.board.slots slot v (at_its_slot d slot v agrees (next_not_below (place_of (installed_by d) slot) batch is))
+verdict_rises e slot batch d Gap agrees is = not_below_itself (snapshot_in e d.board.slots)
+verdict_rises e slot batch d Repeat agrees is = not_below_itself (snapshot_in e d.board.slots)
+verdict_rises e slot batch d Old agrees is = not_below_itself (snapshot_in e d.board.slots)
+verdict_rises e slot batch d Held agrees is = not_below_itself (snapshot_in e d.board.slots)
+
+-- whatever a line brings
+pub leads_up : (d : DeskState) → Agrees d → Leads d (λ delivery. Unit {0}) (Rises d)
+leads_up d agrees = record {
+  same = (agrees, λ e. not_below_itself (snapshot_in e d.board.slots));
+  book = λ tokens. (agrees, λ e. not_below_itself (snapshot_in e d.board.slots));
+  batch = λ environment batch brings slot named verdict is.
+      let now : DeskState = with_name environment d in
+      let agrees_now : Agrees now = desk_named AnyVersion environment d agrees tt in (
+        desk_after AnyVersion environment slot batch now verdict agrees_now named (λ applies. tt),
+        λ e. not_below_both (snapshot_in e d.board.slots) (snapshot_in e now.board.slots)
+            (snapshot_in e (after_verdict verdict slot batch now).board.slots) (name_rises e environment d)
+            (verdict_rises e slot batch now verdict agrees_now is),
+      );
+}
