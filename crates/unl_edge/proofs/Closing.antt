@@ -1,6 +1,6 @@
 -- How an edge ends after it took its first draw and tried to listen.
 use Rattle.std.proofs.Common.{◌≡◌, ◌≤◌, ◌∙◌, ℕ, Bool, List, length, Option, Some, None, Result, Ok, Err, IfSome, ap, arith, inl, inr, refl, sym, subst, true}
-use Rattle.std.specs.Prelude.{◌⊎◌, map}
+use Rattle.std.specs.Prelude.{◌⊎◌}
 use Rattle.unl_base.specs.Draws.{TakesDraw}
 use Rattle.unl_base.specs.Doors.{ServedOnlyAt, DoorState, IsClosed, IsClosedAt, listening_at}
 use Rattle.unl_base.specs.Streams.{Sends, SendsFront}
@@ -8,14 +8,13 @@ use Rattle.unl_base.specs.declared.draws.Draw.{Draw}
 use Rattle.unl_core.specs.declared.board.Board.{Board}
 use Rattle.unl_edge.specs.Edges.{EdgeEnds, EdgeRuns, HandsLinks, IsServed, RunsEdge, StopsForMemory}
 use Rattle.unl_edge.specs.Scene.{Scene}
-use Rattle.unl_edge.specs.EdgeServices.{EdgeService, begun_board, service_at, service_of}
+use Rattle.unl_edge.specs.EdgeServices.{EdgeService, begun_board, duty_of, service_at, service_of}
 use Rattle.unl_edge.specs.Upstreams.{connections_line, line_end}
 use Rattle.unl_edge.specs.declared.ends.ServingEnd.{ServingEnd}
 use Rattle.unl_edge.specs.declared.ends.ServingEnd.TheVariants.{Closed, WriteFault, DoorFault, OutOfMemory}
 use Rattle.unl_server.specs.Handling.{Coming}
 use Rattle.unl_refresh.proofs.Connecting.{none_taken}
-use Rattle.unl_refresh.specs.SlotParameters.{SlotParameters, slot_parameters}
-use Rattle.unl_words.specs.Lists.{environment_of}
+use Rattle.unl_refresh.specs.Turns.{Duty}
 use Rattle.unl_words.specs.declared.words.EdgeArguments.{EdgeArguments}
 use Rattle.unl_input.specs.Refusal.{WritesLine}
 use Rattle.unl_input.specs.declared.refusal.WriteLineFault.{WriteLineFault}
@@ -103,23 +102,22 @@ runs_so words end before after draw coming taken ends = by_end end ends
     by_end OutOfMemory ends = (ends.0, from_draw {draws = coming} ends.1, ends.2, ends.3)
 
 -- the same, with the state before and the edge service known by their parts
-pub begun_ends : (words : EdgeArguments) (known : List (List ℕ)) (board : Board) (slot_pollers : List SlotParameters) (end : ServingEnd) (before middle after : Scene)
-    (draw : Draw) (coming : Coming) → known ≡ words.tokens → board ≡ begun_board draw.word words.host words.upstream_tokens
-    → slot_pollers ≡ slot_parameters words.upstream words.delta words.upstream_tokens (map environment_of words.upstream_tokens)
+pub begun_ends : (words : EdgeArguments) (duty : Duty) (board : Board) (end : ServingEnd) (before middle after : Scene)
+    (draw : Draw) (coming : Coming) → duty ≡ duty_of words → board ≡ begun_board draw.word words.host words.upstream_tokens
     → before ≡ middle → TakesDraw middle.draws draw coming
-    → EdgeEnds (service_at known board slot_pollers words.workers) words.port end (record middle { draws = coming }) after
+    → EdgeEnds (service_at duty board words.workers) words.port end (record middle { draws = coming }) after
     → EdgeRuns words end before after
-begun_ends words known board slot_pollers end before middle after draw coming tells begins feeds same taken ends =
+begun_ends words duty board end before middle after draw coming polls begins same taken ends =
     subst (λ (scene : Scene). EdgeRuns words end scene after) (sym same)
     (runs_so words end middle after draw coming taken
     (subst (λ (service : EdgeService). EdgeEnds service words.port end (record middle { draws = coming }) after)
-    (λ i. service_at (tells i) (begins i) (feeds i) words.workers) ends))
+    (λ i. service_at (polls i) (begins i) words.workers) ends))
 
 -- ---- the last line
 
 -- the door was closed, and the last line was sent
 pub closed_ends : (service : EdgeService) (port served : ℕ) (before middle after : Scene) → before ≡ middle → HandsLinks served middle after
-    → IsServed service middle after → Sends middle.output.sent (connections_line served) after.output.sent → IsClosedAt port after.door.state
+    → IsServed service port served middle after → Sends middle.output.sent (connections_line served) after.output.sent → IsClosedAt port after.door.state
     → EdgeEnds service port Closed before after
 closed_ends service port served before middle after same hands serves sent closed =
     subst (λ (scene : Scene). EdgeEnds service port Closed scene after) (sym same) ends
@@ -129,7 +127,7 @@ closed_ends service port served before middle after same hands serves sent close
 
 -- the door was closed, and a prefix of the line was sent
 pub broken_ends : (service : EdgeService) (port served : ℕ) (before middle after : Scene) → before ≡ middle → HandsLinks served middle after
-    → IsServed service middle after → SendsFront middle.output.sent (connections_line served) after.output.sent → IsClosedAt port after.door.state
+    → IsServed service port served middle after → SendsFront middle.output.sent (connections_line served) after.output.sent → IsClosedAt port after.door.state
     → EdgeEnds service port WriteFault before after
 broken_ends service port served before middle after same hands serves sent closed =
     subst (λ (scene : Scene). EdgeEnds service port WriteFault scene after) (sym same) ends
@@ -157,7 +155,7 @@ stopped_ends service port served before middle after same hands over silent =
 
 -- the same, from the result of printing the line
 pub told_ends : (service : EdgeService) (port served : ℕ) (told : Result Unit WriteLineFault) (end : ServingEnd) (before middle after : Scene)
-    → end ≡ line_end told → before ≡ middle → HandsLinks served middle after → IsServed service middle after
+    → end ≡ line_end told → before ≡ middle → HandsLinks served middle after → IsServed service port served middle after
     → WritesLine told (connections_line served) middle.output.sent after.output.sent → IsClosedAt port after.door.state → EdgeEnds service port end before after
 told_ends service port served told end before middle after is same hands serves said closed =
     subst (λ (e : ServingEnd). EdgeEnds service port e before after) (sym is) (by_told told said)

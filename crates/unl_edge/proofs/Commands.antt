@@ -1,5 +1,5 @@
 -- How an upstream ends, from the ends of its lines, its links and its keeper.
-use Rattle.std.proofs.Common.{◌≡◌, ◌≢◌, ◌≤◌, ◌∙◌, inl, inr, ℕ, zero, suc, List, [], ◌∷◌, ◌++◌, ◌&&◌, true, length, append-nil, Option, Some, None, IfSome, Ok, Err, refl, sym, ap, subst, arith}
+use Rattle.std.proofs.Common.{◌≡◌, ◌≢◌, ◌≤◌, ◌∙◌, inl, inr, ℕ, zero, suc, List, [], ◌∷◌, ◌++◌, ◌&&◌, true, length, append-nil, Option, Some, None, IfSome, Result, Ok, Err, refl, sym, ap, subst, arith}
 use Rattle.std.specs.Prelude.{option_and_then, option_map, slice_get, unwrap_or}
 use Rattle.std.specs.List.{list_all}
 use Rattle.clap.proofs.WalkLemmas.{both}
@@ -26,10 +26,11 @@ use Rattle.unl_input.specs.declared.refusal.WriteLineFault.TheVariants as say
 use Rattle.unl_keeper.specs.Rows.{kept}
 use Rattle.unl_input.specs.Lines.{lines}
 use Rattle.unl_input.specs.Taken.{Ending, IsRefused, Outcome, done, outcome_of, refused}
+use Rattle.unl_input.specs.declared.taking.LinesFault.{LinesFault}
 use Rattle.unl_input.specs.declared.taking.LinesFault.TheVariants as line
-use Rattle.unl_input.specs.Whole.{AnswersAll, IsRefusing, HoldsOfRead}
-use Rattle.unl_input.proofs.Silent.{prints_cause_alone}
-use Rattle.unl_input.proofs.Whole.{stands_told}
+use Rattle.unl_input.specs.Whole.{AnswersAll, IsRefusing, HoldsOfRead, TakesLines}
+use Rattle.unl_input.proofs.Silent.{memory_is_silent, nothing_sent, prints_cause_alone}
+use Rattle.unl_input.proofs.Whole.{holds_of_observable, whole_read}
 use Rattle.unl_tokens.specs.declared.token.Token.{Token}
 use Rattle.unl_upstream.specs.Kept.{HasKept, KeeperState, KeptState, acknowledged, commands_in, kept_commands, kept_rows, kept_state}
 use Rattle.unl_upstream.specs.Reopening.{IsSameKeeper, Reopens, rows_after}
@@ -52,13 +53,13 @@ serves_none state before after has coming given back left returned = record {
   hosts = record {
     given = given ∙ omega arith;
     back = back ∙ omega arith;
-    linked = λ all others told told_back. record {
+    linked = λ all others observed observed_back. record {
       given_links = [];
       rest = all;
       backs = [];
       are = refl;
-      left = left ∙ told;
-      returned_after = returned ∙ told_back ∙ ap Some (sym (append-nil others));
+      left = left ∙ observed;
+      returned_after = returned ∙ observed_back ∙ ap Some (sym (append-nil others));
       counted = refl;
       linked = (refl, coming);
     };
@@ -68,10 +69,17 @@ serves_none state before after has coming given back left returned = record {
 
 -- ---- the links after the lines
 
--- nothing was sent while the lines were taken
-nothing_sent : (old mid : Option (List ℕ)) (text : List ℕ) → text ≡ [] → Sends old text mid → mid ≡ old
-nothing_sent old mid text none sends =
-    sends ∙ ap (λ (t : List ℕ). option_map (λ sent. sent ++ t) old) none ∙ sym (Sends_nothing old)
+-- nothing was sent if memory ran out, or the keeper failed, while the lines were taken
+pub silent_lines_end : (opened : KeptState) (left left_after old new : Option (List ℕ))
+    → TakesLines keeping (shelf_of opened) (Err line.Memory) left left_after old new → new ≡ old
+silent_lines_end opened left left_after old new takes = memory_is_silent keeping (shelf_of opened) left left_after old new silent takes
+
+-- the same, of a result that is out of memory
+pub silent_at : (opened : KeptState) (result : Result (Unit {0}) LinesFault) (left left_after old new : Option (List ℕ)) → result ≡ Err line.Memory
+    → TakesLines keeping (shelf_of opened) result left left_after old new → new ≡ old
+silent_at opened result left left_after old new is takes =
+    silent_lines_end opened left left_after old new
+    (subst (λ (r : Result (Unit {0}) LinesFault). TakesLines keeping (shelf_of opened) r left left_after old new) is takes)
 
 -- how an upstream ends after all its lines were accepted, from the state after them
 pub after_lines : (opened kept : KeptState) (port : ℕ) (last : KeptState) (desk : Shelf) (end : ServingEnd) (left left_after : Option (List ℕ))
@@ -105,9 +113,9 @@ after_lines opened kept port last desk end left left_after before after sent has
       keeps = all.carries.carries.appended
           ∙ ap (option_map (λ kept. kept ++ acknowledged all.carries.some.tried)) spelled.kept
           ∙ both_behind spelled.commands (acknowledged all.carries.some.tried) (kept_commands opened.keeper);
-      named = λ links returned told told_back.
+      named = λ links returned observed observed_back.
           links_named opened kept last spelled.commands before after served links returned has spelled.kept
-          (record { up = spelled.leads; count = spelled.counted }) (all.hosts.linked links returned told told_back);
+          (record { up = spelled.leads; count = spelled.counted }) (all.hosts.linked links returned observed observed_back);
     }
 
     by_end : (end : ServingEnd) → LinksEnd kept port end last (record before { sent = sent }) after
@@ -196,8 +204,8 @@ holds_kept last first (Some rows) held_after commands empty is keeps =
     (of_rows (kept_rows last) (keeps ∙ ap (option_map (λ kept. kept ++ commands)) empty))
   where
     of_rows : (o : Option (List (List ℕ))) → option_map commands_in o ≡ Some commands → IfSome o (λ texts. commands_in texts ≡ commands)
-    of_rows None told = tt
-    of_rows (Some texts) told = ap (λ (o : Option (List Command)). unwrap_or o []) told
+    of_rows None same = tt
+    of_rows (Some texts) same = ap (λ (o : Option (List Command)). unwrap_or o []) same
 
 -- a keeper that has never failed
 pub never_failed : {R : Type 0} (faults : ℕ) → (faults ≢ 0 → R) → ¬ R → faults ≡ 0
@@ -228,7 +236,7 @@ ends_kept start port end made last before after is_made ends back = by_end end e
         → UpstreamEnds start port end before after
     by_end NoMemory ends = ends
     by_end KeeperFault ends = ends
-    by_end (Row told) ends = kept (Row told) ends
+    by_end (Row written) ends = kept (Row written) ends
     by_end (Lines fault) ends = kept (Lines fault) ends
     by_end (Links end) ends = kept (Links end) ends
 
@@ -248,7 +256,7 @@ runs_so words end before after start coming begins ends = by_end end ends
         → UpstreamRuns words end before after
     by_end NoMemory ends = record { silent = ends.silent; shut = ends.shut }
     by_end KeeperFault ends = runs KeeperFault ends
-    by_end (Row told) ends = runs (Row told) ends
+    by_end (Row written) ends = runs (Row written) ends
     by_end (Lines fault) ends = runs (Lines fault) ends
     by_end (Links end) ends = runs (Links end) ends
 
@@ -285,30 +293,23 @@ no_row start made place empty refuses = by_fault refuses.fault refuses.of_row re
 
 -- ---- what determines the exit code
 
--- an input that was read to its end is the bytes read
-whole_read : (left left_after : Option (List ℕ)) (read : List ℕ) → Takes left read left_after → HasEnded left_after → IfSome left (λ bytes. bytes ≡ read)
-whole_read None left_after read took end = tt
-whole_read (Some bytes) None read took end = absurd (cc took)
-whole_read (Some bytes) (Some rest) read took end =
-    ap (λ (o : Option (List ℕ)). unwrap_or o []) took ∙ ap (λ (r : List ℕ). read ++ r) end ∙ append-nil read
-
 -- the status if a line is refused
 pub refused_is : (ending : Ending) → IsRefused ending → ending_status ending ≡ status.Refused
 refused_is done is = absurd is
 refused_is (refused k cause) is = refl
 
 -- a refused line determines the exit code, if the input is observable
-told_decide : {D : Type 0} (outcome : List ℕ → Outcome D) (left old new : Option (List ℕ))
+observable_decide : {D : Type 0} (outcome : List ℕ → Outcome D) (left old new : Option (List ℕ))
     → IfSome left (λ bytes. IsRefusing (outcome bytes) old new) → IfSome left (λ bytes. 3 ≡ code_of (ending_status (outcome bytes).ending))
-told_decide outcome None old new is = tt
-told_decide outcome (Some bytes) old new is = ap code_of (sym (refused_is (outcome bytes).ending is.ending))
+observable_decide outcome None old new is = tt
+observable_decide outcome (Some bytes) old new is = ap code_of (sym (refused_is (outcome bytes).ending is.ending))
 
 -- a refused line determines the exit code
 pub refusing_decides : {D : Type 0} (outcome : List ℕ → Outcome D) (left left_after old new : Option (List ℕ))
     → HoldsOfRead left left_after (λ bytes. IsRefusing (outcome bytes) old new)
     → IfSome left (λ bytes. 3 ≡ code_of (ending_status (outcome bytes).ending))
 refusing_decides outcome left left_after old new is =
-    told_decide outcome left old new (stands_told (λ bytes. IsRefusing (outcome bytes) old new) left left_after is)
+    observable_decide outcome left old new (holds_of_observable (λ bytes. IsRefusing (outcome bytes) old new) left left_after is)
 
 -- if all lines were accepted, the exit code by the lines is 0
 lines_decide : (opened : KeptState) (last : KeeperState) (left left_after : Option (List ℕ)) (before after : Facing) (served : ℕ)
@@ -392,22 +393,22 @@ upstream_decided {Read} {Write} {Door} {Keep} words end before after runs caused
         → EndsKept start words.port end (record before { draws = coming }) after → Caused (upstream_status end) Read Write Door Keep
         → code_of (upstream_status end) ≢ 6 → IsDecidedByLines words (code_of (upstream_status end)) before
     decided end start coming begins ends caused memory =
-        let told = kept_decided start words.port ends.made ends.last end before.keep.held before.input.left after.input.left
+        let parts = kept_decided start words.port ends.made ends.last end before.keep.held before.input.left after.input.left
         (facing_of (record before { draws = coming })) (facing_of after) ends.is_made ends.ends caused read write door keep memory in record {
           start = start;
           coming = coming;
           begins = begins;
           made = ends.made;
           is_made = ends.is_made;
-          reopened = told.0;
-          decided = told.1;
+          reopened = parts.0;
+          decided = parts.1;
         }
 
     by_end : (end : UpstreamEnd) → UpstreamRuns words end before after → Caused (upstream_status end) Read Write Door Keep
         → code_of (upstream_status end) ≢ 6 → IsDecidedByLines words (code_of (upstream_status end)) before
     by_end NoMemory runs caused memory = absurd (memory refl)
     by_end KeeperFault runs caused memory = absurd (keep caused)
-    by_end (Row told) runs caused memory = decided (Row told) runs.start runs.coming runs.begins runs.ends caused memory
+    by_end (Row written) runs caused memory = decided (Row written) runs.start runs.coming runs.begins runs.ends caused memory
     by_end (Lines fault) runs caused memory = decided (Lines fault) runs.start runs.coming runs.begins runs.ends caused memory
     by_end (Links end) runs caused memory = decided (Links end) runs.start runs.coming runs.begins runs.ends caused memory
 

@@ -3,7 +3,7 @@ use Rattle.std.proofs.Common.{◌≡◌, ◌≢◌, ℕ, ◌==◌, List, cond, O
 use Rattle.unl_base.specs.declared.draws.Draw.{Draw}
 use Rattle.unl_documents.specs.Reading.{Reading}
 use Rattle.unl_documents.specs.Results.{Gives}
-use Rattle.unl_edge.specs.Ends.{CheckEnds, Ended, Ends, HasCauses, IsDecided, PrintsReport, explained_status, outcome_end}
+use Rattle.unl_edge.specs.Ends.{CheckEnds, Ended, Ends, HasCauses, IsDecided, LeavesAlone, PrintsReport, explained_status, outcome_end}
 use Rattle.unl_edge.specs.Follows.{ask_of, ends_in, subject_of}
 use Rattle.unl_edge.specs.Scene.{Scene}
 use Rattle.unl_edge.specs.Status.{Caused, FailsToKeep, IsCaused, check_status, code_of, ending_status, explain_status, follow_status, lines_status, load_status, serving_status, words_status}
@@ -26,12 +26,14 @@ use Rattle.unl_follow.specs.declared.fault.FollowFault.TheVariants as follow
 use Rattle.unl_follow.proofs.Turning.{none_made}
 use Rattle.unl_input.proofs.Outcomes.{decides}
 use Rattle.unl_input.specs.Answer.{ComesTo, Outcome, outcome_of}
-use Rattle.unl_input.specs.Whole.{TakesLines}
+use Rattle.unl_input.proofs.Whole.{ends_at_once, whole_read}
 use Rattle.unl_input.specs.declared.taking.LinesFault.{LinesFault}
 use Rattle.unl_input.specs.declared.taking.LinesFault.TheVariants as lines
 use Rattle.unl_load.specs.declared.fault.LoadFault.{LoadFault}
 use Rattle.unl_load.specs.declared.fault.LoadFault.TheVariants as load
 use Rattle.unl_replay.specs.Replay.{line_answer, opening, replay_of}
+use Rattle.unl_replay.specs.Replayed.{Replays}
+use Rattle.unl_replay.proofs.Delivering.{replays_lines}
 use Rattle.unl_spec_runner.specs.Check.{accepted, report_of}
 use Rattle.unl_spec_runner.specs.Report.{Report}
 use Rattle.unl_words.specs.Words.{WordsReading}
@@ -42,7 +44,12 @@ use Rattle.unl_words.specs.declared.words.Words.TheVariants.{Replay, Check, Edge
 
 -- out of memory, with no effect, is a possible end for all arguments
 at_memory : (reading : WordsReading) (scene : Scene) → Ends reading OutOfMemory scene scene
-at_memory (Ok Replay) scene = record { end = Err lines.Memory; is = refl; ends = tt }
+at_memory (Ok Replay) scene = record {
+  end = Err lines.Memory;
+  is = refl;
+  ends = replays_lines (Err lines.Memory) scene.input.left scene.input.left scene.output.sent scene.output.sent
+      (ends_at_once line_answer opening scene.input.left scene.output.sent);
+}
 at_memory (Ok (Check now word)) scene = record { end = check.OutOfMemory; is = refl; ends = refl }
 at_memory (Ok Explain) scene = record { end = Err explain.Memory; is = refl; ends = refl }
 at_memory (Ok (Edge edge)) scene = record { end = serving.OutOfMemory; is = refl; ends = stops_at_once edge.port scene scene scene refl refl refl refl }
@@ -65,6 +72,27 @@ ends_by (Err Bad) reading status before after gives ends none = subst (λ w. End
 ends_by (Err Memory) reading status before after gives ends none =
     subst (λ (scene : Scene). Ends reading status before scene) (sym (none refl).1)
     (subst (λ (s : Status). Ends reading s before before) (sym (none refl).0) (at_memory reading before))
+
+-- nothing changed
+unchanged : (reading : WordsReading) (scene : Scene) → LeavesAlone reading scene scene
+unchanged (Ok Replay) scene = refl
+unchanged (Ok (Check now word)) scene = refl
+unchanged (Ok Explain) scene = refl
+unchanged (Ok (Edge edge)) scene = refl
+unchanged (Ok (Upstream up)) scene = refl
+unchanged (Ok (Follow replica)) scene = refl
+unchanged (Ok (Load seed count)) scene = refl
+unchanged (Err Bad) scene = refl
+unchanged (Err Memory) scene = refl
+
+-- what was left alone for the arguments as read was left alone for the arguments
+pub leaves_by : (given reading : WordsReading) (status : Status) (before after : Scene)
+    → Gives Memory given reading → LeavesAlone given before after → (given ≡ Err Memory → (status ≡ OutOfMemory) × (after ≡ before))
+    → LeavesAlone reading before after
+leaves_by (Ok x) reading status before after gives leaves none = subst (λ w. LeavesAlone w before after) (sym gives) leaves
+leaves_by (Err Bad) reading status before after gives leaves none = subst (λ w. LeavesAlone w before after) (sym (gives (λ same. absurd (cc same)))) leaves
+leaves_by (Err Memory) reading status before after gives leaves none =
+    subst (λ (scene : Scene). LeavesAlone reading before scene) (sym (none refl).1) (unchanged reading before)
 
 -- ---- causes
 
@@ -102,9 +130,9 @@ all_causes status code before after is caused = record {
 -- ---- what determines the exit code if nothing fails and memory doesn't run out
 
 -- the result of processing an input determines what follows from it
-told_by : {T : Type 0} (reads : List ℕ → Reading T) (code : Outcome T → ℕ) (number : ℕ) (outcome : Outcome T) (left left_after : Option (List ℕ))
+decided_by : {T : Type 0} (reads : List ℕ → Reading T) (code : Outcome T → ℕ) (number : ℕ) (outcome : Outcome T) (left left_after : Option (List ℕ))
     → ComesTo reads outcome left left_after → number ≡ code outcome → IfSome left (λ bytes. number ≡ code (outcome_of reads bytes))
-told_by reads code number outcome left left_after comes is = at_each left (decides reads outcome left left_after comes)
+decided_by reads code number outcome left left_after comes is = at_each left (decides reads outcome left left_after comes)
   where
     at_each : (l : Option (List ℕ)) → IfSome l (λ all. outcome_of reads all ≡ outcome) → IfSome l (λ bytes. number ≡ code (outcome_of reads bytes))
     at_each None same = tt
@@ -112,11 +140,17 @@ told_by reads code number outcome left left_after comes is = at_each left (decid
 
 -- the lines determine how a replay ends
 replay_decided : (Read Write Door Keep : Type 0) (end : Result Unit LinesFault) (left left_after old new : Option (List ℕ))
-    → TakesLines line_answer opening end left left_after old new → Caused (lines_status end) Read Write Door Keep → ¬ Read → ¬ Write
+    → Replays end left left_after old new → Caused (lines_status end) Read Write Door Keep → ¬ Read → ¬ Write
     → code_of (lines_status end) ≢ 6 → IfSome left (λ bytes. code_of (lines_status end) ≡ code_of (ending_status (replay_of bytes).ending))
-replay_decided Read Write Door Keep (Ok u) None left_after old new ends caused read write memory = tt
-replay_decided Read Write Door Keep (Ok u) (Some bytes) left_after old new ends caused read write memory = ap (λ e. code_of (ending_status e)) (sym ends.ending)
-replay_decided Read Write Door Keep (Err lines.Bad) left left_after old new ends caused read write memory = refusing_decides replay_of left left_after old new ends
+replay_decided Read Write Door Keep (Ok u) left left_after old new ends caused read write memory =
+    of_all left (whole_read left left_after ends.takes.read ends.takes.took ends.takes.end)
+  where
+    of_all : (o : Option (List ℕ)) → IfSome o (λ bytes. bytes ≡ ends.takes.read)
+        → IfSome o (λ bytes. code_of (lines_status (Ok u)) ≡ code_of (ending_status (replay_of bytes).ending))
+    of_all None is = tt
+    of_all (Some bytes) is =
+        ap (λ e. code_of (ending_status e)) (sym (ap (λ (bs : List ℕ). (replay_of bs).ending) is ∙ ends.takes.answered.ending))
+replay_decided Read Write Door Keep (Err lines.Bad) left left_after old new ends caused read write memory = refusing_decides replay_of left left_after old new ends.takes
 replay_decided Read Write Door Keep (Err lines.ReadFault) left left_after old new ends caused read write memory = absurd (read caused)
 replay_decided Read Write Door Keep (Err lines.WriteFault) left left_after old new ends caused read write memory = absurd (write caused)
 replay_decided Read Write Door Keep (Err lines.Memory) left left_after old new ends caused read write memory = absurd (memory refl)
@@ -129,9 +163,9 @@ check_code outcome = code_of (check_status (outcome_end outcome))
 said_decides : (draw : Draw) (end : CheckEnd) (left left_after old new : Option (List ℕ)) → PrintsReport draw end left left_after old new
     → IfSome left (λ bytes. code_of (check_status end) ≡ code_of (check_status (outcome_end (report_of draw bytes))))
 unfolding check_code
-said_decides draw end left left_after old new told =
-    told_by (accepted draw) check_code (code_of (check_status end)) told.outcome left left_after told.says.comes
-    (ap (λ (e : CheckEnd). code_of (check_status e)) told.ends)
+said_decides draw end left left_after old new prints =
+    decided_by (accepted draw) check_code (code_of (check_status end)) prints.outcome left left_after prints.says.comes
+    (ap (λ (e : CheckEnd). code_of (check_status e)) prints.ends)
 
 -- the input determines how a check ends
 check_decided : (Read Write Door Keep : Type 0) (draw : Draw) (end : CheckEnd) (left left_after old new : Option (List ℕ))
@@ -154,11 +188,11 @@ explain_decided : (Read Write Door Keep : Type 0) (end : Result Unit ExplainFaul
     → IfSome left (λ bytes. code_of (explain_status end) ≡ code_of (explained_status (outcome_of explained bytes)))
 unfolding explained_code
 explain_decided Read Write Door Keep (Ok u) left left_after old new ends caused read write memory =
-    told_by explained explained_code 0 (Ok ends.0) left left_after ends.1.comes refl
+    decided_by explained explained_code 0 (Ok ends.0) left left_after ends.1.comes refl
 explain_decided Read Write Door Keep (Err (explain.BadInput fault)) left left_after old new ends caused read write memory =
-    told_by explained explained_code 3 _ left left_after ends.comes refl
+    decided_by explained explained_code 3 _ left left_after ends.comes refl
 explain_decided Read Write Door Keep (Err explain.TooLarge) left left_after old new ends caused read write memory =
-    told_by explained explained_code 3 _ left left_after ends.comes refl
+    decided_by explained explained_code 3 _ left left_after ends.comes refl
 explain_decided Read Write Door Keep (Err explain.ReadFault) left left_after old new ends caused read write memory = absurd (read caused)
 explain_decided Read Write Door Keep (Err explain.WriteFault) left left_after old new ends caused read write memory = absurd (write caused)
 explain_decided Read Write Door Keep (Err explain.Memory) left left_after old new ends caused read write memory = absurd (memory refl)

@@ -9,7 +9,7 @@ use Rattle.unl_input.specs.Laws.{IsSilent}
 use Rattle.unl_input.specs.Lines.{lines}
 use Rattle.unl_input.specs.Reading.{longest_line}
 use Rattle.unl_input.specs.Taken.{LineResult, Outcome, Taken, Taking, done, followed, most_lines, outcome_of, refused, take_from, take_line}
-use Rattle.unl_input.proofs.Silent.{prints_cause_alone}
+use Rattle.unl_input.proofs.Silent.{prints_cause_alone, within_limits_of}
 use Rattle.unl_upstream.specs.Command.{command_in}
 use Rattle.unl_upstream.specs.History.{accepted, after_commands, if_accepted, up_after}
 use Rattle.unl_upstream.specs.Kept.{most_rows, with_room}
@@ -109,22 +109,11 @@ keeps_more shelf line more now last one others =
           ∙ both_behind (one.command ∷ []) others.commands shelf.commands;
     }
 
--- a line that is taken is within the limits
-within : {D : Type 0} (taking : Taking D) (desk : D) (line : List ℕ) (k : ℕ) (taken : Taken D) → take_line taking k desk line ≡ Ok taken
-    → taking k desk line ≡ Ok taken
-within taking desk line k taken is = limited (ltb most_lines k) (ltb longest_line (length line)) is
-  where
-    limited : (many long : Bool) → cond many (Err (codes "TooManyLines")) (cond long (Err (codes "LineTooLong")) (taking k desk line)) ≡ Ok taken
-        → taking k desk line ≡ Ok taken
-    limited true long is = absurd (cc is)
-    limited false true is = absurd (cc is)
-    limited false false is = is
-
 keeps_step : (shelf : Shelf) (k : ℕ) (line : List ℕ) (more : List (List ℕ)) (comes : LineResult Shelf) → take_line keeping k shelf line ≡ comes
     → ((now : Shelf) → (rest_from (k + 1) more now).ending ≡ done → SpellKept now more (rest_from (k + 1) more now).desk)
     → (followed k shelf comes (rest_from (k + 1) more)).ending ≡ done → SpellKept shelf (line ∷ more) (followed k shelf comes (rest_from (k + 1) more)).desk
 keeps_step shelf k line more (Ok taken) comes_so later ends =
-    keeps_more shelf line more taken.desk (rest_from (k + 1) more taken.desk).desk (keeps_one shelf line taken (within keeping shelf line k taken comes_so)) (later taken.desk ends)
+    keeps_more shelf line more taken.desk (rest_from (k + 1) more taken.desk).desk (keeps_one shelf line taken (within_limits_of keeping shelf line k taken comes_so)) (later taken.desk ends)
 keeps_step shelf k line more (Err cause) comes_so later ends = absurd (cc ends)
 
 keeps_from : (ls : List (List ℕ)) (k : ℕ) (shelf : Shelf) → (rest_from k ls shelf).ending ≡ done → SpellKept shelf ls (rest_from k ls shelf).desk

@@ -1,30 +1,31 @@
 -- What happened at the worker slots, as the work of workers.
-use Rattle.std.proofs.Common.{◌≡◌, ◌≤◌, ◌+◌, ◌∙◌, ℕ, zero, suc, List, [], ◌∷◌, ◌++◌, length, map, Option, Some, Result, Ok, Err, ap, arith, subst, sym}
-use Rattle.std.specs.Prelude.{All, IfOk, OnOk}
+use Rattle.std.proofs.Common.{◌≡◌, ◌≤◌, ◌+◌, ◌∙◌, ℕ, zero, suc, List, [], ◌∷◌, ◌++◌, length, map, Option, Result, Ok, Err, ap, arith, subst, sym}
+use Rattle.std.specs.Prelude.{All, OnOk}
 use Rattle.std.specs.List.{AllZip}
 use Rattle.std.proofs.lemmas.List.{length-map}
 use Rattle.std.proofs.lemmas.List.Elements.{All-cons, All-head, All-nil, All-push, All-tail}
-use Rattle.unl_base.specs.Faults.{Rose}
-use Rattle.unl_core.specs.declared.board.Board.{Board}
 use Rattle.unl_core.specs.declared.board.Install.{Install}
-use Rattle.unl_delta.specs.Installing.{Installed}
 use Rattle.unl_edge.specs.LinkHandling.{HasLearned, IsOfOrigin, ReadsOnAt, ServesAt}
-use Rattle.unl_edge.specs.Edges.{links_of}
-use Rattle.unl_edge.specs.EdgeServices.{ServesLinks, RunsService, EdgeService, WorkConcurrently, Worker, Works, opened, service_at, worker_of}
+use Rattle.unl_edge.specs.EdgeServices.{ServesLinks, WorkConcurrently, Worker, Works, worker_of}
 use Rattle.unl_edge.specs.declared.attending.EdgeLinkHandler.{EdgeLinkHandler}
-use Rattle.unl_edge_state.specs.Editions.{BoardAt, opening_at}
-use Rattle.unl_edge_state.specs.Reading.{seen_by, told_to}
+use Rattle.unl_edge_state.specs.Editions.{BoardAt}
+use Rattle.unl_edge_state.specs.Reading.{IsNewReader, SeesInOrder, seen_by, told_to}
+use Rattle.unl_edge_state.proofs.Looks.{sees_in_order}
+use Rattle.unl_edge_state.specs.Writing.{Writing, installed_by}
+use Rattle.unl_edge.specs.Edges.{links_of}
+use Rattle.unl_edge.specs.Polling.{PollsOn}
+use Rattle.unl_refresh.specs.Exchange.{PeerView}
+use Rattle.unl_refresh.specs.Turns.{Duty, PollState, poll_state}
+use Rattle.unl_workers.specs.declared.pool.PoolOutcome.{PoolOutcome}
 use Rattle.unl_edge_state.specs.declared.reader.EdgeReader.{EdgeReader}
 use Rattle.unl_server.specs.Handling.{Coming}
+use Rattle.unl_metrics.specs.Book.{Book}
 use Rattle.unl_publication.specs.declared.knowledge.Knowledge.{Knowledge}
 use Rattle.unl_connection.specs.Notes.{Rise}
 use Rattle.unl_connection.specs.declared.served.ServedOne.{ServedOne}
-use Rattle.unl_refresh.proofs.Connecting.{connects_still, none_before}
+use Rattle.unl_refresh.proofs.Connecting.{connects_still}
 use Rattle.unl_refresh.specs.Connects.{Connects}
-use Rattle.unl_refresh.specs.SlotParameters.{SlotParameters}
-use Rattle.unl_refresh.specs.Turns.{MakesTurn, poll_state}
 use Rattle.unl_workers.specs.Serving.{ServesSlot, ServesMany, Serving, serving}
-use Rattle.unl_workers.specs.declared.pool.PoolOutcome.{PoolOutcome}
 use Rattle.unl_workers.specs.declared.pool.PoolFault.{PoolFault}
 use Rattle.unl_workers.specs.declared.worker.WorkerSlot.{WorkerSlot}
 
@@ -54,7 +55,7 @@ attended coming_of before after attends =
     (after.links, links_served after.links (serving before.server (coming_of before.draws)) (serving after.server (coming_of after.draws)) attends.served)
 
 -- each of them
-all_attended : {W R : Type 0} (coming_of : R → Coming) (before after : List (WorkerSlot (EdgeLinkHandler W) R))
+pub all_attended : {W R : Type 0} (coming_of : R → Coming) (before after : List (WorkerSlot (EdgeLinkHandler W) R))
     → AllZip (ServesSlot ServesAt ReadsOnAt coming_of) before after → AllZip Works (map (worker_of coming_of) before) (map (worker_of coming_of) after)
 all_attended coming_of [] [] all = tt
 all_attended coming_of [] (last ∷ after) all = absurd all
@@ -62,7 +63,7 @@ all_attended coming_of (first ∷ before) [] all = absurd all
 all_attended coming_of (first ∷ before) (last ∷ after) all = (attended coming_of first last all.0, all_attended coming_of before after all.1)
 
 -- what their readers have learned
-all_told : {W R : Type 0} (coming_of : R → Coming) (known : Knowledge BoardAt Install) (posts : List (WorkerSlot (EdgeLinkHandler W) R))
+pub all_told : {W R : Type 0} (coming_of : R → Coming) (known : Knowledge BoardAt Install) (posts : List (WorkerSlot (EdgeLinkHandler W) R))
     → All (λ post. HasLearned known post.server.desk.reader) posts
     → All (λ worker. length known.installs ≤ told_to worker.reader) (map (worker_of coming_of) posts)
 all_told coming_of known [] learned = All-nil (λ (worker : Worker). length known.installs ≤ told_to worker.reader)
@@ -72,7 +73,7 @@ all_told {W} {R} coming_of known (post ∷ posts) learned =
     (all_told coming_of known posts (All-tail (λ (p : WorkerSlot (EdgeLinkHandler W) R). HasLearned known p.server.desk.reader) post posts learned))
 
 -- and the first board of that
-all_open : {W R : Type 0} (coming_of : R → Coming) (known : Knowledge BoardAt Install) (posts : List (WorkerSlot (EdgeLinkHandler W) R))
+pub all_open : {W R : Type 0} (coming_of : R → Coming) (known : Knowledge BoardAt Install) (posts : List (WorkerSlot (EdgeLinkHandler W) R))
     → All (λ post. HasLearned known post.server.desk.reader) posts
     → All (λ worker. (seen_by worker.reader).opening ≡ known.opening) (map (worker_of coming_of) posts)
 all_open coming_of known [] learned = All-nil (λ (worker : Worker). (seen_by worker.reader).opening ≡ known.opening)
@@ -80,6 +81,14 @@ all_open {W} {R} coming_of known (post ∷ posts) learned =
     All-cons (λ (worker : Worker). (seen_by worker.reader).opening ≡ known.opening) (worker_of coming_of post) (map (worker_of coming_of) posts)
     (All-head (λ (p : WorkerSlot (EdgeLinkHandler W) R). HasLearned known p.server.desk.reader) post posts learned).opens
     (all_open coming_of known posts (All-tail (λ (p : WorkerSlot (EdgeLinkHandler W) R). HasLearned known p.server.desk.reader) post posts learned))
+
+-- what their readers see
+pub all_ordered : {W R : Type 0} (coming_of : R → Coming) (posts : List (WorkerSlot (EdgeLinkHandler W) R))
+    → All (λ worker. SeesInOrder worker.reader) (map (worker_of coming_of) posts)
+all_ordered coming_of [] = All-nil (λ (worker : Worker). SeesInOrder worker.reader)
+all_ordered {W} {R} coming_of (post ∷ posts) =
+    All-cons (λ (worker : Worker). SeesInOrder worker.reader) (worker_of coming_of post) (map (worker_of coming_of) posts)
+    (sees_in_order post.server.desk.reader post.server.desk.steady) (all_ordered coming_of posts)
 
 -- one more slot has learned
 pub learned_more : {W R : Type 0} (known now : Knowledge BoardAt Install) (posts longer : List (WorkerSlot (EdgeLinkHandler W) R)) (post : WorkerSlot (EdgeLinkHandler W) R)
@@ -96,8 +105,13 @@ pub others_of : (known : Knowledge BoardAt Install) (readers rest : List EdgeRea
 others_of known readers rest reader steps all =
     All-tail (IsOfOrigin known) reader rest (subst (λ (rs : List EdgeReader). All (IsOfOrigin known) rs) steps all)
 
+-- and the others are new too
+pub others_new : (readers rest : List EdgeReader) (reader : EdgeReader) → readers ≡ reader ∷ rest → All IsNewReader readers → All IsNewReader rest
+others_new readers rest reader steps all =
+    All-tail IsNewReader reader rest (subst (λ (rs : List EdgeReader). All IsNewReader rs) steps all)
+
 -- the workers worked concurrently
-work_beside : {W R : Type 0} (coming_of : R → Coming) (known : Knowledge BoardAt Install) (before after : List (WorkerSlot (EdgeLinkHandler W) R))
+unfoldable pub work_beside : {W R : Type 0} (coming_of : R → Coming) (known : Knowledge BoardAt Install) (before after : List (WorkerSlot (EdgeLinkHandler W) R))
     (workers : ℕ) → length before ≡ workers → All (λ post. HasLearned known post.server.desk.reader) before
     → AllZip (ServesSlot ServesAt ReadsOnAt coming_of) before after → WorkConcurrently workers known.opening (length known.installs)
 work_beside coming_of known before after workers many learned all = record {
@@ -107,18 +121,8 @@ work_beside coming_of known before after workers many learned all = record {
   opens = all_open coming_of known before learned;
   told = all_told coming_of known before learned;
   worked = all_attended coming_of before after all;
+  ordered = all_ordered coming_of after;
 }
-
--- the same, if serving ended well
-pub served_beside : {W R : Type 0} (coming_of : R → Coming) (known : Knowledge BoardAt Install) (before : List (WorkerSlot (EdgeLinkHandler W) R)) (workers : ℕ)
-    (served : Result (PoolOutcome (EdgeLinkHandler W) R) PoolFault) (result : Result ℕ PoolFault) → result ≡ links_of served → length before ≡ workers
-    → All (λ post. HasLearned known post.server.desk.reader) before
-    → IfOk served (λ beside. AllZip (ServesSlot ServesAt ReadsOnAt coming_of) before beside.posts.items) → OnOk result (WorkConcurrently workers known.opening (length known.installs))
-served_beside coming_of known before workers (Ok beside) result is many learned all =
-    subst (λ (r : Result ℕ PoolFault). OnOk r (WorkConcurrently workers known.opening (length known.installs))) (sym is)
-    (work_beside coming_of known before beside.posts.items workers many learned all)
-served_beside coming_of known before workers (Err fault) result is many learned all =
-    subst (λ (r : Result ℕ PoolFault). OnOk r (WorkConcurrently workers known.opening (length known.installs))) (sym is) tt
 
 -- ---- an edge service
 
@@ -130,23 +134,13 @@ asked_first slots places {replies} last {faults} after (Ok links) count first th
     subst (λ (n : ℕ). Connects (n + 1) replies faults last after) count (connects_still first then)
 asked_first slots places last after (Err fault) count first then = tt
 
--- the first turn was made, and links were served after it
-pub service_served : (service : EdgeService) (first : Installed) (replies later last : Option (List (List ℕ))) (faults middle after : ℕ)
-    (served : Result ℕ PoolFault)
-    → (¬ (Rose faults middle) → MakesTurn service.known service.slot_pollers (poll_state service.opening replies) (poll_state first later))
-    → OnOk served (Connects 0 later middle last after) → OnOk served (WorkConcurrently service.workers service.edition first.front)
-    → OnOk served (RunsService service replies faults after)
-service_served service first replies later last faults middle after (Ok links) turn then work =
-    record { first = first; turn = λ none. (later, turn (none_before faults middle after then.later none)); work = work }
-service_served service first replies later last faults middle after (Err fault) turn then work = tt
-
--- the same edge service, by its parts
-pub same_site : (known : List (List ℕ)) (board : Board) (begun : Installed) (edition : Option BoardAt) (slot_pollers : List SlotParameters)
-    (workers readers : ℕ) (replies : Option (List (List ℕ))) (faults after : ℕ) (served : Result ℕ PoolFault)
-    → begun ≡ opened board → edition ≡ Some (opening_at board) → readers ≡ workers
-    → OnOk served (RunsService (record { known = known; opening = begun; edition = edition; slot_pollers = slot_pollers; workers = readers })
-    replies faults after)
-    → OnOk served (RunsService (service_at known board slot_pollers workers) replies faults after)
-same_site known board begun edition slot_pollers workers readers replies faults after served same opens count serves =
-    subst (λ (service : EdgeService). OnOk served (RunsService service replies faults after))
-    (λ i. record { known = known; opening = same i; edition = opens i; slot_pollers = slot_pollers; workers = count i }) serves
+-- turns that were made while links were served, from what the writer had before the workers learned of it
+pub polls_through : {W R : Type 0} (served : Result (PoolOutcome (EdgeLinkHandler W) R) PoolFault) (result : Result ℕ PoolFault) (duty : Duty)
+    (writer same_writer : Writing) (tags : List (Option (List ℕ))) (metrics : Book) (peer : PeerView) (after : PollState)
+    → result ≡ links_of served → OnOk served (PollsOn duty (poll_state (installed_by same_writer) tags metrics peer) after) → same_writer ≡ writer
+    → OnOk result (PollsOn duty (poll_state (installed_by writer) tags metrics peer) after)
+polls_through (Ok beside) result duty writer same_writer tags metrics peer after is polls same =
+    subst (λ (r : Result ℕ PoolFault). OnOk r (PollsOn duty (poll_state (installed_by writer) tags metrics peer) after)) (sym is)
+    (subst (λ (w : Writing). PollsOn duty (poll_state (installed_by w) tags metrics peer) after) same polls)
+polls_through (Err fault) result duty writer same_writer tags metrics peer after is polls same =
+    subst (λ (r : Result ℕ PoolFault). OnOk r (PollsOn duty (poll_state (installed_by writer) tags metrics peer) after)) (sym is) tt

@@ -1,32 +1,32 @@
 -- How an edge serves links concurrently, after its first turn.
 use Rattle.std.specs.Prelude.{◌≡◌, ◌≤◌, ℕ, zero, suc, List, [], All, length, map, Option, Some}
 use Rattle.std.specs.List.{AllZip}
-use Rattle.unl_base.specs.Faults.{Rose}
 use Rattle.unl_core.specs.Board.{empty_slot}
 use Rattle.unl_core.specs.DeskStates.{place_at}
 use Rattle.unl_core.specs.declared.board.Board.{Board}
 use Rattle.unl_delta.specs.Installing.{Installed}
 use Rattle.unl_edge.specs.LinkHandling.{ServesOver}
+use Rattle.unl_edge.specs.Polling.{PollsUpstream}
 use Rattle.unl_edge.specs.declared.attending.EdgeLinkHandler.{EdgeLinkHandler}
-use Rattle.unl_edge_state.specs.Editions.{BoardAt, opening_at}
-use Rattle.unl_edge_state.specs.Reading.{seen_by, told_to}
+use Rattle.unl_edge_state.specs.Editions.{BoardAt, orderly_opening}
+use Rattle.unl_edge_state.specs.Reading.{SeesInOrder, seen_by, told_to}
 use Rattle.unl_edge_state.specs.declared.reader.EdgeReader.{EdgeReader}
 use Rattle.unl_server.specs.Handling.{Coming}
 use Rattle.unl_server.specs.Links.{LinkState}
 use Rattle.unl_metrics.specs.Book.{Book}
-use Rattle.unl_refresh.specs.SlotParameters.{SlotParameters, slot_parameters}
-use Rattle.unl_refresh.specs.Turns.{MakesTurn, poll_state}
+use Rattle.unl_refresh.specs.Exchange.{PeerView}
+use Rattle.unl_refresh.specs.SlotParameters.{no_tags, slot_parameters}
+use Rattle.unl_refresh.specs.Turns.{Duty}
 use Rattle.unl_words.specs.Lists.{environment_of}
 use Rattle.unl_words.specs.declared.words.EdgeArguments.{EdgeArguments}
 use Rattle.unl_workers.specs.declared.worker.WorkerSlot.{WorkerSlot}
 
--- what an edge service starts from: the texts of the tokens that may be known, what is installed before the first turn and on
--- which board, the request parameters of each slot, and the number of workers
+-- what an edge service starts from: what its poller works with, what is installed before the first turn and on which board, and
+-- the number of workers
 pub record EdgeService : Type 0 where
-  pub known : List (List ℕ)
+  pub duty : Duty
   pub opening : Installed
   pub edition : Option BoardAt
-  pub slot_pollers : List SlotParameters
   pub workers : ℕ
 
 -- what is installed on a board before anything is published
@@ -39,20 +39,24 @@ begun_board boot host upstream_tokens =
     record { boot = boot; host = host; generation = 0; book = []; slots = map empty_slot (map environment_of upstream_tokens) }
 
 -- the edge service that begins with this board
-abbrev pub service_at : List (List ℕ) → Board → List SlotParameters → ℕ → EdgeService
-service_at known board slot_pollers workers = record {
-  known = known;
-  opening = opened board;
-  edition = Some (opening_at board);
-  slot_pollers = slot_pollers;
-  workers = workers;
+abbrev pub service_at : Duty → Board → ℕ → EdgeService
+service_at duty board workers =
+    record { duty = duty; opening = opened board; edition = Some (orderly_opening board); workers = workers }
+
+-- what the poller of the arguments works with: before its first turn no request has a tag, and there are no metrics
+abbrev pub duty_of : EdgeArguments → Duty
+duty_of words = record {
+  known = words.tokens;
+  slots = length words.upstream_tokens;
+  slot_pollers = slot_parameters words.upstream words.delta words.upstream_tokens (map environment_of words.upstream_tokens);
+  upstream = words.upstream;
+  tags = no_tags words.upstream_tokens;
+  metrics = [];
 }
 
 -- the edge service of the arguments, with a boot number
 abbrev pub service_of : EdgeArguments → ℕ → EdgeService
-service_of words boot =
-    service_at words.tokens (begun_board boot words.host words.upstream_tokens)
-    (slot_parameters words.upstream words.delta words.upstream_tokens (map environment_of words.upstream_tokens)) words.workers
+service_of words boot = service_at (duty_of words) (begun_board boot words.host words.upstream_tokens) words.workers
 
 -- a worker's state: its reader, the metrics not passed on yet, and the draws to come
 pub record Worker : Type 0 where
@@ -81,7 +85,8 @@ abbrev pub Works : Worker → Worker → Type 0
 Works before after = (links : ℕ) × ServesLinks links before after
 
 -- `workers` workers served links concurrently, over what was published after this board. Each had learned of at least `front`
--- publications before its first link.
+-- publications before its first link. The list that each saw is orderly, and no board that it knows has an older version at a
+-- slot than one at a smaller front.
 pub record WorkConcurrently (workers : ℕ) (edition : Option BoardAt) (front : ℕ) : Type 0 where
   pub begun : List Worker
   pub ended : List Worker
@@ -89,12 +94,12 @@ pub record WorkConcurrently (workers : ℕ) (edition : Option BoardAt) (front : 
   pub opens : All (λ worker. (seen_by worker.reader).opening ≡ edition) begun
   pub told : All (λ worker. front ≤ told_to worker.reader) begun
   pub worked : AllZip Works begun ended
+  pub ordered : All (λ worker. SeesInOrder worker.reader) ended
 
--- Unless the peer failed, the first turn applied the upstream's replies in order. The workers then served links over no board
--- earlier than the last one that this turn published.
-pub record RunsService (service : EdgeService) (replies : Option (List (List ℕ))) (faults faults_after : ℕ) : Type 0 where
+-- The upstream was polled: each exchange of the first turn had its request and its effect, whether it got a reply or the peer
+-- failed, and so had those of the later turns. After the first turn the workers served links over no board earlier than the last
+-- one that it published.
+pub record RunsService (service : EdgeService) (peer peer_after : PeerView) : Type 0 where
   pub first : Installed
-  pub turn : ¬ (Rose faults faults_after)
-      → (later : Option (List (List ℕ)))
-      × MakesTurn service.known service.slot_pollers (poll_state service.opening replies) (poll_state first later)
+  pub polls : PollsUpstream service.duty service.opening peer first peer_after
   pub work : WorkConcurrently service.workers service.edition first.front

@@ -1,11 +1,13 @@
 -- How an edge ends: it polls its upstream and serves the links of its door.
-use Rattle.std.specs.Prelude.{◌≡◌, ◌⊎◌, ℕ, ◌+◌, ◌≤◌, List, Option, option_map, drop, length, IfSome, Result, Ok, Err}
-use Rattle.unl_base.specs.Doors.{ServedOnlyAt, DoorState, IsClosed, IsClosedAt}
+use Rattle.std.specs.Prelude.{◌≡◌, ◌⊎◌, ℕ, ◌+◌, ◌≤◌, true, List, Option, option_map, drop, length, IfSome, Result, Ok, Err}
+use Rattle.unl_base.specs.Doors.{ServedOnlyAt, DoorState, IsClosed, IsClosedAt, listening_at}
 use Rattle.unl_base.specs.Draws.{TakesDraw}
 use Rattle.unl_base.specs.Streams.{Sends, SendsFront}
 use Rattle.unl_base.specs.declared.draws.Draw.{Draw}
 use Rattle.unl_edge.specs.Scene.{Scene}
-use Rattle.unl_edge.specs.EdgeServices.{RunsService, EdgeService, service_of}
+use Rattle.unl_edge.specs.EdgeLinks.{ServesEachLink}
+use Rattle.unl_edge.specs.EdgeServices.{EdgeService, service_of}
+use Rattle.unl_edge.specs.Polling.{peer_seen}
 use Rattle.unl_edge.specs.Upstreams.{connections_line}
 use Rattle.unl_edge.specs.declared.ends.ServingEnd.{ServingEnd}
 use Rattle.unl_edge.specs.declared.ends.ServingEnd.TheVariants.{Closed, WriteFault, DoorFault, OutOfMemory}
@@ -48,10 +50,12 @@ pub record HandsLinks (served : ℕ) (before after : Scene) : Type 0 where
   pub left : after.door.state.links ≡ option_map (λ list. drop served list) before.door.state.links
   pub unread : after.input.left ≡ before.input.left
 
--- The peer was asked for the book and for each slot at least once, and links were served after the first turn.
-abbrev pub IsServed : EdgeService → Scene → Scene → Type 0
-IsServed service before after = AsksPeer (length service.opening.places + 1) before after
-    × RunsService service before.peer.state.replies before.peer.faults after.peer.faults
+-- The peer was asked for the book and for each slot at least once, and each turn made its exchanges in order. After the first turn,
+-- with the door listening at this port, `served` links were handed out, and each was served once, by one of the workers.
+abbrev pub IsServed : EdgeService → ℕ → ℕ → Scene → Scene → Type 0
+IsServed service port served before after = AsksPeer (length service.opening.places + 1) before after
+    × ServesEachLink service (peer_seen before.peer.state before.peer.faults) (peer_seen after.peer.state after.peer.faults)
+    (listening_at port true before.door.state) after.door.state served
 
 -- Memory ran out before the first link was handed out, or for the last line once the door was closed; nothing was sent.
 abbrev pub StopsForMemory : ℕ → Scene → Scene → Type 0
@@ -60,14 +64,14 @@ StopsForMemory port before after =
     × (after.output.sent ≡ before.output.sent)
 
 -- How an edge ends, with a door that is to listen at this port. The door was closed there, and the last line or a prefix of it
--- was sent; before that, the upstream was asked for the book and for each slot at least once, and then links were served. Or
+-- was sent; before that, the upstream was asked for the book and for each slot at least once, and then each link was served once. Or
 -- the door failed, a thread couldn't be started, or memory ran out, and nothing was sent.
 abbrev pub EdgeEnds : EdgeService → ℕ → ServingEnd → Scene → Scene → Type 0
 EdgeEnds service port Closed before after =
-    (served : ℕ) × HandsLinks served before after × IsServed service before after
+    (served : ℕ) × HandsLinks served before after × IsServed service port served before after
     × Sends before.output.sent (connections_line served) after.output.sent × IsClosedAt port after.door.state
 EdgeEnds service port WriteFault before after =
-    (served : ℕ) × HandsLinks served before after × IsServed service before after
+    (served : ℕ) × HandsLinks served before after × IsServed service port served before after
     × SendsFront before.output.sent (connections_line served) after.output.sent × IsClosedAt port after.door.state
 EdgeEnds service port DoorFault before after =
     (served : ℕ) × HandsLinks served before after × ServedOnlyAt port served after.door.state × (after.output.sent ≡ before.output.sent)

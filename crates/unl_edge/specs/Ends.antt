@@ -5,7 +5,7 @@ use Rattle.unl_base.specs.Streams.{Sends, SendsFront}
 use Rattle.unl_base.specs.declared.draws.Draw.{Draw}
 use Rattle.unl_edge.specs.Edges.{EdgeRuns}
 use Rattle.unl_edge.specs.Follows.{FollowEnds}
-use Rattle.unl_edge.specs.Scene.{Scene, ServingFailed}
+use Rattle.unl_edge.specs.Scene.{ChangesForEdge, ChangesForReplica, ChangesForUpstream, ChangesOutput, ChangesStreams, Scene, ServingFailed}
 use Rattle.unl_edge.specs.Status.{FailsToKeep, check_status, code_of, ending_status, explain_status, follow_status}
 use Rattle.unl_edge.specs.Status.{lines_status, load_status}
 use Rattle.unl_edge.specs.Status.{serving_status, upstream_status, words_status}
@@ -20,11 +20,11 @@ use Rattle.unl_explain.specs.Running.{Explains, explained}
 use Rattle.unl_input.specs.Answer.{Outcome, Says, SaysFront, outcome_of}
 use Rattle.unl_input.specs.declared.refusal.WriteLineFault.{WriteLineFault}
 use Rattle.unl_input.specs.declared.refusal.WriteLineFault.TheVariants as say
-use Rattle.unl_input.specs.Whole.{TakesLines}
 use Rattle.unl_load.specs.Line.{load_line}
 use Rattle.unl_load.specs.declared.fault.LoadFault.{LoadFault}
 use Rattle.unl_load.specs.declared.fault.LoadFault.TheVariants as load
-use Rattle.unl_replay.specs.Replay.{line_answer, opening, replay_of}
+use Rattle.unl_replay.specs.Replay.{replay_of}
+use Rattle.unl_replay.specs.Replayed.{Replays}
 use Rattle.unl_spec_runner.specs.Check.{accepted, report_of, text_of}
 use Rattle.unl_spec_runner.specs.Report.{Report}
 use Rattle.unl_words.specs.Words.{WordsReading}
@@ -97,7 +97,7 @@ pub record Ended {E : Type 0} (status_of : E → Status) (Ends : E → Type 0) (
 abbrev pub Ends : WordsReading → Status → Scene → Scene → Type 0
 Ends (Ok Replay) status before after =
     Ended lines_status
-    (λ end. TakesLines line_answer opening end before.input.left after.input.left before.output.sent after.output.sent) status
+    (λ end. Replays end before.input.left after.input.left before.output.sent after.output.sent) status
 Ends (Ok (Check now word)) status before after =
     Ended check_status
     (λ end. CheckEnds (record { now = now; word = word }) end before.input.left after.input.left before.output.sent after.output.sent)
@@ -115,6 +115,19 @@ Ends (Ok (Load seed count)) status before after =
     Ended load_status (λ end. LoadEnds seed count end before.output.sent after.output.sent) status
 Ends (Err Bad) status before after = Ended words_status (λ end. PrintsBadWords end before.output.sent after.output.sent) status
 Ends (Err Memory) s before after = s ≡ status.OutOfMemory
+
+-- The state of each end that the command doesn't use is as before, and so is the count of its faults. If memory ran out before
+-- the arguments were read, nothing changed.
+abbrev pub LeavesAlone : WordsReading → Scene → Scene → Type 0
+LeavesAlone (Ok Replay) before after = ChangesStreams before after
+LeavesAlone (Ok (Check now word)) before after = ChangesStreams before after
+LeavesAlone (Ok Explain) before after = ChangesStreams before after
+LeavesAlone (Ok (Edge edge)) before after = ChangesForEdge before after
+LeavesAlone (Ok (Upstream up)) before after = ChangesForUpstream before after
+LeavesAlone (Ok (Follow replica)) before after = ChangesForReplica before after
+LeavesAlone (Ok (Load seed count)) before after = ChangesOutput before after
+LeavesAlone (Err Bad) before after = ChangesOutput before after
+LeavesAlone (Err Memory) before after = after ≡ before
 
 -- the exit code is that of a status with which the program ended
 abbrev pub Exits : ℕ → (Status → Type 0) → Type 0

@@ -38,7 +38,8 @@ pub record ReadsOn (before after : EdgeReader) : Type 0 where
   pub keeps : Keeps (board_of (seen_by before)) (board_of (seen_by after))
 
 -- A connection was served over a reader: each request was answered over the board at the front in its note; the metrics
--- reported were added to the book, which was then passed on, or kept if that wasn't possible.
+-- reported were added to the book, which was then passed on, or kept if that wasn't possible. The boards that were known are
+-- still known.
 pub record ServesOver
     (before : EdgeReader) (book : Book) (coming : Coming) (link link_after : LinkState) (after : EdgeReader) (book_after : Book)
     (coming_after : Coming) : Type 0 where
@@ -51,6 +52,7 @@ pub record ServesOver
   pub looks : LooksFor (Some (seen_by before).fronts) ones end (Some (seen_by after).fronts)
   pub drawn : DrawsAtLeast coming ones coming_after
   pub handed : IsFlushed summed book_after
+  pub keeps : Keeps (board_of (seen_by before)) (board_of (seen_by after))
 
 -- the same for a worker's state
 abbrev pub ServesAt :

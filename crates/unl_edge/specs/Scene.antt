@@ -1,5 +1,5 @@
 -- The state of each of the program's ends. A field is `None` if it is not observable.
-use Rattle.std.specs.Prelude.{◌⊎◌, ℕ, List, Option}
+use Rattle.std.specs.Prelude.{◌≡◌, ◌⊎◌, ℕ, List, Option}
 use Rattle.unl_base.specs.Doors.{DoorState}
 use Rattle.unl_base.specs.Faults.{Rose}
 use Rattle.unl_base.specs.Peers.{PeerState}
@@ -44,3 +44,26 @@ pub record Scene : Type 0 where
 -- the door failed, or a job could not be started
 abbrev pub ServingFailed : Scene → Scene → Type 0
 ServingFailed before after = Rose before.door.faults after.door.faults ⊎ Rose before.spawner after.spawner
+
+-- ---- what a command leaves alone
+
+-- only the input and the output changed
+abbrev pub ChangesStreams : Scene → Scene → Type 0
+ChangesStreams before after = after ≡ record before { input = after.input; output = after.output }
+
+-- only the output changed
+abbrev pub ChangesOutput : Scene → Scene → Type 0
+ChangesOutput before after = after ≡ record before { output = after.output }
+
+-- what a replica may change: the output, the peer, the draws and the pace
+abbrev pub ChangesForReplica : Scene → Scene → Type 0
+ChangesForReplica before after =
+    after ≡ record before { output = after.output; peer = after.peer; draws = after.draws; pace = after.pace }
+
+-- what an upstream may change: the input, the output, the door, the draws and the maker of keepers
+abbrev pub ChangesForUpstream : Scene → Scene → Type 0
+ChangesForUpstream before after = after ≡ record after { peer = before.peer; pace = before.pace; spawner = before.spawner }
+
+-- what an edge may change: all but the input and the maker of keepers
+abbrev pub ChangesForEdge : Scene → Scene → Type 0
+ChangesForEdge before after = after ≡ record after { input = before.input; keep = before.keep }

@@ -131,11 +131,12 @@ pub record ServesAfterLines
       → NamesLinks opened spelled.commands kept (kept_state up last) before after served links returned
 
 -- How a reopened upstream ends, with a door that is to listen at this port. If a line is refused, or the input or the keeper
--- fails, no link was handed out. The lines end out of memory only if the keeper never failed.
+-- fails, no link was handed out; if the keeper fails, nothing was sent either. The lines end out of memory only if the keeper
+-- never failed.
 abbrev pub LinesEnd : KeptState → ℕ → UpstreamEnd → KeeperState → Option (List ℕ) → Option (List ℕ) → Facing → Facing → Type 0
 LinesEnd opened port NoMemory last left left_after before after = ⊥
-LinesEnd opened port KeeperFault last left left_after before after = after.door ≡ before.door
-LinesEnd opened port (Row told) last left left_after before after = ⊥
+LinesEnd opened port KeeperFault last left left_after before after = IsUntouched before after
+LinesEnd opened port (Row written) last left left_after before after = ⊥
 LinesEnd opened port (Lines fault) last left left_after before after =
     TakesLines keeping (shelf_of opened) (Err fault) left left_after before.sent after.sent × (after.door ≡ before.door)
     × (fault ≡ line.Memory → last.faults ≡ 0)
@@ -200,12 +201,12 @@ pub record EndsReopened
   pub ends : LinesEnd opened port end last left left_after before after
 
 -- How an upstream ends once its keeper was created. If a row is refused, that was printed and no link was handed out. If memory
--- ran out before, nothing was sent either.
+-- ran out before, or the keeper failed before a link was handed out, nothing was sent either.
 abbrev pub KeeperEnd : KeptState → ℕ → UpstreamEnd → KeeperState → Option (List ℕ) → Option (List ℕ) → Facing → Facing → Type 0
 KeeperEnd start port NoMemory last left left_after before after = IsUntouched before after
-KeeperEnd start port KeeperFault last left left_after before after = after.door ≡ before.door
-KeeperEnd start port (Row told) last left left_after before after =
-    (place : ℕ) × RefusesRow start place × WritesLine told (row_line place) before.sent after.sent × (after.door ≡ before.door)
+KeeperEnd start port KeeperFault last left left_after before after = IsUntouched before after
+KeeperEnd start port (Row written) last left left_after before after =
+    (place : ℕ) × RefusesRow start place × WritesLine written (row_line place) before.sent after.sent × (after.door ≡ before.door)
 KeeperEnd start port (Lines fault) last left left_after before after =
     EndsReopened start port (Lines fault) last left left_after before after
 KeeperEnd start port (Links end) last left left_after before after = EndsReopened start port (Links end) last left left_after before after
@@ -225,12 +226,12 @@ pub record EndsKept (start : UpstreamState) (port : ℕ) (end : UpstreamEnd) (be
       → kept_commands last ≡ option_map (λ kept. kept ++ commands) (kept_commands opened.keeper)
       → IfSome after.keep.held (λ texts. commands_in texts ≡ commands)
 
--- How an upstream ends from its start state, with a door that is to listen at this port. If no keeper could be created, no link
--- was handed out; if memory ran out, nothing was sent either.
+-- How an upstream ends from its start state, with a door that is to listen at this port. If the keeper failed or none could be
+-- created, or memory ran out before lines were taken, nothing was sent and no link was handed out.
 abbrev pub UpstreamEnds : UpstreamState → ℕ → UpstreamEnd → Scene → Scene → Type 0
 UpstreamEnds start port NoMemory before after = IsUntouched (facing_of before) (facing_of after)
-UpstreamEnds start port KeeperFault before after = after.door.state ≡ before.door.state
-UpstreamEnds start port (Row told) before after = EndsKept start port (Row told) before after
+UpstreamEnds start port KeeperFault before after = IsUntouched (facing_of before) (facing_of after)
+UpstreamEnds start port (Row written) before after = EndsKept start port (Row written) before after
 UpstreamEnds start port (Lines fault) before after = EndsKept start port (Lines fault) before after
 UpstreamEnds start port (Links end) before after = EndsKept start port (Links end) before after
 
@@ -253,7 +254,7 @@ pub record RunsUpstream (words : UpstreamArguments) (end : UpstreamEnd) (before 
 abbrev pub UpstreamRuns : UpstreamArguments → UpstreamEnd → Scene → Scene → Type 0
 UpstreamRuns words NoMemory before after = IsUntouched (facing_of before) (facing_of after)
 UpstreamRuns words KeeperFault before after = RunsUpstream words KeeperFault before after
-UpstreamRuns words (Row told) before after = RunsUpstream words (Row told) before after
+UpstreamRuns words (Row written) before after = RunsUpstream words (Row written) before after
 UpstreamRuns words (Lines fault) before after = RunsUpstream words (Lines fault) before after
 UpstreamRuns words (Links end) before after = RunsUpstream words (Links end) before after
 

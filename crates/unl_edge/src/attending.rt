@@ -1,5 +1,6 @@
 //! The state with which a worker of an edge serves links.
 ghost use Rattle.std.specs.Prelude.{◌≡◌, [], IfOk};
+ghost use Rattle.unl_edge_state.specs.Reading.{IsSteady};
 
 use std::alloc::Global;
 use std::sync::{Mutex, Wait};
@@ -14,10 +15,11 @@ use unl_refresh::flush_into_shared;
 use unl_server::Server;
 use unl_workers::LinkHandler;
 
-/// A desk whose boards are never older than the last one its reader learned of.
+/// A desk whose boards are never older than the last one its reader learned of. Its reader sees one orderly list.
 #[derive(Drop)]
 pub(crate) struct FreshDesk {
     pub reader: EdgeReader,
+    ghost steady: { ∥ IsSteady reader ∥₁ },
 }
 
 impl Desk for FreshDesk {
@@ -60,6 +62,7 @@ impl<'a, W> EdgeLinkHandler<'a, W> {
         shared: &'a Mutex<MetricsBook>,
         reader: EdgeReader,
     ) -> Result<EdgeLinkHandler<'a, W>, Memory>
+        requires { IsSteady reader }
         ensures { IfOk result (λ attendant. (attendant.desk.reader ≡ reader) × (attendant.book ≡ [])) }
     {
         let notes = Served::new(alloc)?;

@@ -42,7 +42,7 @@ impl<K: Keeper> LineProcessor for CommandIntake<K> {
 
     type Desk = CommandIntake<K>;
 
-    ghost taken = { λ number shelf line. kept_line shelf line };
+    ghost line_result = { λ number shelf line. kept_line shelf line };
 
     ghost fits = { λ number shelf. Unit {0} };
 

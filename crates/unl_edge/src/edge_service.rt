@@ -4,13 +4,18 @@ ghost use Rattle.std.specs.List.{AllZip};
 ghost use Rattle.unl_base.specs.Doors.{IsListening};
 ghost use Rattle.unl_core.specs.Board.{AreSlots};
 ghost use Rattle.unl_edge.specs.LinkHandling.{IsOfOrigin, ReadsOnAt, ServesAt};
+ghost use Rattle.unl_edge.specs.EdgeLinks.{ServesEachLink, WorkOnEachLink};
 ghost use Rattle.unl_edge.specs.Edges.{HandsOutLinks, links_of};
-ghost use Rattle.unl_edge.specs.EdgeServices.{RunsService, WorkConcurrently, opened, service_at};
-ghost use Rattle.unl_edge_state.specs.Reading.{HasBegun};
+ghost use Rattle.unl_edge.specs.EdgeServices.{opened, service_at};
+ghost use Rattle.unl_edge.specs.Polling.{PollsOn, peer_seen};
+ghost use Rattle.unl_edge_state.specs.Reading.{HasBegun, IsNewReader};
 ghost use Rattle.unl_edge_state.specs.Writing.{installed_by};
 ghost use Rattle.unl_refresh.specs.Connects.{Connects};
+ghost use Rattle.unl_refresh.specs.Exchange.{peer_view};
+ghost use Rattle.unl_refresh.specs.Turns.{poll_state};
 ghost use Rattle.unl_workers.specs.Pool.{HasCauses};
 ghost use Rattle.unl_workers.specs.Serving.{ServesSlot};
+ghost use Rattle.unl_workers.specs.Shares.{EachLinkServedOnce};
 
 use crate::attending::EdgeLinkHandler;
 use crate::crossing::worker_parts_are_send;
@@ -22,7 +27,7 @@ use std::sync::{Mutex, Wait};
 use unl_base::{Door, Draws, Pace, Peer, Spawner};
 use unl_core::Board;
 use unl_documents::Memory;
-use unl_edge_state::{EdgeReader, EdgeWriter, begin, readers_are_send, writers_are_send};
+use unl_edge_state::{EdgeReader, EdgeWriter, begin_orderly, readers_are_send, writers_are_send};
 use unl_metrics::MetricsBook;
 use unl_refresh::Poller;
 use unl_workers::{PoolFault, PoolOutcome, WorkerSlot, run_pool};
@@ -58,11 +63,12 @@ where
     ensures hands { HandsOutLinks (λ links. links) result (D.state door.old) (D.state door.new) }
     ensures connects { OnOk result (Connects (length (opened board).places + 1)
         (P.state peer.old).replies (P.Source.faults peer.old) (P.state peer.new).replies (P.Source.faults peer.new)) }
-    ensures serves { OnOk result (RunsService (service_at poller.known board poller.slot_pollers workers)
-        (P.state peer.old).replies (P.Source.faults peer.old) (P.Source.faults peer.new)) }
+    ensures each_link_served_once { IfOk result (λ links. ServesEachLink (service_at poller board workers)
+        (peer_seen (P.state peer.old) (P.Source.faults peer.old)) (peer_seen (P.state peer.new) (P.Source.faults peer.new))
+        (D.state door.old) (D.state door.new) links) }
     ensures causes { HasCauses result (D.faults door.old) (D.faults door.new) (S.faults spawner.old) (S.faults spawner.new) }
 {
-    match begin(rt, alloc, board, workers) {
+    match begin_orderly(rt, alloc, board, workers) {
         Ok((writer, readers)) => serve_from(
             alloc, rt, writer, readers, poller, door, peer, draws, pace, spawner,
         ),
@@ -93,16 +99,19 @@ where
     requires slot_pollers { poller.slots ≡ length writer.places }
     requires few { length writer.places ≤ 8 }
     requires readers { All (HasBegun writer.known) readers.items }
+    requires new { All IsNewReader readers.items }
     ensures hands { HandsOutLinks (λ links. links) result (D.state door.old) (D.state door.new) }
     ensures connects { OnOk result (Connects (length writer.entry.places + 1)
         (P.state peer.old).replies (P.Source.faults peer.old) (P.state peer.new).replies (P.Source.faults peer.new)) }
-    ensures serves { OnOk result (RunsService (record {
-      known = poller.known;
+    ensures each_link_served_once { IfOk result (λ links. 0 < length readers.items → ServesEachLink (record {
+      duty = poller;
       opening = installed_by writer.entry;
       edition = writer.entry.known.opening;
-      slot_pollers = poller.slot_pollers;
       workers = length readers.items;
-    }) (P.state peer.old).replies (P.Source.faults peer.old) (P.Source.faults peer.new)) }
+    })
+        (peer_view (P.state peer.old).replies (P.Sink.sent peer.old) (P.Source.faults peer.old))
+        (peer_view (P.state peer.new).replies (P.Sink.sent peer.new) (P.Source.faults peer.new))
+        (D.state door.old) (D.state door.new) links) }
     ensures causes { HasCauses result (D.faults door.old) (D.faults door.new) (S.faults spawner.old) (S.faults spawner.new) }
 {
     let mut poller = poller;
@@ -152,10 +161,18 @@ where
     T: Pace + Send,
     requires listens { IsListening (D.state door.old) }
     requires readers { All (IsOfOrigin writer.old.known) readers.items }
+    requires new { All IsNewReader readers.items }
     ensures hands { HandsOutLinks (λ links. links) result (D.state door.old) (D.state door.new) }
     ensures connects { OnOk result (Connects 0
         (P.state peer.old).replies (P.Source.faults peer.old) (P.state peer.new).replies (P.Source.faults peer.new)) }
-    ensures work { OnOk result (WorkConcurrently (length readers.items) writer.old.known.opening (length writer.old.known.installs)) }
+    ensures polls { OnOk result (PollsOn poller.old
+        (poll_state (installed_by writer.old) poller.old.tags poller.old.metrics
+        (peer_view (P.state peer.old).replies (P.Sink.sent peer.old) (P.Source.faults peer.old)))
+        (poll_state (installed_by writer.new) poller.new.tags poller.new.metrics
+        (peer_view (P.state peer.new).replies (P.Sink.sent peer.new) (P.Source.faults peer.new)))) }
+    ensures each_link_served_once { IfOk result (λ links. 0 < length readers.items
+        → WorkOnEachLink (length readers.items) writer.old.known.opening (length writer.old.known.installs)
+        (D.state door.old) (D.state door.new) links) }
     ensures causes { HasCauses result (D.faults door.old) (D.faults door.new) (S.faults spawner.old) (S.faults spawner.new) }
 {
     let shared = Mutex::new(MetricsBook::new(alloc));
@@ -200,6 +217,14 @@ where
     requires { IsListening (D.state door.old) }
     ensures hands { HandsOutLinks (λ beside. beside.links) result (D.state door.old) (D.state door.new) }
     ensures posts { IfOk result (λ beside. AllZip (ServesSlot ServesAt ReadsOnAt R.coming) posts.entry.items beside.posts.items) }
+    ensures each_link_served_once { IfOk result (λ outcome. 0 < length posts.entry.items
+        → EachLinkServedOnce ServesAt R.coming D.L.Source.left D.L.Sink.sent D.L.Source.faults
+        (D.state door.old) (D.state door.new) outcome.links posts.entry.items outcome.posts.items) }
+    ensures polls { OnOk result (PollsOn poller.old
+        (poll_state (installed_by writer.old) poller.old.tags poller.old.metrics
+        (peer_view (P.state peer.old).replies (P.Sink.sent peer.old) (P.Source.faults peer.old)))
+        (poll_state (installed_by writer.new) poller.new.tags poller.new.metrics
+        (peer_view (P.state peer.new).replies (P.Sink.sent peer.new) (P.Source.faults peer.new)))) }
     ensures connects { OnOk result (Connects 0
         (P.state peer.old).replies (P.Source.faults peer.old) (P.state peer.new).replies (P.Source.faults peer.new)) }
     ensures causes { HasCauses result (D.faults door.old) (D.faults door.new) (S.faults spawner.old) (S.faults spawner.new) }

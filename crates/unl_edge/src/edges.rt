@@ -3,10 +3,9 @@ ghost use Rattle.std.specs.Prelude.{◌≡◌, ◌<◌, ◌≤◌, IfOk, length,
 ghost use Rattle.unl_base.specs.Faults.{Rose};
 ghost use Rattle.unl_core.specs.Board.{AreSlots};
 ghost use Rattle.unl_edge.specs.Edges.{EdgeEnds, EdgeRuns};
-ghost use Rattle.unl_edge.specs.Scene.{ServingFailed};
-ghost use Rattle.unl_edge.specs.EdgeServices.{begun_board, opened, service_at};
+ghost use Rattle.unl_edge.specs.Scene.{ChangesForEdge, ServingFailed};
+ghost use Rattle.unl_edge.specs.EdgeServices.{begun_board, duty_of, opened, service_at};
 ghost use Rattle.unl_edge.specs.Status.{Caused, serving_status};
-ghost use Rattle.unl_refresh.specs.SlotParameters.{slot_parameters};
 ghost use Rattle.unl_words.specs.Lists.{are_upstream_tokens, environment_of};
 ghost use Rattle.unl_words.specs.Ranges.{IsEdge};
 
@@ -38,6 +37,7 @@ where
     T: Pace + Send,
     requires { IsEdge words.now }
     ensures runs { EdgeRuns words.now result world.old world.new }
+    ensures frame { ChangesForEdge world.old world.new }
     ensures caused { Caused (serving_status result) ⊥ (Rose world.old.output.faults world.new.output.faults)
         (ServingFailed world.old world.new) ⊥ }
 {
@@ -54,9 +54,7 @@ fn begin_site(alloc: Global, boot: u64, words: &EdgeArguments) -> Result<(Board,
     requires { IsEdge words.now }
     ensures slots { IfOk result (λ service. AreSlots service.0.slots) }
     ensures board { IfOk result (λ service. service.0 ≡ begun_board boot words.now.host words.now.upstream_tokens) }
-    ensures known { IfOk result (λ service. service.1.known ≡ words.now.tokens) }
-    ensures slot_pollers { IfOk result (λ service. service.1.slot_pollers
-        ≡ slot_parameters words.now.upstream words.now.delta words.now.upstream_tokens (map environment_of words.now.upstream_tokens)) }
+    ensures poller { IfOk result (λ service. service.1 ≡ duty_of words.now) }
     ensures places { IfOk result (λ service. service.1.slots ≡ length (opened service.0).places) }
 {
     let environments = token_environments(alloc, &words.upstream_tokens)?;
@@ -112,7 +110,8 @@ where
     requires workers { (0 < workers) × (workers ≤ 16) }
     requires slots { AreSlots board.slots }
     requires slot_pollers { poller.slots ≡ length (opened board).places }
-    ensures ends { EdgeEnds (service_at poller.known board poller.slot_pollers workers) port result world.old world.new }
+    ensures ends { EdgeEnds (service_at poller board workers) port result world.old world.new }
+    ensures frame { ChangesForEdge world.old world.new }
     ensures caused { Caused (serving_status result) ⊥ (Rose world.old.output.faults world.new.output.faults)
         (ServingFailed world.old world.new) ⊥ }
 {

@@ -36,10 +36,10 @@ pub enum ServingEnd {
 
 impl ServingEnd {
     /// Returns the outcome for a closed door, from the result of printing the count of its links.
-    pub fn of_line(told: Result<(), WriteLineFault>) -> ServingEnd
-        ensures { result ≡ line_end told }
+    pub fn of_line(written: Result<(), WriteLineFault>) -> ServingEnd
+        ensures { result ≡ line_end written }
     {
-        match told {
+        match written {
             Ok(()) => ServingEnd::Closed,
             Err(WriteLineFault::WriteFault) => ServingEnd::WriteFault,
             Err(WriteLineFault::Memory) => ServingEnd::OutOfMemory,

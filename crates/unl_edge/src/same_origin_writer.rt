@@ -1,10 +1,10 @@
 //! Polling with a writer that keeps its origin.
 ghost use Rattle.std.specs.Prelude.{◌≡◌, ◌≤◌, ◌+◌, OnOk, length};
-ghost use Rattle.unl_base.specs.Faults.{Rose};
 ghost use Rattle.unl_edge_state.specs.Writing.{installed_by};
 ghost use Rattle.unl_publication.specs.Looking.{SameOrigin};
 ghost use Rattle.unl_refresh.specs.Connects.{Connects};
-ghost use Rattle.unl_refresh.specs.Turns.{MakesTurn, poll_state};
+ghost use Rattle.unl_refresh.specs.Exchange.{peer_view};
+ghost use Rattle.unl_refresh.specs.Turns.{ByResult, KeepsDuty, MakesTurn, StopsInTurn, poll_state};
 
 use std::alloc::Global;
 use std::marker::{Brand, PhantomData};
@@ -81,11 +81,15 @@ pub(crate) fn turn_by<'w, W: Wait, P: Peer>(
         → poller.old.slots ≤ 8
         → OnOk result.1 (Connects (poller.old.slots + 1)
         (P.state peer.old).replies (P.Source.faults peer.old) (P.state peer.new).replies (P.Source.faults peer.new)) }
-    ensures takes { length writer.entry.known.installs ≡ 0 → poller.old.slots ≤ length writer.entry.places
+    ensures polls { length writer.entry.known.installs ≡ 0 → poller.old.slots ≤ length writer.entry.places
         → poller.old.slots ≤ 8
-        → ¬ (Rose (P.Source.faults peer.old) (P.Source.faults peer.new))
-        → OnOk result.1 (MakesTurn poller.old.known poller.old.slot_pollers
-        (poll_state (installed_by writer.entry) (P.state peer.old).replies) (poll_state (installed_by result.0) (P.state peer.new).replies)) }
+        → ByResult result.1 (MakesTurn poller.old.known poller.old.upstream poller.old.slot_pollers)
+        (StopsInTurn poller.old.known poller.old.upstream poller.old.slot_pollers)
+        (poll_state (installed_by writer.entry) poller.old.tags poller.old.metrics
+        (peer_view (P.state peer.old).replies (P.Sink.sent peer.old) (P.Source.faults peer.old)))
+        (poll_state (installed_by result.0) poller.new.tags poller.new.metrics
+        (peer_view (P.state peer.new).replies (P.Sink.sent peer.new) (P.Source.faults peer.new))) }
+    ensures same { KeepsDuty poller.old poller.new }
 {
     turn_from::<W, P, Brand>(alloc, poller, writer, peer)
 }
@@ -103,11 +107,15 @@ fn turn_from<'w, W: Wait, P: Peer, K: Root>(
         → poller.old.slots ≤ 8
         → OnOk result.1 (Connects (poller.old.slots + 1)
         (P.state peer.old).replies (P.Source.faults peer.old) (P.state peer.new).replies (P.Source.faults peer.new)) }
-    ensures takes { length writer.entry.known.installs ≡ 0 → poller.old.slots ≤ length writer.entry.places
+    ensures polls { length writer.entry.known.installs ≡ 0 → poller.old.slots ≤ length writer.entry.places
         → poller.old.slots ≤ 8
-        → ¬ (Rose (P.Source.faults peer.old) (P.Source.faults peer.new))
-        → OnOk result.1 (MakesTurn poller.old.known poller.old.slot_pollers
-        (poll_state (installed_by writer.entry) (P.state peer.old).replies) (poll_state (installed_by result.0) (P.state peer.new).replies)) }
+        → ByResult result.1 (MakesTurn poller.old.known poller.old.upstream poller.old.slot_pollers)
+        (StopsInTurn poller.old.known poller.old.upstream poller.old.slot_pollers)
+        (poll_state (installed_by writer.entry) poller.old.tags poller.old.metrics
+        (peer_view (P.state peer.old).replies (P.Sink.sent peer.old) (P.Source.faults peer.old)))
+        (poll_state (installed_by result.0) poller.new.tags poller.new.metrics
+        (peer_view (P.state peer.new).replies (P.Sink.sent peer.new) (P.Source.faults peer.new))) }
+    ensures same { KeepsDuty poller.old poller.new }
 {
     let mut rooted = SameOriginWriter::<W, K> {
         writer,

@@ -126,10 +126,10 @@ impl Status {
     }
 
     /// Returns the status for a refused row of a keeper, from the result of printing that.
-    pub fn of_row(told: Result<(), WriteLineFault>) -> Status
-        ensures { result ≡ row_status told }
+    pub fn of_row(written: Result<(), WriteLineFault>) -> Status
+        ensures { result ≡ row_status written }
     {
-        match told {
+        match written {
             Ok(()) => Status::Refused,
             Err(WriteLineFault::WriteFault) => Status::WriteFault,
             Err(WriteLineFault::Memory) => Status::OutOfMemory,
@@ -143,7 +143,7 @@ impl Status {
         match end {
             UpstreamEnd::OutOfMemory => Status::OutOfMemory,
             UpstreamEnd::KeeperFault => Status::KeeperFault,
-            UpstreamEnd::Row(told) => Status::of_row(told),
+            UpstreamEnd::Row(written) => Status::of_row(written),
             UpstreamEnd::Lines(fault) => Status::of_lines(Err(fault)),
             UpstreamEnd::Links(end) => Status::of_serving(end),
         }

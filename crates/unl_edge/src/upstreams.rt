@@ -1,6 +1,7 @@
 //! The command `upstream`: reopens an upstream on a keeper, takes the commands of the input, and then serves the links of a door.
 ghost use Rattle.std.specs.Prelude.{◌≡◌, ◌≢◌, true, IfOk, IsErrOf, string_bytes};
 ghost use Rattle.unl_base.specs.Faults.{Rose};
+ghost use Rattle.unl_edge.specs.Scene.{ChangesForUpstream};
 ghost use Rattle.unl_edge.specs.Status.{Caused, IsCaused, row_status, serving_status, upstream_status};
 ghost use Rattle.unl_edge.specs.Upstreams.{IsNew, KeeperEnd, LinesEnd, LinksEnd, UpstreamEnds, UpstreamRuns};
 ghost use Rattle.unl_edge.specs.Upstreams.{connections_line, facing, row_line};
@@ -43,6 +44,7 @@ pub fn run_upstream<
 ) -> UpstreamEnd
     requires { IsUpstream words.now }
     ensures runs { UpstreamRuns words.now result world.old world.new }
+    ensures frame { ChangesForUpstream world.old world.new }
     ensures caused { IsCaused (upstream_status result) world.old world.new }
 {
     let boot = world.draws.draw().word;
@@ -116,6 +118,7 @@ fn run_kept<
     world: &mut World<I, O, D, P, R, T, S, Q, W>,
 ) -> UpstreamEnd
     ensures ends { UpstreamEnds fresh port result world.old world.new }
+    ensures frame { ChangesForUpstream world.old world.new }
     ensures caused { IsCaused (upstream_status result) world.old world.new }
 {
     let up = fresh.into_upstream();
@@ -198,13 +201,13 @@ fn take_commands<K: Keeper, I: Source, O: Sink, D: Door, R: Draws, W: Wait>(
         keeper,
         failed: false,
     };
-    let taken = process_lines::<CommandIntake<K>, I, O>(alloc, &mut kept, input, output);
+    let processed = process_lines::<CommandIntake<K>, I, O>(alloc, &mut kept, input, output);
     let CommandIntake {
         mut up,
         mut keeper,
         failed,
     } = kept;
-    match taken {
+    match processed {
         Ok(()) => {
             let end = serve_links(rt, alloc, port, &mut up, &mut keeper, output, door, draws);
             (UpstreamEnd::Links(end), keeper)

@@ -1,6 +1,7 @@
 //! The worker slots of an edge.
 ghost use Rattle.std.specs.Prelude.{◌≡◌, All, IfOk, length};
 ghost use Rattle.unl_edge.specs.LinkHandling.{HasLearned, IsOfOrigin};
+ghost use Rattle.unl_edge_state.specs.Reading.{IsNewReader};
 
 use crate::attending::EdgeLinkHandler;
 use std::alloc::Global;
@@ -20,7 +21,8 @@ pub(crate) fn posts_of<'a, R: Draws + Drop, W: Wait>(
     readers: Vec<EdgeReader>,
     draws: &mut R,
 ) -> Result<Vec<WorkerSlot<EdgeLinkHandler<'a, W>, R>>, Memory>
-    requires { All (IsOfOrigin writer.old.known) readers.items }
+    requires origin { All (IsOfOrigin writer.old.known) readers.items }
+    requires new { All IsNewReader readers.items }
     ensures same { writer.new ≡ writer.old }
     ensures draws { R.coming draws.new ≡ R.coming draws.old }
     ensures count { IfOk result (λ posts. length posts.items ≡ length readers.items) }
@@ -42,7 +44,8 @@ fn post_of<'a, R: Draws + Drop, W: Wait>(
     mut reader: EdgeReader,
     draws: &mut R,
 ) -> Result<WorkerSlot<EdgeLinkHandler<'a, W>, R>, Memory>
-    requires { IsOfOrigin writer.old.known reader }
+    requires origin { IsOfOrigin writer.old.known reader }
+    requires new { IsNewReader reader }
     ensures same { writer.new ≡ writer.old }
     ensures draws { R.coming draws.new ≡ R.coming draws.old }
     ensures learned { IfOk result (λ post. HasLearned writer.old.known post.server.desk.reader) }

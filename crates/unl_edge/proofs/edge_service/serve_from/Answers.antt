@@ -1,6 +1,7 @@
-use Rattle.std.proofs.Common.{arith, length, rules}
+use Rattle.std.proofs.Common.{arith, length, refl, rules}
 use Rattle.unl_edge_state.specs.Writing.{installed_by}
-use Rattle.unl_edge.proofs.Working.{asked_first, service_served}
+use Rattle.unl_edge.proofs.ServingEachLink.{each_after_turn}
+use Rattle.unl_edge.proofs.Working.{asked_first}
 use Rattle.unl_edge.proofs.edge_service.serve_from.Goals as goal
 
 pub returns-in-Ok-clause-connects : goal.returns-in-Ok-clause-connects
@@ -9,14 +10,13 @@ returns-in-Ok-clause-connects g c =
     (omega (arith, c.requires.slot_pollers, c.requires.few)) in
     asked_first _ _ _ _ c.serve_after-served.result c.requires.slot_pollers asked c.serve_after-served.ensures.connects
 
-pub returns-in-Ok-clause-serves : goal.returns-in-Ok-clause-serves
-returns-in-Ok-clause-serves g c =
-    let takes = rw (c.in-Ok.is) at c.turn_by-writer.ensures.takes c.requires.opens (omega (arith, c.requires.slot_pollers))
+pub returns-in-Ok-clause-each_link_served_once : goal.returns-in-Ok-clause-each_link_served_once
+returns-in-Ok-clause-each_link_served_once g c =
+    let turn = rw (c.in-Ok.is) at c.turn_by-writer.ensures.polls c.requires.opens (omega (arith, c.requires.slot_pollers))
     (omega (arith, c.requires.slot_pollers, c.requires.few)) in
-    service_served (record {
-      known = c.args.poller.known;
+    each_after_turn (record {
+      duty = c.args.poller;
       opening = installed_by c.args.writer;
       edition = c.args.writer.known.opening;
-      slot_pollers = c.args.poller.slot_pollers;
       workers = length c.args.readers.items;
-    }) _ _ _ _ _ _ _ c.serve_after-served.result takes c.serve_after-served.ensures.connects (search rules)
+    }) _ _ _ _ _ _ _ c.serve_after-served.result turn c.turn_by-writer.ensures.same c.serve_after-served.ensures.polls refl (search rules)

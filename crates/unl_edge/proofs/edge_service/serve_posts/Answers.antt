@@ -3,7 +3,12 @@ use denote.Param.Send.{sendable}
 use Rattle.std.proofs.Crossing.{crosses}
 use Rattle.unl_refresh.proofs.Connecting.{connects_nothing}
 use Rattle.unl_refresh.specs.Connects.{Connects}
+use Rattle.unl_refresh.specs.Exchange.{peer_view}
+use Rattle.unl_refresh.specs.Turns.{poll_state}
+use Rattle.unl_edge.proofs.Polling.{polls_on}
 use Rattle.unl_edge.proofs.Sent.{attendant_send}
+use Rattle.unl_edge.specs.Polling.{PollsOn}
+use Rattle.unl_edge_state.specs.Writing.{installed_by}
 use Rattle.unl_edge.proofs.edge_service.serve_posts.Goals as goal
 
 pub run_pool-requires-send-S : goal.run_pool-requires-send-S
@@ -20,4 +25,22 @@ returns-in-Ok-clause-connects g c =
     let same = c.in-Ok.ensures.turns.keeps.2 in
     let fact : Connects 0 (g.P.Peer.state c.args.peer.now).replies (g.P.Source.faults c.args.peer.now)
     (g.P.Peer.state after.peer.now).replies (g.P.Source.faults after.peer.now) = c.in-Ok.ensures.turns.keeps.3 _ _ (connects_nothing _ _) in
+    search rules
+
+-- and each turn is seen through them
+pub returns-in-Ok-clause-polls : goal.returns-in-Ok-clause-polls
+returns-in-Ok-clause-polls g c =
+    let after = c.run_pool.new.turn in
+    let same_poller = c.in-Ok.ensures.turns.keeps.0 in
+    let same_writer = c.in-Ok.ensures.turns.keeps.1 in
+    let same_peer = c.in-Ok.ensures.turns.keeps.2 in
+    let fact : PollsOn c.args.poller.now
+    (poll_state (installed_by c.args.writer.now) c.args.poller.now.tags c.args.poller.now.metrics
+    (peer_view (g.P.Peer.state c.args.peer.now).replies (g.P.Sink.sent c.args.peer.now) (g.P.Source.faults c.args.peer.now)))
+    (poll_state (installed_by after.writer.now) after.poller.now.tags after.poller.now.metrics
+    (peer_view (g.P.Peer.state after.peer.now).replies (g.P.Sink.sent after.peer.now) (g.P.Source.faults after.peer.now))) =
+    polls_on after _ _ _ _ _ _ c.in-Ok.ensures.turns
+    (λ t. poll_state (installed_by t.writer.now) t.poller.now.tags t.poller.now.metrics
+    (peer_view (g.P.Peer.state t.peer.now).replies (g.P.Sink.sent t.peer.now) (g.P.Source.faults t.peer.now)))
+    (λ t. t.poller.now) (λ x y turned. turned) in
     search rules

@@ -1,4 +1,4 @@
-use Rattle.std.proofs.Common.{◌≢◌, ◌∙◌, ap}
+use Rattle.std.proofs.Common.{◌≢◌, ◌∙◌, ap, refl}
 use Rattle.std.specs.Prelude.{option_and_then}
 use Rattle.unl_base.specs.Faults.{Rose}
 use Rattle.unl_keeper.specs.Rows.{kept}
@@ -26,3 +26,9 @@ returns-in-Ok-clause-ends g c =
 
 pub run_reopened-end-requires-clause-opens : goal.run_reopened-end-requires-clause-opens
 run_reopened-end-requires-clause-opens g c = c.into_upstream-up.ensures.new.opens
+
+pub returns-in-Ok-clause-frame : goal.returns-in-Ok-clause-frame
+returns-in-Ok-clause-frame g c = rw (← c.world.view_is) refl
+
+pub returns-in-Err-Fault-clause-frame : goal.returns-in-Err-Fault-clause-frame
+returns-in-Err-Fault-clause-frame g c = rw (← c.world.view_is) refl

@@ -1,7 +1,7 @@
-use Rattle.std.proofs.Common.{rules}
+use Rattle.std.proofs.Common.{refl, rules}
 use Rattle.unl_edge.specs.Upstreams.{facing}
 use Rattle.unl_upstream.specs.Kept.{HasKept, keeper_by, kept_state}
-use Rattle.unl_edge.proofs.Commands.{after_lines}
+use Rattle.unl_edge.proofs.Commands.{after_lines, silent_at}
 use Rattle.unl_edge.proofs.upstreams.take_commands.Goals as goal
 
 pub returns-in-Ok-clause-ends : goal.returns-in-Ok-clause-ends
@@ -12,8 +12,18 @@ returns-in-Ok-clause-ends g c =
     (kept_state c.kept.inside.up (keeper_by g.K.Keeper.opened g.K.Keeper.faults g.K.Keeper.count g.K.Keeper.rows c.kept.inside.keeper)) c.args.port
     (kept_state c.serve_links-end.new.up
     (keeper_by g.K.Keeper.opened g.K.Keeper.faults g.K.Keeper.count g.K.Keeper.rows c.serve_links-end.new.keeper))
-    c.process_lines-taken.new.desk c.serve_links-end.result (g.I.Source.left c.args.input.now) (g.I.Source.left c.process_lines-taken.new.source)
+    c.process_lines-processed.new.desk c.serve_links-end.result (g.I.Source.left c.args.input.now) (g.I.Source.left c.process_lines-processed.new.source)
     (facing (g.O.Sink.sent c.args.output.now) (g.D.Door.state c.args.door.now) (g.R.Draws.coming c.args.draws.now))
     (facing (g.O.Sink.sent c.serve_links-end.new.output) (g.D.Door.state c.serve_links-end.new.door)
     (g.R.Draws.coming c.serve_links-end.new.draws))
-    (g.O.Sink.sent c.process_lines-taken.new.sink) has c.kept.view_is c.in-Ok.ensures.all c.serve_links-end.ensures.ends
+    (g.O.Sink.sent c.process_lines-processed.new.sink) has c.kept.view_is c.in-Ok.ensures.all c.serve_links-end.ensures.ends
+
+pub returns-in-Err-Memory-clause-ends : goal.returns-in-Err-Memory-clause-ends
+returns-in-Err-Memory-clause-ends g c = record {
+  silent = silent_at
+      (kept_state c.args.up (keeper_by g.K.Keeper.opened g.K.Keeper.faults g.K.Keeper.count g.K.Keeper.rows c.args.keeper))
+      c.process_lines-processed.result (g.I.Source.left c.args.input.now) (g.I.Source.left c.process_lines-processed.new.source)
+      (g.O.Sink.sent c.args.output.now) (g.O.Sink.sent c.process_lines-processed.new.sink) (search rules)
+      c.process_lines-processed.ensures.lines;
+  shut = refl;
+}

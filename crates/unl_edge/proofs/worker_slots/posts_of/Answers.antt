@@ -1,6 +1,6 @@
 use Rattle.std.proofs.Common.{◌∙◌, ap, arith, length, length-append, rules}
 use Rattle.unl_edge_state.specs.Writing.{Writing}
-use Rattle.unl_edge.proofs.Working.{learned_more, others_of}
+use Rattle.unl_edge.proofs.Working.{learned_more, others_new, others_of}
 use Rattle.unl_edge.proofs.worker_slots.posts_of.Goals as goal
 
 pub loop-reader-preserved : goal.loop-reader-preserved
@@ -14,4 +14,5 @@ loop-reader-preserved g c =
       learned = learned_more c.args.writer.now.known c.loop-reader.writer.known _ _ _ (ap (λ (w : Writing). w.known) c.loop-reader.invariant.same) c.in_ok-push.ensures.items
           c.loop-reader.invariant.learned c.in_ok-post_of.ensures.learned;
       rest = others_of c.args.writer.now.known _ _ c.in-Some.reader c.in-Some.ensures.steps.0 c.loop-reader.invariant.rest;
+      new = others_new _ _ c.in-Some.reader c.in-Some.ensures.steps.0 c.loop-reader.invariant.new;
     }

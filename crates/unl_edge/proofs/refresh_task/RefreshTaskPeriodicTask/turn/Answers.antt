@@ -1,6 +1,12 @@
 use Rattle.std.proofs.Common.{refl}
 use Rattle.unl_refresh.proofs.Connecting.{connects_still}
+use Rattle.unl_edge.proofs.Polling.{later_made}
 use Rattle.unl_edge.proofs.refresh_task.RefreshTaskPeriodicTask.turn.Goals as goal
+
+pub returns-clause-turned : goal.returns-clause-turned
+returns-clause-turned g c =
+    later_made c.args.self.now.poller.now c.drain_shared.new.self c.turn.new.self _ _ _ _ c.turn.result c.drain_shared.ensures.same
+    c.drain_shared.ensures.drains c.turn.ensures.same c.turn.ensures.polls
 
 pub returns-clause-keeps : goal.returns-clause-keeps
 returns-clause-keeps g c = (refl, refl, refl, λ first faults connects. connects_still connects c.turn.ensures.connects)

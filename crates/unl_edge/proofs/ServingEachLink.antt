@@ -1,0 +1,182 @@
+-- The links that worker slots served, as those that the workers of an edge served.
+use Rattle.std.proofs.Common.{◌≡◌, ◌∙◌, ◌<◌, ℕ, ◌+◌, List, [], ◌∷◌, ◌++◌, length, map, Option, Some, Result, Ok, Err, Bool, true, ap, refl, subst, sym}
+use Rattle.std.specs.Prelude.{All, IfOk, OnOk, flat_map}
+use Rattle.std.specs.List.{AllZip}
+use Rattle.std.proofs.lemmas.List.{length-map, map-append}
+use Rattle.unl_base.specs.Doors.{DoorState, listening_at}
+use Rattle.unl_base.specs.Peers.{PeerState}
+use Rattle.unl_core.specs.declared.board.Board.{Board}
+use Rattle.unl_core.specs.declared.board.Install.{Install}
+use Rattle.unl_delta.specs.Installing.{Installed}
+use Rattle.unl_edge.specs.EdgeLinks.{EachLinkServed, ServesEachLink, ServesShares, WorkOnEachLink, WorkerServes}
+use Rattle.unl_edge.specs.EdgeServices.{EdgeService, Worker, opened, service_at, worker_of}
+use Rattle.unl_edge.specs.Edges.{links_of}
+use Rattle.unl_edge.specs.Polling.{PollsOn, peer_seen}
+use Rattle.unl_edge.specs.LinkHandling.{HasLearned, ReadsOnAt, ServesAt}
+use Rattle.unl_edge.specs.declared.attending.EdgeLinkHandler.{EdgeLinkHandler}
+use Rattle.unl_edge.proofs.Polling.{polls_same}
+use Rattle.unl_edge.proofs.Working.{work_beside}
+use Rattle.unl_edge_state.specs.Editions.{BoardAt, orderly_opening}
+use Rattle.unl_publication.specs.declared.knowledge.Knowledge.{Knowledge}
+use Rattle.unl_refresh.specs.Exchange.{PeerView, peer_view}
+use Rattle.unl_refresh.specs.Turns.{Duty, KeepsDuty, MakesTurn, PollState, poll_state}
+use Rattle.unl_server.specs.Handling.{Coming}
+use Rattle.unl_server.specs.Links.{LinkState, link_state}
+use Rattle.unl_workers.specs.Queueing.{HandsOutEach}
+use Rattle.unl_workers.specs.Serving.{Serving, ServesSlot, serving}
+use Rattle.unl_workers.specs.Shares.{EachLinkServedOnce, ServedAtEach}
+use Rattle.unl_workers.specs.Taking.{ServesEach, with_draws}
+use Rattle.unl_workers.specs.Tallies.{SameLinks, weigh}
+use Rattle.unl_workers.specs.declared.pool.PoolFault.{PoolFault}
+use Rattle.unl_workers.specs.declared.pool.PoolOutcome.{PoolOutcome}
+use Rattle.unl_workers.specs.declared.worker.WorkerSlot.{WorkerSlot}
+
+-- ---- links by their states
+
+weigh_map : {X Y : Type 0} (h : Y → ℕ) (f : X → Y) (xs : List X) → weigh h (map f xs) ≡ weigh (λ x. h (f x)) xs
+weigh_map h f [] = refl
+weigh_map h f (x ∷ xs) = ap (λ (n : ℕ). h (f x) + n) (weigh_map h f xs)
+
+map_shares : {X Y : Type 0} (f : X → Y) (shares : List (List X))
+    → flat_map (λ (share : List Y). share) (map (λ (share : List X). map f share) shares) ≡ map f (flat_map (λ (share : List X). share) shares)
+map_shares f [] = refl
+map_shares {X} {Y} f (share ∷ shares) = ap (λ (rest : List Y). map f share ++ rest) (map_shares f shares)
+    ∙ sym (map-append f share (flat_map (λ (share : List X). share) shares))
+
+same_states : {X Y : Type 0} (f : X → Y) (xs ys : List X) → SameLinks xs ys → SameLinks (map f xs) (map f ys)
+same_states f xs ys same h = weigh_map h f xs ∙ same (λ x. h (f x)) ∙ sym (weigh_map h f ys)
+
+states_handed : {L : Type 0} (left sent : L → Option (List ℕ)) (faults : L → ℕ) (links : List L) (before after : DoorState)
+    → HandsOutEach left sent faults links before after
+    → HandsOutEach (λ (link : LinkState). link.left) (λ (link : LinkState). link.sent) (λ (link : LinkState). link.faults)
+    (map (λ (link : L). link_state (left link) (sent link) (faults link)) links) before after
+states_handed left sent faults [] before after none = none
+states_handed left sent faults (link ∷ links) before after many =
+    (many.0, many.1, many.2, many.3, states_handed left sent faults links many.0 after many.4)
+
+-- ---- slots as workers
+
+-- the worker of a serving state
+abbrev worker_in : {W : Type 0} → Serving (EdgeLinkHandler W) → Worker
+worker_in serving = record { reader = serving.server.desk.reader; book = serving.server.book; coming = serving.coming }
+
+share_served : {W : Type 0} (links : List LinkState) (before after : Serving (EdgeLinkHandler W))
+    → ServesEach (with_draws ServesAt) links before after → ServesEach WorkerServes links (worker_in before) (worker_in after)
+share_served {W} [] before after none = ap (λ (s : Serving (EdgeLinkHandler W)). worker_in s) none
+share_served (link ∷ links) before after many = (
+  worker_in many.0,
+  record { link_after = many.1.link_after; served = many.1.served },
+  share_served links many.0 after many.2,
+)
+
+shares_served : {W R L : Type 0} (coming_of : R → Coming) (state_of : L → LinkState) (shares : List (List L))
+    (before after : List (WorkerSlot (EdgeLinkHandler W) R)) → ServedAtEach ServesAt coming_of state_of shares before after
+    → ServesShares (map (λ (share : List L). map state_of share) shares) (map (worker_of coming_of) before) (map (worker_of coming_of) after)
+shares_served coming_of state_of [] [] [] served = tt
+shares_served coming_of state_of [] [] (b ∷ after) served = absurd served
+shares_served coming_of state_of [] (a ∷ before) after served = absurd served
+shares_served coming_of state_of (share ∷ shares) [] after served = absurd served
+shares_served coming_of state_of (share ∷ shares) (a ∷ before) [] served = absurd served
+shares_served coming_of state_of (share ∷ shares) (a ∷ before) (b ∷ after) served = (
+  share_served (map state_of share) (serving a.server (coming_of a.draws)) (serving b.server (coming_of b.draws)) served.0.served,
+  shares_served coming_of state_of shares before after served.1,
+)
+
+-- each link was served once, by one of the workers
+each_served : {W R L : Type 0} (coming_of : R → Coming) (left sent : L → Option (List ℕ)) (faults : L → ℕ) (door door_after : DoorState)
+    (count : ℕ) (before after : List (WorkerSlot (EdgeLinkHandler W) R))
+    → EachLinkServedOnce ServesAt coming_of left sent faults door door_after count before after
+    → EachLinkServed door door_after count (map (worker_of coming_of) before) (map (worker_of coming_of) after)
+each_served {W} {R} {L} coming_of left sent faults door door_after count before after every =
+    let state_of : L → LinkState = λ link. link_state (left link) (sent link) (faults link) in
+    let all : List L = flat_map (λ (share : List L). share) every.shares in
+    record {
+      given = map state_of every.given;
+      shares = map (λ (share : List L). map state_of share) every.shares;
+      handed = states_handed left sent faults every.given door door_after every.handed;
+      counted = length-map every.given state_of ∙ every.counted;
+      served = shares_served coming_of state_of every.shares before after every.served;
+      same = λ h. same_states state_of every.given all every.same h ∙ ap (weigh h) (sym (map_shares state_of every.shares));
+    }
+
+-- the workers served each link once, if serving ended well
+pub work_on_each : {W R L : Type 0} (coming_of : R → Coming) (left sent : L → Option (List ℕ)) (faults : L → ℕ) (door door_after : DoorState)
+    (known : Knowledge BoardAt Install) (before : List (WorkerSlot (EdgeLinkHandler W) R)) (workers : ℕ)
+    (served : Result (PoolOutcome (EdgeLinkHandler W) R) PoolFault) (result : Result ℕ PoolFault) → result ≡ links_of served
+    → length before ≡ workers → All (λ post. HasLearned known post.server.desk.reader) before
+    → IfOk served (λ outcome. AllZip (ServesSlot ServesAt ReadsOnAt coming_of) before outcome.posts.items)
+    → IfOk served (λ outcome. 0 < length before
+    → EachLinkServedOnce ServesAt coming_of left sent faults door door_after outcome.links before outcome.posts.items)
+    → IfOk result (λ links. 0 < workers → WorkOnEachLink workers known.opening (length known.installs) door door_after links)
+unfolding work_beside
+work_on_each coming_of left sent faults door door_after known before workers (Ok outcome) result is many learned all every =
+    subst (λ (r : Result ℕ PoolFault).
+    IfOk r (λ links. 0 < workers → WorkOnEachLink workers known.opening (length known.installs) door door_after links)) (sym is)
+    (λ some. record {
+      work = work_beside coming_of known before outcome.posts.items workers many learned all;
+      each = each_served coming_of left sent faults door door_after outcome.links before outcome.posts.items
+          (every (subst (λ (n : ℕ). 0 < n) (sym many) some));
+    })
+work_on_each coming_of left sent faults door door_after known before workers (Err fault) result is many learned all every =
+    subst (λ (r : Result ℕ PoolFault).
+    IfOk r (λ links. 0 < workers → WorkOnEachLink workers known.opening (length known.installs) door door_after links)) (sym is) tt
+
+-- ---- an edge service
+
+-- the first turn was made, and after it later turns were made and each link was served
+pub each_after_turn : (service : EdgeService) (now : Duty) (begun ended : PollState) (peer peer_after : PeerView) (door door_after : DoorState)
+    (served : Result ℕ PoolFault)
+    → MakesTurn service.duty.known service.duty.upstream service.duty.slot_pollers
+    (poll_state service.opening service.duty.tags service.duty.metrics peer) begun
+    → KeepsDuty service.duty now → OnOk served (PollsOn now begun ended) → ended.peer ≡ peer_after
+    → IfOk served (λ links. 0 < service.workers → WorkOnEachLink service.workers service.edition begun.installed.front door door_after links)
+    → IfOk served (λ links. 0 < service.workers → ServesEachLink service peer peer_after door door_after links)
+each_after_turn service now begun ended peer peer_after door door_after (Ok links) turn keeps polls same every = λ some.
+    let each = every some in
+    record {
+      runs = record {
+        first = begun.installed;
+        polls = record {
+          begun = begun;
+          installed = refl;
+          turn = turn;
+          ended = ended;
+          later = polls_same service.duty now begun ended keeps polls;
+          peer_ended = same;
+        };
+        work = each.work;
+      };
+      each = each.each;
+    }
+each_after_turn service now begun ended peer peer_after door door_after (Err fault) turn keeps polls same every = tt
+
+-- the same edge service, by its parts; the peer's state has the bytes sent on its connection
+pub same_service : (duty : Duty) (board : Board) (begun : Installed) (edition : Option BoardAt) (workers readers : ℕ)
+    (peer peer_after : PeerState) (sent sent_after : Option (List ℕ)) (faults faults_after : ℕ) (door door_after : DoorState)
+    (served : Result ℕ PoolFault)
+    → begun ≡ opened board → edition ≡ Some (orderly_opening board) → readers ≡ workers → 0 < workers
+    → peer.sent ≡ sent → peer_after.sent ≡ sent_after
+    → IfOk served (λ links. 0 < readers
+    → ServesEachLink (record { duty = duty; opening = begun; edition = edition; workers = readers })
+    (peer_view peer.replies sent faults) (peer_view peer_after.replies sent_after faults_after) door door_after links)
+    → IfOk served (λ links. ServesEachLink (service_at duty board workers) (peer_seen peer faults) (peer_seen peer_after faults_after)
+    door door_after links)
+same_service duty board begun edition workers readers peer peer_after sent sent_after faults faults_after door door_after (Ok links)
+    same opens count some same_sent same_after serves =
+    subst (λ (service : EdgeService). ServesEachLink service (peer_seen peer faults) (peer_seen peer_after faults_after) door door_after links)
+    (λ i. record { duty = duty; opening = same i; edition = opens i; workers = count i })
+    (subst (λ (bytes : Option (List ℕ)). ServesEachLink (record { duty = duty; opening = begun; edition = edition; workers = readers }) (peer_seen peer faults) (peer_view peer_after.replies bytes faults_after) door door_after links)
+    (sym same_after)
+    (subst (λ (bytes : Option (List ℕ)).
+    ServesEachLink (record { duty = duty; opening = begun; edition = edition; workers = readers }) (peer_view peer.replies bytes faults) (peer_view peer_after.replies sent_after faults_after) door door_after links)
+    (sym same_sent) (serves (subst (λ (n : ℕ). 0 < n) (sym count) some))))
+same_service duty board begun edition workers readers peer peer_after sent sent_after faults faults_after door door_after (Err fault)
+    same opens count some same_sent same_after serves = tt
+
+-- the door served was the one that had just begun to listen
+pub serves_at : (service : EdgeService) (port served : ℕ) (could : Bool) (peer peer_after : PeerView) (before door after : DoorState)
+    → could ≡ true → door ≡ listening_at port could before → ServesEachLink service peer peer_after door after served
+    → ServesEachLink service peer peer_after (listening_at port true before) after served
+serves_at service port served could peer peer_after before door after did listens serves =
+    subst (λ (d : DoorState). ServesEachLink service peer peer_after d after served)
+    (listens ∙ ap (λ (b : Bool). listening_at port b before) did) serves
