@@ -1,11 +1,21 @@
 -- The program's error for each error of the database.
+use Rattle.std.specs.Prelude.{⊤}
 use Rattle.sqlite.specs.declared.error.Error.{Error}
 use Rattle.sqlite.specs.declared.error.Error.TheVariants.{SqliteFailure}
 use Rattle.sqlite.specs.declared.error.ErrorCode.TheVariants.{OutOfMemory}
 use Rattle.unl_durable_upstream.specs.declared.fault.KeepingFault.{KeepingFault}
-use Rattle.unl_durable_upstream.specs.declared.fault.KeepingFault.TheVariants.{File, Memory}
+use Rattle.unl_durable_upstream.specs.declared.fault.KeepingFault.TheVariants.{BadWords, File, Row, Keeper, Door, Memory}
 
 -- out of memory is `Memory`, any other error is `File`
 abbrev pub fault_of : Error → KeepingFault
 fault_of (SqliteFailure OutOfMemory) = Memory
 fault_of error = File error
+
+-- the fault is that of opening or closing a database, or out of memory
+abbrev pub IsOfDatabase : KeepingFault → Type 0
+IsOfDatabase BadWords = ⊥
+IsOfDatabase (File error) = ⊤
+IsOfDatabase (Row place) = ⊥
+IsOfDatabase Keeper = ⊥
+IsOfDatabase Door = ⊥
+IsOfDatabase Memory = ⊤

@@ -1,5 +1,5 @@
 -- What the command line means: the path of a file, and the options of the upstream.
-use Rattle.std.specs.Prelude.{◌≡◌, ⊤, ℕ, nat_lt, List, [], ◌∷◌, codes, if◌then◌else◌, Option, Some, None, Result, Ok, Err, string_bytes}
+use Rattle.std.specs.Prelude.{◌≡◌, ◌⊎◌, ⊤, ℕ, nat_lt, List, [], ◌∷◌, codes, if◌then◌else◌, Option, Some, None, Result, Ok, Err, string_bytes}
 use Rattle.unl_durable_upstream.specs.declared.fault.KeepingFault.{KeepingFault}
 use Rattle.unl_durable_upstream.specs.declared.fault.KeepingFault.TheVariants.{BadWords, File, Row, Keeper, Door, Memory}
 use Rattle.unl_durable_upstream.specs.declared.given.ProgramArguments.{ProgramArguments}
@@ -8,35 +8,30 @@ use Rattle.unl_words.specs.declared.refusal.WordsRefusal.TheVariants.{Bad}
 use Rattle.unl_words.specs.declared.words.Words.{Words}
 use Rattle.unl_words.specs.declared.words.Words.TheVariants.{Replay, Check, Edge, Upstream, Follow, Explain, Load}
 
--- the port of an upstream's arguments, 0 for any other arguments
-abbrev pub port_of : Words → ℕ
-port_of Replay = 0
-port_of (Check now word) = 0
-port_of (Edge words) = 0
-port_of (Upstream words) = words.port
-port_of (Follow words) = 0
-port_of Explain = 0
-port_of (Load seed count) = 0
+-- the number of links after which the door closes, if the option is not 0
+abbrev pub bound_of : ℕ → Option ℕ
+bound_of connections = if nat_lt 0 connections then Some connections else None
 
--- the number of links after which the door closes, if an upstream's arguments set one
-abbrev pub bound_of : Words → Option ℕ
-bound_of Replay = None
-bound_of (Check now word) = None
-bound_of (Edge words) = None
-bound_of (Upstream words) = if nat_lt 0 words.connections then Some words.connections else None
-bound_of (Follow words) = None
-bound_of Explain = None
-bound_of (Load seed count) = None
+-- the arguments are not those of `upstream`
+abbrev pub NamesAnotherCommand : Words → Type 0
+NamesAnotherCommand Replay = ⊤
+NamesAnotherCommand (Check now word) = ⊤
+NamesAnotherCommand (Edge words) = ⊤
+NamesAnotherCommand (Upstream options) = ⊥
+NamesAnotherCommand (Follow words) = ⊤
+NamesAnotherCommand Explain = ⊤
+NamesAnotherCommand (Load seed count) = ⊤
 
 -- The first argument is the path, and the others are the options of `upstream`.
 abbrev pub IsGiven : List (List ℕ) → ProgramArguments → Type 0
 IsGiven [] given = ⊥
-IsGiven (first ∷ others) given = (string_bytes given.path ≡ first) × (words_of (codes "upstream" ∷ others) ≡ Ok given.words)
+IsGiven (first ∷ others) given = (string_bytes given.path ≡ first) × (words_of (codes "upstream" ∷ others) ≡ Ok (Upstream given.options))
 
--- There is no first argument, or the others are refused as the options of `upstream`.
+-- There is no first argument, or the others are not the options of `upstream`.
 abbrev pub AreBad : List (List ℕ) → Type 0
 AreBad [] = ⊤
-AreBad (first ∷ others) = words_of (codes "upstream" ∷ others) ≡ Err Bad
+AreBad (first ∷ others) = (words_of (codes "upstream" ∷ others) ≡ Err Bad)
+    ⊎ ((words : Words) × NamesAnotherCommand words × (words_of (codes "upstream" ∷ others) ≡ Ok words))
 
 -- the result of reading these arguments
 abbrev pub IsReading : List (List ℕ) → Result ProgramArguments KeepingFault → Type 0

@@ -1,4 +1,5 @@
 pub mod Beginning
+pub mod Databases
 pub mod Faults
 pub mod Given
 pub mod Serving

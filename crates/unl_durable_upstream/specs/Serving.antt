@@ -1,18 +1,23 @@
--- How the program's main loop ends: an upstream is reopened from its keeper, then serves the links of its door.
-use Rattle.std.specs.Prelude.{◌≡◌, ◌⊎◌, ℕ, Result, Some, Ok, Err}
+-- How an upstream ends on a keeper: it is reopened from the keeper's rows, then serves the links of its door. What is not
+-- observable of a keeper, of a door or of draws is `None`.
+use Rattle.std.specs.Prelude.{◌≡◌, ◌≢◌, ◌⊎◌, ℕ, ◌+◌, List, [], ◌++◌, length, option_map, Result, Some, Ok, Err}
 use Rattle.unl_base.specs.Doors.{DoorState, IsClosedAt}
 use Rattle.unl_base.specs.declared.Failed.{Failed}
 use Rattle.unl_server.specs.Handling.{Coming}
-use Rattle.unl_server.specs.Linked.{linking}
+use Rattle.unl_server.specs.Linked.{ServesLinks as ServesObservable, linking}
 use Rattle.unl_durable_upstream.specs.declared.fault.KeepingFault.{KeepingFault}
 use Rattle.unl_durable_upstream.specs.declared.fault.KeepingFault.TheVariants.{BadWords, File, Row, Keeper, Door, Memory}
-use Rattle.unl_upstream.specs.Kept.{KeptState}
-use Rattle.unl_upstream.specs.KeptHosting.{Hosts}
-use Rattle.unl_upstream.specs.Reopening.{Reopens}
+use Rattle.unl_upstream.specs.declared.command.Command.{Command}
+use Rattle.unl_upstream.specs.History.{after_commands}
+use Rattle.unl_upstream.specs.Kept.{AttemptsInOrder, AttemptsPreserve, IsAfterKept, KeepAttempt, KeeperState, KeptState, RoseBy, acknowledged}
+use Rattle.unl_upstream.specs.Kept.{failed_after, faults_among, kept_commands, kept_state}
+use Rattle.unl_upstream.specs.KeptHosting.{AllLinksEffect, Hosts, LinkServed, NoKeeperFaults}
+use Rattle.unl_upstream.specs.Reopening.{GivesBack, IsSameKeeper, Reopens}
+use Rattle.unl_upstream.specs.Upstream.{UpstreamState}
 use Rattle.unl_upstream.specs.declared.reopening.ReopenFault.{ReopenFault}
 use Rattle.unl_upstream.specs.declared.reopening.ReopenFault.TheVariants as reopening
 
--- the exit code of the program
+-- the exit code of the program for a fault
 abbrev pub code_of : KeepingFault → ℕ
 code_of BadWords = 2
 code_of (Row place) = 3
@@ -30,9 +35,13 @@ pub record Facing : Type 0 where
 abbrev pub facing : DoorState → Coming → Facing
 facing door coming = record { door = door; coming = coming }
 
--- an upstream and its keeper served `served` links
-abbrev pub ServesLinks : KeptState → KeptState → Facing → Facing → ℕ → Type 0
-ServesLinks opened last before after served = Hosts (linking opened before.coming before.door) (linking last after.coming after.door) served
+-- ---- the links
+
+-- An upstream and its keeper served `served` links. Whether or not the door's links are observable, attempts to keep the
+-- commands of their requests are all that changed the upstream and the keeper.
+pub record ServesLinks (opened last : KeptState) (before after : Facing) (served : ℕ) : Type 0 where
+  pub hosts : Hosts (linking opened before.coming before.door) (linking last after.coming after.door) served
+  pub carries : AttemptsPreserve opened last
 
 -- How serving ends on a door that was to listen on this port. On success it served `served` links until the door was closed.
 -- On failure either the door could not listen and nothing changed, or it served some links and then failed.
@@ -41,13 +50,57 @@ LinksEnd opened port (Ok served) last before after = ServesLinks opened last bef
 LinksEnd opened port (Err failed) last before after =
     ((last ≡ opened) × (after ≡ before)) ⊎ ((served : ℕ) × ServesLinks opened last before after served × (after.door.port ≡ Some port))
 
--- the upstream was reopened from its keeper's rows, and then links were served
+-- The links of a door whose links are observable. Each adds the commands of its requests that were kept, in order, and the
+-- keeper keeps all of them after those that it was reopened with. If the keeper never failed, no reply is 503 `KeeperFault`.
+pub record NamesLinks
+    (opened last : KeptState) (before after : Facing) (served : ℕ) (links : List (List ℕ)) (returned : List (List ℕ × ℕ)) : Type 0 where
+  pub serves : ServesObservable LinkServed (linking opened before.coming before.door) (linking last after.coming after.door) served links
+      returned
+  pub names : AllLinksEffect opened.up opened.keeper.count before.coming [] 0 opened serves.given_links serves.backs last after.coming
+  pub keeps : kept_commands last.keeper ≡ option_map (λ commands. commands ++ names.commands_after) (kept_commands opened.keeper)
+  pub calm : last.keeper.faults ≡ 0 → NoKeeperFaults opened.up opened.keeper.count before.coming [] 0 opened serves.given_links
+      serves.backs names.commands_after names.gone_after last names.linked
+
+-- ---- what is kept
+
+-- Reopening the keeper's rows again, with an initial upstream of the same environments and epoch, restores the kept commands,
+-- or these and one of the commands whose put failed. Only a fault of the keeper or running out of memory can prevent it.
+abbrev pub CanBeReopened : UpstreamState → KeptState → List Command → Type 0
+CanBeReopened initial last failed = (fresh : UpstreamState) (rows : List (List ℕ)) (keeper : KeeperState) (result : Result ℕ ReopenFault)
+    (again : KeptState) → fresh.board.slots ≡ initial.board.slots → last.keeper.rows ≡ Some rows → keeper.rows ≡ last.keeper.rows
+    → again.keeper.rows ≡ keeper.rows → Reopens (kept_state fresh keeper) result again → result ≢ Err reopening.Fault
+    → result ≢ Err reopening.Memory → GivesBack last failed fresh result again
+
+-- What an upstream and its keeper have in the end, from the state in which they were reopened.
+pub record KeepsAcknowledged (initial : UpstreamState) (opened last : KeptState) : Type 0 where
+  -- attempts to keep commands were made in order, and nothing else changed the upstream and its keeper
+  pub tried : List KeepAttempt
+  pub attempts : AttemptsInOrder tried opened last
+  -- the keeper keeps what it was reopened with, and then each acknowledged command, in order, one per row
+  pub kept : kept_commands last.keeper ≡ option_map (λ commands. commands ++ acknowledged tried) (kept_commands opened.keeper)
+  pub counted : last.keeper.count ≡ opened.keeper.count + length (acknowledged tried)
+  -- the upstream is the reopened one after the acknowledged commands, and so the initial one after all kept commands
+  pub up : last.up ≡ after_commands (acknowledged tried) opened.up
+  pub represents : IsAfterKept initial last
+  -- a later start has all of them again, and at most one more, whose put failed with no successful put since
+  pub reopens : CanBeReopened initial last (failed_after [] tried)
+  -- the keeper's fault count rose by at least the number of puts that failed
+  pub faults : RoseBy (faults_among tried) opened.keeper.faults last.keeper.faults
+
+-- The upstream was reopened from its keeper's rows, and then links were served.
 pub record OpensAndServes
     (start : KeptState) (port : ℕ) (links : Result ℕ Failed) (last : KeptState) (before after : Facing) : Type 0 where
   pub reopened : ℕ
   pub opened : KeptState
+  pub same : IsSameKeeper start.keeper opened.keeper
   pub opens : Reopens start (Ok reopened) opened
   pub serves : LinksEnd opened port links last before after
+  pub keeps : KeepsAcknowledged start.up opened last
+  pub named : (served : ℕ) (given : List (List ℕ)) (returned : List (List ℕ × ℕ))
+      → ServesObservable LinkServed (linking opened before.coming before.door) (linking last after.coming after.door) served given returned
+      → NamesLinks opened last before after served given returned
+
+-- ---- how it ends
 
 -- the fault is that the row with this number is missing or refused
 abbrev pub IsOfRow : ℕ → ReopenFault → Type 0
@@ -56,12 +109,17 @@ IsOfRow place (reopening.NoRow at) = at ≡ place
 IsOfRow place reopening.Fault = ⊥
 IsOfRow place reopening.Memory = ⊥
 
--- the upstream was not reopened because row `place` is missing or refused, and no link was handed out
+-- the upstream was not reopened, for this reason; the keeper's rows are unchanged, and no link was handed out
+pub record FailsToReopen (start : KeptState) (fault : ReopenFault) (last : KeptState) (before after : Facing) : Type 0 where
+  pub keeper : IsSameKeeper start.keeper last.keeper
+  pub reopens : Reopens start (Err fault) last
+  pub same : after ≡ before
+
+-- the upstream was not reopened because row `place` is missing or refused
 pub record RefusesRow (start : KeptState) (place : ℕ) (last : KeptState) (before after : Facing) : Type 0 where
   pub fault : ReopenFault
   pub of_row : IsOfRow place fault
-  pub reopens : Reopens start (Err fault) last
-  pub same : after ≡ before
+  pub fails : FailsToReopen start fault last before after
 
 -- how reopening and serving ends, on a door that was to listen on this port
 abbrev pub Ends : KeptState → ℕ → Result ℕ KeepingFault → KeptState → Facing → Facing → Type 0
@@ -69,6 +127,6 @@ Ends start port (Ok served) last before after = OpensAndServes start port (Ok se
 Ends start port (Err BadWords) last before after = ⊥
 Ends start port (Err (File error)) last before after = ⊥
 Ends start port (Err (Row place)) last before after = RefusesRow start place last before after
-Ends start port (Err Keeper) last before after = Reopens start (Err reopening.Fault) last × (after ≡ before)
+Ends start port (Err Keeper) last before after = FailsToReopen start reopening.Fault last before after
 Ends start port (Err Door) last before after = (failed : Failed) × OpensAndServes start port (Err failed) last before after
-Ends start port (Err Memory) last before after = Reopens start (Err reopening.Memory) last × (after ≡ before)
+Ends start port (Err Memory) last before after = FailsToReopen start reopening.Memory last before after

@@ -1,18 +1,17 @@
 //! The errors that end the program, and their exit codes.
 ghost use Rattle.std.specs.Prelude.{◌≡◌};
-ghost use Rattle.unl_durable_upstream.specs.Faults.{fault_of};
+ghost use Rattle.unl_durable_upstream.specs.Faults.{IsOfDatabase, fault_of};
 ghost use Rattle.unl_durable_upstream.specs.Serving.{code_of};
 ghost use Rattle.unl_durable_upstream.specs.declared.fault.KeepingFault.TheVariants.{Memory as want};
 
 use sqlite::ErrorCode;
 use std::alloc::AllocError;
 use thiserror::Error;
-use unl_documents as documents;
 
 /// Why the program ended before its door was closed.
 #[derive(Debug, Drop, Error)]
 pub enum KeepingFault {
-    /// There is no path, or the arguments after it are not valid options of `upstream`.
+    /// There is no path, or the arguments after it are not options of `upstream`.
     #[error("unl_durable_upstream: bad words")]
     BadWords,
     /// The database could not be opened or closed.
@@ -49,21 +48,13 @@ impl KeepingFault {
 }
 
 impl From<sqlite::Error> for KeepingFault {
-    ghost from_gives = { λ error fault. fault ≡ fault_of error };
+    ghost from_gives = { λ error fault. (fault ≡ fault_of error) × IsOfDatabase fault };
 
     fn from(error: sqlite::Error) -> KeepingFault {
         match error {
             sqlite::Error::SqliteFailure(ErrorCode::OutOfMemory) => KeepingFault::Memory,
             other => KeepingFault::File(other),
         }
-    }
-}
-
-impl From<documents::Memory> for KeepingFault {
-    ghost from_gives = { λ _ fault. fault ≡ want };
-
-    fn from(_: documents::Memory) -> KeepingFault {
-        KeepingFault::Memory
     }
 }
 

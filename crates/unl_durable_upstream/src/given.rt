@@ -1,47 +1,32 @@
 //! The command line of the program: a path, then the options of an upstream.
-ghost use Rattle.std.specs.Prelude.{◌≡◌, ℕ, List, IfOk, map, string_bytes};
-ghost use Rattle.unl_durable_upstream.specs.Given.{IsReading, bound_of, port_of};
-ghost use Rattle.unl_words.specs.Ranges.{IsInRange};
+ghost use Rattle.std.specs.Prelude.{◌≡◌, ℕ, List, IfNone, IfOk, IfSome, map, string_bytes};
+ghost use Rattle.unl_durable_upstream.specs.Given.{IsReading, NamesAnotherCommand, bound_of};
+ghost use Rattle.unl_words.specs.Ranges.{IsUpstream};
+ghost use Rattle.unl_words.specs.declared.words.Words.TheVariants.{Upstream};
 
 use crate::fault::KeepingFault;
 use std::alloc::Global;
 use std::mem;
 use unl_usage::{ArgumentsFault, read_arguments};
-use unl_words::{Words, WordsRefusal, read_words};
+use unl_words::{UpstreamArguments, Words, WordsRefusal, read_words};
 
 /// The path of the database file, and the options of the upstream.
 #[derive(Drop)]
 pub struct ProgramArguments {
     pub path: String,
-    pub words: Words,
+    pub options: UpstreamArguments,
 }
 
 impl ProgramArguments {
-    /// Returns the port to listen on.
-    pub fn port(&self) -> u16
-        ensures { result ≡ port_of self.now.words }
-    {
-        match &self.words {
-            Words::Upstream(upstream) => upstream.port,
-            _ => 0,
-        }
-    }
-
-    /// Returns the epoch of the upstream.
-    pub fn epoch(&self) -> u64 {
-        match &self.words {
-            Words::Upstream(upstream) => upstream.epoch,
-            _ => 0,
-        }
-    }
-
-    /// Returns the number of links after which the door closes, or `None` if the arguments set no limit.
+    /// Returns the number of links after which the door closes, or `None` if the options set no limit.
     pub fn bound(&self) -> Option<u64>
-        ensures { result ≡ bound_of self.now.words }
+        ensures { result ≡ bound_of self.now.options.connections }
     {
-        match &self.words {
-            Words::Upstream(upstream) if upstream.connections > 0 => Some(upstream.connections),
-            _ => None,
+        let connections = self.options.connections;
+        if connections > 0 {
+            Some(connections)
+        } else {
+            None
         }
     }
 }
@@ -53,7 +38,7 @@ impl ProgramArguments {
 /// `BadWords`: there is no path, `read_words` refuses the options, or an argument is not UTF-8. `Memory`: out of memory.
 pub fn read_given(rt: &HostRuntime) -> Result<ProgramArguments, KeepingFault>
     ensures reads { (words : List (List ℕ)) × IsReading words result }
-    ensures valid { IfOk result (λ given. IsInRange given.words) }
+    ensures valid { IfOk result (λ given. IsUpstream given.options) }
 {
     match read_arguments(rt) {
         Ok(words) => read_path_first(rt.alloc(), words),
@@ -65,7 +50,7 @@ pub fn read_given(rt: &HostRuntime) -> Result<ProgramArguments, KeepingFault>
 /// Takes the first argument as the path, and puts the command name `upstream` in its place before the options are read.
 fn read_path_first(alloc: Global, mut words: Vec<String>) -> Result<ProgramArguments, KeepingFault>
     ensures reads { IsReading (map string_bytes words.items) result }
-    ensures valid { IfOk result (λ given. IsInRange given.words) }
+    ensures valid { IfOk result (λ given. IsUpstream given.options) }
 {
     let command = String::from_str(alloc, "upstream")?;
     let Some(first) = words.first_mut() else {
@@ -73,8 +58,22 @@ fn read_path_first(alloc: Global, mut words: Vec<String>) -> Result<ProgramArgum
     };
     let path = mem::replace(first, command);
     match read_words(alloc, &words) {
-        Ok(words) => Ok(ProgramArguments { path, words }),
+        Ok(read) => match upstream_options(read) {
+            Some(options) => Ok(ProgramArguments { path, options }),
+            None => Err(KeepingFault::BadWords),
+        },
         Err(WordsRefusal::Bad) => Err(KeepingFault::BadWords),
         Err(WordsRefusal::Memory) => Err(KeepingFault::Memory),
+    }
+}
+
+/// Returns the options of `upstream`, or `None` if the arguments name another command.
+fn upstream_options(words: Words) -> Option<UpstreamArguments>
+    ensures upstream { IfSome result (λ options. words ≡ Upstream options) }
+    ensures other { IfNone result (NamesAnotherCommand words) }
+{
+    match words {
+        Words::Upstream(options) => Some(options),
+        _ => None,
     }
 }

@@ -2,113 +2,75 @@
 //! restarted.
 #![tactic(auto)]
 
-ghost use Rattle.std.specs.Prelude.{IfOk};
-ghost use Rattle.unl_base.specs.Doors.{IsClosedAt};
-ghost use Rattle.unl_durable_upstream.specs.Given.{port_of};
-ghost use Rattle.unl_words.specs.Ranges.{IsInRange};
+ghost use Rattle.std.specs.Prelude.{◌≡◌};
+ghost use Rattle.unl_durable_upstream.specs.Databases.{ProgramEnds, exit_code_of};
 
+mod database;
 mod fault;
 mod given;
 mod reporting;
 mod serving;
 
+use database::serve_file;
 use fault::KeepingFault;
-use given::{ProgramArguments, read_given};
-use reporting::ReportingKeeper;
-use serving::{begin, serve_reopened};
-use sqlite::{Connection, File, FileStore};
-use std::alloc::Global;
+use given::read_given;
+use std::net::Net;
 use std::process::ExitCode;
+use std::random::RandomSource;
 use std::sync::Wait;
-use unl_base::{Door, Draws};
-use unl_keeper::SqliteKeeper;
+use std::time::Clock;
 use unl_net::{RealDoor, SystemDraws};
-use unl_usage::{Program, report_refusal, report_unopened, warn_of_epoch};
+use unl_usage::{Program, report_refusal, warn_of_epoch};
 
 fn main(rt: HostRuntime) -> ExitCode {
-    let ended = match open(&rt) {
-        Ok((given, connection)) => match RealDoor::new(rt.alloc(), rt, given.bound(), 0) {
-            Ok(mut door) => {
-                let served = serve_over(
-                    &rt,
-                    rt.alloc(),
-                    &given,
-                    connection,
-                    &mut door,
-                    SystemDraws::new(&rt),
-                );
-                report_keeper(&rt, given.path.as_str(), &served);
-                served
-            }
-            Err(fault) => Err(KeepingFault::from(fault)),
-        },
-        Err(fault) => Err(fault),
-    };
+    let ended = run(&rt, rt);
     if let Err(KeepingFault::BadWords) = &ended {
         report_refusal(&rt, Program::DurableUpstream);
     }
-    let told = match &ended {
+    let printed = print_end(&rt, &ended);
+    ExitCode::from(exit_code(&ended, printed))
+}
+
+/// Reads the arguments, and serves an upstream over the database at their path until its door is closed. The files are those of
+/// `system`, the connections those of `rt`. Returns how many links were served.
+///
+/// # Errors
+/// As for `read_given` and `serve_file`. `Memory`: out of memory.
+fn run<N: Net + Clock + RandomSource + Eprint + Wait + Copy + Drop>(
+    system: &HostRuntime,
+    rt: N,
+) -> Result<u64, KeepingFault>
+    ensures { ProgramEnds result }
+{
+    let given = match read_given(system) {
+        Ok(given) => given,
+        Err(fault) => return Err(fault),
+    };
+    let alloc = system.alloc();
+    warn_of_epoch(system, alloc, given.path.as_str(), given.options.epoch);
+    let mut draws = SystemDraws::new(rt);
+    match RealDoor::new(alloc, rt, given.bound(), 0) {
+        Ok(mut door) => serve_file(system, &rt, &given, &mut door, &mut draws),
+        Err(fault) => Err(KeepingFault::from(fault)),
+    }
+}
+
+/// Prints how many links were served, or why the program ended before, and returns whether that succeeded.
+fn print_end(rt: &HostRuntime, ended: &Result<u64, KeepingFault>) -> bool {
+    let printed = match ended {
         Ok(served) => println!(rt; "connections {served}"),
         Err(fault) => println!(rt; "{fault}"),
     };
-    match (ended, told) {
-        (Err(fault), _) => ExitCode::from(fault.code()),
-        (Ok(_), Err(_)) => ExitCode::from(5),
-        (Ok(_), Ok(())) => ExitCode::from(0),
-    }
+    printed.is_ok()
 }
 
-/// Reports the path of a file whose commands cannot be read.
-fn report_keeper(rt: &HostRuntime, path: &str, ended: &Result<u64, KeepingFault>) {
-    if let Err(KeepingFault::Keeper) = ended {
-        report_unopened(rt, path, &"its table of commands can't be read");
-    }
-}
-
-/// Reads the arguments, and opens the database at their path.
-fn open(rt: &HostRuntime) -> Result<(ProgramArguments, Connection<FileStore<File>>), KeepingFault>
-    ensures { IfOk result (λ opened. IsInRange opened.0.words) }
+/// Returns the exit code of the program.
+fn exit_code(ended: &Result<u64, KeepingFault>, is_printed: bool) -> u8
+    ensures { result ≡ exit_code_of ended.now is_printed }
 {
-    let given = read_given(rt)?;
-    warn_of_epoch(rt, rt.alloc(), given.path.as_str(), given.epoch());
-    match Connection::open(rt, given.path.as_str()) {
-        Ok(connection) => Ok((given, connection)),
-        Err(error) => {
-            report_unopened(rt, given.path.as_str(), &error);
-            Err(KeepingFault::from(error))
-        }
+    match ended {
+        Ok(_) if is_printed => 0,
+        Ok(_) => 5,
+        Err(fault) => fault.code(),
     }
-}
-
-/// Listens on the port of the arguments, serves an upstream over a database until its door is closed, and returns how many
-/// links were served. On success the content of the database's log is in the file.
-fn serve_over<D: Door, R: Draws + Drop, W: Wait + Eprint>(
-    rt: &W,
-    alloc: Global,
-    given: &ProgramArguments,
-    connection: Connection<FileStore<File>>,
-    door: &mut D,
-    mut draws: R,
-) -> Result<u64, KeepingFault>
-    requires { IsInRange given.now.words }
-    ensures { IfOk result (λ served. IsClosedAt (port_of given.now.words) (D.state door.new)) }
-{
-    let boot = draws.draw().word;
-    let port = given.port();
-    let epoch = given.epoch();
-    let mut up = begin(alloc, boot, &given.words)?;
-    let path = given.path.as_str();
-    let mut keeper = ReportingKeeper::new(rt, path, SqliteKeeper::new(connection));
-    let served = serve_reopened(
-        rt,
-        alloc,
-        port,
-        epoch,
-        &mut up,
-        &mut keeper,
-        door,
-        &mut draws,
-    )?;
-    keeper.into_keeper().into_connection().0.close()?;
-    Ok(served)
 }

@@ -1,12 +1,12 @@
 //! Reopens an upstream from its keeper, and serves the links of its door.
 ghost use Rattle.std.specs.Prelude.{◌≡◌, true, Err, IfOk, OnErr};
 ghost use Rattle.unl_base.specs.Faults.{Rose};
-ghost use Rattle.unl_durable_upstream.specs.Beginning.{Begins, upstream_of};
+ghost use Rattle.unl_durable_upstream.specs.Beginning.{upstream_of};
 ghost use Rattle.unl_durable_upstream.specs.Serving.{Ends, LinksEnd, facing};
 ghost use Rattle.unl_durable_upstream.specs.declared.fault.KeepingFault.TheVariants.{Door as door_fault, Keeper as keeper_fault};
 ghost use Rattle.unl_upstream.specs.Kept.{keeper_by, kept_state};
 ghost use Rattle.unl_upstream.specs.Reopening.{IsOpening};
-ghost use Rattle.unl_words.specs.Ranges.{IsInRange, IsUpstream};
+ghost use Rattle.unl_words.specs.Ranges.{IsUpstream};
 
 use crate::fault::KeepingFault;
 use std::alloc::Global;
@@ -16,32 +16,27 @@ use unl_documents::Memory;
 use unl_keeper::Keeper;
 use unl_upstream::{ReopenFault, Upstream, host_kept, reopen};
 use unl_usage::report_commands;
-use unl_words::{UpstreamArguments, Words, own_book};
-
-/// Creates an upstream from the arguments. It has applied no command.
-///
-/// # Errors
-/// `BadWords`: exactly if the arguments are not those of an upstream. `Memory`: out of memory.
-pub fn begin(alloc: Global, boot: u64, words: &Words) -> Result<Upstream, KeepingFault>
-    requires { IsInRange words.now }
-    ensures opens { IfOk result IsOpening }
-    ensures begins { Begins boot words.now result }
-{
-    match words {
-        Words::Upstream(upstream) => Ok(new_upstream(alloc, boot, upstream)?),
-        _ => Err(KeepingFault::BadWords),
-    }
-}
+use unl_words::{UpstreamArguments, own_book};
 
 /// Creates an upstream from its options. It has applied no command.
-fn new_upstream(alloc: Global, boot: u64, words: &UpstreamArguments) -> Result<Upstream, Memory>
-    requires { IsUpstream words.now }
+///
+/// # Errors
+/// Out of memory.
+pub fn begin(alloc: Global, boot: u64, options: &UpstreamArguments) -> Result<Upstream, Memory>
+    requires { IsUpstream options.now }
     ensures opens { IfOk result IsOpening }
-    ensures asked { IfOk result (λ up. up ≡ upstream_of boot words.now) }
+    ensures begins { IfOk result (λ up. up ≡ upstream_of boot options.now) }
 {
-    let book = own_book(alloc, &words.client_tokens, &words.frontend_tokens)?;
-    let secret = words.secret.as_str();
-    let up = Upstream::new(alloc, boot, secret, &words.environments, book, words.epoch)?;
+    let book = own_book(alloc, &options.client_tokens, &options.frontend_tokens)?;
+    let secret = options.secret.as_str();
+    let up = Upstream::new(
+        alloc,
+        boot,
+        secret,
+        &options.environments,
+        book,
+        options.epoch,
+    )?;
     Ok(up)
 }
 

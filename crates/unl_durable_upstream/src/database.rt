@@ -1,0 +1,178 @@
+//! Serves an upstream over a database file.
+ghost use Rattle.std.specs.Prelude.{◌≡◌, Ok, Err, IfOk};
+ghost use Rattle.unl_base.specs.Doors.{IsClosedAt};
+ghost use Rattle.unl_base.specs.Faults.{Rose};
+ghost use Rattle.unl_durable_upstream.specs.Databases.{IsClosedWith, Runs, RunsFile, ServesAndCloses};
+ghost use Rattle.unl_durable_upstream.specs.Serving.{Ends, facing};
+ghost use Rattle.unl_durable_upstream.specs.declared.fault.KeepingFault.TheVariants.{Door as door_fault};
+ghost use Rattle.unl_upstream.specs.Kept.{KeptState, keeper_by, kept_state};
+ghost use Rattle.unl_upstream.specs.Reopening.{IsOpening};
+ghost use Rattle.unl_words.specs.Ranges.{IsUpstream};
+
+use crate::fault::KeepingFault;
+use crate::given::ProgramArguments;
+use crate::reporting::ReportingKeeper;
+use crate::serving::{begin, serve_reopened};
+use sqlite::{Connection, Error, File, FileStore};
+use sqlite_disk::Disk;
+use std::alloc::Global;
+use std::sync::Wait;
+use unl_base::{Door, Draws};
+use unl_documents::Memory;
+use unl_keeper::{Keeper, SqliteKeeper};
+use unl_upstream::Upstream;
+use unl_usage::report_unopened;
+
+// The two functions below have no contract, so that no proof carries the state of the database.
+
+/// Opens the database at a path, or creates it.
+fn connect(system: &HostRuntime, path: &str) -> Result<Connection<FileStore<File>>, Error> {
+    Connection::open(system, path)
+}
+
+/// Closes a database. The content of its log is then in its file.
+fn disconnect<F: Disk + Drop>(connection: Connection<FileStore<F>>) -> Result<(), Error> {
+    connection.close()
+}
+
+/// Opens the database at the path of the arguments in `system`, serves it as [`serve_over`] does, and reports why it can't be
+/// opened or read.
+///
+/// # Errors
+/// `File`: the database could not be opened or closed. Others as for [`serve_over`].
+pub fn serve_file<D: Door, R: Draws, W: Wait + Eprint>(
+    system: &HostRuntime,
+    rt: &W,
+    given: &ProgramArguments,
+    door: &mut D,
+    draws: &mut R,
+) -> Result<u64, KeepingFault>
+    requires { IsUpstream given.now.options }
+    ensures runs { RunsFile given.now.options result
+        (facing (D.state door.old) (R.coming draws.old)) (facing (D.state door.new) (R.coming draws.new)) }
+    ensures door { result ≡ Err door_fault → Rose (D.faults door.old) (D.faults door.new) }
+{
+    let path = given.path.as_str();
+    match connect(system, path) {
+        Ok(connection) => {
+            let served = serve_over(rt, system.alloc(), given, connection, door, draws);
+            report_keeper(rt, path, &served);
+            served
+        }
+        Err(error) => {
+            report_unopened(rt, path, &error);
+            Err(KeepingFault::from(error))
+        }
+    }
+}
+
+/// Reports the path of a file whose commands cannot be read.
+fn report_keeper<E: Eprint>(rt: &E, path: &str, ended: &Result<u64, KeepingFault>) {
+    if let Err(KeepingFault::Keeper) = ended {
+        report_unopened(rt, path, &"its table of commands can't be read");
+    }
+}
+
+/// Reopens an upstream from a database, listens on the port of the arguments, and serves the links of the door until it is
+/// closed. Each command is in the database before it is acknowledged. Returns how many links were served; the content of the
+/// database's log is then in the file. The word of a draw is the boot number of the upstream.
+///
+/// # Errors
+/// `Row`, `Keeper` and `Door`: as for [`serve_reopened`]. `File`: the links were served, but the database could not be closed.
+/// `Memory`: out of memory, before a link was handed out or while the database was closed.
+pub fn serve_over<F: Disk + Drop, D: Door, R: Draws, W: Wait + Eprint>(
+    rt: &W,
+    alloc: Global,
+    given: &ProgramArguments,
+    connection: Connection<FileStore<F>>,
+    door: &mut D,
+    draws: &mut R,
+) -> Result<u64, KeepingFault>
+    requires { IsUpstream given.now.options }
+    ensures runs { Runs given.now.options result
+        (facing (D.state door.old) (R.coming draws.old)) (facing (D.state door.new) (R.coming draws.new)) }
+    ensures door { result ≡ Err door_fault → Rose (D.faults door.old) (D.faults door.new) }
+    ensures closed { IfOk result (λ served. IsClosedAt given.now.options.port (D.state door.new)) }
+{
+    let boot = draws.draw().word;
+    match begin(alloc, boot, &given.options) {
+        Ok(up) => serve_database(rt, alloc, given, up, connection, door, draws),
+        Err(Memory) => Err(KeepingFault::Memory),
+    }
+}
+
+/// Reopens an upstream from a database, serves the links of the door, and closes the database.
+fn serve_database<F: Disk + Drop, D: Door, R: Draws, W: Wait + Eprint>(
+    rt: &W,
+    alloc: Global,
+    given: &ProgramArguments,
+    up: Upstream,
+    connection: Connection<FileStore<F>>,
+    door: &mut D,
+    draws: &mut R,
+) -> Result<u64, KeepingFault>
+    requires { IsOpening up }
+    ensures ends { ServesAndCloses up given.now.options.port result
+        (facing (D.state door.old) (R.coming draws.old)) (facing (D.state door.new) (R.coming draws.new)) }
+    ensures door { result ≡ Err door_fault → Rose (D.faults door.old) (D.faults door.new) }
+{
+    let keeper = SqliteKeeper::new(connection);
+    let (served, keeper) = serve_keeper(rt, alloc, given, up, keeper, door, draws);
+    close(served, keeper)
+}
+
+/// Reopens an upstream from a keeper, reports when that begins to fail and when it works again, and serves the links of the
+/// door. Returns the keeper.
+fn serve_keeper<K: Keeper + Drop, D: Door, R: Draws, W: Wait + Eprint>(
+    rt: &W,
+    alloc: Global,
+    given: &ProgramArguments,
+    mut up: Upstream,
+    keeper: K,
+    door: &mut D,
+    draws: &mut R,
+) -> (Result<u64, KeepingFault>, K)
+    requires { IsOpening up }
+    ensures ends { (last : KeptState) × Ends (kept_state up (keeper_by K.opened K.faults K.count K.rows keeper)) given.now.options.port
+        result.0 last (facing (D.state door.old) (R.coming draws.old)) (facing (D.state door.new) (R.coming draws.new)) }
+    ensures door { result.0 ≡ Err door_fault → Rose (D.faults door.old) (D.faults door.new) }
+{
+    let port = given.options.port;
+    let epoch = given.options.epoch;
+    let mut keeper = ReportingKeeper::new(rt, given.path.as_str(), keeper);
+    let served = serve_reopened(rt, alloc, port, epoch, &mut up, &mut keeper, door, draws);
+    (served, keeper.into_keeper())
+}
+
+/// Closes the database of a keeper, if serving it ended well.
+///
+/// # Errors
+/// That of serving. `File`: the database could not be closed. `Memory`: out of memory while it was closed.
+fn close<F: Disk + Drop>(
+    served: Result<u64, KeepingFault>,
+    keeper: SqliteKeeper<FileStore<F>>,
+) -> Result<u64, KeepingFault>
+    ensures { IsClosedWith served result }
+{
+    match served {
+        Ok(count) => close_after(count, keeper),
+        Err(fault) => Err(fault),
+    }
+}
+
+/// Closes the database of a keeper after `count` links were served.
+///
+/// # Errors
+/// `File`: the database could not be closed. `Memory`: out of memory while it was closed.
+fn close_after<F: Disk + Drop>(
+    count: u64,
+    keeper: SqliteKeeper<FileStore<F>>,
+) -> Result<u64, KeepingFault>
+    ensures { IsClosedWith (Ok count) result }
+{
+    let (connection, _) = keeper.into_connection();
+    match disconnect(connection) {
+        Ok(()) => Ok(count),
+        Err(error) => Err(KeepingFault::from(error)),
+    }
+}
