@@ -201,16 +201,6 @@ same_is a b = sym (decided (cmp a b) (cmp b a) (nat_list_cmp_total.antisymm b a)
     decided Equal back turned = sym (ap (λ (b : Ordering). not (is_lt b)) turned)
     decided Greater back turned = sym (ap (λ (b : Ordering). not (is_lt b)) turned)
 
--- if the first doesn't come before the second, the other test decides whether they are equal
-pub same_if_not_after : (a b : List ℕ) (before after : Bool) → before ≡ is_before a b → after ≡ is_before b a → before ≡ false → not after ≡ bytes_eq a b
-same_if_not_after a b before after first second h =
-    let lower : is_before a b ≡ false = sym first ∙ h in
-    ap not second ∙ ap (λ (t : Bool). not t && not (is_before b a)) (sym lower) ∙ same_is a b
-
--- if the first comes before the second, they are not equal
-pub apart_if_before : (a b : List ℕ) (before : Bool) → before ≡ is_before a b → before ≡ true → not before ≡ bytes_eq a b
-apart_if_before a b before first h = ap not h ∙ sym (sym (is_eq-slice_cmp a b) ∙ ap is_eq (less_from_test _ (sym first ∙ h)))
-
 pub found_at : {T : Type 0} (key : T → List ℕ) (k : List ℕ) (xs : List T) (place : ℕ) → Rises key xs → place ≡ prefix_len (λ y. is_before (key y) k) xs
     → option_and_then (unless_above key k) (slice_get xs place) ≡ find (λ y. bytes_eq (key y) k) xs
 unfolding Rises
@@ -241,15 +231,3 @@ found_at {T} key k (y ∷ ys) (suc place) h is =
     ]
 
 -- ---- keys that ascend pairwise
-
-pub rises_from_neighbours : {T : Type 0} (key : T → List ℕ) (xs : List T) → AllAdjacentBelow (λ x y. true ≡ is_before (key x) (key y)) xs (length xs) → Rises key xs
-unfolding Rises
-rises_from_neighbours key [] h = tt
-rises_from_neighbours key (x ∷ []) h = (tt, tt)
-rises_from_neighbours {T} key (x ∷ y ∷ ys) h =
-    let less : cmp (key x) (key y) ≡ Less = less_from_test _ (sym (h 0 x (omega arith))) in
-    let next : (k : ℕ) → suc k + 1 ≡ suc (k + 1) = λ k. omega arith in
-    let rest = rises_from_neighbours key (y ∷ ys) (λ k d lt. subst (λ n. true ≡ is_before (key (get_or (y ∷ ys) k d)) (key (get_or (x ∷ y ∷ ys) n d))) (next k) (h (suc k) d (omega (arith, lt)))) in
-    let others : Every (λ (z : T). cmp (key x) (key z) ≡ Less) ys =
-    every_weaker (λ (z : T). cmp (key y) (key z) ≡ Less) (λ (z : T). cmp (key x) (key z) ≡ Less) ys (λ z more. nat_list_cmp_total.trans (key x) (key y) (key z) less more) rest.0 in
-    ((less, others), rest)

@@ -299,11 +299,3 @@ find_on : {T : Type 0} (p : T → Bool) (runs : List (List T)) (i : ℕ) (here :
 find_on {T} p runs i here inside is =
     let parts : drop i runs ≡ here ∷ drop (i + 1) runs = drop_more runs i here inside ∙ ap (λ (run : List T). run ∷ drop (i + 1) runs) (sym is) in
     ap (λ (rs : List (List T)). find p (joined rs)) parts ∙ find-append p here (joined (drop (i + 1) runs))
-
-pub find_here : {T : Type 0} (p : T → Bool) (runs : List (List T)) (i : ℕ) (here : List T) (x : T) (total : Option T) → i < length runs → here ≡ get_or runs i here → Some x ≡ find p here → find p (joined (drop i runs)) ≡ total → Some x ≡ total
-find_here {T} p runs i here x total inside is found so_far =
-    ap (λ (o : Option T). option_or o (find p (joined (drop (i + 1) runs)))) found ∙ sym (find_on p runs i here inside is) ∙ so_far
-
-pub find_later : {T : Type 0} (p : T → Bool) (runs : List (List T)) (i : ℕ) (here : List T) (total : Option T) → i < length runs → here ≡ get_or runs i here → None ≡ find p here → find p (joined (drop i runs)) ≡ total → find p (joined (drop (i + 1) runs)) ≡ total
-find_later {T} p runs i here total inside is none so_far =
-    ap (λ (o : Option T). option_or o (find p (joined (drop (i + 1) runs)))) none ∙ sym (find_on p runs i here inside is) ∙ so_far

@@ -1,25 +1,19 @@
 -- Reading returns what was written.
-use Rattle.std.proofs.Common.{◌≡◌, ℕ, ◌+◌, ◌≤◌, Bool, true, false, ltb, List, [], ◌∷◌, length, map, Option, Some, None, Ok, refl, ◌∙◌, ◌&&◌, not}
+use Rattle.std.proofs.Common.{◌≡◌, ℕ, ◌+◌, ◌≤◌, Bool, true, false, ltb, List, [], ◌∷◌, map, Option, Some, None, Ok, refl, ◌∙◌, ◌&&◌, not}
 use Rattle.std.specs.Prelude.{codes, drop, option_map}
 use Rattle.std.specs.List.{AllByRecursion as Every}
 use Rattle.std.specs.Option.{option_or}
 use Rattle.std.proofs.lemmas.Bool.{le-ltb}
-use Rattle.std.proofs.lemmas.List.Sorted.{IsPermutation-refl}
 use Rattle.serde_json.specs.Data.{Data, null, boolean, number, string, array, object}
 use Rattle.serde_json.specs.View.{items_of}
 use Rattle.unl_documents.specs.declared.field.Field.{Field}
 use Rattle.unl_documents.specs.declared.field.Field.TheVariants as field
-use Rattle.unl_documents.specs.declared.state.State.{State}
 use Rattle.unl_documents.specs.Kinds.{at, present, any_text, any_whole, name, object_of, required, optional, is_object}
-use Rattle.unl_documents.specs.Parameters.{AreRising}
 use Rattle.unl_documents.specs.Reading.{Reading}
-use Rattle.unl_documents.specs.Sorting.{in_order}
-use Rattle.unl_documents.specs.States.{state_of, IsValidState, name_key, as_is, id_key, id_text}
-use Rattle.unl_documents.specs.Writing.{count, unless_zero, feature_data, segment_data}
+use Rattle.unl_documents.specs.Writing.{count, unless_zero}
 use Rattle.unl_documents.specs.Writing.{list as list_data}
-use Rattle.unl_documents.proofs.FeedTrip.{zero_back}
-use Rattle.unl_documents.proofs.InOrder.{order_from_sorting}
-use Rattle.unl_documents.proofs.RoundTrip.{name_back, any_text_back, any_whole_back, required_back, defaulted_back, optional_back, optional_none, ComesBack, objects_back, features, segments}
+use Rattle.unl_documents.proofs.FeedTrip.{state_back, zero_back}
+use Rattle.unl_documents.proofs.RoundTrip.{name_back, any_text_back, any_whole_back, required_back, defaulted_back, optional_back, optional_none, ComesBack, features, segments}
 use Rattle.unl_delta.specs.declared.batch.Batch.{Batch}
 use Rattle.unl_delta.specs.declared.event.Event.{Event}
 use Rattle.unl_delta.specs.declared.event.Event.TheVariants.{Hydration, FeatureUpdated, FeatureRemoved, SegmentUpdated, SegmentRemoved}
@@ -27,21 +21,6 @@ use Rattle.unl_delta.specs.Reading.{hydration_of, feature_updated_of, feature_re
 use Rattle.unl_delta.specs.State.{number_of, is_change}
 use Rattle.unl_delta.specs.Valid.{NeverFall, IsReadable, IsValidEvent, IsValidBatch}
 use Rattle.unl_delta.specs.Writing.{event_data, batch_with, batch_data}
-
--- ---- a state inside another object
-
-order_back : {T : Type 0} (key : T → List ℕ) (spelled : List ℕ → List ℕ) (f : Field) (xs : List T) → AreRising (map key xs) → in_order key spelled f xs ≡ Ok xs
-order_back key spelled f xs rising = order_from_sorting key spelled f xs xs (record { same = IsPermutation-refl xs; rising = rising })
-
-state_back : (value : Data) (s : State) → IsValidState s → length s.features ≤ 10000 → length s.segments ≤ 1000
-    → at field.Features value ≡ Some (list_data feature_data s.features) → at field.Segments value ≡ Some (list_data segment_data s.segments) → state_of value ≡ Ok s
-unfolding state_of
-state_back value s valid few fewer here there =
-    let a = objects_back features 10000 field.Features value s.features here (few, valid.features) in
-    let b = order_back name_key as_is field.Name s.features valid.names in
-    let c = objects_back segments 1000 field.Segments value s.segments there (fewer, valid.segments) in
-    let d = order_back id_key id_text field.Id s.segments valid.ids in
-    rw (a, b, c, d) refl
 
 -- ---- an event
 
@@ -54,7 +33,7 @@ present_one (array values) is = absurd cc
 present_one (object inside) is = refl
 
 -- an object at a key
-one_back : {T : Type 0} {reads : Data → Reading T} {written : T → Data} {P : T → Type 0} → ComesBack reads written P → (f : Field) (value : Data) (x : T) → P x → at f value ≡ present (written x) → required (object_of reads) f value ≡ Ok x
+pub one_back : {T : Type 0} {reads : Data → Reading T} {written : T → Data} {P : T → Type 0} → ComesBack reads written P → (f : Field) (value : Data) (x : T) → P x → at f value ≡ present (written x) → required (object_of reads) f value ≡ Ok x
 unfolding object_of
 one_back {T} {reads} {written} comes f value x valid here =
     let there : at f value ≡ Some (written x) = here ∙ present_one (written x) (comes.is_one x) in

@@ -1,5 +1,6 @@
 //! The features of a load, and their version.
 ghost use Rattle.std.specs.Prelude.{◌≡◌, ◌∷◌, [], None, IfOk, OnOk, decimal, string_bytes};
+ghost use Rattle.unl_delta.specs.Valid.{IsValidBatch};
 ghost use Rattle.unl_delta.specs.declared.event.Event.TheVariants.{Hydration};
 ghost use Rattle.unl_documents.specs.States.{IsValidState};
 ghost use Rattle.unl_load.specs.Input.{feature_of, features_from, name_of, pair, state_by, strategy_of};
@@ -133,7 +134,9 @@ pub(crate) fn installed(alloc: Global, state: State) -> Result<Snapshot, Memory>
 
 /// Returns a batch of one hydration with this state.
 fn hydration(alloc: Global, state: State) -> Result<Batch, Memory>
-    ensures { IfOk result (λ batch. batch ≡ record { epoch = 0; after = None; events = Hydration 1 state ∷ [] }) }
+    requires { IsValidState state }
+    ensures valid { IfOk result IsValidBatch }
+    ensures batch { IfOk result (λ batch. batch ≡ record { epoch = 0; after = None; events = Hydration 1 state ∷ [] }) }
 {
     let mut events = List::new(alloc);
     events.push(Event::Hydration { number: 1, state })?;

@@ -7,7 +7,8 @@ use Rattle.unl_delta.specs.Batch.{verdict_of}
 use Rattle.unl_delta.specs.History.{Era, IsLine, IsNotBelow, PlaceRepresents}
 use Rattle.unl_delta.specs.Installing.{Installed, place_of}
 use Rattle.unl_delta.specs.View.{Sees}
-use Rattle.unl_delta.proofs.Delivery.{not_below_itself, one_taken}
+use Rattle.unl_delta.proofs.Delivery.{one_taken}
+use Rattle.unl_delta.proofs.NotBelow.{not_below_itself}
 use Rattle.unl_delta.proofs.Installs.{batch_placed}
 use Rattle.unl_http_api.specs.declared.got.BadReply.{BadReply}
 use Rattle.unl_http_api.specs.declared.got.Got.{Got}

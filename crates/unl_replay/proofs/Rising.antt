@@ -1,72 +1,20 @@
 -- No line of a replay replaces the version of an environment by an older one.
-use Rattle.std.proofs.Common.{◌≡◌, ℕ, zero, suc, ◌<◌, ◌≤◌, List, [], ◌∷◌, ◌++◌, Bool, true, false, cond, Option, Some, None, inr, refl, subst, sym, arith, leb, ltb, leb-false, unwrap_or}
+use Rattle.std.proofs.Common.{◌≡◌, ℕ, zero, suc, List, [], ◌∷◌, ◌++◌, Bool, true, false, cond, Option, Some, None, subst, unwrap_or}
 use Rattle.std.specs.Prelude.{IfSome, find, option_and_then, slice_get}
-use Rattle.unl_core.specs.Board.{empty_slot, is_named, place_in, snapshot_in, taking}
+use Rattle.unl_core.specs.Board.{empty_slot, is_named, snapshot_in, taking}
 use Rattle.unl_core.specs.DeskStates.{DeskState, installed_by, is_added, with_name, with_slot}
 use Rattle.unl_core.specs.declared.board.Slot.{Slot}
-use Rattle.unl_delta.specs.Batch.{changes_verdict, empty_place, empty_version, from_hydration, go_on, hydration_verdict, last_number, next_on, next_version, verdict_of, verdict_on}
+use Rattle.unl_delta.specs.Batch.{empty_place, next_version, verdict_of}
 use Rattle.unl_delta.specs.History.{IsNotBelow}
 use Rattle.unl_delta.specs.Installing.{place_of}
-use Rattle.unl_delta.specs.Revision.{IsNotOlder, is_older, revision_of}
-use Rattle.unl_delta.specs.State.{number_of}
 use Rattle.unl_delta.specs.declared.batch.Batch.{Batch}
 use Rattle.unl_delta.specs.declared.batch.Verdict.{Verdict}
 use Rattle.unl_delta.specs.declared.batch.Verdict.TheVariants.{Apply, Repeat, Old, Gap, Held}
-use Rattle.unl_delta.specs.declared.event.Event.{Event}
-use Rattle.unl_delta.specs.declared.event.Event.TheVariants.{Hydration, FeatureUpdated, FeatureRemoved, SegmentUpdated, SegmentRemoved}
 use Rattle.unl_delta.specs.declared.version.EnvVersion.{EnvVersion}
-use Rattle.unl_delta.specs.declared.version.Place.{Place}
-use Rattle.unl_delta.proofs.Revisions.{not_older, up_to_both, up_to_itself}
-use Rattle.unl_replay.specs.Delivery.{Delivery}
+use Rattle.unl_delta.proofs.NotBelow.{next_not_below, not_below_both, not_below_itself}
 use Rattle.unl_replay.specs.Replay.{after_verdict}
 use Rattle.unl_replay.proofs.LineSteps.{Leads}
 use Rattle.unl_replay.proofs.Slots.{DeskIs, desk_after, desk_named, version_at}
-
--- ---- the order of versions
-
-not_below_itself : (v : Option EnvVersion) → IsNotBelow v v
-not_below_itself None = tt
-not_below_itself (Some v) = up_to_itself (revision_of v)
-
-not_below_both : (a b c : Option EnvVersion) → IsNotBelow a b → IsNotBelow b c → IsNotBelow a c
-not_below_both None b c ab bc = tt
-not_below_both (Some a) None c ab bc = absurd ab
-not_below_both (Some a) (Some b) None ab bc = absurd bc
-not_below_both (Some a) (Some b) (Some c) ab bc = up_to_both (revision_of a) (revision_of b) (revision_of c) ab bc
-
--- ---- a batch that applies leads to no older version
-
-hydrated : (version : Option EnvVersion) (held : Bool) (new : EnvVersion) → hydration_verdict version held new.epoch new.number ≡ Apply → IsNotBelow version (Some new)
-hydrated None held new is = tt
-hydrated (Some v) held new is = decided (is_older (revision_of new) (revision_of v)) _ refl is
-  where
-    decided : (t : Bool) (else_ : Verdict) → is_older (revision_of new) (revision_of v) ≡ t → cond t Old else_ ≡ Apply → IsNotOlder (revision_of v) (revision_of new)
-    decided true else_ t_is so = absurd cc
-    decided false else_ t_is so = not_older (revision_of v) (revision_of new) t_is
-
-changed : (version : Option EnvVersion) (held : Bool) (g : ℕ) (after : Option ℕ) (event : Event) (es : List Event) → changes_verdict version held g after (last_number (number_of event) es) ≡ Apply
-    → IsNotBelow version (Some (go_on (unwrap_or version empty_version) (event ∷ es)))
-changed None held g after event es is = tt
-changed (Some v) true g after event es is = absurd cc
-changed (Some v) false g after event es is = decided (ltb g v.epoch) (ltb v.epoch g) (leb (last_number (number_of event) es) v.number) _ refl is
-  where
-    decided : (p q s : Bool) (else_ : Verdict) → leb (last_number (number_of event) es) v.number ≡ s → cond p Old (cond q Gap (cond s Repeat else_)) ≡ Apply
-        → IsNotOlder (revision_of v) (revision_of (go_on v (event ∷ es)))
-    decided true q s else_ s_is so = absurd cc
-    decided false true s else_ s_is so = absurd cc
-    decided false false true else_ s_is so = absurd cc
-    decided false false false else_ s_is so = inr (refl, omega (arith, leb-false (last_number (number_of event) es) v.number s_is))
-
-next_on_not_below : (place : Place) (g : ℕ) (after : Option ℕ) (es : List Event) → verdict_on place g after es ≡ Apply → IsNotBelow place.version (Some (next_on g (unwrap_or place.version empty_version) es))
-next_on_not_below place g after [] is = absurd cc
-next_on_not_below place g after (Hydration n state ∷ es) is = hydrated place.version place.held (from_hydration g n state es) is
-next_on_not_below place g after (FeatureUpdated n feature ∷ es) is = changed place.version place.held g after (FeatureUpdated n feature) es is
-next_on_not_below place g after (FeatureRemoved n name project ∷ es) is = changed place.version place.held g after (FeatureRemoved n name project) es is
-next_on_not_below place g after (SegmentUpdated n segment ∷ es) is = changed place.version place.held g after (SegmentUpdated n segment) es is
-next_on_not_below place g after (SegmentRemoved n id ∷ es) is = changed place.version place.held g after (SegmentRemoved n id) es is
-
-next_not_below : (place : Place) (batch : Batch) → verdict_of place batch ≡ Apply → IsNotBelow place.version (Some (next_version place batch))
-next_not_below place batch is = next_on_not_below place batch.epoch batch.after batch.events is
 
 -- ---- the version of an environment
 
