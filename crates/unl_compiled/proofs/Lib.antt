@@ -5,5 +5,6 @@ mod InRuns
 mod Following
 mod Alike
 mod Shifts
+pub mod AtPlaces
 pub mod Projects
 pub mod Tokens

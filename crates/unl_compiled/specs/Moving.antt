@@ -49,7 +49,8 @@ abbrev pub moved : Change → List ℕ → List ℕ → List ℕ
 moved c project places =
     take (cut c.place places) places
     ++ (place_if (is_of project c.inserted) c.place
-    ++ map (shifted (count_of c.removed) (count_of c.inserted)) (drop (count_if (is_of project c.removed)) (drop (cut c.place places) places)))
+    ++ map (shifted (count_of c.removed) (count_of c.inserted))
+    (drop (count_if (is_of project c.removed)) (drop (cut c.place places) places)))
 
 -- The entry `new` has the project of `e`, and its positions after a change.
 pub record IsMoved (c : Change) (e new : ProjectPlaces) : Type 0 where

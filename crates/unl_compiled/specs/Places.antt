@@ -7,6 +7,8 @@ use Rattle.unl_compiled.specs.declared.index.ProjectPlaces.{ProjectPlaces}
 use Rattle.unl_documents.specs.declared.feature.Feature.{Feature}
 use Rattle.unl_documents.specs.declared.state.State.{State}
 use Rattle.unl_documents.specs.declared.strategy.Strategy.{Strategy}
+use Rattle.unl_tokens.specs.declared.projects.Projects.{Projects}
+use Rattle.unl_tokens.specs.declared.projects.Projects.TheVariants.{All, Only}
 
 -- The positions of a project's features in ascending order, if the first feature of the list is at `place`.
 abbrev pub places_from : ℕ → List ℕ → List Feature → List ℕ
@@ -33,3 +35,14 @@ IsIndex features index = (project : List ℕ) → listed project index ≡ place
 -- The feature, if it has the name.
 abbrev pub if_name : List ℕ → Feature → Option Feature
 if_name name f = if bytes_eq f.name name then Some f else None
+
+-- The name, if it is the only one.
+abbrev pub only_one : List (List ℕ) → Option (List ℕ)
+only_one [] = None
+only_one (name ∷ []) = Some name
+only_one (name ∷ other ∷ names) = None
+
+-- The project, if there is one only.
+abbrev pub one_project : Projects → Option (List ℕ)
+one_project All = None
+one_project (Only names) = only_one names

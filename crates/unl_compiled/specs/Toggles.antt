@@ -1,5 +1,5 @@
 -- The body of the frontend endpoints: the toggles of a state, in the order of their names.
-use Rattle.std.specs.Prelude.{List, Bool, ◌||◌, filter_map, Option, Some, None, option_map, if◌then◌else◌}
+use Rattle.std.specs.Prelude.{ℕ, List, Bool, ◌||◌, filter_map, Option, Some, None, option_and_then, option_map, slice_get, if◌then◌else◌}
 use Rattle.serde_json.specs.Data.{Data, boolean, string, array, object, no_members}
 use Rattle.serde_json.specs.View.{items_of}
 use Rattle.unl_context.specs.Context.{Fields}
@@ -43,6 +43,10 @@ toggle_of state all context moment f = toggle_if all f (feature_evaluation state
 -- The toggle of a feature, evaluated over a state, if its project is seen.
 abbrev pub toggle_if_seen : Projects → State → Bool → Fields → Moment → Feature → Option Data
 toggle_if_seen projects state all context moment f = if sees projects f.project then toggle_of state all context moment f else None
+
+-- The toggle of the feature at a position, evaluated over a state.
+abbrev pub toggle_at : State → Bool → Fields → Moment → List Feature → ℕ → Option Data
+toggle_at state all context moment features place = option_and_then (toggle_of state all context moment) (slice_get features place)
 
 -- The body that has these toggles.
 unfoldable pub written_toggles : List Data → Data

@@ -1,13 +1,14 @@
 //! An index from each project to the positions of its features.
-ghost use Rattle.std.specs.Prelude.{◌≡◌, ◌∷◌, [], ◌++◌, ◌+◌, ◌≤◌, ℕ, List, length, not, IfOk, OnOk, if◌then◌else◌};
+ghost use Rattle.std.specs.Prelude.{◌≡◌, ◌∷◌, [], ◌++◌, ◌+◌, ◌≤◌, ℕ, List, length, not, option_map, IfOk, OnOk, if◌then◌else◌};
 ghost use Rattle.std.specs.List.{prefix_len};
 ghost use Rattle.std.specs.Str.{bytes_eq};
-ghost use Rattle.unl_compiled.specs.Places.{IsIndex, listed, places_from};
+ghost use Rattle.unl_compiled.specs.Places.{IsIndex, listed, one_project, places_from};
 ghost use Rattle.unl_documents.specs.Chunks.{joined};
 
 use crate::feature::CompiledFeature;
 use std::alloc::Global;
 use unl_documents::{Chunk, List, Memory, Shared, Text, TryClone};
+use unl_tokens::Projects;
 
 /// A project, and the positions of its features in ascending order.
 #[derive(Drop)]
@@ -112,4 +113,21 @@ pub(crate) fn places_of<'a>(index: &'a [ProjectPlaces], project: &str) -> &'a [u
         }
     }
     &[]
+}
+
+/// The positions of the features of these projects, if they are one project only.
+pub(crate) fn places_of_one<'a>(
+    index: &'a [ProjectPlaces],
+    projects: &Projects,
+) -> Option<&'a [usize]>
+    ensures { option_map (λ places. places.now) result
+        ≡ option_map (λ project. listed project index.now) (one_project projects.now) }
+{
+    let Projects::Only(names) = projects else {
+        return None;
+    };
+    match names.as_slice() {
+        [name] => Some(places_of(index, name.as_str())),
+        _ => None,
+    }
 }

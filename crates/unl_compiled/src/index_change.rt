@@ -26,7 +26,11 @@ impl<'a> Model for Change<'a> {
 
     ghost Value = { Plain };
 
-    ghost view = { λ c. record { place = c.place; removed = option_map (λ t. t.now) c.removed; inserted = option_map (λ t. t.now) c.inserted } };
+    ghost view = { λ c. record {
+      place = c.place;
+      removed = option_map (λ t. t.now) c.removed;
+      inserted = option_map (λ t. t.now) c.inserted;
+    } };
 }
 
 /// The index after a change.

@@ -23,7 +23,7 @@ use std::alloc::Global;
 use std::marker::Model;
 use unl_constraints::Compiled;
 use unl_context::Context;
-use unl_delta::{Batch, EnvVersion, Place, apply_in_order};
+use unl_delta::{Batch, EnvVersion, Place, apply};
 use unl_dependencies::{Evaluation, evaluate};
 use unl_documents::{Feature, List, Memory, Shared};
 use unl_strategies::Moment;
@@ -133,7 +133,15 @@ impl Snapshot {
             ≡ toggles_data (view_of (sees projects.now) self.now.state) all context.now moment.entry.now) }
         ensures no_float { IfOk result (λ v. has_float (view v) ≡ false) }
     {
-        toggles_of(alloc, &self.parts, projects, all, context, moment)
+        toggles_of(
+            alloc,
+            &self.parts,
+            self.projects.get().as_slice(),
+            projects,
+            all,
+            context,
+            moment,
+        )
     }
 
     /// The body that `toggles` returns, as the text that is sent. Fails only if it runs out of memory.
@@ -148,7 +156,15 @@ impl Snapshot {
         ensures { IfOk result (λ text. text
             ≡ compact_text (toggles_data (view_of (sees projects.now) self.now.state) all context.now moment.entry.now)) }
     {
-        toggles_text(alloc, &self.parts, projects, all, context, moment)
+        toggles_text(
+            alloc,
+            &self.parts,
+            self.projects.get().as_slice(),
+            projects,
+            all,
+            context,
+            moment,
+        )
     }
 
     /// The positions of a project's features in the version's state, in ascending order. Empty if no feature has the project.
@@ -202,5 +218,5 @@ fn next_of(
     ensures next { IfOk result (λ v. v ≡ next_version place.now batch.now) }
     ensures valid { IfOk result IsValidVersion }
 {
-    apply_in_order(alloc, place, batch)
+    apply(alloc, place, batch)
 }

@@ -1,7 +1,8 @@
 //! The body of the frontend endpoints, as a JSON value.
 ghost use Rattle.std.specs.Prelude.{◌≡◌, ◌++◌, All, IfOk, OnOk, map, filter_map, option_to_list};
 ghost use Rattle.serde_json.specs.View.{view};
-ghost use Rattle.unl_compiled.specs.Toggles.{variant_data, toggle_data, toggle_if, toggle_if_seen, toggle_of};
+ghost use Rattle.unl_compiled.specs.Places.{IsIndex};
+ghost use Rattle.unl_compiled.specs.Toggles.{variant_data, toggle_at, toggle_data, toggle_if, toggle_if_seen, toggle_of};
 ghost use Rattle.unl_compiled.specs.Toggles.{toggles_data, written_toggles};
 ghost use Rattle.unl_delta.specs.View.{view_of};
 ghost use Rattle.unl_documents.specs.Chunks.{joined};
@@ -10,6 +11,7 @@ ghost use Rattle.unl_documents.specs.Valid.{IsValidFeature};
 ghost use Rattle.unl_tokens.specs.Names.{sees};
 
 use crate::feature::CompiledFeature;
+use crate::index::{ProjectPlaces, places_of_one};
 use crate::parts::Parts;
 use crate::seen::Seen;
 use serde_json::{Map, Value};
@@ -17,35 +19,38 @@ use std::alloc::Global;
 use unl_context::Context;
 use unl_dependencies::{Evaluation, VariantAnswer, evaluate_feature};
 use unl_documents::to_value::{put, put_some, put_value};
-use unl_documents::{Chunk, Feature, Field, List, Memory, Shared};
+use unl_documents::{Chunk, ChunkedList, Feature, Field, List, Memory, Shared};
 use unl_strategies::Moment;
 use unl_tokens::Projects;
 
 /// The toggles of the features whose project is seen, in the order of their names: all of them, or those that are on.
-/// `parts` are those of a valid state.
+/// `parts` are those of a valid state, and `index` is their index by project.
 #[tactic(auto, unfolding(crate::specs::Toggles::toggles_data))]
 pub(crate) fn toggles_of(
     alloc: Global,
     parts: &Parts,
+    index: &[ProjectPlaces],
     projects: &Projects,
     all: bool,
     context: &Context,
     moment: &Moment,
 ) -> Result<Value, Memory>
-    requires { IsValidState parts.now }
+    requires parts { IsValidState parts.now }
+    requires index { IsIndex parts.now.features index.now }
     ensures { IfOk result (λ v. view v
         ≡ toggles_data (view_of (sees projects.now) parts.now) all context.now moment.entry.now) }
 {
     let seen = Seen::of(parts, projects);
-    let toggles = toggles_seen(alloc, &seen, parts, projects, all, context, moment)?;
+    let toggles = toggles_seen(alloc, &seen, parts, index, projects, all, context, moment)?;
     write_toggles(alloc, toggles)
 }
 
-/// The toggles of the visible features.
+/// The toggles of the visible features. Those of one project are found by the index.
 fn toggles_seen(
     alloc: Global,
     seen: &Seen,
     parts: &Parts,
+    index: &[ProjectPlaces],
     projects: &Projects,
     all: bool,
     context: &Context,
@@ -53,11 +58,69 @@ fn toggles_seen(
 ) -> Result<Vec<Value>, Memory>
     requires state { IsValidState seen.now }
     requires parts { IsValidState parts.now }
+    requires index { IsIndex parts.now.features index.now }
     requires seen { seen.now ≡ view_of (sees projects.now) parts.now }
     ensures { IfOk result (λ v. map view v.items
         ≡ filter_map (toggle_of seen.now all context.now moment.entry.now) seen.now.features) }
 {
-    each_toggle(alloc, seen, parts.runs(), projects, all, context, moment)
+    match places_of_one(index, projects) {
+        None => each_toggle(alloc, seen, parts.runs(), projects, all, context, moment),
+        Some(places) => toggles_at(alloc, seen, &parts.features, places, all, context, moment),
+    }
+}
+
+/// The toggles of the features at these positions.
+#[tactic(auto, using(crate::proofs::Coding::cons_front))]
+fn toggles_at(
+    alloc: Global,
+    seen: &Seen,
+    features: &ChunkedList<CompiledFeature>,
+    places: &[usize],
+    all: bool,
+    context: &Context,
+    moment: &Moment,
+) -> Result<Vec<Value>, Memory>
+    requires state { IsValidState seen.now }
+    requires features { All IsValidFeature features.now }
+    ensures { IfOk result (λ v. map view v.items
+        ≡ filter_map (toggle_at seen.now all context.now moment.entry.now features.now) places.now) }
+{
+    let mut toggles = Vec::new(alloc);
+    for place in places {
+        push_at(
+            &mut toggles,
+            alloc,
+            seen,
+            features,
+            *place,
+            all,
+            context,
+            moment,
+        )?;
+    }
+    Ok(toggles)
+}
+
+/// Adds the toggle of the feature at a position, if either all are asked for or it is on.
+fn push_at(
+    toggles: &mut Vec<Value>,
+    alloc: Global,
+    seen: &Seen,
+    features: &ChunkedList<CompiledFeature>,
+    place: usize,
+    all: bool,
+    context: &Context,
+    moment: &Moment,
+) -> Result<(), Memory>
+    requires state { IsValidState seen.now }
+    requires features { All IsValidFeature features.now }
+    ensures { OnOk result (map view toggles.new.items ≡ map view toggles.old.items
+        ++ option_to_list (toggle_at seen.now all context.now moment.entry.now features.now place)) }
+{
+    match features.get(place) {
+        None => Ok(()),
+        Some(feature) => push_one(toggles, alloc, seen, feature, all, context, moment),
+    }
 }
 
 #[tactic(auto, unfolding(crate::specs::Toggles::written_toggles))]
@@ -155,7 +218,6 @@ fn push_each(
 }
 
 /// Adds the toggle of a feature if its project is seen, and either all are asked for or it is on.
-#[tactic(auto, unfolding(crate::specs::Toggles::toggle_of))]
 fn push_seen(
     toggles: &mut Vec<Value>,
     alloc: Global,
@@ -174,6 +236,25 @@ fn push_seen(
     if !projects.sees(feature.document().project.as_str()) {
         return Ok(());
     }
+    push_one(toggles, alloc, seen, feature, all, context, moment)
+}
+
+/// Adds the toggle of a feature if either all are asked for or it is on.
+#[tactic(auto, unfolding(crate::specs::Toggles::toggle_of))]
+fn push_one(
+    toggles: &mut Vec<Value>,
+    alloc: Global,
+    seen: &Seen,
+    feature: &CompiledFeature,
+    all: bool,
+    context: &Context,
+    moment: &Moment,
+) -> Result<(), Memory>
+    requires state { IsValidState seen.now }
+    requires feature { IsValidFeature feature.now }
+    ensures { OnOk result (map view toggles.new.items ≡ map view toggles.old.items
+        ++ option_to_list (toggle_of seen.now all context.now moment.entry.now feature.now)) }
+{
     let evaluation = evaluate_feature(alloc, seen, feature, context, moment)?;
     push_toggle(toggles, alloc, all, feature.document(), &evaluation)
 }

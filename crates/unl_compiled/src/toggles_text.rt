@@ -4,7 +4,8 @@
 //! part.
 ghost use Rattle.std.specs.Prelude.{◌≡◌, All, IfOk, OnOk, filter_map};
 ghost use Rattle.serde_json.specs.Written.{compact_text};
-ghost use Rattle.unl_compiled.specs.Toggles.{variant_data, toggle_data, toggle_if, toggle_if_seen, toggle_of, toggles_data};
+ghost use Rattle.unl_compiled.specs.Places.{IsIndex};
+ghost use Rattle.unl_compiled.specs.Toggles.{variant_data, toggle_at, toggle_data, toggle_if, toggle_if_seen, toggle_of, toggles_data};
 ghost use Rattle.unl_delta.specs.View.{view_of};
 ghost use Rattle.unl_documents.specs.Chunks.{joined};
 ghost use Rattle.unl_documents.specs.States.{IsValidState};
@@ -13,6 +14,7 @@ ghost use Rattle.unl_documents.specs.Valid.{IsValidFeature};
 ghost use Rattle.unl_tokens.specs.Names.{sees};
 
 use crate::feature::CompiledFeature;
+use crate::index::{ProjectPlaces, places_of_one};
 use crate::parts::Parts;
 use crate::seen::Seen;
 use json::Writer;
@@ -20,7 +22,7 @@ use std::alloc::Global;
 use unl_context::Context;
 use unl_dependencies::{Evaluation, VariantAnswer, evaluate_feature};
 use unl_documents::write_json::{print_at, print_key, print_some};
-use unl_documents::{Chunk, Feature, Field, List, Memory, Shared};
+use unl_documents::{Chunk, ChunkedList, Feature, Field, List, Memory, Shared};
 use unl_strategies::Moment;
 use unl_tokens::Projects;
 
@@ -28,23 +30,25 @@ use unl_tokens::Projects;
 const ROOM: usize = 128;
 
 /// The text of the toggles of the features whose project is seen, in the order of their names: all of them, or those that
-/// are on. `parts` are those of a valid state. Fails only if it runs out of memory.
+/// are on. `parts` are those of a valid state, and `index` is their index by project. Fails only if it runs out of memory.
 pub(crate) fn toggles_text(
     alloc: Global,
     parts: &Parts,
+    index: &[ProjectPlaces],
     projects: &Projects,
     all: bool,
     context: &Context,
     moment: &Moment,
 ) -> Result<List<u8>, Memory>
-    requires { IsValidState parts.now }
+    requires parts { IsValidState parts.now }
+    requires index { IsIndex parts.now.features index.now }
     ensures { IfOk result (λ text. text
         ≡ compact_text (toggles_data (view_of (sees projects.now) parts.now) all context.now moment.entry.now)) }
 {
     let mut out = Writer::new(Vec::with_capacity(alloc, ROOM)?);
     let seen = Seen::of(parts, projects);
     write_toggles(
-        &mut out, alloc, &seen, parts, projects, all, context, moment,
+        &mut out, alloc, &seen, parts, index, projects, all, context, moment,
     )?;
     Ok(List::from_vec(out.into_inner()))
 }
@@ -55,6 +59,7 @@ fn write_toggles(
     alloc: Global,
     seen: &Seen,
     parts: &Parts,
+    index: &[ProjectPlaces],
     projects: &Projects,
     all: bool,
     context: &Context,
@@ -62,24 +67,28 @@ fn write_toggles(
 ) -> Result<(), Memory>
     requires state { IsValidState seen.now }
     requires parts { IsValidState parts.now }
+    requires index { IsIndex parts.now.features index.now }
     requires seen { seen.now ≡ view_of (sees projects.now) parts.now }
     ensures { OnOk result (Wrote (tokens_of (toggles_data seen.now all context.now moment.entry.now)) out.old out.new) }
 {
     out.begin_object()?;
     print_key(out, Field::Toggles)?;
     out.begin_array()?;
-    write_items(out, alloc, seen, parts, projects, all, context, moment)?;
+    write_items(
+        out, alloc, seen, parts, index, projects, all, context, moment,
+    )?;
     out.end_array()?;
     out.end_object()?;
     Ok(())
 }
 
-/// Writes the toggles of the visible features, one after the other.
+/// Writes the toggles of the visible features, one after the other. Those of one project are found by the index.
 fn write_items(
     out: &mut Writer,
     alloc: Global,
     seen: &Seen,
     parts: &Parts,
+    index: &[ProjectPlaces],
     projects: &Projects,
     all: bool,
     context: &Context,
@@ -87,20 +96,78 @@ fn write_items(
 ) -> Result<(), Memory>
     requires state { IsValidState seen.now }
     requires parts { IsValidState parts.now }
+    requires index { IsIndex parts.now.features index.now }
     requires seen { seen.now ≡ view_of (sees projects.now) parts.now }
     ensures { OnOk result (Wrote (all_tokens
         (filter_map (toggle_of seen.now all context.now moment.entry.now) seen.now.features)) out.old out.new) }
 {
-    write_each(
-        out,
-        alloc,
-        seen,
-        parts.runs(),
-        projects,
-        all,
-        context,
-        moment,
-    )
+    match places_of_one(index, projects) {
+        None => write_each(
+            out,
+            alloc,
+            seen,
+            parts.runs(),
+            projects,
+            all,
+            context,
+            moment,
+        ),
+        Some(places) => write_at(
+            out,
+            alloc,
+            seen,
+            &parts.features,
+            places,
+            all,
+            context,
+            moment,
+        ),
+    }
+}
+
+/// Writes the toggles of the features at these positions, one after the other.
+#[tactic(auto, using(unl_documents::proofs::Tokens::found_more))]
+fn write_at(
+    out: &mut Writer,
+    alloc: Global,
+    seen: &Seen,
+    features: &ChunkedList<CompiledFeature>,
+    places: &[usize],
+    all: bool,
+    context: &Context,
+    moment: &Moment,
+) -> Result<(), Memory>
+    requires state { IsValidState seen.now }
+    requires features { All IsValidFeature features.now }
+    ensures { OnOk result (Wrote (all_tokens
+        (filter_map (toggle_at seen.now all context.now moment.entry.now features.now) places.now)) out.old out.new) }
+{
+    for place in places {
+        write_place(out, alloc, seen, features, *place, all, context, moment)?;
+    }
+    Ok(())
+}
+
+/// Writes the toggle of the feature at a position, if either all are asked for or it is on.
+fn write_place(
+    out: &mut Writer,
+    alloc: Global,
+    seen: &Seen,
+    features: &ChunkedList<CompiledFeature>,
+    place: usize,
+    all: bool,
+    context: &Context,
+    moment: &Moment,
+) -> Result<(), Memory>
+    requires state { IsValidState seen.now }
+    requires features { All IsValidFeature features.now }
+    ensures { OnOk result (Wrote (tokens_if
+        (toggle_at seen.now all context.now moment.entry.now features.now place)) out.old out.new) }
+{
+    match features.get(place) {
+        None => Ok(()),
+        Some(feature) => write_one(out, alloc, seen, feature, all, context, moment),
+    }
 }
 
 /// Writes the toggles of the features of the chunks whose project is seen, one after the other.
@@ -151,7 +218,6 @@ fn write_run(
 }
 
 /// Writes the toggle of a feature if its project is seen, and either all are asked for or it is on.
-#[tactic(auto, unfolding(crate::specs::Toggles::toggle_of))]
 fn write_if_seen(
     out: &mut Writer,
     alloc: Global,
@@ -170,6 +236,25 @@ fn write_if_seen(
     if !projects.sees(feature.document().project.as_str()) {
         return Ok(());
     }
+    write_one(out, alloc, seen, feature, all, context, moment)
+}
+
+/// Writes the toggle of a feature if either all are asked for or it is on.
+#[tactic(auto, unfolding(crate::specs::Toggles::toggle_of))]
+fn write_one(
+    out: &mut Writer,
+    alloc: Global,
+    seen: &Seen,
+    feature: &CompiledFeature,
+    all: bool,
+    context: &Context,
+    moment: &Moment,
+) -> Result<(), Memory>
+    requires state { IsValidState seen.now }
+    requires feature { IsValidFeature feature.now }
+    ensures { OnOk result (Wrote (tokens_if
+        (toggle_of seen.now all context.now moment.entry.now feature.now)) out.old out.new) }
+{
     let evaluation = evaluate_feature(alloc, seen, feature, context, moment)?;
     write_if_asked(out, all, feature.document(), &evaluation)
 }
