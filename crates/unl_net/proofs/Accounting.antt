@@ -1,6 +1,11 @@
 -- The count of the connections that are held and that have ended.
-use Rattle.std.proofs.Common.{◌≡◌, ◌<◌, ◌≤◌, ◌+◌, ◌-◌, ◌^◌, ℕ, min, arith}
-use Rattle.unl_net.specs.Ends.{Accounts}
+use Rattle.std.proofs.Common.{◌≡◌, ◌<◌, ◌≤◌, ◌+◌, ◌-◌, ◌^◌, ℕ, Option, Some, Result, min, arith, refl, subst, sym}
+use Rattle.slab.specs.Slab.{slab_len}
+use Rattle.std.specs.VecDeque.{deque_len}
+use Rattle.unl_net.specs.Doors.{ended_by, held_by, with_link}
+use Rattle.unl_net.specs.Ends.{Accounts, LosesNone}
+use Rattle.unl_net.specs.declared.reactor.Reactor.{Reactor}
+use Rattle.unl_net.specs.declared.reports.Reports.{Reports}
 
 -- nothing changed
 pub same : (w r e w' r' e' : ℕ) → w' ≡ w → r' ≡ r → e' ≡ e → Accounts 0 (w + r) e (w' + r') e'
@@ -93,3 +98,80 @@ step_one n a ea b eb c ec first second = λ few.
 
 -- for connections that are accepted one after another
 pub ruleset accept_rules = (same, step_more, step_one)
+
+-- connections came, and are counted
+pub arrived : (n a a' h e h' e' : ℕ) → a' ≡ min (a + n) (2 ^ 64 - 1) → Accounts n h e h' e' → LosesNone a h e a' h' e'
+unfolding Accounts LosesNone
+arrived n a a' h e h' e' counted holds = λ known.
+    let below : a' ≡ a + n = omega arith in (
+      omega arith,
+      λ few.
+          let rises : e ≤ e' = (holds few).0 in
+          let still : h' + e' ≡ h + e + n = (holds few).1 in
+          (rises, omega arith),
+    )
+
+-- none came
+pub none_arrived : (a h e a' h' e' : ℕ) → a' ≡ a → Accounts 0 h e h' e' → LosesNone a h e a' h' e'
+unfolding Accounts LosesNone
+none_arrived a h e a' h' e' counted holds = λ known. (
+  omega arith,
+  λ few.
+      let rises : e ≤ e' = (holds few).0 in
+      let still : h' + e' ≡ h + e + 0 = (holds few).1 in
+      (rises, omega arith),
+)
+
+-- nothing changed
+pub unchanged : (a h e a' h' e' : ℕ) → a' ≡ a → h' ≡ h → e' ≡ e → LosesNone a h e a' h' e'
+unfolding Accounts LosesNone
+unchanged a h e a' h' e' arrives holds ends = λ known. (omega arith, λ few. (omega arith, omega arith))
+
+-- one step after another
+pub behind : (a h e a1 h1 e1 a2 h2 e2 : ℕ) → LosesNone a h e a1 h1 e1 → LosesNone a1 h1 e1 a2 h2 e2 → LosesNone a h e a2 h2 e2
+unfolding Accounts LosesNone
+behind a h e a1 h1 e1 a2 h2 e2 first second = λ known.
+    let later : a1 ≤ a2 = (second known).0 in
+    let below : a1 < 2 ^ 64 - 1 = omega arith in
+    let early : a ≤ a1 = (first below).0 in (
+      omega arith,
+      λ few.
+          let rises : e1 ≤ e2 = ((second known).1 few).0 in
+          let still : h2 + e2 ≡ h1 + e1 + (a2 - a1) = ((second known).1 few).1 in
+          let under : e1 < 2 ^ 64 - 1 = omega arith in
+          let rose : e ≤ e1 = ((first below).1 under).0 in
+          let was : h1 + e1 ≡ h + e + (a1 - a) = ((first below).1 under).1 in
+          (omega arith, omega arith),
+    )
+
+-- a step in which none came between two others
+pub around : (a h e a1 h1 e1 h2 e2 a3 h3 e3 : ℕ) → LosesNone a h e a1 h1 e1 → Accounts 0 h1 e1 h2 e2 → LosesNone a1 h2 e2 a3 h3 e3
+    → LosesNone a h e a3 h3 e3
+around a h e a1 h1 e1 h2 e2 a3 h3 e3 first second third =
+    behind a h e a1 h2 e2 a3 h3 e3 (behind a h e a1 h1 e1 a1 h2 e2 first (none_arrived a1 h1 e1 a1 h2 e2 refl second)) third
+
+-- a connection that was ready is a link now
+pub link_made : (a w r e a' w' r' e' : ℕ) → a' ≡ a → w' ≡ w → r ≡ r' + 1 → e' ≡ e → LosesNone a (w + r) e a' (w' + r' + 1) e'
+unfolding Accounts LosesNone
+link_made a w r e a' w' r' e' arrives waiting ready ends = λ known. (omega arith, λ few. (omega arith, omega arith))
+
+-- none is
+pub no_link_made : (a w r e a' w' r' e' : ℕ) → a' ≡ a → w' ≡ w → r ≡ r' → e' ≡ e → LosesNone a (w + r) e a' (w' + r') e'
+unfolding Accounts LosesNone
+no_link_made a w r e a' w' r' e' arrives waiting ready ends = λ known. (omega arith, λ few. (omega arith, omega arith))
+
+-- of a door with a reactor, it is the reactor's sum
+pub of_opened : {S L E : Type 0} (old new : Option (Reactor S)) (before after : Reactor S) (result given : Result L E) (a : ℕ)
+    (reports counted : Reports) → old ≡ Some before → new ≡ Some after → result ≡ given → reports ≡ counted
+    → LosesNone a (slab_len before.waiting + deque_len before.ready) before.ended
+    counted.arrived (with_link given (slab_len after.waiting + deque_len after.ready)) after.ended
+    → LosesNone a (held_by old) (ended_by old) reports.arrived (with_link result (held_by new)) (ended_by new)
+of_opened {S} {L} {E} old new before after result given a reports counted was is equal counts holds =
+    subst (λ (o : Option (Reactor S)). LosesNone a (held_by o) (ended_by o) reports.arrived (with_link result (held_by new)) (ended_by new))
+    (sym was)
+    (subst (λ (o : Option (Reactor S)). LosesNone a (held_by (Some before)) (ended_by (Some before))
+    reports.arrived (with_link result (held_by o)) (ended_by o)) (sym is)
+    (subst (λ (r : Result L E). LosesNone a (held_by (Some before)) (ended_by (Some before))
+    reports.arrived (with_link r (held_by (Some after))) (ended_by (Some after))) (sym equal)
+    (subst (λ (t : Reports). LosesNone a (held_by (Some before)) (ended_by (Some before))
+    t.arrived (with_link given (held_by (Some after))) (ended_by (Some after))) (sym counts) holds)))

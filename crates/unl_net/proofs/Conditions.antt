@@ -1,5 +1,5 @@
 -- Conditions that hold in part, or in some case.
-use Rattle.std.proofs.Common.{◌≡◌, ◌&&◌, Bool, Option, Some, None, OnSome, true, false, true≢false, sym}
+use Rattle.std.proofs.Common.{◌≡◌, ◌∙◌, ◌&&◌, ◌++◌, [], ◌∷◌, Bool, List, Option, Some, None, OnSome, true, false, true≢false, ap, sym}
 
 -- of two conditions that hold, the second
 pub second_holds : (a b : Bool) → (a && b) ≡ true → b ≡ true
@@ -10,3 +10,7 @@ second_holds false b both = absurd (true≢false (sym both))
 pub if_any : {A : Type 0} {P : Type 0} (r : Option A) → P → OnSome r P
 if_any None holds = tt
 if_any (Some x) holds = holds
+
+-- the first of some items, by another name
+pub first_named : {A : Type 0} (x y : A) (xs ys : List A) → y ≡ x → ys ≡ (x ∷ []) ++ xs → ys ≡ y ∷ xs
+first_named x y xs ys same begins = begins ∙ ap (λ z. z ∷ xs) (sym same)

@@ -1,9 +1,12 @@
 -- The state of a door over the network, and when it closes.
-use Rattle.std.specs.Prelude.{◌≡◌, ◌≤◌, ◌-◌, ◌^◌, ◌||◌, ℕ, List, [], Option, None, is_some, nat_eq, nat_le, true}
+use Rattle.std.specs.Prelude.{◌≡◌, ◌≤◌, ◌+◌, ◌-◌, ◌^◌, ◌||◌, ℕ, List, [], Option, Some, None, Result, Ok, Err}
+use Rattle.std.specs.Prelude.{is_some, nat_eq, nat_le, true}
+use Rattle.std.specs.VecDeque.{deque_len}
 use Rattle.slab.specs.Slab.{Slab, slab_len}
 use Rattle.unl_base.specs.Doors.{DoorState}
 use Rattle.unl_net.specs.declared.counts.Counts.{Counts}
 use Rattle.unl_net.specs.declared.listener.Accepting.{Accepting}
+use Rattle.unl_net.specs.declared.reactor.Reactor.{Reactor}
 
 -- it is closed once its last link was handed out, or 2^64 - 1 links; what its links give and send is not observable
 abbrev pub door_state : Option ℕ → Counts → DoorState
@@ -27,3 +30,24 @@ pub record IsServed {A : Type 0} (accepting : Accepting) (waiting : Slab A) (rea
   pub done : (is_some accepting.fault || nat_le accepting.bound accepting.accepted) ≡ true
   pub none_waits : slab_len waiting ≡ 0
   pub none_ready : ready ≡ []
+
+-- how many connections a door holds: those that wait and those that are ready
+abbrev pub held_by : {S : Type 0} → Option (Reactor S) → ℕ
+held_by None = 0
+held_by (Some reactor) = slab_len reactor.waiting + deque_len reactor.ready
+
+-- how many were counted as ended
+abbrev pub ended_by : {S : Type 0} → Option (Reactor S) → ℕ
+ended_by None = 0
+ended_by (Some reactor) = reactor.ended
+
+-- a count of connections, and that of the link that a call handed out
+abbrev pub with_link : {L E : Type 0} → Result L E → ℕ → ℕ
+with_link (Ok link) held = held + 1
+with_link (Err fault) held = held
+
+-- the same for a call that may hand out none
+abbrev pub with_link_if_any : {L E : Type 0} → Result (Option L) E → ℕ → ℕ
+with_link_if_any (Ok None) held = held
+with_link_if_any (Ok (Some link)) held = held + 1
+with_link_if_any (Err fault) held = held

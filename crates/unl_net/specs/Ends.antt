@@ -53,3 +53,8 @@ after_cut (Some cut) cuts = counted cut cuts
 unfoldable pub Accounts : ℕ → ℕ → ℕ → ℕ → ℕ → Type 0
 Accounts more held ended held_now ended_now =
     ended_now < 2 ^ 64 - 1 → (ended ≤ ended_now) × (held_now + ended_now ≡ held + ended + more)
+
+-- The same where as many came as `arrived` rose by. It says nothing more once that is the largest u64.
+unfoldable pub LosesNone : ℕ → ℕ → ℕ → ℕ → ℕ → ℕ → Type 0
+LosesNone arrived held ended arrived_now held_now ended_now =
+    arrived_now < 2 ^ 64 - 1 → (arrived ≤ arrived_now) × Accounts (arrived_now - arrived) held ended held_now ended_now

@@ -1,17 +1,20 @@
 //! A door over the network.
-ghost use Rattle.std.specs.Prelude.{◌≡◌, ◌≤◌, ◌-◌, ◌^◌, IfNone, IfOk, IfSome, None, OnErr, OnOk};
+ghost use Rattle.slab.specs.Slab.{slab_len};
+ghost use Rattle.std.specs.Prelude.{◌≡◌, ◌≤◌, ◌+◌, ◌-◌, ◌^◌, ◌∷◌, IfNone, IfOk, IfSome, None, OnErr};
 ghost use Rattle.std.specs.Prelude.{option_map, true, unwrap_or};
+ghost use Rattle.std.specs.VecDeque.{deque_len};
 ghost use Rattle.unl_base.specs.Doors.{Accepts, IsFresh};
-ghost use Rattle.unl_base.specs.Faults.{HasCause};
-ghost use Rattle.unl_net.specs.Doors.{IsLast, IsServed, door_state};
+ghost use Rattle.unl_base.specs.Faults.{HasExactCause};
+ghost use Rattle.unl_net.specs.Doors.{IsLast, IsServed, door_state, ended_by, held_by, with_link, with_link_if_any};
+ghost use Rattle.unl_net.specs.Ends.{Accounts, LosesNone};
 
 use crate::counts::Counts;
-use crate::cuts::EachMinute;
 use crate::limits::most_connections;
 use crate::link::RealLink;
 use crate::listener::{Accepting, Listening, accept_some, open_at};
 use crate::moment::moment;
 use crate::reactor::Reactor;
+use crate::reports::Reports;
 use std::alloc::{AllocError, Global};
 use std::io;
 use std::io::{ErrorKind, Read, Write};
@@ -44,29 +47,6 @@ pub struct RealDoor<N: Net + Clock + Eprint + Wait + Copy + Drop> {
     reports: Reports,
     counts: Counts,
     faults: u64,
-}
-
-/// What is logged once a minute at most.
-#[derive(Clone, Copy)]
-struct Reports {
-    cuts: EachMinute,
-    faults: EachMinute,
-    /// How many answers had a status of 500 or more since that was last logged.
-    failed: u64,
-    /// How many links were handed out since the door last looked for events.
-    in_a_row: u64,
-}
-
-impl Reports {
-    /// Nothing was logged yet.
-    fn new() -> Self {
-        Reports {
-            cuts: EachMinute::new(),
-            faults: EachMinute::new(),
-            failed: 0,
-            in_a_row: 0,
-        }
-    }
 }
 
 impl<N: Net + Clock + Eprint + Wait + Copy + Drop> RealDoor<N> {
@@ -104,6 +84,7 @@ impl<N: Net + Clock + Eprint + Wait + Copy + Drop> RealDoor<N> {
 /// # Errors
 /// Out of memory, or the error with which an accept or a wait for events failed for good, once the connections that were there are
 /// served.
+#[tactic(auto, using(crate::proofs::Accounting::unchanged, crate::proofs::Accounting::of_opened))]
 fn next_link<N: Net + Clock + Eprint + Wait + Copy + Drop>(
     alloc: Global,
     net: N,
@@ -115,24 +96,49 @@ fn next_link<N: Net + Clock + Eprint + Wait + Copy + Drop>(
     ensures faultless { IfOk result (λ next. next.0.faults ≡ 0) }
     ensures last { IfOk result (λ next. next.1 ≡ true
         → IfSome reactor.new (λ reactor. IsLast accepting.new reactor.waiting reactor.ready.items)) }
+    ensures accounts { LosesNone reports.old.arrived (held_by reactor.old) (ended_by reactor.old)
+        reports.new.arrived (with_link result (held_by reactor.new)) (ended_by reactor.new) }
 {
-    match (listening, reactor) {
-        (Some(listening), Some(reactor)) => {
-            let next = next_of(alloc, net, &listening.listener, reactor, accepting, reports)?;
-            match next {
-                Some(next) => Ok(next),
-                None => Err(accepting.end()),
-            }
-        }
-        _ => Err(io::Error::from(ErrorKind::NotConnected)),
-    }
+    let Some(listening) = listening else {
+        return Err(io::Error::from(ErrorKind::NotConnected));
+    };
+    let Some(reactor) = reactor else {
+        return Err(io::Error::from(ErrorKind::NotConnected));
+    };
+    next_or_end(alloc, net, &listening.listener, reactor, accepting, reports)
+}
+
+/// Waits for the next link of a reactor, and returns whether it is the last one.
+///
+/// # Errors
+/// As [`next_link`].
+fn next_or_end<N: Net + Clock + Eprint + Wait + Copy + Drop>(
+    alloc: Global,
+    net: N,
+    listener: &N::Listener,
+    reactor: &mut Reactor<N::Stream>,
+    accepting: &mut Accepting,
+    reports: &mut Reports,
+) -> io::Result<(RealLink<N::Stream, N>, bool)>
+    ensures faultless { IfOk result (λ next. next.0.faults ≡ 0) }
+    ensures last { IfOk result (λ next. next.1 ≡ true → IsLast accepting.new reactor.new.waiting reactor.new.ready.items) }
+    ensures accounts { LosesNone reports.old.arrived (slab_len reactor.old.waiting + deque_len reactor.old.ready) reactor.old.ended
+        reports.new.arrived (with_link result (slab_len reactor.new.waiting + deque_len reactor.new.ready)) reactor.new.ended }
+{
+    let next = next_of(alloc, net, listener, reactor, accepting, reports)?;
+    let Some(next) = next else {
+        return Err(accepting.end());
+    };
+    Ok(next)
 }
 
 /// Waits for the next link of a reactor, and returns whether it is the last one. `None`: no connection is left and no more are
-/// accepted.
+/// accepted. No connection is lost meanwhile: of those that were there or arrived, one is the link, and each other one waits, is ready
+/// or was counted as ended.
 ///
 /// # Errors
 /// Out of memory.
+#[tactic(auto, using(crate::proofs::Accounting::unchanged, crate::proofs::Accounting::behind))]
 fn next_of<N: Net + Clock + Eprint + Wait + Copy + Drop>(
     alloc: Global,
     net: N,
@@ -145,39 +151,119 @@ fn next_of<N: Net + Clock + Eprint + Wait + Copy + Drop>(
     ensures last { IfOk result (λ next. IfSome next (λ next. next.1 ≡ true
         → IsLast accepting.new reactor.new.waiting reactor.new.ready.items)) }
     ensures none { IfOk result (λ next. IfNone next (IsServed accepting.new reactor.new.waiting reactor.new.ready.items)) }
+    ensures accounts { LosesNone reports.old.arrived (slab_len reactor.old.waiting + deque_len reactor.old.ready) reactor.old.ended
+        reports.new.arrived (with_link_if_any result (slab_len reactor.new.waiting + deque_len reactor.new.ready)) reactor.new.ended }
 {
-    for _ in 0..u64::MAX {
-        reactor.take_back(&net);
-        if reports.in_a_row < MOST_IN_A_ROW {
-            if let Some(next) = hand_out(alloc, net, reactor, accepting)? {
-                reports.in_a_row = reports.in_a_row.saturating_add(1);
-                return Ok(Some(next));
-            }
+    'turns: for _turn in 0..u64::MAX {
+        if let Some(next) = hand_out_next(alloc, net, reactor, accepting, reports)? {
+            return Ok(Some(next));
         }
-        reports.in_a_row = 0;
-        if is_finished(&net, reactor, accepting) {
+        if is_finished(&net, reactor, accepting, reports) {
             return Ok(None);
         }
-        accept_some(alloc, net, listener, reactor, accepting);
-        // Links wake the door from here on. Those that gave a connection back before did not, so it is taken back now.
-        reactor.shared.note_sleep(true);
-        reactor.take_back(&net);
-        if let Err(fault) = reactor.wait(&net, wait_of(reactor, accepting)) {
-            accepting.note_end(fault);
-            reactor.end_waiting(fault);
-        }
-        look_after(net, reactor, accepting, reports);
+        look_for_more(alloc, net, listener, reactor, accepting, reports);
     }
     Err(io::Error::from(ErrorKind::NotConnected))
 }
 
+/// Takes back the connections that links gave back, and hands out one that is ready, unless as many were handed out in a row as may be.
+///
+/// # Errors
+/// Out of memory.
+#[tactic(auto, using(crate::proofs::Accounting::behind))]
+fn hand_out_next<N: Net + Clock + Eprint + Wait + Copy + Drop>(
+    alloc: Global,
+    net: N,
+    reactor: &mut Reactor<N::Stream>,
+    accepting: &Accepting,
+    reports: &mut Reports,
+) -> io::Result<Option<(RealLink<N::Stream, N>, bool)>>
+    ensures faultless { IfOk result (λ next. IfSome next (λ next. next.0.faults ≡ 0)) }
+    ensures last { IfOk result (λ next. IfSome next (λ next. next.1 ≡ true
+        → IsLast accepting.now reactor.new.waiting reactor.new.ready.items)) }
+    ensures accounts { LosesNone reports.old.arrived (slab_len reactor.old.waiting + deque_len reactor.old.ready) reactor.old.ended
+        reports.new.arrived (with_link_if_any result (slab_len reactor.new.waiting + deque_len reactor.new.ready)) reactor.new.ended }
+{
+    take_back(&net, reactor, reports);
+    hand_out_in_a_row(alloc, net, reactor, accepting, reports)
+}
+
+/// Hands out a connection that is ready, unless as many were handed out in a row as may be.
+///
+/// # Errors
+/// Out of memory.
+#[tactic(auto, using(crate::proofs::Accounting::link_made, crate::proofs::Accounting::no_link_made))]
+fn hand_out_in_a_row<N: Net + Clock + Eprint + Wait + Copy + Drop>(
+    alloc: Global,
+    net: N,
+    reactor: &mut Reactor<N::Stream>,
+    accepting: &Accepting,
+    reports: &mut Reports,
+) -> io::Result<Option<(RealLink<N::Stream, N>, bool)>>
+    ensures faultless { IfOk result (λ next. IfSome next (λ next. next.0.faults ≡ 0)) }
+    ensures last { IfOk result (λ next. IfSome next (λ next. next.1 ≡ true
+        → IsLast accepting.now reactor.new.waiting reactor.new.ready.items)) }
+    ensures accounts { LosesNone reports.old.arrived (slab_len reactor.old.waiting + deque_len reactor.old.ready) reactor.old.ended
+        reports.new.arrived (with_link_if_any result (slab_len reactor.new.waiting + deque_len reactor.new.ready)) reactor.new.ended }
+{
+    if reports.in_a_row >= MOST_IN_A_ROW {
+        reports.in_a_row = 0;
+        return Ok(None);
+    }
+    match hand_out(alloc, net, reactor, accepting)? {
+        Some(next) => {
+            reports.in_a_row = reports.in_a_row.saturating_add(1);
+            Ok(Some(next))
+        }
+        None => {
+            reports.in_a_row = 0;
+            Ok(None)
+        }
+    }
+}
+
+/// Takes back the connections that links gave back, and counts them.
+#[tactic(auto, using(crate::proofs::Accounting::arrived))]
+fn take_back<N: Net + Clock + Eprint + Wait + Copy + Drop>(
+    net: &N,
+    reactor: &mut Reactor<N::Stream>,
+    reports: &mut Reports,
+)
+    ensures accounts { LosesNone reports.old.arrived (slab_len reactor.old.waiting + deque_len reactor.old.ready) reactor.old.ended
+        reports.new.arrived (slab_len reactor.new.waiting + deque_len reactor.new.ready) reactor.new.ended }
+{
+    let count = reactor.take_back(net);
+    reports.count_arrived(count);
+}
+
+/// Accepts the connections that are to be accepted, and counts them.
+#[tactic(auto, using(crate::proofs::Accounting::arrived))]
+fn accept_more<N: Net + Clock + Eprint + Wait + Copy + Drop>(
+    alloc: Global,
+    net: N,
+    listener: &N::Listener,
+    reactor: &mut Reactor<N::Stream>,
+    accepting: &mut Accepting,
+    reports: &mut Reports,
+)
+    ensures accounts { LosesNone reports.old.arrived (slab_len reactor.old.waiting + deque_len reactor.old.ready) reactor.old.ended
+        reports.new.arrived (slab_len reactor.new.waiting + deque_len reactor.new.ready) reactor.new.ended }
+{
+    let count = accept_some(alloc, net, listener, reactor, accepting);
+    reports.count_arrived(count);
+}
+
 /// Whether no more connections are accepted, none waits or is ready, and none is waited for that a link may give back.
+#[tactic(auto, using(crate::proofs::Accounting::unchanged))]
 fn is_finished<N: Net + Clock + Eprint + Wait + Copy + Drop>(
     net: &N,
     reactor: &mut Reactor<N::Stream>,
     accepting: &Accepting,
+    reports: &mut Reports,
 ) -> bool
-    ensures { result ≡ true → IsServed accepting.now reactor.new.waiting reactor.new.ready.items }
+    ensures served { result ≡ true → IsServed accepting.now reactor.new.waiting reactor.new.ready.items }
+    ensures accounts { LosesNone reports.old.arrived (slab_len reactor.old.waiting + deque_len reactor.old.ready) reactor.old.ended
+        reports.new.arrived (slab_len reactor.new.waiting + deque_len reactor.new.ready) reactor.new.ended }
 {
     if !accepting.is_done() {
         return false;
@@ -186,8 +272,60 @@ fn is_finished<N: Net + Clock + Eprint + Wait + Copy + Drop>(
         return false;
     }
     // Links that ended before that gave their connections back.
-    reactor.take_back(net);
+    take_back(net, reactor, reports);
     reactor.is_empty()
+}
+
+/// Accepts connections, waits for events, and ends the connections whose time is over.
+#[tactic(auto, using(crate::proofs::Accounting::behind))]
+fn look_for_more<N: Net + Clock + Eprint + Wait + Copy + Drop>(
+    alloc: Global,
+    net: N,
+    listener: &N::Listener,
+    reactor: &mut Reactor<N::Stream>,
+    accepting: &mut Accepting,
+    reports: &mut Reports,
+)
+    ensures accounts { LosesNone reports.old.arrived (slab_len reactor.old.waiting + deque_len reactor.old.ready) reactor.old.ended
+        reports.new.arrived (slab_len reactor.new.waiting + deque_len reactor.new.ready) reactor.new.ended }
+{
+    accept_more(alloc, net, listener, reactor, accepting, reports);
+    // Links wake the door from here on.
+    reactor.shared.note_sleep(true);
+    wait_for_events(net, reactor, accepting, reports);
+}
+
+/// Takes back the connections of links that did not wake the door, waits for events, and ends the connections whose time is over.
+#[tactic(auto, using(crate::proofs::Accounting::around))]
+fn wait_for_events<N: Net + Clock + Eprint + Wait + Copy + Drop>(
+    net: N,
+    reactor: &mut Reactor<N::Stream>,
+    accepting: &mut Accepting,
+    reports: &mut Reports,
+)
+    ensures accounts { LosesNone reports.old.arrived (slab_len reactor.old.waiting + deque_len reactor.old.ready) reactor.old.ended
+        reports.new.arrived (slab_len reactor.new.waiting + deque_len reactor.new.ready) reactor.new.ended }
+{
+    take_back(&net, reactor, reports);
+    wait(&net, reactor, accepting);
+    look_after(net, reactor, accepting, reports);
+}
+
+/// Waits for events, and handles them. If that fails, it fails for good: the error is noted, and no connection waits any more.
+#[tactic(auto, using(crate::proofs::Accounting::step))]
+fn wait<N: Net + Clock + Eprint + Wait + Copy + Drop>(
+    net: &N,
+    reactor: &mut Reactor<N::Stream>,
+    accepting: &mut Accepting,
+)
+    ensures accounts { Accounts 0 (slab_len reactor.old.waiting + deque_len reactor.old.ready) reactor.old.ended
+        (slab_len reactor.new.waiting + deque_len reactor.new.ready) reactor.new.ended }
+{
+    let most = wait_of(reactor, accepting);
+    if let Err(fault) = reactor.wait(net, most) {
+        accepting.note_end(fault);
+        reactor.end_waiting(fault);
+    }
 }
 
 /// How long the door waits for an event, in milliseconds.
@@ -206,10 +344,12 @@ fn wait_of<S: Read + Write + OpenStream + AsRawFd + Drop>(
     }
 }
 
-/// Hands out a connection that is ready, if there is one, and returns whether it is the last link.
+/// Hands out the first connection that is ready, if there is one, and returns whether it is the last link. The pointer to what a link
+/// shares with the door is copied first: if that fails, the connection stays ready.
 ///
 /// # Errors
 /// Out of memory.
+#[tactic(auto, using(crate::proofs::Conditions::first_named))]
 fn hand_out<N: Net + Clock + Eprint + Wait + Copy + Drop>(
     alloc: Global,
     net: N,
@@ -219,37 +359,42 @@ fn hand_out<N: Net + Clock + Eprint + Wait + Copy + Drop>(
     ensures faultless { IfOk result (λ next. IfSome next (λ next. next.0.faults ≡ 0)) }
     ensures last { IfOk result (λ next. IfSome next (λ next. next.1 ≡ true
         → IsLast accepting.now reactor.new.waiting reactor.new.ready.items)) }
+    ensures first { IfOk result (λ next. IfSome next (λ next. reactor.old.ready.items
+        ≡ next.0.served.connection ∷ reactor.new.ready.items)) }
+    ensures ready { deque_len reactor.old.ready ≡ with_link_if_any result (deque_len reactor.new.ready) }
+    ensures waiting { reactor.new.waiting ≡ reactor.old.waiting }
+    ensures ended { reactor.new.ended ≡ reactor.old.ended }
 {
+    if !reactor.has_ready() {
+        return Ok(None);
+    }
+    let shared = Arc::try_clone(&reactor.shared)?;
     let Some(connection) = reactor.next_ready() else {
         return Ok(None);
     };
     let is_alone = reactor.is_empty();
     let is_last = is_alone && accepting.is_full();
-    let shared = Arc::try_clone(&reactor.shared)?;
     let link = RealLink::new(alloc, net, shared, connection, is_alone);
     Ok(Some((link, is_last)))
 }
 
 /// Ends the connections whose time is over, and logs the counts that are due.
+#[tactic(auto, using(crate::proofs::Accounting::none_arrived))]
 fn look_after<N: Net + Clock + Eprint + Wait + Copy + Drop>(
     net: N,
     reactor: &mut Reactor<N::Stream>,
     accepting: &mut Accepting,
     reports: &mut Reports,
-) {
+)
+    ensures accounts { LosesNone reports.old.arrived (slab_len reactor.old.waiting + deque_len reactor.old.ready) reactor.old.ended
+        reports.new.arrived (slab_len reactor.new.waiting + deque_len reactor.new.ready) reactor.new.ended }
+{
     let now = moment(&net);
     reactor.sweep(now);
     reactor.cuts.count_memory(reactor.shared.take_lost());
-    if let Some(cuts) = reports.cuts.due_cuts(now, &mut reactor.cuts) {
-        accepting.log.line(&net, cuts);
-    }
-    reports.failed = reports.failed.saturating_add(reactor.shared.take_faults());
-    let failed = reports.failed;
-    if reports.faults.is_count_due(now, failed) {
-        reports.failed = 0;
-        let line = format_args!("answers with a status of 500 or more: {failed}");
-        accepting.log.line(&net, line);
-    }
+    let faults = reactor.shared.take_faults();
+    reports.log_cuts(&net, now, &mut reactor.cuts, &mut accepting.log);
+    reports.log_faults(&net, now, faults, &mut accepting.log);
 }
 
 impl<N: Net + Clock + Eprint + Wait + Copy + Drop> Door for RealDoor<N> {
@@ -288,7 +433,9 @@ impl<N: Net + Clock + Eprint + Wait + Copy + Drop> Door for RealDoor<N> {
     /// Hands out a connection of which a whole request was received. The door closes only with the last link of the connections that
     /// its bound allows. After an accept that failed for good, those that are there wait on, each is closed behind its answers, and the
     /// door fails once none is left, after 30 seconds at most. After a wait for events that failed for good, it fails once those are
-    /// handed out of which a whole request was received.
+    /// handed out of which a whole request was received. No connection is lost: of those that were there or arrived meanwhile, one is
+    /// the link, and each other one waits, is ready or was counted as ended.
+    #[tactic(auto, using(crate::proofs::Accounting::unchanged))]
     fn accept(&mut self) -> Result<Option<Self::L>, Failed>
         ensures accepts { IfOk result (λ link. Accepts link (door_state (option_map (λ one. one.port) self.old.listening) self.old.counts)
             (door_state (option_map (λ one. one.port) self.new.listening) self.new.counts)) }
@@ -296,10 +443,11 @@ impl<N: Net + Clock + Eprint + Wait + Copy + Drop> Door for RealDoor<N> {
             IsFresh (door_state (option_map (λ one. one.port) self.old.listening) self.old.counts) None None l.faults)) }
         ensures kept { OnErr result (door_state (option_map (λ one. one.port) self.new.listening) self.new.counts
             ≡ door_state (option_map (λ one. one.port) self.old.listening) self.old.counts) }
-        ensures cause { HasCause self.old.faults self.new.faults result }
-        ensures still { OnOk result (self.new.faults ≡ self.old.faults) }
+        ensures cause { HasExactCause self.old.faults self.new.faults result }
         ensures closes { IfOk result (λ link. IfSome link (λ _. self.new.counts.closed ≡ true
             → IfSome self.new.reactor (λ reactor. IsLast self.new.accepting reactor.waiting reactor.ready.items))) }
+        ensures accounts { LosesNone self.old.reports.arrived (held_by self.old.reactor) (ended_by self.old.reactor)
+            self.new.reports.arrived (with_link_if_any result (held_by self.new.reactor)) (ended_by self.new.reactor) }
     {
         if self.counts.closed || self.counts.given == u64::MAX {
             return Ok(None);

@@ -20,6 +20,7 @@ mod moment;
 mod peer;
 mod phase;
 mod reactor;
+mod reports;
 mod request_kind;
 mod retrying;
 mod served;

@@ -32,7 +32,8 @@ impl<S: Read + Write + OpenStream + Drop, C: Clock + Wait + Drop> RealLink<S, C>
         connection: Connection<S>,
         alone: bool,
     ) -> Self
-        ensures { result.faults ≡ 0 }
+        ensures faultless { result.faults ≡ 0 }
+        ensures serves { result.served.connection ≡ connection }
     {
         RealLink {
             served: Served::new(alloc, clock, shared, connection, alone),

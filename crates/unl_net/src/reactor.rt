@@ -1,6 +1,6 @@
 //! Waits for all connections that no link serves, and decides what becomes of each.
 ghost use Rattle.slab.specs.Slab.{slab_len};
-ghost use Rattle.std.specs.Prelude.{◌≡◌, ◌+◌, ◌++◌, [], true, IfNone, OnSome, option_to_list};
+ghost use Rattle.std.specs.Prelude.{◌≡◌, ◌+◌, ◌++◌, [], true, IfNone, MatchOption, OnSome, option_to_list};
 ghost use Rattle.std.specs.VecDeque.{deque_len};
 ghost use Rattle.unl_net.specs.Buffers.{facts_of};
 ghost use Rattle.unl_net.specs.Ends.{Accounts, MayEnd, after_cut, cut_of};
@@ -113,6 +113,8 @@ impl<S: Read + Write + OpenStream + AsRawFd + Drop> Reactor<S> {
     pub fn next_ready(&mut self) -> Option<Connection<S>>
         ensures waiting { self.new.waiting ≡ self.old.waiting }
         ensures ready { self.old.ready.items ≡ option_to_list result ++ self.new.ready.items }
+        ensures len { MatchOption result ((deque_len self.old.ready ≡ 0) × (deque_len self.new.ready ≡ 0))
+            (λ _. deque_len self.new.ready + 1 ≡ deque_len self.old.ready) }
         ensures ended { self.new.ended ≡ self.old.ended }
     {
         self.ready.pop_front()

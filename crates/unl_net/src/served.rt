@@ -60,7 +60,9 @@ impl<S: Read + Write + OpenStream + Drop, C: Clock + Wait + Drop> Served<S, C> {
         shared: Arc<Shared<S>>,
         connection: Connection<S>,
         alone: bool,
-    ) -> Self {
+    ) -> Self
+        ensures { result.connection ≡ connection }
+    {
         let stage = stage_of(&connection);
         Served {
             connection,
