@@ -44,7 +44,7 @@ impl From<AllocError> for Cause {
 /// `Bad` if an argument, the path or the file isn't UTF-8, or if the file can't be read. `Memory` if memory runs out.
 pub fn read_arguments<R: Env + Files + AllocGlobal>(rt: &R) -> Result<Vec<String>, ArgumentsFault> {
     match arguments(rt) {
-        Ok(words) => Ok(words),
+        Ok(list) => Ok(list),
         Err(Cause::Memory) => Err(ArgumentsFault::Memory),
         Err(_) => Err(ArgumentsFault::Bad),
     }
@@ -57,19 +57,19 @@ pub(crate) fn arguments<R: Env + Files + AllocGlobal>(rt: &R) -> Result<Vec<Stri
         Err(fault) if fault.kind() == ErrorKind::OutOfMemory => return Err(Cause::Memory),
         Err(_) => return Err(Cause::NotText("an argument")),
     };
-    let mut words = behind_name(rt.alloc(), args)?;
+    let mut list = after_name(rt.alloc(), args)?;
     match env::var(rt, FILE_VARIABLE) {
         Ok(path) if path.as_str().is_empty() => {}
-        Ok(path) => push_file(rt, path, &mut words)?,
+        Ok(path) => push_file(rt, path, &mut list)?,
         Err(VarError::NotPresent) => {}
         Err(VarError::OutOfMemory) => return Err(Cause::Memory),
         Err(VarError::NotUnicode) => return Err(Cause::NotText(FILE_VARIABLE)),
     }
-    Ok(words)
+    Ok(list)
 }
 
 /// The arguments after the program's name.
-fn behind_name(alloc: Global, args: Args) -> Result<Vec<String>, AllocError> {
+fn after_name(alloc: Global, args: Args) -> Result<Vec<String>, AllocError> {
     args.skip(1).collect(alloc)
 }
 
@@ -77,20 +77,20 @@ fn behind_name(alloc: Global, args: Args) -> Result<Vec<String>, AllocError> {
 fn push_file<R: Files + AllocGlobal>(
     rt: &R,
     path: String,
-    words: &mut Vec<String>,
+    list: &mut Vec<String>,
 ) -> Result<(), Cause> {
     match fs::read_to_string(rt, path.as_str()) {
-        Ok(text) => Ok(push_lines(rt.alloc(), text.as_str(), words)?),
+        Ok(text) => Ok(push_lines(rt.alloc(), text.as_str(), list)?),
         Err(fault) if fault.kind() == ErrorKind::OutOfMemory => Err(Cause::Memory),
         Err(fault) => Err(Cause::File(path, fault)),
     }
 }
 
 /// Appends the non-empty lines of a text.
-fn push_lines(alloc: Global, text: &str, words: &mut Vec<String>) -> Result<(), AllocError> {
+fn push_lines(alloc: Global, text: &str, list: &mut Vec<String>) -> Result<(), AllocError> {
     for line in text.lines() {
         if !line.is_empty() {
-            words.push(String::from_str(alloc, line)?)?;
+            list.push(String::from_str(alloc, line)?)?;
         }
     }
     Ok(())

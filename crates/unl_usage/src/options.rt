@@ -61,7 +61,7 @@ const TEXT: &str = "no line break or NUL in it";
 
 const TOKEN: &str = "PROJECT:ENVIRONMENT.SECRET of at most 512 bytes";
 
-const WORD: &str = "0 to 18446744073709551615";
+const ANY_U64: &str = "0 to 18446744073709551615";
 
 const PORT: CommandOption = CommandOption {
     name: "port",
@@ -77,7 +77,7 @@ const CONNECTIONS: CommandOption = CommandOption {
     kind: Kind::Number,
     value: "N",
     absent: Some("0"),
-    range: WORD,
+    range: ANY_U64,
     purpose: "after how many links it ends, never at 0",
 };
 
@@ -122,7 +122,7 @@ static CHECK: [CommandOption; 2] = [
         kind: Kind::Number,
         value: "N",
         absent: Some("0"),
-        range: WORD,
+        range: ANY_U64,
         purpose: "the random word of the evaluations",
     },
 ];
@@ -209,7 +209,7 @@ static UPSTREAM: [CommandOption; 8] = [
         kind: Kind::Number,
         value: "N",
         absent: Some("0"),
-        range: WORD,
+        range: ANY_U64,
         purpose: "a number above that of each start before, as the seconds of the clock",
     },
     CommandOption {
@@ -267,7 +267,7 @@ static LOAD: [CommandOption; 2] = [
         kind: Kind::Number,
         value: "N",
         absent: None,
-        range: WORD,
+        range: ANY_U64,
         purpose: "what its features are made from",
     },
     CommandOption {

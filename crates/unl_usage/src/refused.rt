@@ -2,7 +2,7 @@
 use crate::arguments::{Cause, FILE_VARIABLE, arguments};
 use crate::options::{CommandOption, options_of};
 use crate::program::Program;
-use crate::scan::{Given, Slip, scan};
+use crate::scan::{Given, OptionFault, scan};
 use crate::usage::{push_commands, push_usage, push_version};
 use crate::value_fault::{ValueFault, fault_of};
 use std::alloc::{AllocError, Global};
@@ -13,8 +13,8 @@ use std::rt::{Env, Files};
 /// memory runs out.
 pub fn report_refusal<R: Env + Files + AllocGlobal + Eprint>(rt: &R, program: Program) {
     match arguments(rt) {
-        Ok(words) => {
-            if let Ok(text) = refusal_text(rt.alloc(), program, &words) {
+        Ok(args) => {
+            if let Ok(text) = refusal_text(rt.alloc(), program, &args) {
                 report(rt, text.as_str());
             }
         }
@@ -40,17 +40,17 @@ fn report<E: Eprint, D: Display + Drop>(rt: &E, line: D) {
 pub fn refusal_text(
     alloc: Global,
     program: Program,
-    words: &[String],
+    args: &[String],
 ) -> Result<String, AllocError> {
     let mut text = String::new(alloc);
-    let first = match words.first() {
+    let first = match args.first() {
         Some(first) => first.as_str(),
         None => "",
     };
     match program {
         _ if first == "--version" || first == "-V" => push_version(&mut text, program)?,
-        Program::Edge => push_edge(alloc, &mut text, first, words)?,
-        Program::DurableUpstream => push_durable(alloc, &mut text, first, words)?,
+        Program::Edge => push_edge(alloc, &mut text, first, args)?,
+        Program::DurableUpstream => push_durable(alloc, &mut text, first, args)?,
     }
     Ok(text)
 }
@@ -60,13 +60,13 @@ fn push_edge(
     alloc: Global,
     text: &mut String,
     first: &str,
-    words: &[String],
+    args: &[String],
 ) -> Result<(), AllocError> {
     let Some(options) = options_of(first) else {
         push_no_command(text, first)?;
         return push_commands(text);
     };
-    push_fault(alloc, text, Program::Edge, first, options, words)?;
+    push_fault(alloc, text, Program::Edge, first, options, args)?;
     push_usage(text, Program::Edge, first, options)
 }
 
@@ -84,7 +84,7 @@ fn push_durable(
     alloc: Global,
     text: &mut String,
     first: &str,
-    words: &[String],
+    args: &[String],
 ) -> Result<(), AllocError> {
     let program = Program::DurableUpstream;
     let command = "upstream";
@@ -96,7 +96,7 @@ fn push_durable(
             )?;
         }
     } else {
-        push_fault(alloc, text, program, command, options, words)?;
+        push_fault(alloc, text, program, command, options, args)?;
     }
     push_usage(text, program, command, options)
 }
@@ -108,14 +108,14 @@ fn push_fault(
     program: Program,
     command: &str,
     options: &[CommandOption],
-    words: &[String],
+    args: &[String],
 ) -> Result<(), AllocError> {
-    let behind = words.get(1..).unwrap_or(&[]);
-    match scan(alloc, options, behind)? {
-        Err(Slip::Help) => Ok(()),
-        Err(slip) => {
+    let rest = args.get(1..).unwrap_or(&[]);
+    match scan(alloc, options, rest)? {
+        Err(OptionFault::Help) => Ok(()),
+        Err(option_fault) => {
             push_place(text, program, command)?;
-            push_slip(text, &slip)
+            push_option_fault(text, &option_fault)
         }
         Ok(found) => {
             push_place(text, program, command)?;
@@ -133,21 +133,21 @@ fn push_place(text: &mut String, program: Program, command: &str) -> Result<(), 
 }
 
 /// Appends why the arguments aren't options with values.
-fn push_slip(text: &mut String, slip: &Slip<'_>) -> Result<(), AllocError> {
-    match *slip {
-        Slip::Help => Ok(()),
-        Slip::Stray(place) => writeln!(text, "argument {place} is no option"),
-        Slip::Unknown(name) => writeln!(text, "--{name} is no option of it"),
-        Slip::NoValue(option) => {
+fn push_option_fault(text: &mut String, option_fault: &OptionFault<'_>) -> Result<(), AllocError> {
+    match *option_fault {
+        OptionFault::Help => Ok(()),
+        OptionFault::NotAnOption(place) => writeln!(text, "argument {place} is no option"),
+        OptionFault::Unknown(name) => writeln!(text, "--{name} is no option of it"),
+        OptionFault::NoValue(option) => {
             let name = option.name;
             write!(text, "--{name} has no value behind it; ")?;
             text.push_str("one that begins with a hyphen is written --OPTION=VALUE\n")
         }
-        Slip::Twice(option) => {
+        OptionFault::Repeated(option) => {
             let name = option.name;
             writeln!(text, "--{name} is given twice")
         }
-        Slip::Missing(option) => {
+        OptionFault::Missing(option) => {
             let name = option.name;
             writeln!(text, "--{name} is missing")
         }
@@ -180,15 +180,5 @@ fn push_value(
 ) -> Result<(), AllocError> {
     let name = option.name;
     let range = option.range;
-    match fault {
-        ValueFault::NoNumber => writeln!(text, "--{name} is no number: {range}"),
-        ValueFault::OutOfRange => writeln!(text, "--{name} is out of range: {range}"),
-        ValueFault::EmptyList => writeln!(text, "--{name} is an empty list: {range}"),
-        ValueFault::BadItem(place) => writeln!(text, "--{name} has a bad item {place}: {range}"),
-        ValueFault::BadItems => writeln!(
-            text,
-            "--{name} has too many items, or two alike: {range}"
-        ),
-        ValueFault::BadText => writeln!(text, "--{name} has a bad value: {range}"),
-    }
+    writeln!(text, "--{name} {fault}: {range}")
 }

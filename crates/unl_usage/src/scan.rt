@@ -11,32 +11,32 @@ pub(crate) struct Given<'a> {
 
 /// Why the arguments aren't options with values.
 #[derive(Clone, Copy, Debug)]
-pub(crate) enum Slip<'a> {
+pub(crate) enum OptionFault<'a> {
     /// The arguments ask for help.
     Help,
     /// The argument at this position, from 1, is neither an option nor the value of one.
-    Stray(usize),
+    NotAnOption(usize),
     /// The command has no option with this name.
     Unknown(&'a str),
     /// The option has no value.
     NoValue(CommandOption),
     /// The option is given twice.
-    Twice(CommandOption),
+    Repeated(CommandOption),
     /// The option is required, and missing.
     Missing(CommandOption),
 }
 
 /// The given options, or why there are none.
-pub(crate) type Scanned<'a> = Result<Vec<Given<'a>>, Slip<'a>>;
+pub(crate) type Scanned<'a> = Result<Vec<Given<'a>>, OptionFault<'a>>;
 
 /// An argument at a place where an option may begin.
-enum Word<'a> {
+enum Argument<'a> {
     /// An option with its value.
     Whole(Given<'a>),
     /// An option whose value is the next argument.
-    Begun(CommandOption),
+    ValueNext(CommandOption),
     /// Not an option of the command.
-    None(Slip<'a>),
+    None(OptionFault<'a>),
 }
 
 /// Scans the arguments after a command for its options: `--name value` or `--name=value`, each at most once.
@@ -46,55 +46,55 @@ enum Word<'a> {
 pub(crate) fn scan<'a>(
     alloc: Global,
     options: &[CommandOption],
-    words: &'a [String],
+    args: &'a [String],
 ) -> Result<Scanned<'a>, AllocError> {
     let mut found = Vec::new(alloc);
     let mut begun: Option<CommandOption> = None;
-    for (place, word) in words.iter().enumerate() {
+    for (place, word) in args.iter().enumerate() {
         let word = word.as_str();
         let given = match begun {
             Some(option) if is_value(word) => Given {
                 option,
                 value: word,
             },
-            Some(option) => return Ok(Err(Slip::NoValue(option))),
-            None => match read_word(options, word, place) {
-                Word::Whole(given) => given,
-                Word::Begun(option) => {
+            Some(option) => return Ok(Err(OptionFault::NoValue(option))),
+            None => match read_argument(options, word, place) {
+                Argument::Whole(given) => given,
+                Argument::ValueNext(option) => {
                     begun = Some(option);
                     continue;
                 }
-                Word::None(slip) => return Ok(Err(slip)),
+                Argument::None(option_fault) => return Ok(Err(option_fault)),
             },
         };
         begun = None;
         if value_of(&found, given.option.name).is_some() {
-            return Ok(Err(Slip::Twice(given.option)));
+            return Ok(Err(OptionFault::Repeated(given.option)));
         }
         found.push(given)?;
     }
     match begun {
-        Some(option) => Ok(Err(Slip::NoValue(option))),
+        Some(option) => Ok(Err(OptionFault::NoValue(option))),
         None => Ok(with_required(options, found)),
     }
 }
 
 /// Classifies an argument that is not the value of the option before it. `place` is its position after the command, from 0.
-fn read_word<'a>(options: &[CommandOption], word: &'a str, place: usize) -> Word<'a> {
+fn read_argument<'a>(options: &[CommandOption], word: &'a str, place: usize) -> Argument<'a> {
     if word == "--help" || word == "-h" {
-        return Word::None(Slip::Help);
+        return Argument::None(OptionFault::Help);
     }
     let Some(rest) = word.strip_prefix("--") else {
-        return Word::None(Slip::Stray(place.saturating_add(2)));
+        return Argument::None(OptionFault::NotAnOption(place.saturating_add(2)));
     };
     match rest.split_once('=') {
         Some((name, value)) => match option_named(options, name) {
-            Some(option) => Word::Whole(Given { option, value }),
-            None => Word::None(Slip::Unknown(name)),
+            Some(option) => Argument::Whole(Given { option, value }),
+            None => Argument::None(OptionFault::Unknown(name)),
         },
         None => match option_named(options, rest) {
-            Some(option) => Word::Begun(option),
-            None => Word::None(Slip::Unknown(rest)),
+            Some(option) => Argument::ValueNext(option),
+            None => Argument::None(OptionFault::Unknown(rest)),
         },
     }
 }
@@ -108,7 +108,7 @@ fn is_value(word: &str) -> bool {
 fn with_required<'a>(options: &[CommandOption], found: Vec<Given<'a>>) -> Scanned<'a> {
     for option in options {
         if option.absent.is_none() && value_of(&found, option.name).is_none() {
-            return Err(Slip::Missing(*option));
+            return Err(OptionFault::Missing(*option));
         }
     }
     Ok(found)

@@ -3,22 +3,29 @@
 use crate::options::{CommandOption, Kind, sample_of};
 use crate::scan::Given;
 use std::alloc::{AllocError, Global};
+use thiserror::Error;
 use unl_words::{WordsRefusal, read_words};
 
-/// Why the value of an option is refused.
-#[derive(Clone, Copy, Debug)]
+/// Why the value of an option is refused. Its text goes on from the name of the option.
+#[derive(Clone, Copy, Debug, Error)]
 pub(crate) enum ValueFault {
     /// It is not a number.
+    #[error("is no number")]
     NoNumber,
     /// It is a number outside the range.
+    #[error("is out of range")]
     OutOfRange,
     /// It is a list without items.
+    #[error("is an empty list")]
     EmptyList,
     /// The item at this position of the list, from 1, is refused on its own.
+    #[error("has a bad item {0}")]
     BadItem(usize),
     /// There are too many items, or two are equal that must differ.
+    #[error("has too many items, or two alike")]
     BadItems,
     /// It is a text that the option doesn't accept.
+    #[error("has a bad value")]
     BadText,
 }
 
@@ -73,15 +80,15 @@ fn takes(
     name: &str,
     value: &str,
 ) -> Result<bool, AllocError> {
-    let mut words = Vec::new(alloc);
-    words.push(String::from_str(alloc, command)?)?;
+    let mut args = Vec::new(alloc);
+    args.push(String::from_str(alloc, command)?)?;
     for option in options {
         if option.absent.is_none() && option.name != name {
-            words.push(word_of(alloc, option.name, sample_of(option.name))?)?;
+            args.push(word_of(alloc, option.name, sample_of(option.name))?)?;
         }
     }
-    words.push(word_of(alloc, name, value)?)?;
-    match read_words(alloc, &words) {
+    args.push(word_of(alloc, name, value)?)?;
+    match read_words(alloc, &args) {
         Ok(_) => Ok(true),
         Err(WordsRefusal::Bad) => Ok(false),
         Err(WordsRefusal::Memory) => Err(AllocError),
