@@ -1,12 +1,12 @@
 -- The state of a door: the links it hands out and takes back. An optional field that isn't observable is `None`.
-use Rattle.std.specs.Prelude.{◌≡◌, ◌⊎◌, ◌+◌, Bool, true, false, List, [], ◌∷◌, ◌++◌, Option, Some, None, ℕ, drop, if◌then◌else◌}
-use Rattle.std.specs.Prelude.{is_some, option_and_then, option_map, IfSome}
+use Rattle.std.specs.Prelude.{◌≡◌, ◌⊎◌, ◌+◌, Bool, true, false, List, [], ◌∷◌, ◌++◌, Option, Some, None, ℕ, drop}
+use Rattle.std.specs.Prelude.{if◌then◌else◌, option_and_then, option_map, IfSome}
 
--- The state of a door: the port it listens at; whether it is closed; how many links it has handed out and taken back;
--- the bytes that each link to come gives to its reader; for each link taken back, the bytes it had sent and its fault
--- count.
+-- The state of a door: the ports that it listened at, in order; whether it is closed; how many links it has handed out and
+-- taken back; the bytes that each link to come gives to its reader; for each link taken back, the bytes it had sent and its
+-- fault count.
 pub record DoorState : Type 0 where
-  pub port : Option ℕ
+  pub ports : List ℕ
   pub closed : Bool
   pub given : ℕ
   pub back : ℕ
@@ -23,27 +23,35 @@ abbrev pub count_of : {A : Type 0} → Option A → ℕ
 count_of None = 0
 count_of (Some link) = 1
 
--- The state after a call of `listen`: the port is set if the call succeeded and unchanged otherwise.
+-- The state after a call of `listen`: the port is one more of its ports if the call succeeded, and nothing changes otherwise.
 abbrev pub listening_at : ℕ → Bool → DoorState → DoorState
-listening_at port could door = record door { port = if could then Some port else door.port }
+listening_at port could door = record door { ports = if could then door.ports ++ port ∷ [] else door.ports }
 
 -- The door listens at a port.
 abbrev pub IsListening : DoorState → Type 0
-IsListening door = is_some door.port ≡ true
+IsListening door = ¬ (door.ports ≡ [])
+
+-- The door listened once more than before, at this port.
+abbrev pub ListenedAt : ℕ → DoorState → DoorState → Type 0
+ListenedAt port before door = door.ports ≡ before.ports ++ port ∷ []
+
+-- The door listened once more than before, at this port, or at none.
+abbrev pub ListenedOnlyAt : ℕ → DoorState → DoorState → Type 0
+ListenedOnlyAt port before door = (door.ports ≡ before.ports) ⊎ ListenedAt port before door
 
 -- The door is closed: it has no more links to hand out.
 pub record IsClosed (door : DoorState) : Type 0 where
   pub closed : door.closed ≡ true
   pub none_left : IfSome door.links (λ links. links ≡ [])
 
--- The door is closed and listens at this port.
-pub record IsClosedAt (port : ℕ) (door : DoorState) : Type 0 where
+-- The door is closed, and listened once more than before, at this port.
+pub record IsClosedAt (port : ℕ) (before door : DoorState) : Type 0 where
   pub closed : IsClosed door
-  pub at : door.port ≡ Some port
+  pub at : ListenedAt port before door
 
--- No link was handed out, or the door listens at this port.
-abbrev pub ServedOnlyAt : ℕ → ℕ → DoorState → Type 0
-ServedOnlyAt port served door = (served ≡ 0) ⊎ (door.port ≡ Some port)
+-- The door listened once more than before, at this port; or at none, and no link was handed out.
+abbrev pub ServedOnlyAt : ℕ → ℕ → DoorState → DoorState → Type 0
+ServedOnlyAt port served before door = ((served ≡ 0) × (door.ports ≡ before.ports)) ⊎ ListenedAt port before door
 
 -- The door is open: it has another link to hand out.
 pub record IsOpen (door : DoorState) : Type 0 where

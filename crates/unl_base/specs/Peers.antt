@@ -1,26 +1,35 @@
 -- The state of a peer. An optional field that isn't observable is `None`.
 use Rattle.std.specs.Io.KnownBytes.{ReadConsumes, WriteAppends}
-use Rattle.std.specs.Prelude.{◌≡◌, Bool, true, false, List, [], Option, None, ℕ, Result, Ok, IfNone, IfSome, drop, length, option_map}
+use Rattle.std.specs.Prelude.{◌≡◌, Bool, true, false, List, [], ◌∷◌, ◌++◌, Option, None, ℕ, Result, Ok, IfNone, IfSome}
+use Rattle.std.specs.Prelude.{drop, length, option_and_then, option_map}
 use Rattle.unl_base.specs.Doors.{next_of}
 
--- Whether a peer is connected; the bytes still to be read; the bytes sent since the last connect; what each later
--- connection gives to its reader.
+-- Whether a peer is connected; the bytes still to be read; the bytes sent since the last successful connect; what was sent
+-- before that, a text for each earlier connection in order, after a first text of what was sent before the first connection;
+-- what each later connection gives to its reader.
 pub record PeerState : Type 0 where
   pub connected : Bool
   pub left : Option (List ℕ)
   pub sent : Option (List ℕ)
+  pub earlier : Option (List (List ℕ))
   pub replies : Option (List (List ℕ))
 
 -- The state beside its bytes of a stream that is neither a link nor a peer: there is none.
 abbrev pub nothing_beside : PeerState
-nothing_beside = record { connected = false; left = None; sent = None; replies = None }
+nothing_beside = record { connected = false; left = None; sent = None; earlier = None; replies = None }
 
--- The state after a successful connect: the next reply is to be read, and nothing was sent.
+-- All that a peer was sent, a text for each connection in order, after a first text of what was sent before the first
+-- connection. The last text is what was sent since the last successful connect.
+abbrev pub history_of : PeerState → Option (List (List ℕ))
+history_of peer = option_and_then (λ list. option_map (λ sent. list ++ sent ∷ []) peer.sent) peer.earlier
+
+-- The state after a successful connect: the next reply is to be read, and nothing was sent. What was sent before is kept.
 abbrev pub after_connect : PeerState → PeerState
 after_connect peer = record {
   connected = true;
   left = option_map next_of peer.replies;
   sent = option_map (λ _. []) peer.sent;
+  earlier = history_of peer;
   replies = option_map (λ list. drop 1 list) peer.replies;
 }
 

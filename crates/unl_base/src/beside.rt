@@ -2,19 +2,23 @@
 ghost use Rattle.std.specs.Prelude.{◌≡◌, ◌<◌, ◌≤◌, ◌++◌, ◌∷◌, [], IfOk, OnErr, OnOk, map, vec_capacity, vec_len};
 ghost use Rattle.std.specs.List.{AllZip};
 
-use crate::Failed;
 use crate::job::Job;
+use crate::spawn_fault::SpawnFault;
 use std::snapshot::Snapshot;
 use std::sync::Wait;
 use std::thread;
 use std::thread::{Promise, PromisedHandle, Scope, Threads};
 
-/// Runs each job on its own thread and `here` on this one. Fails if a job can't be started; `here` is then cancelled.
+/// Runs each job on its own thread and `here` on this one.
+///
+/// # Errors
+///
+/// `NotStarted`: a job can't be started. `Memory`: out of memory for the list of jobs. Either way `here` is cancelled.
 pub fn run_beside<R: Threads + Wait, J: Job + Send + Drop, M: Job>(
     rt: &R,
     jobs: Vec<J>,
     here: M,
-) -> (M, Result<Vec<J>, Failed>)
+) -> (M, Result<Vec<J>, SpawnFault>)
     ensures here { OnOk result.1 (M.worked here result.0) }
     ensures each { IfOk result.1 (λ done. AllZip J.worked jobs.items done.items) }
     ensures cancelled { OnErr result.1 (M.cancelled here result.0) }
@@ -90,18 +94,18 @@ fn run_around<R: Threads + Wait, J: Job + Send + Drop, E: ScopedWork + Drop>(
     rt: &R,
     jobs: Vec<J>,
     errand: E,
-) -> (E::Done, Result<Vec<J>, Failed>)
+) -> (E::Done, Result<Vec<J>, SpawnFault>)
     ensures here { OnOk result.1 (E.works errand result.0) }
     ensures each { IfOk result.1 (λ done. AllZip J.worked jobs.items done.items) }
     ensures cancelled { OnErr result.1 (E.cancels errand result.0) }
 {
     let Ok(room) = Vec::with_capacity(*jobs.allocator(), jobs.len()) else {
-        return (errand.cancel_job(), Err(Failed));
+        return (errand.cancel_job(), Err(SpawnFault::Memory));
     };
     thread::scope(
         thread::scope_env(),
         rt,
-        move |scope| -> (E::Done, Result<Vec<J>, Failed>)
+        move |scope| -> (E::Done, Result<Vec<J>, SpawnFault>)
             requires room { vec_len jobs ≤ vec_capacity room }
             requires empty { room.items ≡ [] }
             ensures here { OnOk result.1 (E.works errand result.0) }
@@ -113,10 +117,10 @@ fn run_around<R: Threads + Wait, J: Job + Send + Drop, E: ScopedWork + Drop>(
                     let here = errand.run();
                     (here, Ok(join_all(rt, started, room)))
                 }
-                Err(started) => {
+                Err((fault, started)) => {
                     let here = errand.cancel_job();
                     end_all(rt, started);
-                    (here, Err(Failed))
+                    (here, Err(fault))
                 }
             }
         },
@@ -127,11 +131,11 @@ fn run_around<R: Threads + Wait, J: Job + Send + Drop, E: ScopedWork + Drop>(
 ///
 /// # Errors
 ///
-/// The jobs already started, if one can't be started.
+/// Why not all jobs run, and those that were started.
 fn start_all<'s, X, J: Job + Send + Drop + 's>(
     scope: &Scope<'s, X>,
     jobs: Vec<J>,
-) -> Result<Vec<Running<J>>, Vec<Running<J>>>
+) -> Result<Vec<Running<J>>, (SpawnFault, Vec<Running<J>>)>
     ensures { IfOk result (λ started. map (λ handle. handle.promise.was.value) started.items ≡ jobs.items) }
 {
     let mut started = Vec::new(*jobs.allocator());
@@ -139,10 +143,10 @@ fn start_all<'s, X, J: Job + Send + Drop + 's>(
         match start(scope, job) {
             Ok(handle) => {
                 if started.push(handle).is_err() {
-                    return Err(started);
+                    return Err((SpawnFault::Memory, started));
                 }
             }
-            Err(_) => return Err(started),
+            Err(fault) => return Err((fault, started)),
         }
     }
     Ok(started)
@@ -151,7 +155,7 @@ fn start_all<'s, X, J: Job + Send + Drop + 's>(
 fn start<'s, X, J: Job + Send + Drop + 's>(
     scope: &Scope<'s, X>,
     job: J,
-) -> Result<Running<J>, Failed>
+) -> Result<Running<J>, SpawnFault>
     ensures { IfOk result (λ handle. handle.promise.was.value ≡ job) }
 {
     let was = Snapshot::of(&job);
@@ -167,7 +171,7 @@ fn start<'s, X, J: Job + Send + Drop + 's>(
     );
     match started {
         Ok(handle) => Ok(handle),
-        Err(_) => Err(Failed),
+        Err(_) => Err(SpawnFault::NotStarted),
     }
 }
 

@@ -11,7 +11,7 @@ pub trait Door {
     /// The type of its links.
     type L: Link;
 
-    /// The port it listens at, whether it is closed, and how many links it has handed out and taken back. If
+    /// The ports that it listened at, whether it is closed, and how many links it has handed out and taken back. If
     /// observable, also the bytes that each link to come will give to its reader, and for each link taken back the
     /// bytes it had sent and its fault count.
     ghost state: { Self → DoorState };

@@ -1,8 +1,8 @@
 //! A door whose links are in memory.
-ghost use Rattle.std.specs.Prelude.{◌≡◌, ◌<◌, ◌+◌, ◌-◌, ◌∷◌, ◌++◌, ◌↔◌, [], Some, None, All, drop, length, map, if◌then◌else◌};
-ghost use Rattle.std.specs.Prelude.{is_ok, is_some, option_map, slice_get, true, IfOk, IfSome, IsNone, OnErr};
+ghost use Rattle.std.specs.Prelude.{◌≡◌, ◌<◌, ◌+◌, ◌-◌, ◌∷◌, ◌++◌, ◌↔◌, [], Some, All, drop, length, map};
+ghost use Rattle.std.specs.Prelude.{if◌then◌else◌, is_ok, option_map, slice_get, IfOk, IfSome, IsNone, OnErr};
 ghost use Rattle.unl_base.specs.Doors.{Accepts, count_of};
-ghost use Rattle.unl_base.specs.Memory.{FailsAsListed, IsNew, IsNext, sent_and_faults, calls_of, door_of, to_come};
+ghost use Rattle.unl_base.specs.Memory.{FailsAsListed, FailsIfListed, IsNew, IsNext, calls_of, door_of, sent_and_faults, to_come};
 
 use crate::Failed;
 use crate::door::Door;
@@ -88,7 +88,7 @@ impl Stock {
 /// A door whose links are in memory, for tests. It is closed once all of them have been handed out.
 #[derive(Debug, Drop)]
 pub struct MemoryDoor {
-    port: Option<u16>,
+    ports: Vec<u16>,
     stock: Stock,
     calls: Calls,
 }
@@ -98,7 +98,7 @@ impl Model for MemoryDoor {
 
     ghost Value = { MemoryDoorState };
 
-    ghost view = { λ door. record { port = door.port; stock = door.stock; calls = door.calls } };
+    ghost view = { λ door. record { ports = door.ports.items; stock = door.stock; calls = door.calls } };
 }
 
 impl MemoryDoor {
@@ -108,13 +108,13 @@ impl MemoryDoor {
     pub fn new(links: Vec<Option<MemoryLink>>, failing: Vec<u64>) -> Self
         requires { All IsNew links.items }
         ensures { result ≡ record {
-          port = None;
+          ports = [];
           stock = record { links = map to_come links.items; out = 0; returned = [] };
           calls = calls_of failing.items;
         } }
     {
         MemoryDoor {
-            port: None,
+            ports: Vec::new(*links.allocator()),
             stock: Stock::new(links),
             calls: Calls::new(failing),
         }
@@ -139,26 +139,29 @@ impl Door for MemoryDoor {
 
     ghost faults = { λ door. door.calls.faults };
 
-    /// Fails exactly on the calls listed in `failing`.
+    /// Fails on the calls listed in `failing`, and if out of memory to keep the port. Either is counted as a fault.
     fn listen(&mut self, port: u16) -> Result<(), Failed>
-        ensures listens { self.new.port ≡ (if is_ok result then Some port else self.old.port) }
+        ensures listens { self.new.ports ≡ (if is_ok result then self.old.ports ++ port ∷ [] else self.old.ports) }
         ensures stock { self.new.stock ≡ self.old.stock }
-        ensures fails_as_listed { FailsAsListed result self.old.calls self.new.calls }
+        ensures fails_if_listed { FailsIfListed result self.old.calls self.new.calls }
     {
         if self.calls.fails() {
             return Err(Failed);
         }
-        self.port = Some(port);
+        if self.ports.push(port).is_err() {
+            self.calls.fail();
+            return Err(Failed);
+        }
         Ok(())
     }
 
     /// Fails exactly on the calls listed in `failing`.
     fn accept(&mut self) -> Result<Option<MemoryLink>, Failed>
-        requires { is_some self.old.port ≡ true }
+        requires { ¬ (self.old.ports ≡ []) }
         ensures accepts { IfOk result (λ link. Accepts link (door_of self.old) (door_of self.new)) }
         ensures comes { IfOk result (λ link. IfSome link (λ wire. IsNext self.old.stock.links wire)) }
         ensures kept { OnErr result (self.new.stock ≡ self.old.stock) }
-        ensures same { self.new.port ≡ self.old.port }
+        ensures same { self.new.ports ≡ self.old.ports }
         ensures fails_as_listed { FailsAsListed result self.old.calls self.new.calls }
     {
         if self.calls.fails() {

@@ -1,7 +1,7 @@
 //! A peer whose replies are in memory.
-ghost use Rattle.std.specs.Prelude.{◌≡◌, ◌<◌, ◌≤◌, ◌++◌, [], None, drop, take, length, map, IfOk, OnErr, OnOk};
+ghost use Rattle.std.specs.Prelude.{◌≡◌, ◌<◌, ◌≤◌, ◌∷◌, ◌++◌, [], None, drop, take, length, map, IfOk, OnErr, OnOk};
 ghost use Rattle.unl_base.specs.Doors.{next_of};
-ghost use Rattle.unl_base.specs.Memory.{FailsAsListed, ReadsLine, Writes, calls_of, on_line, peer_of};
+ghost use Rattle.unl_base.specs.Memory.{FailsAsListed, FailsIfListed, ReadsLine, Writes, calls_of, on_line, peer_of};
 ghost use Rattle.unl_base.specs.Peers.{after_connect, after_failed_connect};
 
 use crate::link::{Link, Sink, Source};
@@ -45,12 +45,72 @@ impl Replies {
     }
 }
 
-/// A peer whose replies are in memory, for tests.
+/// The bytes sent before the last connect, a text for each earlier connection.
+#[derive(Debug, Drop)]
+struct Texts {
+    texts: Vec<Vec<u8>>,
+}
+
+impl Model for Texts {
+    ghost use Rattle.std.specs.Prelude.{List, ℕ, map};
+
+    ghost Value = { List (List ℕ) };
+
+    ghost view = { λ earlier. map (λ text. text.items) earlier.texts.items };
+}
+
+impl Texts {
+    fn new(alloc: Global) -> Self
+        ensures { result ≡ [] }
+    {
+        Texts {
+            texts: Vec::new(alloc),
+        }
+    }
+
+    fn as_slice(&self) -> &[Vec<u8>]
+        ensures { map (λ text. text.items) result.now ≡ self.now }
+    {
+        self.texts.as_slice()
+    }
+
+    /// Appends a copy of a text.
+    ///
+    /// # Errors
+    ///
+    /// `BaseMemory`: out of memory for it. Nothing changes.
+    fn add(&mut self, text: &[u8]) -> Result<(), BaseMemory>
+        ensures ok { OnOk result (self.new ≡ self.old ++ text.now ∷ []) }
+        ensures err { OnErr result (self.new ≡ self.old) }
+    {
+        let copy = copy_of(*self.texts.allocator(), text)?;
+        if self.texts.push(copy).is_err() {
+            return Err(BaseMemory);
+        }
+        Ok(())
+    }
+}
+
+/// Copies a text.
+///
+/// # Errors
+///
+/// `BaseMemory`: out of memory for it.
+fn copy_of(alloc: Global, text: &[u8]) -> Result<Vec<u8>, BaseMemory>
+    ensures { IfOk result (λ copy. copy.items ≡ text.now) }
+{
+    let mut copy = Vec::new(alloc);
+    copy.extend_from_slice(text)?;
+    Ok(copy)
+}
+
+/// A peer whose replies are in memory, for tests. It keeps what it was sent on each connection.
 #[derive(Debug, Drop)]
 pub struct MemoryPeer {
     line: Option<Incoming>,
     replies: Replies,
     going: Outgoing,
+    earlier: Texts,
     calls: Calls,
 }
 
@@ -59,7 +119,13 @@ impl Model for MemoryPeer {
 
     ghost Value = { MemoryPeerState };
 
-    ghost view = { λ peer. record { line = peer.line; replies = peer.replies; store = peer.going; calls = peer.calls } };
+    ghost view = { λ peer. record {
+      line = peer.line;
+      replies = peer.replies;
+      store = peer.going;
+      earlier = peer.earlier;
+      calls = peer.calls;
+    } };
 }
 
 impl MemoryPeer {
@@ -80,6 +146,7 @@ impl MemoryPeer {
           line = None;
           replies = map (λ text. text.items) replies.items;
           store = record { sent = []; room = room };
+          earlier = [];
           calls = calls_of failing.items;
         }) }
     {
@@ -87,6 +154,7 @@ impl MemoryPeer {
             line: None,
             replies: Replies::new(replies),
             going: Outgoing::new(alloc, room)?,
+            earlier: Texts::new(alloc),
             calls: Calls::new(failing),
         })
     }
@@ -96,6 +164,14 @@ impl MemoryPeer {
         ensures { result.now ≡ self.now.store.sent }
     {
         self.going.as_slice()
+    }
+
+    /// The bytes written before the last successful connect: those written before the first connection, and then those
+    /// written on each earlier connection.
+    pub fn earlier(&self) -> &[Vec<u8>]
+        ensures { map (λ text. text.items) result.now ≡ self.now.earlier }
+    {
+        self.earlier.as_slice()
     }
 }
 
@@ -144,6 +220,7 @@ impl Sink for MemoryPeer {
         ensures writes { Writes result piece.now self.old.calls self.new.calls self.old.store self.new.store }
         ensures line { self.new.line ≡ self.old.line }
         ensures replies { self.new.replies ≡ self.old.replies }
+        ensures earlier { self.new.earlier ≡ self.old.earlier }
     {
         if self.calls.fails() {
             return Err(Failed);
@@ -174,15 +251,20 @@ impl Peer for MemoryPeer {
 
     ghost state = { peer_of };
 
-    /// Fails exactly on the calls listed in `failing`.
+    /// Fails on the calls listed in `failing`, and if out of memory for a copy of what was sent since the last connect.
+    /// Either is counted as a fault.
     fn connect(&mut self) -> Result<(), Failed>
         ensures connects { OnOk result (peer_of self.new ≡ after_connect (peer_of self.old)) }
         ensures parts { OnErr result (peer_of self.new ≡ after_failed_connect (peer_of self.old)) }
         ensures room { self.new.store.room ≡ self.old.store.room }
-        ensures fails_as_listed { FailsAsListed result self.old.calls self.new.calls }
+        ensures fails_if_listed { FailsIfListed result self.old.calls self.new.calls }
     {
         self.line = None;
         if self.calls.fails() {
+            return Err(Failed);
+        }
+        if self.earlier.add(self.going.as_slice()).is_err() {
+            self.calls.fail();
             return Err(Failed);
         }
         self.line = Some(Incoming::new(self.replies.next(), usize::MAX));
@@ -191,6 +273,8 @@ impl Peer for MemoryPeer {
     }
 
     ghost idle = { λ peer. idle_line peer.line };
+
+    ghost earlier_known = { λ peer. refl };
 
     ghost reads = { λ peer. refl };
 

@@ -1,5 +1,5 @@
 //! A peer, which is reconnected for each exchange.
-ghost use Rattle.std.specs.Prelude.{◌≡◌, false, OnErr, OnOk};
+ghost use Rattle.std.specs.Prelude.{◌≡◌, false, is_some, OnErr, OnOk};
 ghost use Rattle.unl_base.specs.Faults.{HasCause};
 ghost use Rattle.unl_base.specs.Peers.{PeerState, after_connect, after_failed_connect};
 ghost use Rattle.unl_base.specs.Streams.{HasEnded};
@@ -9,11 +9,12 @@ use crate::link::Link;
 
 /// A link to a peer. Reads and writes affect only the latest connection, not the later ones.
 pub trait Peer: Link {
-    /// Whether it is connected. If observable, also the bytes still to be read, the bytes sent since the last connect,
-    /// and the bytes that each later connection will give to its reader.
+    /// Whether it is connected. If observable, also the bytes still to be read, the bytes sent since the last connect and
+    /// those sent on each earlier connection, and the bytes that each later connection will give to its reader.
     ghost state: { Self → PeerState };
 
-    /// Connects, replacing any existing connection. Nothing has been sent on the new connection yet.
+    /// Connects, replacing any existing connection. Nothing has been sent on the new connection yet, and what was sent
+    /// before is one more of the earlier texts.
     ///
     /// # Errors
     ///
@@ -26,6 +27,9 @@ pub trait Peer: Link {
 
     /// Without a connection there is nothing to read.
     ghost idle: { (peer : Self) → (state peer).connected ≡ false → HasEnded (state peer).left };
+
+    /// The bytes sent on earlier connections are observable exactly if those sent since the last connect are.
+    ghost earlier_known: { (peer : Self) → is_some (state peer).earlier ≡ is_some (state peer).sent };
 
     /// A read changes only the bytes still to be read.
     ghost reads: { (peer : Self) → state peer ≡ record (Self.Source.beside peer) { left = Self.Source.left peer } };

@@ -1,12 +1,13 @@
 //! A runner of concurrent jobs.
 ghost use Rattle.std.specs.Prelude.{◌≡◌, ◌≤◌, ℕ, IfOk, OnErr, OnOk};
 ghost use Rattle.std.specs.List.{AllZip};
-ghost use Rattle.unl_base.specs.Faults.{HasCause, Rose};
+ghost use Rattle.unl_base.specs.Faults.{Rose};
+ghost use Rattle.unl_base.specs.Spawning.{HasSpawnCause};
 
-use crate::Failed;
 use crate::beside::run_beside;
 use crate::in_turn::work_all;
 use crate::job::Job;
+use crate::spawn_fault::SpawnFault;
 use std::sync::Wait;
 use std::thread::Threads;
 
@@ -54,38 +55,39 @@ pub trait Spawner {
     ///
     /// # Errors
     ///
-    /// `Failed`: a job couldn't be started. `here` was cancelled, the jobs already started have finished, and all jobs
-    /// are dropped. The fault is counted.
+    /// `NotStarted`: a job couldn't be started, and the fault is counted. `Memory`: out of memory for the list of jobs,
+    /// which is counted as no fault. Either way `here` was cancelled, the jobs already started have finished, and all jobs
+    /// are dropped.
     final fn with<J: Job + Send + Drop, M: Job>(
         &mut self,
         jobs: Vec<J>,
         here: M,
-    ) -> (M, Result<Vec<J>, Failed>)
+    ) -> (M, Result<Vec<J>, SpawnFault>)
         ensures here { OnOk result.1 (M.worked here result.0) }
         ensures each { IfOk result.1 (λ done. AllZip J.worked jobs.items done.items) }
         ensures cancelled { OnErr result.1 (M.cancelled here result.0) }
-        ensures cause { HasCause (faults self.old) (faults self.new) result.1 }
+        ensures cause { HasSpawnCause (faults self.old) (faults self.new) result.1 }
         ensures still { OnOk result.1 (faults self.new ≡ faults self.old) }
     {
         match self.place() {
             Placement::Here => run_in_turn(jobs, here),
             Placement::Threads(rt) => {
                 let (here, done) = run_beside(rt, jobs, here);
-                if done.is_err() {
+                if let Err(SpawnFault::NotStarted) = &done {
                     self.count_fault(NotStarted::now());
                 }
                 (here, done)
             }
             Placement::Nowhere => {
                 self.count_fault(NotStarted::now());
-                (cancel_job(here), Err(Failed))
+                (cancel_job(here), Err(SpawnFault::NotStarted))
             }
         }
     }
 }
 
 /// Runs `here`, then each job in turn.
-fn run_in_turn<J: Job, M: Job>(jobs: Vec<J>, here: M) -> (M, Result<Vec<J>, Failed>)
+fn run_in_turn<J: Job, M: Job>(jobs: Vec<J>, here: M) -> (M, Result<Vec<J>, SpawnFault>)
     ensures here { OnOk result.1 (M.worked here result.0) }
     ensures each { IfOk result.1 (λ done. AllZip J.worked jobs.items done.items) }
     ensures cancelled { OnErr result.1 (M.cancelled here result.0) }
