@@ -22,8 +22,8 @@ spaces_of_both : (a b : List ℕ) → spaces_in (a ++ b) ≡ spaces_in a + space
 spaces_of_both a b = ap length (filter-append is_space a b) ∙ length-append (filter is_space a) (filter is_space b)
 
 -- a prefix of bytes that may be logged may be logged too
-front_may : (a b : List ℕ) → may_be_logged (a ++ b) ≡ true → may_be_logged a ≡ true
-front_may a b logged =
+prefix_may : (a b : List ℕ) → may_be_logged (a ++ b) ≡ true → may_be_logged a ≡ true
+prefix_may a b logged =
     by (list_all is_loggable a) (list_all is_loggable b) (spaces_in a) (spaces_in b)
     (sym (λ i. list_all-append is_loggable a b i && nat_le (spaces_of_both a b i) 1) ∙ logged)
   where
@@ -42,18 +42,18 @@ spaces_of_one byte = by (nat_eq byte 32) refl
     by false is = search rules
 
 -- a prefix may be extended by a byte that may be logged and is no second space
-pub one_more : (front : List ℕ) (at : ℕ) (has_method : Bool) → at < length front → may_be_logged (take at front) ≡ true
-    → has_method ≡ nat_lt 0 (spaces_in (take at front))
-    → may_be_logged (take (at + 1) front) ≡ (is_loggable (get_or front at 0) && not (has_method && nat_eq (get_or front at 0) 32))
-one_more front at has_method inside logged spaces =
+pub one_more : (prefix : List ℕ) (at : ℕ) (has_method : Bool) → at < length prefix → may_be_logged (take at prefix) ≡ true
+    → has_method ≡ nat_lt 0 (spaces_in (take at prefix))
+    → may_be_logged (take (at + 1) prefix) ≡ (is_loggable (get_or prefix at 0) && not (has_method && nat_eq (get_or prefix at 0) 32))
+one_more prefix at has_method inside logged spaces =
     let next : at + 1 ≡ suc at = search arith in
-    ap (λ n. may_be_logged (take n front)) next ∙ ap may_be_logged (take-suc front at 0 inside)
-    ∙ (λ i. list_all-append is_loggable (take at front) (get_or front at 0 ∷ []) i
-    && nat_le (spaces_of_both (take at front) (get_or front at 0 ∷ []) i) 1)
-    ∙ ap (λ n. (list_all is_loggable (take at front) && (is_loggable (get_or front at 0) && true))
-    && nat_le (spaces_in (take at front) + n) 1) (spaces_of_one (get_or front at 0))
-    ∙ by (list_all is_loggable (take at front)) (is_loggable (get_or front at 0)) (nat_eq (get_or front at 0) 32)
-    (spaces_in (take at front)) logged spaces
+    ap (λ n. may_be_logged (take n prefix)) next ∙ ap may_be_logged (take-suc prefix at 0 inside)
+    ∙ (λ i. list_all-append is_loggable (take at prefix) (get_or prefix at 0 ∷ []) i
+    && nat_le (spaces_of_both (take at prefix) (get_or prefix at 0 ∷ []) i) 1)
+    ∙ ap (λ n. (list_all is_loggable (take at prefix) && (is_loggable (get_or prefix at 0) && true))
+    && nat_le (spaces_in (take at prefix) + n) 1) (spaces_of_one (get_or prefix at 0))
+    ∙ by (list_all is_loggable (take at prefix)) (is_loggable (get_or prefix at 0)) (nat_eq (get_or prefix at 0) 32)
+    (spaces_in (take at prefix)) logged spaces
   where
     by : (all seen space : Bool) (count : ℕ) → (all && nat_le count 1) ≡ true → has_method ≡ nat_lt 0 count
         → ((all && (seen && true)) && nat_le (count + (if space then 1 else 0)) 1) ≡ (seen && not (has_method && space))
@@ -105,41 +105,41 @@ longest (suc n) at bytes below logged none = by (nat_lt at (suc n)) refl (λ ins
         rw (ap (λ k. may_be_logged (take k bytes)) same ∙ logged) same
 
 -- if a prefix may not be logged, no longer one may
-none_longer : (front : List ℕ) (at : ℕ) → may_be_logged (take (at + 1) front) ≡ false → (k : ℕ) → at < k
-    → may_be_logged (take k front) ≡ false
-none_longer front at stops k longer = by (may_be_logged (take k front)) refl
+none_longer : (prefix : List ℕ) (at : ℕ) → may_be_logged (take (at + 1) prefix) ≡ false → (k : ℕ) → at < k
+    → may_be_logged (take k prefix) ≡ false
+none_longer prefix at stops k longer = by (may_be_logged (take k prefix)) refl
   where
-    by : (logged : Bool) → may_be_logged (take k front) ≡ logged → logged ≡ false
+    by : (logged : Bool) → may_be_logged (take k prefix) ≡ logged → logged ≡ false
     by false is = refl
     by true is =
         let more : at + 1 ≤ k = search arith in
-        let cut : may_be_logged (take (at + 1) (take k front)) ≡ true
-        = front_may (take (at + 1) (take k front)) (drop (at + 1) (take k front))
-        (ap may_be_logged (take-append-drop (at + 1) (take k front)) ∙ is) in
-        sym cut ∙ ap may_be_logged (take-take (at + 1) k front more) ∙ stops
+        let cut : may_be_logged (take (at + 1) (take k prefix)) ≡ true
+        = prefix_may (take (at + 1) (take k prefix)) (drop (at + 1) (take k prefix))
+        (ap may_be_logged (take-append-drop (at + 1) (take k prefix)) ∙ is) in
+        sym cut ∙ ap may_be_logged (take-take (at + 1) k prefix more) ∙ stops
 
 -- the bytes that were passed are the longest prefix if the next byte may not be logged
-pub no_more : (front : List ℕ) (at : ℕ) (has_method : Bool) → at < length front → may_be_logged (take at front) ≡ true
-    → has_method ≡ nat_lt 0 (spaces_in (take at front))
-    → (is_loggable (get_or front at 0) && not (has_method && nat_eq (get_or front at 0) 32)) ≡ false
-    → at ≡ longest_prefix (length front) front
-no_more front at has_method inside logged spaces stops =
-    sym (longest (length front) at front (search arith) logged
-    (none_longer front at (one_more front at has_method inside logged spaces ∙ stops)))
+pub no_more : (prefix : List ℕ) (at : ℕ) (has_method : Bool) → at < length prefix → may_be_logged (take at prefix) ≡ true
+    → has_method ≡ nat_lt 0 (spaces_in (take at prefix))
+    → (is_loggable (get_or prefix at 0) && not (has_method && nat_eq (get_or prefix at 0) 32)) ≡ false
+    → at ≡ longest_prefix (length prefix) prefix
+no_more prefix at has_method inside logged spaces stops =
+    sym (longest (length prefix) at prefix (search arith) logged
+    (none_longer prefix at (one_more prefix at has_method inside logged spaces ∙ stops)))
 
 -- the bytes that were passed are the longest prefix if no byte is left
-pub none_left : (front : List ℕ) (at : ℕ) → length front ≤ at → at ≤ length front → may_be_logged (take at front) ≡ true
-    → length front ≡ longest_prefix (length front) front
-none_left front at past inside logged =
-    let here : at ≡ length front = search arith in
-    sym (whole (length front) front (ap (λ n. may_be_logged (take n front)) (sym here) ∙ logged))
+pub none_left : (prefix : List ℕ) (at : ℕ) → length prefix ≤ at → at ≤ length prefix → may_be_logged (take at prefix) ≡ true
+    → length prefix ≡ longest_prefix (length prefix) prefix
+none_left prefix at past inside logged =
+    let here : at ≡ length prefix = search arith in
+    sym (whole (length prefix) prefix (ap (λ n. may_be_logged (take n prefix)) (sym here) ∙ logged))
 
 -- the longest prefix within a limit is the same of the bytes cut off at the limit
-same_on_front : (n m : ℕ) (bytes : List ℕ) → n ≤ m → longest_prefix n (take m bytes) ≡ longest_prefix n bytes
+same_on_prefix : (n m : ℕ) (bytes : List ℕ) → n ≤ m → longest_prefix n (take m bytes) ≡ longest_prefix n bytes
 unfolding longest_prefix
-same_on_front zero m bytes below = refl
-same_on_front (suc n) m bytes below =
-    λ i. if may_be_logged (take-take (suc n) m bytes below i) then suc n else same_on_front n m bytes (search arith) i
+same_on_prefix zero m bytes below = refl
+same_on_prefix (suc n) m bytes below =
+    λ i. if may_be_logged (take-take (suc n) m bytes below i) then suc n else same_on_prefix n m bytes (search arith) i
 
 -- a limit past the end of the bytes changes nothing
 past : (more : ℕ) (bytes : List ℕ) → take (longest_prefix (length bytes + more) bytes) bytes
@@ -174,7 +174,7 @@ past (suc more) bytes = ap (λ n. take (longest_prefix n bytes) bytes) next ∙ 
 pub same_text : (request : List ℕ)
     → take (longest_prefix (length (take (min 64 (length request)) request)) (take (min 64 (length request)) request)) request
     ≡ logged_text request
-same_text request = ap (λ front. take (longest_prefix (length front) front) request) (take_min 64 request)
+same_text request = ap (λ prefix. take (longest_prefix (length prefix) prefix) request) (take_min 64 request)
     ∙ by (nat_le (length request) 64) refl
   where
     by : (short : Bool) → nat_le (length request) 64 ≡ short
@@ -182,13 +182,13 @@ same_text request = ap (λ front. take (longest_prefix (length front) front) req
     by true is =
         let below : length request ≤ 64 = search arith in
         let rest : length request + (64 - length request) ≡ 64 = search arith in
-        ap (λ front. take (longest_prefix (length front) front) request) (take_all 64 request below)
+        ap (λ prefix. take (longest_prefix (length prefix) prefix) request) (take_all 64 request below)
         ∙ sym (past (64 - length request) request) ∙ ap (λ n. take (longest_prefix n request) request) rest
     by false is =
         let size : length (take 64 request) ≡ min 64 (length request) = length-take 64 request in
         let full : length (take 64 request) ≡ 64 = search arith in
         ap (λ n. take (longest_prefix n (take 64 request)) request) full
-        ∙ ap (λ n. take n request) (same_on_front 64 64 request (search arith))
+        ∙ ap (λ n. take n request) (same_on_prefix 64 64 request (search arith))
 
 -- no more is logged of a prefix than its length
 pub cut_short : (most : ℕ) (request : List ℕ) → longest_prefix (length (take most request)) (take most request) ≤ most

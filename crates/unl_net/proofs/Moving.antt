@@ -118,19 +118,19 @@ rest_after a b c (Err e) piece sent more failed first rest =
     Keeps-trans a b c (appends_kept a b (subst (λ (k : ℕ). Appends a b (take k piece)) failed first)) rest
 
 -- bytes are a prefix of themselves
-pub begins_same : (front bytes : List ℕ) → bytes ≡ front → BeginsWith front bytes
+pub begins_same : (prefix bytes : List ℕ) → bytes ≡ prefix → BeginsWith prefix bytes
 unfolding BeginsWith
-begins_same front bytes same = ap (take (length front)) same ∙ take-length front
+begins_same prefix bytes same = ap (take (length prefix)) same ∙ take-length prefix
 
 -- bytes are a prefix of themselves with more appended
-pub begins_more : (front more bytes : List ℕ) → bytes ≡ front ++ more → BeginsWith front bytes
+pub begins_more : (prefix more bytes : List ℕ) → bytes ≡ prefix ++ more → BeginsWith prefix bytes
 unfolding BeginsWith
-begins_more front more bytes same = ap (take (length front)) same ∙ take-append_seam front more
+begins_more prefix more bytes same = ap (take (length prefix)) same ∙ take-append_seam prefix more
 
 -- a prefix stays one of bytes that are the same
-pub begins_kept : (front bytes same : List ℕ) → same ≡ bytes → BeginsWith front bytes → BeginsWith front same
+pub begins_kept : (prefix bytes same : List ℕ) → same ≡ bytes → BeginsWith prefix bytes → BeginsWith prefix same
 unfolding BeginsWith
-begins_kept front bytes same still begins = ap (take (length front)) still ∙ begins
+begins_kept prefix bytes same still begins = ap (take (length prefix)) still ∙ begins
 
 -- a prefix of a prefix is a prefix
 pub begins_then : (a b c : List ℕ) → BeginsWith a b → BeginsWith b c → BeginsWith a c

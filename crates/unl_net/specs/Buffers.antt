@@ -17,9 +17,9 @@ opened_len (Whole count) bytes = count
 opened_len More bytes = 0
 opened_len (Bad status) bytes = length bytes
 
--- `front` is a prefix of `bytes`
+-- `prefix` is a prefix of `bytes`
 unfoldable pub BeginsWith : List ℕ → List ℕ → Type 0
-BeginsWith front bytes = take (length front) bytes ≡ front
+BeginsWith prefix bytes = take (length prefix) bytes ≡ prefix
 
 -- the bytes that are still to be sent
 abbrev pub unsent : SendBuffer → List ℕ
@@ -30,8 +30,8 @@ abbrev pub coming : ReceiveBuffer → Option (List ℕ) → Option (List ℕ)
 coming buffer remaining = prepend_known (unread buffer) remaining
 
 -- what a connection was sent, if known: the bytes that its stream took, then those still to be sent
-abbrev pub going : Option (List ℕ) → SendBuffer → Option (List ℕ)
-going contents buffer = append_known contents (unsent buffer)
+abbrev pub outgoing : Option (List ℕ) → SendBuffer → Option (List ℕ)
+outgoing contents buffer = append_known contents (unsent buffer)
 
 -- a read took exactly the bytes that it returned from those to come, and none if it failed
 abbrev pub Gives : {E : Type 0} → Option (List ℕ) → Option (List ℕ) → Result ℕ E → List ℕ → Type 0

@@ -9,9 +9,9 @@ use Rattle.unl_net.specs.declared.listener.Accepting.{Accepting}
 use Rattle.unl_net.specs.declared.reactor.Reactor.{Reactor}
 
 -- it is closed once its last link was handed out, or 2^64 - 1 links; what its links give and send is not observable
-abbrev pub door_state : Option ℕ → Counts → DoorState
-door_state port counts = record {
-  port = port;
+abbrev pub door_state : List ℕ → Counts → DoorState
+door_state ports counts = record {
+  ports = ports;
   closed = counts.closed || nat_eq counts.given (2 ^ 64 - 1);
   given = counts.given;
   back = counts.back;

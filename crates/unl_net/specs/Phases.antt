@@ -3,7 +3,7 @@ use Rattle.std.specs.Prelude.{Bool, true, false, ℕ, ◌||◌, if◌then◌else
 use Rattle.unl_net.specs.declared.phase.Facts.{Facts}
 use Rattle.unl_net.specs.declared.phase.Phase.{Phase}
 use Rattle.unl_net.specs.declared.served.Fate.{Fate}
-use Rattle.unl_net.specs.declared.served.Fate.TheVariants.{GoesOn, Ends, Closed}
+use Rattle.unl_net.specs.declared.served.Fate.TheVariants.{Continues, Ends, Closed}
 use Rattle.unl_net.specs.declared.served.Stage.{Stage}
 use Rattle.unl_net.specs.declared.served.Stage.TheVariants.{Answered, Asked, Open, Parked, Failed}
 use Rattle.unl_net.specs.declared.phase.Phase.TheVariants.{Idle, Receiving, Ready, Sending, Draining, Over}
@@ -41,5 +41,5 @@ abbrev pub fate_of : Stage → Bool → Bool → Fate
 fate_of Answered owes unread = if owes || unread then Ends else Closed
 fate_of Asked owes unread = if owes || unread then Ends else Closed
 fate_of Open owes unread = if owes || unread then Ends else Closed
-fate_of Parked owes unread = GoesOn
+fate_of Parked owes unread = Continues
 fate_of Failed owes unread = Closed

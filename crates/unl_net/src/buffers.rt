@@ -60,7 +60,7 @@ impl ReceiveBuffer {
         ensures same { unread self.new ≡ unread self.old }
         ensures room { OnOk result (vec_len self.new.bytes + more ≤ vec_capacity self.new.bytes) }
     {
-        drop_front(&mut self.bytes, self.taken);
+        drop_prefix(&mut self.bytes, self.taken);
         self.taken = 0;
         self.bytes.reserve(more)
     }
@@ -74,7 +74,7 @@ impl ReceiveBuffer {
     }
 
     /// What the unread bytes begin with. If an allocation fails, which only very long heads need, the request counts as unfinished.
-    fn front(&self, alloc: Global) -> Frame
+    fn prefix(&self, alloc: Global) -> Frame
         ensures { result ≢ Frame.More → IsFrame (unread self.now) result }
     {
         match request_frame(alloc, self.waiting()) {
@@ -90,13 +90,13 @@ impl ReceiveBuffer {
         ensures frame { result ≢ Frame.More → IsFrame (unread self.new) result }
         ensures opened { self.new.opened ≡ opened_len result (unread self.new) }
     {
-        let front = self.front(alloc);
-        self.opened = match front {
+        let prefix = self.prefix(alloc);
+        self.opened = match prefix {
             Frame::Whole(count) => count,
             Frame::Bad(_) => self.len(),
             Frame::More => 0,
         };
-        front
+        prefix
     }
 
     /// Opens all unread bytes.
@@ -114,7 +114,7 @@ impl ReceiveBuffer {
         ensures bytes { unread self.old ≡ take result room.new ++ unread self.new }
     {
         let count = self.opened.min(room.len());
-        copy_front(self.waiting(), room, count);
+        copy_prefix(self.waiting(), room, count);
         self.opened -= count;
         self.taken += count;
         count
@@ -145,7 +145,7 @@ impl ReceiveBuffer {
 }
 
 /// Removes the first `count` bytes.
-fn drop_front(bytes: &mut Vec<u8>, count: usize)
+fn drop_prefix(bytes: &mut Vec<u8>, count: usize)
     requires { count ≤ vec_len bytes.old }
     ensures { bytes.new.items ≡ drop count bytes.old.items }
 {
@@ -157,10 +157,10 @@ fn drop_front(bytes: &mut Vec<u8>, count: usize)
 }
 
 /// Copies the first `count` bytes to the beginning of `room`.
-fn copy_front(bytes: &[u8], room: &mut [u8], count: usize)
+fn copy_prefix(bytes: &[u8], room: &mut [u8], count: usize)
     requires held { count ≤ length bytes.now }
     requires fits { count ≤ length room.old }
-    ensures front { take count room.new ≡ take count bytes.now }
+    ensures prefix { take count room.new ≡ take count bytes.now }
     ensures same { length room.new ≡ length room.old }
 {
     room[..count].copy_from_slice(&bytes[..count]);

@@ -1,7 +1,7 @@
 //! A connection of a door, which its reactor and its links hold in turn.
 ghost use Rattle.std.specs.Prelude.{◌≡◌, ◌==◌, ◌≤◌, ◌||◌, [], false, length, nat_le, IfOk, IfSome, OnOk};
 ghost use Rattle.std.specs.Io.KnownBytes.{Keeps, WriteAppends};
-ghost use Rattle.unl_net.specs.Buffers.{BeginsWith, GivesIfAny, coming, facts_of, going, unread, unsent};
+ghost use Rattle.unl_net.specs.Buffers.{BeginsWith, GivesIfAny, coming, facts_of, outgoing, unread, unsent};
 ghost use Rattle.unl_net.specs.Moments.{seconds_between};
 ghost use Rattle.unl_net.specs.Phases.{limit_of, phase_of};
 
@@ -110,9 +110,9 @@ impl<S: Read + Write + OpenStream + Drop> Connection<S> {
         ensures others { (self.new.stream ≡ self.old.stream) × (self.new.to_send ≡ self.old.to_send) }
         ensures marks { (self.new.closing ≡ self.old.closing) × (self.new.ended ≡ self.old.ended) }
     {
-        let front = self.received.open(alloc);
-        self.refused = matches!(front, Frame::Bad(_));
-        front != Frame::More
+        let prefix = self.received.open(alloc);
+        self.refused = matches!(prefix, Frame::Bad(_));
+        prefix != Frame::More
     }
 
     /// Lets the connection be closed behind its answers, unless bytes of a further request came.
@@ -214,7 +214,7 @@ impl<S: Read + Write + OpenStream + Drop> Connection<S> {
     /// That of the stream.
     #[tactic(auto, using(crate::proofs::Moving::sent_keeps))]
     pub fn flush(&mut self) -> io::Result<usize>
-        ensures kept { Keeps (going (S.contents self.old.stream) self.old.to_send) (going (S.contents self.new.stream) self.new.to_send) }
+        ensures kept { Keeps (outgoing (S.contents self.old.stream) self.old.to_send) (outgoing (S.contents self.new.stream) self.new.to_send) }
         ensures others { (self.new.received ≡ self.old.received) × (self.new.closing ≡ self.old.closing)
             × (self.new.ended ≡ self.old.ended) }
     {
@@ -307,7 +307,7 @@ impl<S: Read + Write + OpenStream + Drop> Connection<S> {
     /// That of the stream.
     #[tactic(auto, using(crate::proofs::Trying::stays))]
     fn send<C: Clock>(&mut self, alloc: Global, clock: &C) -> io::Result<()>
-        ensures sent { Keeps (going (S.contents self.old.stream) self.old.to_send) (going (S.contents self.new.stream) self.new.to_send) }
+        ensures sent { Keeps (outgoing (S.contents self.old.stream) self.old.to_send) (outgoing (S.contents self.new.stream) self.new.to_send) }
         ensures received { self.new.received ≡ self.old.received }
         ensures nothing { unsent self.old.to_send ≡ [] → self.new ≡ self.old }
         ensures marks { (self.new.closing ≡ self.old.closing) × (self.new.ended ≡ self.old.ended) }

@@ -17,7 +17,7 @@ const PAUSE: u64 = 60;
 pub(crate) enum Cut {
     /// A request was not whole in time.
     SlowRequest,
-    /// The client took nothing of an answer in time.
+    /// The client received no byte of an answer in time.
     SlowReader,
     /// Its descriptor was needed.
     Room,

@@ -1,7 +1,7 @@
 //! A door over the network.
 ghost use Rattle.slab.specs.Slab.{slab_len};
-ghost use Rattle.std.specs.Prelude.{◌≡◌, ◌≤◌, ◌+◌, ◌-◌, ◌^◌, ◌∷◌, IfNone, IfOk, IfSome, None, OnErr};
-ghost use Rattle.std.specs.Prelude.{option_map, true, unwrap_or};
+ghost use Rattle.std.specs.Prelude.{◌≡◌, ◌≤◌, ◌+◌, ◌-◌, ◌^◌, ◌∷◌, [], IfNone, IfOk, IfSome, None, OnErr};
+ghost use Rattle.std.specs.Prelude.{true, unwrap_or};
 ghost use Rattle.std.specs.VecDeque.{deque_len};
 ghost use Rattle.unl_base.specs.Doors.{Accepts, IsFresh};
 ghost use Rattle.unl_base.specs.Faults.{HasExactCause};
@@ -9,9 +9,8 @@ ghost use Rattle.unl_net.specs.Doors.{IsLast, IsServed, door_state, ended_by, he
 ghost use Rattle.unl_net.specs.Ends.{Accounts, LosesNone};
 
 use crate::counts::Counts;
-use crate::limits::most_connections;
 use crate::link::RealLink;
-use crate::listener::{Accepting, Listening, accept_some, open_at};
+use crate::listener::{Accepting, accept_some, log_open, open_one_more};
 use crate::moment::moment;
 use crate::reactor::Reactor;
 use crate::reports::Reports;
@@ -40,7 +39,9 @@ const MOMENT: u64 = 10;
 pub struct RealDoor<N: Net + Clock + Eprint + Wait + Copy + Drop> {
     net: N,
     alloc: Global,
-    listening: Option<Listening<N::Listener>>,
+    /// The ports that it listened at, in order. There is room for one from the start.
+    ports: Vec<u16>,
+    listener: Option<N::Listener>,
     reactor: Option<Reactor<N::Stream>>,
     workers: u32,
     accepting: Accepting,
@@ -57,14 +58,16 @@ impl<N: Net + Clock + Eprint + Wait + Copy + Drop> RealDoor<N> {
     /// # Errors
     /// Out of memory.
     pub fn new(alloc: Global, net: N, bound: Option<u64>, workers: u32) -> Result<Self, AllocError>
-        ensures new { IfOk result (λ door. (door.listening ≡ None) × (door.counts.given ≡ 0) × (door.counts.back ≡ 0) × (door.faults ≡ 0)) }
+        ensures new { IfOk result (λ door. (door.listener ≡ None) × (door.counts.given ≡ 0) × (door.counts.back ≡ 0) × (door.faults ≡ 0)) }
+        ensures no_port { IfOk result (λ door. door.ports.items ≡ []) }
         ensures bound { IfOk result (λ door. door.accepting.bound ≡ unwrap_or bound (2 ^ 64 - 1)) }
         ensures workers { IfOk result (λ door. door.workers ≡ workers) }
     {
         Ok(RealDoor {
             net,
             alloc,
-            listening: None,
+            ports: Vec::with_capacity(alloc, 1)?,
+            listener: None,
             reactor: None,
             workers,
             accepting: Accepting::new(bound.unwrap_or(u64::MAX)),
@@ -88,7 +91,7 @@ impl<N: Net + Clock + Eprint + Wait + Copy + Drop> RealDoor<N> {
 fn next_link<N: Net + Clock + Eprint + Wait + Copy + Drop>(
     alloc: Global,
     net: N,
-    listening: &Option<Listening<N::Listener>>,
+    listener: &Option<N::Listener>,
     reactor: &mut Option<Reactor<N::Stream>>,
     accepting: &mut Accepting,
     reports: &mut Reports,
@@ -99,13 +102,13 @@ fn next_link<N: Net + Clock + Eprint + Wait + Copy + Drop>(
     ensures accounts { LosesNone reports.old.arrived (held_by reactor.old) (ended_by reactor.old)
         reports.new.arrived (with_link result (held_by reactor.new)) (ended_by reactor.new) }
 {
-    let Some(listening) = listening else {
+    let Some(listener) = listener else {
         return Err(io::Error::from(ErrorKind::NotConnected));
     };
     let Some(reactor) = reactor else {
         return Err(io::Error::from(ErrorKind::NotConnected));
     };
-    next_or_end(alloc, net, &listening.listener, reactor, accepting, reports)
+    next_or_end(alloc, net, listener, reactor, accepting, reports)
 }
 
 /// Waits for the next link of a reactor, and returns whether it is the last one.
@@ -400,24 +403,16 @@ fn look_after<N: Net + Clock + Eprint + Wait + Copy + Drop>(
 impl<N: Net + Clock + Eprint + Wait + Copy + Drop> Door for RealDoor<N> {
     type L = RealLink<N::Stream, N>;
 
-    ghost state = { λ door. door_state (option_map (λ one. one.port) door.listening) door.counts };
+    ghost state = { λ door. door_state door.ports.items door.counts };
 
     ghost faults = { λ door. door.faults };
 
     fn listen(&mut self, port: u16) -> Result<(), Failed> {
-        match open_at(
-            self.alloc,
-            &self.net,
-            port,
-            self.workers,
-            most_connections(),
-        ) {
+        let opened = open_one_more(self.alloc, &self.net, port, self.workers, &mut self.ports);
+        match opened {
             Ok((listener, reactor)) => {
-                if let Ok(address) = listener.local_addr() {
-                    let line = format_args!("listening at {address}");
-                    self.accepting.log.line(&self.net, line);
-                }
-                self.listening = Some(Listening { port, listener });
+                log_open(&self.net, &listener, &mut self.accepting.log);
+                self.listener = Some(listener);
                 self.reactor = Some(reactor);
                 Ok(())
             }
@@ -437,12 +432,12 @@ impl<N: Net + Clock + Eprint + Wait + Copy + Drop> Door for RealDoor<N> {
     /// the link, and each other one waits, is ready or was counted as ended.
     #[tactic(auto, using(crate::proofs::Accounting::unchanged))]
     fn accept(&mut self) -> Result<Option<Self::L>, Failed>
-        ensures accepts { IfOk result (λ link. Accepts link (door_state (option_map (λ one. one.port) self.old.listening) self.old.counts)
-            (door_state (option_map (λ one. one.port) self.new.listening) self.new.counts)) }
+        ensures accepts { IfOk result (λ link. Accepts link (door_state self.old.ports.items self.old.counts)
+            (door_state self.new.ports.items self.new.counts)) }
         ensures fresh { IfOk result (λ link. IfSome link (λ l.
-            IsFresh (door_state (option_map (λ one. one.port) self.old.listening) self.old.counts) None None l.faults)) }
-        ensures kept { OnErr result (door_state (option_map (λ one. one.port) self.new.listening) self.new.counts
-            ≡ door_state (option_map (λ one. one.port) self.old.listening) self.old.counts) }
+            IsFresh (door_state self.old.ports.items self.old.counts) None None l.faults)) }
+        ensures kept { OnErr result (door_state self.new.ports.items self.new.counts
+            ≡ door_state self.old.ports.items self.old.counts) }
         ensures cause { HasExactCause self.old.faults self.new.faults result }
         ensures closes { IfOk result (λ link. IfSome link (λ _. self.new.counts.closed ≡ true
             → IfSome self.new.reactor (λ reactor. IsLast self.new.accepting reactor.waiting reactor.ready.items))) }
@@ -455,7 +450,7 @@ impl<N: Net + Clock + Eprint + Wait + Copy + Drop> Door for RealDoor<N> {
         let next = next_link(
             self.alloc,
             self.net,
-            &self.listening,
+            &self.listener,
             &mut self.reactor,
             &mut self.accepting,
             &mut self.reports,

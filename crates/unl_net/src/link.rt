@@ -3,7 +3,7 @@ ghost use Rattle.std.specs.Prelude.{◌≡◌, ◌<◌, ◌≤◌, length, IfOk,
 ghost use Rattle.std.specs.Io.KnownBytes.{WriteAppends};
 ghost use Rattle.unl_base.specs.Faults.{HasExactCause};
 ghost use Rattle.unl_base.specs.Peers.{nothing_beside};
-ghost use Rattle.unl_net.specs.Buffers.{Gives, coming, going};
+ghost use Rattle.unl_net.specs.Buffers.{Gives, coming, outgoing};
 
 use crate::connection::Connection;
 use crate::served::Served;
@@ -81,8 +81,8 @@ impl<S: Read + Write + OpenStream + Drop, C: Clock + Wait + Drop> Sink for RealL
         ensures some { IfOk result (λ n. 0 < n) }
         ensures fits { IfOk result (λ n. n ≤ length piece.now) }
         ensures forwards { WriteAppends
-            (going (S.contents self.old.served.connection.stream) self.old.served.connection.to_send)
-            (going (S.contents self.new.served.connection.stream) self.new.served.connection.to_send) result piece.now }
+            (outgoing (S.contents self.old.served.connection.stream) self.old.served.connection.to_send)
+            (outgoing (S.contents self.new.served.connection.stream) self.new.served.connection.to_send) result piece.now }
         ensures cause { HasExactCause self.old.faults self.new.faults result }
     {
         match self.served.write(piece) {

@@ -1,10 +1,12 @@
 //! Listening at a port, and accepting connections.
 ghost use Rattle.slab.specs.Slab.{slab_len};
-ghost use Rattle.std.specs.Prelude.{◌≡◌, ◌≤◌, ◌+◌, ◌⊎◌, ◌||◌, IfSome, MatchResult, None, OnSome, Some, false, is_some, nat_le, true};
+ghost use Rattle.std.specs.Prelude.{◌≡◌, ◌≤◌, ◌+◌, ◌∷◌, ◌++◌, ◌⊎◌, ◌||◌, [], IfSome, MatchResult, None, OnErr, OnOk, OnSome, Some};
+ghost use Rattle.std.specs.Prelude.{false, is_some, nat_le, true};
 ghost use Rattle.std.specs.VecDeque.{deque_len};
 ghost use Rattle.unl_net.specs.Ends.{Accounts};
 
 use crate::connection::Connection;
+use crate::limits::most_connections;
 use crate::log::{Log, Logged, WELL};
 use crate::moment::moment;
 use crate::reactor::Reactor;
@@ -45,13 +47,6 @@ fn passes(fault: &io::Error) -> bool {
         Some(code) => !LASTING.contains(&code),
         None => false,
     }
-}
-
-/// A listener, and the port it was opened at.
-#[derive(Drop)]
-pub(crate) struct Listening<L: Drop> {
-    pub port: u16,
-    pub listener: L,
 }
 
 /// How many connections were accepted, and what of that was logged.
@@ -340,7 +335,7 @@ fn bind_four<N: Net>(net: &N, port: u16) -> io::Result<N::Listener> {
 }
 
 /// Listens at a port, with a reactor for its connections.
-pub(crate) fn open_at<N: Net>(
+fn open_at<N: Net>(
     alloc: Global,
     net: &N,
     port: u16,
@@ -351,4 +346,32 @@ pub(crate) fn open_at<N: Net>(
     listener.set_nonblocking(true)?;
     let reactor = Reactor::new(alloc, net, &listener, workers, most)?;
     Ok((listener, reactor))
+}
+
+/// Logs the address that a listener is open at.
+pub(crate) fn log_open<N: Eprint, L: OpenListener>(net: &N, listener: &L, log: &mut Log) {
+    if let Ok(address) = listener.local_addr() {
+        log.line(net, format_args!("listening at {address}"));
+    }
+}
+
+/// Opens a listener at a port, which is then one more of `ports`.
+///
+/// # Errors
+/// The port can't be listened at, or out of memory. `ports` stays as it is.
+pub(crate) fn open_one_more<N: Net>(
+    alloc: Global,
+    net: &N,
+    port: u16,
+    workers: u32,
+    ports: &mut Vec<u16>,
+) -> io::Result<(N::Listener, Reactor<N::Stream>)>
+    ensures ok { OnOk result (ports.new.items ≡ ports.old.items ++ port ∷ []) }
+    ensures err { OnErr result (ports.new.items ≡ ports.old.items) }
+{
+    let opened = open_at(alloc, net, port, workers, most_connections())?;
+    if ports.push(port).is_err() {
+        return Err(io::Error::from(ErrorKind::OutOfMemory));
+    }
+    Ok(opened)
 }

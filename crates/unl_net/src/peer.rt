@@ -311,6 +311,8 @@ impl<N: Net + Clock + Eprint + Drop, A: ToSocketAddrs + Display> Peer for RealPe
 
     ghost idle = { λ peer off. tt };
 
+    ghost earlier_known = { λ peer. refl };
+
     ghost reads = { λ peer. refl };
 
     ghost writes = { λ peer. refl };

@@ -182,7 +182,7 @@ impl<S: Read + Write + OpenStream + AsRawFd + Drop> Reactor<S> {
     {
         let mut connection = connection;
         connection.since = moment(clock);
-        self.go_on(clock, connection);
+        self.advance_and_place(clock, connection);
     }
 
     /// Takes back the connections that links gave back, and returns how many these were. Each of them waits, is ready or has ended.
@@ -216,13 +216,13 @@ impl<S: Read + Write + OpenStream + AsRawFd + Drop> Reactor<S> {
             connection.close_behind();
         }
         match connection.phase() {
-            Phase::Draining => self.go_on(clock, connection),
+            Phase::Draining => self.advance_and_place(clock, connection),
             _ => self.place(connection),
         }
     }
 
     /// Does what is to be done for a connection, and places it.
-    fn go_on<C: Clock>(&mut self, clock: &C, connection: Connection<S>)
+    fn advance_and_place<C: Clock>(&mut self, clock: &C, connection: Connection<S>)
         ensures accounts { Accounts 1 (slab_len self.old.waiting + deque_len self.old.ready) self.old.ended
             (slab_len self.new.waiting + deque_len self.new.ready) self.new.ended }
     {

@@ -16,7 +16,7 @@ fn is_loggable(byte: u8) -> bool
 
 /// Whether the next byte of a request is logged too: it may be, and is no second space. `has_method`: the bytes before it have a
 /// space, so that the method has ended.
-fn goes_on(has_method: bool, byte: u8) -> bool
+fn is_logged_next(has_method: bool, byte: u8) -> bool
     ensures { result ≡ (is_loggable byte && not (has_method && nat_eq byte 32)) }
 {
     is_loggable(byte) && !(has_method && byte == b' ')
@@ -31,18 +31,18 @@ fn has_ended(has_method: bool, byte: u8) -> bool
 
 /// How many of these bytes are logged, from the first on.
 #[tactic(auto, using(crate::proofs::LoggedText::no_more))]
-fn logged_count(front: &[u8]) -> usize
-    ensures { result ≡ longest_prefix (length front.now) front.now }
+fn logged_count(prefix: &[u8]) -> usize
+    ensures { result ≡ longest_prefix (length prefix.now) prefix.now }
 {
     let mut has_method = false;
-    for at in 0..front.len() {
-        let byte = front[at];
-        if !goes_on(has_method, byte) {
+    for at in 0..prefix.len() {
+        let byte = prefix[at];
+        if !is_logged_next(has_method, byte) {
             return at;
         }
         has_method = has_ended(has_method, byte);
     }
-    front.len()
+    prefix.len()
 }
 
 /// How many bytes of a request are logged: its method and its path, and nothing of a query or a field.
@@ -78,7 +78,7 @@ impl RequestKind {
     {
         let len = logged_len(request);
         RequestKind {
-            text: front_of(request, len),
+            text: padded_prefix(request, len),
             len,
             key: key_of(&request[..len], line_of(request, b"Authorization:")),
             is_feed: request.starts_with(b"GET /api/client/"),
@@ -98,18 +98,18 @@ impl RequestKind {
 }
 
 /// The first `len` bytes, followed by zeros.
-fn front_of(bytes: &[u8], len: usize) -> [u8; MOST_LOGGED]
+fn padded_prefix(bytes: &[u8], len: usize) -> [u8; MOST_LOGGED]
     requires inside { len ≤ length bytes.now }
     requires short { len ≤ 64 }
     ensures { take len result ≡ take len bytes.now }
 {
-    let mut front = [0; MOST_LOGGED];
-    copy_front(bytes, &mut front, len);
-    front
+    let mut prefix = [0; MOST_LOGGED];
+    copy_prefix(bytes, &mut prefix, len);
+    prefix
 }
 
 /// Copies the first `count` bytes to the beginning of `room`.
-fn copy_front(bytes: &[u8], room: &mut [u8], count: usize)
+fn copy_prefix(bytes: &[u8], room: &mut [u8], count: usize)
     requires held { count ≤ length bytes.now }
     requires fits { count ≤ length room.old }
     ensures { take count room.new ≡ take count bytes.now }

@@ -1,7 +1,7 @@
 //! A connection while a link serves it.
 ghost use Rattle.std.specs.Prelude.{◌≡◌, ◌≤◌, ◌++◌, drop, false, length, take, true, IfOk, MatchResult, OnErr};
 ghost use Rattle.std.specs.Io.KnownBytes.{Appends, Keeps, WriteAppends};
-ghost use Rattle.unl_net.specs.Buffers.{Gives, coming, going, unsent};
+ghost use Rattle.unl_net.specs.Buffers.{Gives, coming, outgoing, unsent};
 ghost use Rattle.unl_net.specs.Phases.{fate_of};
 
 use crate::connection::{Connection, PIECE};
@@ -96,8 +96,8 @@ impl<S: Read + Write + OpenStream + Drop, C: Clock + Wait + Drop> Served<S, C> {
     /// That of the stream, or that no room came in time.
     pub fn write(&mut self, piece: &[u8]) -> io::Result<usize>
         ensures fits { IfOk result (λ n. n ≤ length piece.now) }
-        ensures appends { WriteAppends (going (S.contents self.old.connection.stream) self.old.connection.to_send)
-            (going (S.contents self.new.connection.stream) self.new.connection.to_send) result piece.now }
+        ensures appends { WriteAppends (outgoing (S.contents self.old.connection.stream) self.old.connection.to_send)
+            (outgoing (S.contents self.new.connection.stream) self.new.connection.to_send) result piece.now }
     {
         let taken = self.write_some(piece);
         if taken.is_err() {
@@ -270,8 +270,8 @@ impl<S: Read + Write + OpenStream + Drop, C: Clock + Wait + Drop> Served<S, C> {
     #[tactic(auto, using(crate::proofs::Moving::rest_after))]
     fn write_some(&mut self, piece: &[u8]) -> io::Result<usize>
         ensures fits { IfOk result (λ n. n ≤ length piece.now) }
-        ensures appends { WriteAppends (going (S.contents self.old.connection.stream) self.old.connection.to_send)
-            (going (S.contents self.new.connection.stream) self.new.connection.to_send) result piece.now }
+        ensures appends { WriteAppends (outgoing (S.contents self.old.connection.stream) self.old.connection.to_send)
+            (outgoing (S.contents self.new.connection.stream) self.new.connection.to_send) result piece.now }
     {
         self.note_answer(piece);
         let sent = self.write_first(piece)?;
@@ -297,8 +297,8 @@ impl<S: Read + Write + OpenStream + Drop, C: Clock + Wait + Drop> Served<S, C> {
     #[tactic(auto, using(crate::proofs::Moving::none_written, crate::proofs::Moving::write_first))]
     fn write_first(&mut self, piece: &[u8]) -> io::Result<usize>
         ensures fits { IfOk result (λ n. n ≤ length piece.now) }
-        ensures appends { WriteAppends (going (S.contents self.old.connection.stream) self.old.connection.to_send)
-            (going (S.contents self.new.connection.stream) self.new.connection.to_send) result piece.now }
+        ensures appends { WriteAppends (outgoing (S.contents self.old.connection.stream) self.old.connection.to_send)
+            (outgoing (S.contents self.new.connection.stream) self.new.connection.to_send) result piece.now }
     {
         if self.connection.to_send.is_empty() {
             self.connection.write(piece)
@@ -315,10 +315,10 @@ impl<S: Read + Write + OpenStream + Drop, C: Clock + Wait + Drop> Served<S, C> {
         ensures more { IfOk result (λ n. sent ≤ n) }
         ensures failed { OnErr result (sent ≡ 0) }
         ensures appends { MatchResult result
-            (λ n. Appends (going (S.contents self.old.connection.stream) self.old.connection.to_send)
-            (going (S.contents self.new.connection.stream) self.new.connection.to_send) (drop sent (take n piece.now)))
-            (λ _. Keeps (going (S.contents self.old.connection.stream) self.old.connection.to_send)
-            (going (S.contents self.new.connection.stream) self.new.connection.to_send)) }
+            (λ n. Appends (outgoing (S.contents self.old.connection.stream) self.old.connection.to_send)
+            (outgoing (S.contents self.new.connection.stream) self.new.connection.to_send) (drop sent (take n piece.now)))
+            (λ _. Keeps (outgoing (S.contents self.old.connection.stream) self.old.connection.to_send)
+            (outgoing (S.contents self.new.connection.stream) self.new.connection.to_send)) }
     {
         let rest = &piece[sent..];
         if self.holds(rest) {
@@ -353,8 +353,8 @@ impl<S: Read + Write + OpenStream + Drop, C: Clock + Wait + Drop> Served<S, C> {
     #[tactic(auto, using(crate::proofs::Moving::write_rules))]
     fn write_waiting(&mut self, piece: &[u8]) -> io::Result<usize>
         ensures fits { IfOk result (λ n. n ≤ length piece.now) }
-        ensures appends { WriteAppends (going (S.contents self.old.connection.stream) self.old.connection.to_send)
-            (going (S.contents self.new.connection.stream) self.new.connection.to_send) result piece.now }
+        ensures appends { WriteAppends (outgoing (S.contents self.old.connection.stream) self.old.connection.to_send)
+            (outgoing (S.contents self.new.connection.stream) self.new.connection.to_send) result piece.now }
     {
         self.connection.set_waiting()?;
         'waits: for _wait in 0..MOST_WAITS {
@@ -373,8 +373,8 @@ impl<S: Read + Write + OpenStream + Drop, C: Clock + Wait + Drop> Served<S, C> {
     #[tactic(auto, using(crate::proofs::Moving::kept_appends, crate::proofs::Moving::write_first))]
     fn write_behind(&mut self, piece: &[u8]) -> io::Result<usize>
         ensures fits { IfOk result (λ n. n ≤ length piece.now) }
-        ensures appends { WriteAppends (going (S.contents self.old.connection.stream) self.old.connection.to_send)
-            (going (S.contents self.new.connection.stream) self.new.connection.to_send) result piece.now }
+        ensures appends { WriteAppends (outgoing (S.contents self.old.connection.stream) self.old.connection.to_send)
+            (outgoing (S.contents self.new.connection.stream) self.new.connection.to_send) result piece.now }
     {
         if self.connection.to_send.is_empty() {
             return self.connection.write(piece);
@@ -405,7 +405,7 @@ fn is_fault(answer: &[u8]) -> bool {
 #[derive(Clone, Copy, PartialEq)]
 enum Fate {
     /// The connection goes back to the door, which waits for its next request.
-    GoesOn,
+    Continues,
     /// The connection goes back to the door, which closes it once all bytes are sent and the client has ended its side.
     Ends,
     /// The connection is closed at once.
@@ -418,7 +418,7 @@ fn fate_of(stage: Stage, owes: bool, unread: bool) -> Fate
     ensures { result ≡ fate_of stage owes unread }
 {
     match stage {
-        Stage::Parked => Fate::GoesOn,
+        Stage::Parked => Fate::Continues,
         Stage::Failed => Fate::Closed,
         _ => {
             if owes || unread {

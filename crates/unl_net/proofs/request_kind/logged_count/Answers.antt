@@ -4,4 +4,4 @@ use Rattle.unl_net.proofs.LoggedText.{none_left}
 use Rattle.unl_net.proofs.request_kind.logged_count.Goals as goal
 
 pub returns : goal.returns
-returns c = none_left c.args.front.now c.loop-at.at (search rules) (search rules) (c.loop-at.invariant.0)
+returns c = none_left c.args.prefix.now c.loop-at.at (search rules) (search rules) (c.loop-at.invariant.0)

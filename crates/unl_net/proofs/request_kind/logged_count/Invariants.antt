@@ -4,4 +4,4 @@ use Rattle.unl_net.specs.LoggedText.{may_be_logged, spaces_in}
 use Rattle.unl_net.proofs.request_kind.logged_count.Given as goal
 
 abbrev pub invariant-loop-at : goal.invariant-loop-at
-invariant-loop-at l = (may_be_logged (take l.at l.front) ≡ true) × (l.has_method ≡ nat_lt 0 (spaces_in (take l.at l.front)))
+invariant-loop-at l = (may_be_logged (take l.at l.prefix) ≡ true) × (l.has_method ≡ nat_lt 0 (spaces_in (take l.at l.prefix)))

@@ -1,9 +1,9 @@
 use Rattle.std.specs.Io.KnownBytes.{Keeps}
-use Rattle.unl_net.specs.Buffers.{going}
+use Rattle.unl_net.specs.Buffers.{outgoing}
 use Rattle.unl_net.proofs.served.Served.write_waiting.Given as goal
 
 -- the bytes sent and those still to be sent are unchanged
 abbrev pub invariant-waits : goal.invariant-waits
 invariant-waits g l = Keeps
-    (going (g.S.Write.contents l.initial.self.connection.stream) l.initial.self.connection.to_send)
-    (going (g.S.Write.contents l.self.connection.stream) l.self.connection.to_send)
+    (outgoing (g.S.Write.contents l.initial.self.connection.stream) l.initial.self.connection.to_send)
+    (outgoing (g.S.Write.contents l.self.connection.stream) l.self.connection.to_send)
