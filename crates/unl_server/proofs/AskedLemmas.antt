@@ -10,7 +10,7 @@ use Rattle.unl_http_api.proofs.SessionLemmas.{Reads-append, Reads_more}
 
 -- The bytes begin with some requests, which were answered. If memory ran out, one more may have taken a draw.
 pub record Asks
-    {S : Type 0} (Step : S → Request → Reply → S → Type 0) (Lacks : S → Request → S → Type 0) (bytes : List ℕ) (before : S)
+    {S : Type 0} (Step : S → Request → Reply → S → Type 0) (RunsOut : S → Request → S → Type 0) (bytes : List ℕ) (before : S)
     (end : End) (after : S) : Type 0 where
   pub requests : List Request
   pub rest : List ℕ
@@ -18,12 +18,12 @@ pub record Asks
   pub text : List ℕ
   pub reached : S
   pub answered : Answered Step 0 before requests text reached
-  pub next : (after ≡ reached) ⊎ ((end ≡ ends.Memory) × (request : Request) × Lacks reached request after)
+  pub next : (after ≡ reached) ⊎ ((end ≡ ends.Memory) × (request : Request) × RunsOut reached request after)
 
 -- all requests of a session were answered
-by_session : {S : Type 0} {Step : S → Request → Reply → S → Type 0} {Lacks : S → Request → S → Type 0}
+by_session : {S : Type 0} {Step : S → Request → Reply → S → Type 0} {RunsOut : S → Request → S → Type 0}
     (bytes : List ℕ) (before after : S) (end ending : End) (sent sent_after : Option (List ℕ)) → Serves Step bytes sent before ending after sent_after
-    → Asks Step Lacks bytes before end after
+    → Asks Step RunsOut bytes before end after
 by_session bytes before after end ending sent sent_after serves = record {
   requests = serves.requests;
   rest = serves.session.rest;
@@ -35,9 +35,9 @@ by_session bytes before after end ending sent sent_after serves = record {
 }
 
 -- requests that begin a prefix of the bytes begin the bytes
-by_front : {S : Type 0} {Step : S → Request → Reply → S → Type 0} {Lacks : S → Request → S → Type 0}
-    (bytes read rest : List ℕ) (before after : S) (end : End) → bytes ≡ read ++ rest → Asks Step Lacks read before end after → Asks Step Lacks bytes before end after
-by_front bytes read rest before after end split asks = record {
+by_prefix : {S : Type 0} {Step : S → Request → Reply → S → Type 0} {RunsOut : S → Request → S → Type 0}
+    (bytes read rest : List ℕ) (before after : S) (end : End) → bytes ≡ read ++ rest → Asks Step RunsOut read before end after → Asks Step RunsOut bytes before end after
+by_prefix bytes read rest before after end split asks = record {
   requests = asks.requests;
   rest = asks.rest ++ rest;
   reads = subst (λ (b : List ℕ). Reads b asks.requests (asks.rest ++ rest)) (sym split) (Reads-append read asks.requests asks.rest rest asks.reads);
@@ -47,9 +47,9 @@ by_front bytes read rest before after end split asks = record {
   next = asks.next;
 }
 
-by_reply : {S : Type 0} {Step : S → Request → Reply → S → Type 0} {Lacks : S → Request → S → Type 0}
+by_reply : {S : Type 0} {Step : S → Request → Reply → S → Type 0} {RunsOut : S → Request → S → Type 0}
     (bytes : List ℕ) (before after : S) (end : End) (sent sent_after : Option (List ℕ)) → CutInReply Step bytes sent before after sent_after
-    → Asks Step Lacks bytes before end after
+    → Asks Step RunsOut bytes before end after
 by_reply bytes before after end sent sent_after cut = record {
   requests = cut.earlier ++ cut.request ∷ [];
   rest = cut.rest;
@@ -60,9 +60,9 @@ by_reply bytes before after end sent sent_after cut = record {
   next = inl refl;
 }
 
-by_refusal : {S : Type 0} {Step : S → Request → Reply → S → Type 0} {Lacks : S → Request → S → Type 0}
+by_refusal : {S : Type 0} {Step : S → Request → Reply → S → Type 0} {RunsOut : S → Request → S → Type 0}
     (bytes : List ℕ) (before after : S) (end : End) (sent sent_after : Option (List ℕ)) → CutInRefusal Step bytes sent before after sent_after
-    → Asks Step Lacks bytes before end after
+    → Asks Step RunsOut bytes before end after
 by_refusal bytes before after end sent sent_after cut = record {
   requests = cut.requests;
   rest = cut.session.rest;
@@ -84,12 +84,12 @@ answered_more Step count (p ∷ qs) text before middle after q reply answered st
     answered_more Step (count + 1) qs answered.2 answered.1 middle after q reply answered.5 step in
     (_, (answered.0, answered.1, others.0, answered.3, refl, others.1))
 
-by_memory : {S : Type 0} {Step : S → Request → Reply → S → Type 0} {Lacks : S → Request → S → Type 0}
+by_memory : {S : Type 0} {Step : S → Request → Reply → S → Type 0} {RunsOut : S → Request → S → Type 0}
     (bytes : List ℕ) (before after : S) (sent sent_after : Option (List ℕ)) (faults faults_after : ℕ)
-    → GivesUp Step Lacks bytes sent faults before after sent_after faults_after → Asks Step Lacks bytes before ends.Memory after
-by_memory {S} {Step} {Lacks} bytes before after sent sent_after faults faults_after gives = by_next gives.next
+    → GivesUp Step RunsOut bytes sent faults before after sent_after faults_after → Asks Step RunsOut bytes before ends.Memory after
+by_memory {S} {Step} {RunsOut} bytes before after sent sent_after faults faults_after gives = by_next gives.next
   where
-    here : (after ≡ gives.replied) ⊎ ((ends.Memory ≡ ends.Memory) × (request : Request) × Lacks gives.replied request after) → Asks Step Lacks bytes before ends.Memory after
+    here : (after ≡ gives.replied) ⊎ ((ends.Memory ≡ ends.Memory) × (request : Request) × RunsOut gives.replied request after) → Asks Step RunsOut bytes before ends.Memory after
     here next = record {
       requests = gives.requests;
       rest = gives.rest;
@@ -101,7 +101,7 @@ by_memory {S} {Step} {Lacks} bytes before after sent sent_after faults faults_af
     }
 
     one_more : (request : Request) (rest : List ℕ) (reply : Reply) → Reads bytes (gives.requests ++ request ∷ []) rest → Step gives.replied request reply after
-        → Asks Step Lacks bytes before ends.Memory after
+        → Asks Step RunsOut bytes before ends.Memory after
     one_more request rest reply reads step =
         let more : (longer : List ℕ) × Answered Step 0 before (gives.requests ++ request ∷ []) longer after =
         answered_more Step 0 gives.requests gives.text before gives.replied after request reply gives.answered step in
@@ -115,31 +115,31 @@ by_memory {S} {Step} {Lacks} bytes before after sent sent_after faults faults_af
           next = inl refl;
         }
 
-    by_unreplied : (u : IsUnreplied Step Lacks gives.rest gives.replied after)
-        → Lacks gives.replied u.request after ⊎ ((reply : Reply) × Step gives.replied u.request reply after) → Asks Step Lacks bytes before ends.Memory after
+    by_unreplied : (u : IsUnreplied Step RunsOut gives.rest gives.replied after)
+        → RunsOut gives.replied u.request after ⊎ ((reply : Reply) × Step gives.replied u.request reply after) → Asks Step RunsOut bytes before ends.Memory after
     by_unreplied u (inl lacks) = here (inr (refl, u.request, lacks))
     by_unreplied u (inr steps) = one_more u.request u.rest steps.0 (Reads_more bytes gives.requests u.request gives.rest u.rest gives.reads u.begins) steps.1
 
-    by_next : (after ≡ gives.replied) ⊎ IsUnreplied Step Lacks gives.rest gives.replied after → Asks Step Lacks bytes before ends.Memory after
+    by_next : (after ≡ gives.replied) ⊎ IsUnreplied Step RunsOut gives.rest gives.replied after → Asks Step RunsOut bytes before ends.Memory after
     by_next (inl same) = here (inl same)
     by_next (inr u) = by_unreplied u u.unreplied
 
 -- the requests that were read from a link
-pub asks : {S : Type 0} {Step : S → Request → Reply → S → Type 0} {Lacks : S → Request → S → Type 0}
+pub asks : {S : Type 0} {Step : S → Request → Reply → S → Type 0} {RunsOut : S → Request → S → Type 0}
     (bytes : List ℕ) (before after : S) (end : End) (sent left_after sent_after : Option (List ℕ)) (faults faults_after : ℕ)
     → Concludes Step bytes sent before end after left_after sent_after
-    → (end ≡ ends.Memory → GivesUp Step Lacks bytes sent faults before after sent_after faults_after) → Asks Step Lacks bytes before end after
+    → (end ≡ ends.Memory → GivesUp Step RunsOut bytes sent faults before after sent_after faults_after) → Asks Step RunsOut bytes before end after
 asks bytes before after ends.Closed sent left_after sent_after faults faults_after c memory = by_session bytes before after ends.Closed ends.Closed sent sent_after c
 asks bytes before after ends.Asked sent left_after sent_after faults faults_after c memory = by_session bytes before after ends.Asked ends.Asked sent sent_after c
 asks bytes before after ends.Limit sent left_after sent_after faults faults_after c memory = by_session bytes before after ends.Limit ends.Limit sent sent_after c
 asks bytes before after (ends.Refused status) sent left_after sent_after faults faults_after c memory =
     by_session bytes before after (ends.Refused status) (ends.Refused status) sent sent_after c
 asks bytes before after ends.CutOff sent left_after sent_after faults faults_after c memory = by_session bytes before after ends.CutOff ends.CutOff sent sent_after c
-asks {S} {Step} {Lacks} bytes before after ends.ReadFault sent left_after sent_after faults faults_after c memory =
-    by_front bytes c.read c.rest before after ends.ReadFault c.split (by_either c.serves)
+asks {S} {Step} {RunsOut} bytes before after ends.ReadFault sent left_after sent_after faults faults_after c memory =
+    by_prefix bytes c.read c.rest before after ends.ReadFault c.split (by_either c.serves)
   where
     by_either : Serves Step c.read sent before ends.Closed after sent_after ⊎ Serves Step c.read sent before ends.CutOff after sent_after
-        → Asks Step Lacks c.read before ends.ReadFault after
+        → Asks Step RunsOut c.read before ends.ReadFault after
     by_either (inl serves) = by_session c.read before after ends.ReadFault ends.Closed sent sent_after serves
     by_either (inr serves) = by_session c.read before after ends.ReadFault ends.CutOff sent sent_after serves
 asks bytes before after ends.WriteFault sent left_after sent_after faults faults_after (inl c) memory = by_reply bytes before after ends.WriteFault sent sent_after c

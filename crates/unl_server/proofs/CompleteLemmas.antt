@@ -74,20 +74,20 @@ completes_whole Step bytes asked sent before result after left_after sent_after 
     )
 
 -- all clauses of a conversation
-pub converses_so : {S : Type 0} (Step : S → Request → Reply → S → Type 0) (Lacks : S → Request → S → Type 0) (link : LinkState)
+pub converses_so : {S : Type 0} (Step : S → Request → Reply → S → Type 0) (RunsOut : S → Request → S → Type 0) (link : LinkState)
     (before : S) (end : End) (after : S) (count : ℕ) (link_after : LinkState)
     → ((bytes : List ℕ) → link.left ≡ Some bytes → Concludes Step bytes link.sent before end after link_after.left link_after.sent)
     → ((bytes : List ℕ) → link.left ≡ Some bytes → end ≡ Memory
-    → GivesUp Step Lacks bytes link.sent link.faults before after link_after.sent link_after.faults)
-    → Reaches Step Lacks before end after count → link.faults ≤ link_after.faults
+    → GivesUp Step RunsOut bytes link.sent link.faults before after link_after.sent link_after.faults)
+    → Reaches Step RunsOut before end after count → link.faults ≤ link_after.faults
     → (end ≡ ReadFault → Rose link.faults link_after.faults) → (end ≡ WriteFault → Rose link.faults link_after.faults)
-    → Converses Step Lacks link before end after count link_after
-converses_so Step Lacks link before end after count link_after session memory answered later read write = record {
+    → Converses Step RunsOut link before end after count link_after
+converses_so Step RunsOut link before end after count link_after session memory answered later read write = record {
   session = session;
-  complete = λ bytes asked ending told is none some. completes Step bytes asked ending link.sent before end after link_after.left
-      link_after.sent is none some read write (session bytes told);
-  whole = λ bytes asked told are none some. completes_whole Step bytes asked link.sent before end after link_after.left
-      link_after.sent are none some read write (session bytes told);
+  complete = λ bytes asked ending known is none some. completes Step bytes asked ending link.sent before end after link_after.left
+      link_after.sent is none some read write (session bytes known);
+  whole = λ bytes asked known are none some. completes_whole Step bytes asked link.sent before end after link_after.left
+      link_after.sent are none some read write (session bytes known);
   memory = memory;
   answered = answered;
   later = later;

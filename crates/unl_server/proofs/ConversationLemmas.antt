@@ -13,7 +13,7 @@ use Rattle.unl_http_api.specs.Session.{Reads, StayOpen, Session}
 use Rattle.unl_base.proofs.Sending.{Sends_nothing, Sends_more}
 use Rattle.unl_http_api.proofs.SessionLemmas.{Reads_more, Reads-append, Session-asked, Session-limit, Session-refused, Session-closed, Session-cut_off}
 use Rattle.unl_server.specs.Conversation.{Answered, farewell, Serves, CutInReply, CutInRefusal, Concludes}
-use Rattle.unl_server.specs.Exchange.{Connection, Exchanges, Stops, Goes}
+use Rattle.unl_server.specs.Exchange.{Connection, Exchanges, Stops, ServesTurn}
 use Rattle.unl_server.proofs.ReceiveLemmas.{Takes_nothing, Takes_more}
 
 -- ---- the text of the replies
@@ -89,10 +89,10 @@ Talk_more Step start now new requests last close talk is turn = record {
 }
 
 -- the bytes read from observable bytes are a prefix of them
-pub Takes_told : (bytes read : List ℕ) (left : Option (List ℕ)) → Takes (Some bytes) read left
+pub Takes_known : (bytes read : List ℕ) (left : Option (List ℕ)) → Takes (Some bytes) read left
     → (rest : List ℕ) × (left ≡ Some rest) × (bytes ≡ read ++ rest)
-Takes_told bytes read None took = absurd (cc)
-Takes_told bytes read (Some rest) took = (rest, refl, cc)
+Takes_known bytes read None took = absurd (cc)
+Takes_known bytes read (Some rest) took = (rest, refl, cc)
 
 -- ---- how it ends
 
@@ -127,23 +127,23 @@ concludes_asked : {S : Type 0} (Step : S → Request → Reply → S → Type 0)
     (requests : List Request) (last : Bool) (bytes : List ℕ) → Talk Step start now requests
     → last ≡ (length requests == 999) → StayOpen requests → length requests < 1000 → start.left ≡ Some bytes
     → Exchanges Sends Step last true now new → Serves Step bytes start.sent start.state Asked new.state new.sent
-concludes_asked Step start now new requests last bytes talk is stay few told turn =
+concludes_asked Step start now new requests last bytes talk is stay few known turn =
     let more = Talk_more Step start now new requests last true talk is turn in
-    let front = Takes_told bytes more.read new.left (subst (λ (l : Option (List ℕ)). Takes l more.read new.left) told more.took) in
+    let prefix = Takes_known bytes more.read new.left (subst (λ (l : Option (List ℕ)). Takes l more.read new.left) known more.took) in
     concluded Step start new (requests ++ turn.request ∷ []) bytes Asked more
-    (subst (λ (b : List ℕ). Session b (requests ++ turn.request ∷ []) Asked) (sym front.2)
-    (Session-asked more.read front.0 requests turn.request new.held more.reads stay turn.closes few))
+    (subst (λ (b : List ℕ). Session b (requests ++ turn.request ∷ []) Asked) (sym prefix.2)
+    (Session-asked more.read prefix.0 requests turn.request new.held more.reads stay turn.closes few))
     new.sent (Sends_nothing new.sent)
 
 -- the limit of requests was reached
 pub concludes_limit : {S : Type 0} (Step : S → Request → Reply → S → Type 0) (start now : Connection S)
     (requests : List Request) (bytes : List ℕ) → Talk Step start now requests → StayOpen requests
     → length requests ≡ 1000 → start.left ≡ Some bytes → Serves Step bytes start.sent start.state Limit now.state now.sent
-concludes_limit Step start now requests bytes talk stay full told =
-    let front = Takes_told bytes talk.read now.left (subst (λ (l : Option (List ℕ)). Takes l talk.read now.left) told talk.took) in
+concludes_limit Step start now requests bytes talk stay full known =
+    let prefix = Takes_known bytes talk.read now.left (subst (λ (l : Option (List ℕ)). Takes l talk.read now.left) known talk.took) in
     concluded Step start now requests bytes Limit talk
-    (subst (λ (b : List ℕ). Session b requests Limit) (sym front.2)
-    (Session-limit talk.read front.0 requests now.held talk.reads stay full))
+    (subst (λ (b : List ℕ). Session b requests Limit) (sym prefix.2)
+    (Session-limit talk.read prefix.0 requests now.held talk.reads stay full))
     now.sent (Sends_nothing now.sent)
 
 -- the bytes read when the connection stopped
@@ -153,17 +153,17 @@ stopped : {S : Type 0} (Sent : Option (List ℕ) → List ℕ → Option (List �
     → (stop : Stops Sent P goodbye now new) → start.left ≡ Some bytes
     → (rest : List ℕ) × (new.left ≡ Some rest) × (bytes ≡ (talk.read ++ stop.read) ++ rest)
     × Reads (talk.read ++ stop.read) requests (now.held ++ stop.read)
-stopped Sent P goodbye Step start now new requests bytes talk stop told =
+stopped Sent P goodbye Step start now new requests bytes talk stop known =
     let took = Takes_more start.left now.left new.left talk.read stop.read talk.took stop.took in
-    let front = Takes_told bytes (talk.read ++ stop.read) new.left
-    (subst (λ (l : Option (List ℕ)). Takes l (talk.read ++ stop.read) new.left) told took) in
-    (front.0, front.1, front.2, Reads-append talk.read requests now.held stop.read talk.reads)
+    let prefix = Takes_known bytes (talk.read ++ stop.read) new.left
+    (subst (λ (l : Option (List ℕ)). Takes l (talk.read ++ stop.read) new.left) known took) in
+    (prefix.0, prefix.1, prefix.2, Reads-append talk.read requests now.held stop.read talk.reads)
 
 -- if the input has ended, all bytes were read
 all_read : (bytes read rest : List ℕ) (left : Option (List ℕ)) → left ≡ Some rest → bytes ≡ read ++ rest → HasEnded left
     → read ≡ bytes
-all_read bytes read rest left told split ended =
-    let empty : rest ≡ [] = subst HasEnded told ended in
+all_read bytes read rest left known split ended =
+    let empty : rest ≡ [] = subst HasEnded known ended in
     sym (split ∙ ap (λ (r : List ℕ). read ++ r) empty ∙ append-nil read)
 
 -- the connection stopped where the session ends
@@ -186,13 +186,13 @@ either_end read requests (b ∷ rest) reads stay few unfinished closed cut_off =
     inr (cut_off (Session-cut_off read requests (b ∷ rest) reads stay few (λ h. cc) unfinished))
 
 -- after a text, a prefix of another was sent
-SendsFront_after : (old mid new : Option (List ℕ)) (a b : List ℕ) → Sends old a mid → SendsFront mid b new
+SendsPrefix_after : (old mid new : Option (List ℕ)) (a b : List ℕ) → Sends old a mid → SendsFront mid b new
     → SendsFront old (a ++ b) new
-SendsFront_after old mid new a b sends front = record {
-  part = a ++ front.part;
-  after = front.after;
-  split = ap (λ (t : List ℕ). a ++ t) front.split ∙ sym (append_assoc a front.part front.after);
-  sends = Sends_more old mid new a front.part sends front.sends;
+SendsPrefix_after old mid new a b sends prefix = record {
+  part = a ++ prefix.part;
+  after = prefix.after;
+  split = ap (λ (t : List ℕ). a ++ t) prefix.split ∙ sym (append_assoc a prefix.part prefix.after);
+  sends = Sends_more old mid new a prefix.part sends prefix.sends;
 }
 
 -- a write failed in the middle of a reply
@@ -200,20 +200,20 @@ cut_in_reply : {S : Type 0} (Step : S → Request → Reply → S → Type 0) (s
     (requests : List Request) (last close : Bool) (bytes : List ℕ) → Talk Step start now requests
     → last ≡ (length requests == 999) → StayOpen requests → length requests < 1000 → start.left ≡ Some bytes
     → Exchanges SendsFront Step last close now new → CutInReply Step bytes start.sent start.state new.state new.sent
-cut_in_reply Step start now new requests last close bytes talk is stay few told turn =
+cut_in_reply Step start now new requests last close bytes talk is stay few known turn =
     let took = Takes_more start.left now.left new.left talk.read turn.read talk.took turn.took in
-    let front = Takes_told bytes (talk.read ++ turn.read) new.left
-    (subst (λ (l : Option (List ℕ)). Takes l (talk.read ++ turn.read) new.left) told took) in
+    let prefix = Takes_known bytes (talk.read ++ turn.read) new.left
+    (subst (λ (l : Option (List ℕ)). Takes l (talk.read ++ turn.read) new.left) known took) in
     let reads = turn_reads SendsFront Step start now new requests last close talk turn in record {
       earlier = requests;
       request = turn.request;
-      rest = new.held ++ front.0;
+      rest = new.held ++ prefix.0;
       text = talk.text ++ reply_text turn.replies.reply (turn.request.close || last);
-      reads = subst (λ (b : List ℕ). Reads b (requests ++ turn.request ∷ []) (new.held ++ front.0)) (sym front.2)
-          (Reads-append (talk.read ++ turn.read) (requests ++ turn.request ∷ []) new.held front.0 reads);
+      reads = subst (λ (b : List ℕ). Reads b (requests ++ turn.request ∷ []) (new.held ++ prefix.0)) (sym prefix.2)
+          (Reads-append (talk.read ++ turn.read) (requests ++ turn.request ∷ []) new.held prefix.0 reads);
       first = record { few = few; open_all = stay };
       answered = turn_answered SendsFront Step start now new requests last close talk is turn;
-      sends = SendsFront_after start.sent now.sent new.sent talk.text
+      sends = SendsPrefix_after start.sent now.sent new.sent talk.text
           (reply_text turn.replies.reply (turn.request.close || last)) talk.sends turn.replies.sends;
     }
 
@@ -223,58 +223,58 @@ cut_in_refusal : {S : Type 0} (Step : S → Request → Reply → S → Type 0) 
     → length requests < 1000 → start.left ≡ Some bytes
     → Stops SendsFront (λ bytes left. IsBad bytes status) (refusal_text status) now new
     → CutInRefusal Step bytes start.sent start.state new.state new.sent
-cut_in_refusal {S} Step start now new requests bytes status talk stay few told stop =
-    let front = stopped SendsFront _ (refusal_text status) Step start now new requests bytes talk stop told in record {
+cut_in_refusal {S} Step start now new requests bytes status talk stay few known stop =
+    let prefix = stopped SendsFront _ (refusal_text status) Step start now new requests bytes talk stop known in record {
       requests = requests;
       status = status;
       text = talk.text;
-      session = subst (λ (b : List ℕ). Session b requests (Refused status)) (sym front.2)
-          (Session-refused (talk.read ++ stop.read) front.0 requests (now.held ++ stop.read) status front.3 stay few stop.found);
+      session = subst (λ (b : List ℕ). Session b requests (Refused status)) (sym prefix.2)
+          (Session-refused (talk.read ++ stop.read) prefix.0 requests (now.held ++ stop.read) status prefix.3 stay few stop.found);
       answered = subst (λ (s : S). Answered Step 0 start.state requests talk.text s) (sym stop.same) talk.answered;
-      sends = SendsFront_after start.sent now.sent new.sent talk.text (refusal_text status) talk.sends stop.sends;
+      sends = SendsPrefix_after start.sent now.sent new.sent talk.text (refusal_text status) talk.sends stop.sends;
     }
 
 -- every end is the session's
-pub concludes : {S : Type 0} (Step : S → Request → Reply → S → Type 0) (Lacks : S → Request → S → Type 0)
+pub concludes : {S : Type 0} (Step : S → Request → Reply → S → Type 0) (RunsOut : S → Request → S → Type 0)
     (start now new : Connection S) (requests : List Request) (last : Bool) (bytes : List ℕ) (end : End)
     → Talk Step start now requests → last ≡ (length requests == 999) → StayOpen requests → length requests < 1000
-    → start.left ≡ Some bytes → Goes Step Lacks last now (Some end) new
+    → start.left ≡ Some bytes → ServesTurn Step RunsOut last now (Some end) new
     → Concludes Step bytes start.sent start.state end new.state new.left new.sent
-concludes Step Lacks start now new requests last bytes Asked talk is stay few told turn =
-    concludes_asked Step start now new requests last bytes talk is stay few told turn
-concludes Step Lacks start now new requests last bytes Closed talk is stay few told stop =
-    let front = stopped Sends _ [] Step start now new requests bytes talk stop told in
-    let all = all_read bytes (talk.read ++ stop.read) front.0 new.left front.1 front.2 stop.found.1 in
+concludes Step RunsOut start now new requests last bytes Asked talk is stay few known turn =
+    concludes_asked Step start now new requests last bytes talk is stay few known turn
+concludes Step RunsOut start now new requests last bytes Closed talk is stay few known stop =
+    let prefix = stopped Sends _ [] Step start now new requests bytes talk stop known in
+    let all = all_read bytes (talk.read ++ stop.read) prefix.0 new.left prefix.1 prefix.2 stop.found.1 in
     stops_serves _ [] Step start now new requests bytes Closed talk stop refl
     (subst (λ (b : List ℕ). Session b requests Closed) all
-    (Session-closed (talk.read ++ stop.read) requests (now.held ++ stop.read) front.3 stay few stop.found.0))
-concludes Step Lacks start now new requests last bytes CutOff talk is stay few told stop =
-    let front = stopped Sends _ [] Step start now new requests bytes talk stop told in
-    let all = all_read bytes (talk.read ++ stop.read) front.0 new.left front.1 front.2 stop.found.2 in
+    (Session-closed (talk.read ++ stop.read) requests (now.held ++ stop.read) prefix.3 stay few stop.found.0))
+concludes Step RunsOut start now new requests last bytes CutOff talk is stay few known stop =
+    let prefix = stopped Sends _ [] Step start now new requests bytes talk stop known in
+    let all = all_read bytes (talk.read ++ stop.read) prefix.0 new.left prefix.1 prefix.2 stop.found.2 in
     stops_serves _ [] Step start now new requests bytes CutOff talk stop refl
     (subst (λ (b : List ℕ). Session b requests CutOff) all
-    (Session-cut_off (talk.read ++ stop.read) requests (now.held ++ stop.read) front.3 stay few stop.found.0 stop.found.1))
-concludes Step Lacks start now new requests last bytes (Refused status) talk is stay few told stop =
-    let front = stopped Sends _ (refusal_text status) Step start now new requests bytes talk stop told in
+    (Session-cut_off (talk.read ++ stop.read) requests (now.held ++ stop.read) prefix.3 stay few stop.found.0 stop.found.1))
+concludes Step RunsOut start now new requests last bytes (Refused status) talk is stay few known stop =
+    let prefix = stopped Sends _ (refusal_text status) Step start now new requests bytes talk stop known in
     stops_serves _ (refusal_text status) Step start now new requests bytes (Refused status) talk stop refl
-    (subst (λ (b : List ℕ). Session b requests (Refused status)) (sym front.2)
-    (Session-refused (talk.read ++ stop.read) front.0 requests (now.held ++ stop.read) status front.3 stay few stop.found))
-concludes Step Lacks start now new requests last bytes Limit talk is stay few told turn = absurd turn
-concludes Step Lacks start now new requests last bytes ReadFault talk is stay few told stop =
-    let front = stopped Sends _ [] Step start now new requests bytes talk stop told in record {
+    (subst (λ (b : List ℕ). Session b requests (Refused status)) (sym prefix.2)
+    (Session-refused (talk.read ++ stop.read) prefix.0 requests (now.held ++ stop.read) status prefix.3 stay few stop.found))
+concludes Step RunsOut start now new requests last bytes Limit talk is stay few known turn = absurd turn
+concludes Step RunsOut start now new requests last bytes ReadFault talk is stay few known stop =
+    let prefix = stopped Sends _ [] Step start now new requests bytes talk stop known in record {
       read = talk.read ++ stop.read;
-      rest = front.0;
-      split = front.2;
-      left = front.1;
-      serves = either_end (talk.read ++ stop.read) requests (now.held ++ stop.read) front.3 stay few stop.found
+      rest = prefix.0;
+      split = prefix.2;
+      left = prefix.1;
+      serves = either_end (talk.read ++ stop.read) requests (now.held ++ stop.read) prefix.3 stay few stop.found
           (λ session. stops_serves _ [] Step start now new requests (talk.read ++ stop.read) Closed talk stop refl session)
           (λ session. stops_serves _ [] Step start now new requests (talk.read ++ stop.read) CutOff talk stop refl session);
     }
-concludes Step Lacks start now new requests last bytes WriteFault talk is stay few told (inl (close, turn)) =
-    inl (cut_in_reply Step start now new requests last close bytes talk is stay few told turn)
-concludes Step Lacks start now new requests last bytes WriteFault talk is stay few told (inr (status, stop)) =
-    inr (cut_in_refusal Step start now new requests bytes status talk stay few told stop)
-concludes Step Lacks start now new requests last bytes Memory talk is stay few told turn = tt
+concludes Step RunsOut start now new requests last bytes WriteFault talk is stay few known (inl (close, turn)) =
+    inl (cut_in_reply Step start now new requests last close bytes talk is stay few known turn)
+concludes Step RunsOut start now new requests last bytes WriteFault talk is stay few known (inr (status, stop)) =
+    inr (cut_in_refusal Step start now new requests bytes status talk stay few known stop)
+concludes Step RunsOut start now new requests last bytes Memory talk is stay few known turn = tt
 
 -- the 1,000th turn comes after 999 requests
 pub last_turn : (n m : ℕ) → m ≡ n → (n + 1 == 1000) ≡ (m == 999)

@@ -8,39 +8,39 @@ use Rattle.unl_http_api.specs.declared.request.Request.{Request}
 use Rattle.unl_http_api.specs.Requests.{BeginsWith, IsBad}
 use Rattle.unl_http_api.specs.Reply.{reply_text, refusal_text}
 use Rattle.unl_server.specs.declared.receive.Received.TheVariants.{Request as Whole, Bad}
-use Rattle.unl_server.specs.Exchange.{Connection, Goes, Writes, Replies, Replied, Refuses}
+use Rattle.unl_server.specs.Exchange.{Connection, ServesTurn, Writes, Replies, Replied, Refuses}
 use Rattle.unl_server.specs.Receive.{Receives}
 
 -- bad bytes end the connection, and are refused if the refusal was sent
-pub goes_refused : {S : Type 0} (Step : S → Request → Reply → S → Type 0) (Lacks : S → Request → S → Type 0) (last : Bool)
+pub turn_refused : {S : Type 0} (Step : S → Request → Reply → S → Type 0) (RunsOut : S → Request → S → Type 0) (last : Bool)
     (old new : Connection S) (status : ℕ) (end : End) (held : List ℕ) (left sent : Option (List ℕ))
     → Receives old.held old.left (Bad status) held left → new.left ≡ left → new.state ≡ old.state → sent ≡ old.sent
-    → Refuses status sent end new.sent → Goes Step Lacks last old (Some end) new
-goes_refused Step Lacks last old new status (Refused told) held left sent receives same same_state unsent refuses = record {
+    → Refuses status sent end new.sent → ServesTurn Step RunsOut last old (Some end) new
+turn_refused Step RunsOut last old new status (Refused reported) held left sent receives same same_state unsent refuses = record {
   read = receives.read;
   took = subst (λ (l : Option (List ℕ)). Takes old.left receives.read l) (sym same) receives.took;
-  found = subst (IsBad (old.held ++ receives.read)) (sym refuses.0) receives.stands.0;
+  found = subst (IsBad (old.held ++ receives.read)) (sym refuses.0) receives.next.0;
   same = same_state;
   sends =
-      subst (λ (before : Option (List ℕ)). Sends before (refusal_text told) new.sent) unsent
+      subst (λ (before : Option (List ℕ)). Sends before (refusal_text reported) new.sent) unsent
       (subst (λ (s : ℕ). Sends sent (refusal_text s) new.sent) (sym refuses.0) refuses.1);
 }
-goes_refused Step Lacks last old new status WriteFault held left sent receives same same_state unsent refuses = inr (
+turn_refused Step RunsOut last old new status WriteFault held left sent receives same same_state unsent refuses = inr (
   status,
   record {
     read = receives.read;
     took = subst (λ (l : Option (List ℕ)). Takes old.left receives.read l) (sym same) receives.took;
-    found = receives.stands.0;
+    found = receives.next.0;
     same = same_state;
     sends = subst (λ (before : Option (List ℕ)). SendsFront before (refusal_text status) new.sent) unsent refuses;
   },
 )
-goes_refused Step Lacks last old new status Memory held left sent receives same same_state unsent refuses = inl same_state
-goes_refused Step Lacks last old new status ReadFault held left sent receives same same_state unsent refuses = absurd refuses
-goes_refused Step Lacks last old new status Closed held left sent receives same same_state unsent refuses = absurd refuses
-goes_refused Step Lacks last old new status Asked held left sent receives same same_state unsent refuses = absurd refuses
-goes_refused Step Lacks last old new status Limit held left sent receives same same_state unsent refuses = absurd refuses
-goes_refused Step Lacks last old new status CutOff held left sent receives same same_state unsent refuses = absurd refuses
+turn_refused Step RunsOut last old new status Memory held left sent receives same same_state unsent refuses = inl same_state
+turn_refused Step RunsOut last old new status ReadFault held left sent receives same same_state unsent refuses = absurd refuses
+turn_refused Step RunsOut last old new status Closed held left sent receives same same_state unsent refuses = absurd refuses
+turn_refused Step RunsOut last old new status Asked held left sent receives same same_state unsent refuses = absurd refuses
+turn_refused Step RunsOut last old new status Limit held left sent receives same same_state unsent refuses = absurd refuses
+turn_refused Step RunsOut last old new status CutOff held left sent receives same same_state unsent refuses = absurd refuses
 
 -- a refusal that was not sent in full
 pub refused_end : (status : ℕ) (sent sent_after : Option (List ℕ)) (text : List ℕ) (end : End) → text ≡ refusal_text status
@@ -48,7 +48,7 @@ pub refused_end : (status : ℕ) (sent sent_after : Option (List ℕ)) (text : L
 refused_end status sent sent_after text WriteFault is writes =
     subst (λ (t : List ℕ). SendsFront sent t sent_after) is writes
 refused_end status sent sent_after text Memory is writes = tt
-refused_end status sent sent_after text (Refused told) is writes = absurd writes
+refused_end status sent sent_after text (Refused reported) is writes = absurd writes
 refused_end status sent sent_after text ReadFault is writes = absurd writes
 refused_end status sent sent_after text Closed is writes = absurd writes
 refused_end status sent sent_after text Asked is writes = absurd writes
@@ -56,19 +56,19 @@ refused_end status sent sent_after text Limit is writes = absurd writes
 refused_end status sent sent_after text CutOff is writes = absurd writes
 
 -- a reply that was not sent in full
-pub goes_cut : {S : Type 0} (Step : S → Request → Reply → S → Type 0) (Lacks : S → Request → S → Type 0)
+pub turn_cut : {S : Type 0} (Step : S → Request → Reply → S → Type 0) (RunsOut : S → Request → S → Type 0)
     (last close : Bool) (old new : Connection S) (request : Request) (end : End) (held : List ℕ)
     (left sent : Option (List ℕ)) → Receives old.held old.left (Whole request) held left → new.left ≡ left
     → new.held ≡ held → sent ≡ old.sent → close ≡ (request.close || last)
-    → Replied Step Lacks request close old.state new.state sent (Some end) new.sent
-    → Goes Step Lacks last old (Some end) new
-goes_cut Step Lacks last close old new request WriteFault held left sent receives same same_held unsent is replied = inl (
+    → Replied Step RunsOut request close old.state new.state sent (Some end) new.sent
+    → ServesTurn Step RunsOut last old (Some end) new
+turn_cut Step RunsOut last close old new request WriteFault held left sent receives same same_held unsent is replied = inl (
   request.close,
   record {
     request = request;
     read = receives.read;
     took = subst (λ (l : Option (List ℕ)). Takes old.left receives.read l) (sym same) receives.took;
-    begins = subst (BeginsWith (old.held ++ receives.read) request) (sym same_held) receives.stands;
+    begins = subst (BeginsWith (old.held ++ receives.read) request) (sym same_held) receives.next;
     closes = refl;
     replies = subst
         (λ (before : Option (List ℕ)). Replies SendsFront Step request (request.close || last) old.state new.state before new.sent)
@@ -76,33 +76,33 @@ goes_cut Step Lacks last close old new request WriteFault held left sent receive
         (subst (λ (c : Bool). Replies SendsFront Step request c old.state new.state sent new.sent) is replied);
   },
 )
-goes_cut Step Lacks last close old new request Memory held left sent receives same same_held unsent is replied = inr (record {
+turn_cut Step RunsOut last close old new request Memory held left sent receives same same_held unsent is replied = inr (record {
   request = request;
   read = receives.read;
   took = subst (λ (l : Option (List ℕ)). Takes old.left receives.read l) (sym same) receives.took;
-  begins = subst (BeginsWith (old.held ++ receives.read) request) (sym same_held) receives.stands;
+  begins = subst (BeginsWith (old.held ++ receives.read) request) (sym same_held) receives.next;
   unreplied = replied;
 })
-goes_cut Step Lacks last close old new request (Refused told) held left sent receives same same_held unsent is replied = absurd replied
-goes_cut Step Lacks last close old new request ReadFault held left sent receives same same_held unsent is replied = absurd replied
-goes_cut Step Lacks last close old new request Closed held left sent receives same same_held unsent is replied = absurd replied
-goes_cut Step Lacks last close old new request Asked held left sent receives same same_held unsent is replied = absurd replied
-goes_cut Step Lacks last close old new request Limit held left sent receives same same_held unsent is replied = absurd replied
-goes_cut Step Lacks last close old new request CutOff held left sent receives same same_held unsent is replied = absurd replied
+turn_cut Step RunsOut last close old new request (Refused reported) held left sent receives same same_held unsent is replied = absurd replied
+turn_cut Step RunsOut last close old new request ReadFault held left sent receives same same_held unsent is replied = absurd replied
+turn_cut Step RunsOut last close old new request Closed held left sent receives same same_held unsent is replied = absurd replied
+turn_cut Step RunsOut last close old new request Asked held left sent receives same same_held unsent is replied = absurd replied
+turn_cut Step RunsOut last close old new request Limit held left sent receives same same_held unsent is replied = absurd replied
+turn_cut Step RunsOut last close old new request CutOff held left sent receives same same_held unsent is replied = absurd replied
 
 -- what was sent of the reply to an answered request
-pub replied_so : {S : Type 0} (Step : S → Request → Reply → S → Type 0) (Lacks : S → Request → S → Type 0)
+pub replied_so : {S : Type 0} (Step : S → Request → Reply → S → Type 0) (RunsOut : S → Request → S → Type 0)
     (request : Request) (close : Bool) (before after : S) (reply : Reply) (sent : Option (List ℕ)) (end : Option End)
     (sent_after : Option (List ℕ)) → Step before request reply after → Writes (reply_text reply close) sent end sent_after
-    → Replied Step Lacks request close before after sent end sent_after
-replied_so Step Lacks request close before after reply sent None sent_after step writes =
+    → Replied Step RunsOut request close before after sent end sent_after
+replied_so Step RunsOut request close before after reply sent None sent_after step writes =
     record { reply = reply; steps = step; sends = writes }
-replied_so Step Lacks request close before after reply sent (Some WriteFault) sent_after step writes =
+replied_so Step RunsOut request close before after reply sent (Some WriteFault) sent_after step writes =
     record { reply = reply; steps = step; sends = writes }
-replied_so Step Lacks request close before after reply sent (Some Memory) sent_after step writes = inr (reply, step)
-replied_so Step Lacks request close before after reply sent (Some (Refused told)) sent_after step writes = absurd writes
-replied_so Step Lacks request close before after reply sent (Some ReadFault) sent_after step writes = absurd writes
-replied_so Step Lacks request close before after reply sent (Some Closed) sent_after step writes = absurd writes
-replied_so Step Lacks request close before after reply sent (Some Asked) sent_after step writes = absurd writes
-replied_so Step Lacks request close before after reply sent (Some Limit) sent_after step writes = absurd writes
-replied_so Step Lacks request close before after reply sent (Some CutOff) sent_after step writes = absurd writes
+replied_so Step RunsOut request close before after reply sent (Some Memory) sent_after step writes = inr (reply, step)
+replied_so Step RunsOut request close before after reply sent (Some (Refused reported)) sent_after step writes = absurd writes
+replied_so Step RunsOut request close before after reply sent (Some ReadFault) sent_after step writes = absurd writes
+replied_so Step RunsOut request close before after reply sent (Some Closed) sent_after step writes = absurd writes
+replied_so Step RunsOut request close before after reply sent (Some Asked) sent_after step writes = absurd writes
+replied_so Step RunsOut request close before after reply sent (Some Limit) sent_after step writes = absurd writes
+replied_so Step RunsOut request close before after reply sent (Some CutOff) sent_after step writes = absurd writes

@@ -2,7 +2,7 @@ pub mod AskedLemmas
 mod CompleteLemmas
 mod ConversationLemmas
 mod ExchangeLemmas
-pub mod HostingLemmas
+pub mod DoorLemmas
 mod ReachesLemmas
 mod ReceiveLemmas
 pub mod ShowsLemmas

@@ -15,34 +15,34 @@ use Rattle.unl_http_api.proofs.RequestLemmas.{BeginsWith-append}
 use Rattle.unl_http_api.proofs.SessionLemmas.{Reads-append}
 use Rattle.unl_server.specs.Handling.{Answers, RunsOutOfMemory}
 use Rattle.unl_server.specs.Conversation.{IsUnreplied, GivesUp, Reaches}
-use Rattle.unl_server.specs.Exchange.{Connection, Unreplied, Breaks, Goes, Sends500}
-use Rattle.unl_server.proofs.ConversationLemmas.{Answered_more, Takes_told, Talk}
+use Rattle.unl_server.specs.Exchange.{Connection, Unreplied, Breaks, ServesTurn, Sends500}
+use Rattle.unl_server.proofs.ConversationLemmas.{Answered_more, Takes_known, Talk}
 
 -- ---- out of memory
 
 -- a request without a complete reply begins the bytes that were left
-breaks_told : {S : Type 0} (Step : S → Request → Reply → S → Type 0) (Lacks : S → Request → S → Type 0)
-    (now new : Connection S) (rest : List ℕ) → now.left ≡ Some rest → Breaks Step Lacks now new
-    → IsUnreplied Step Lacks (now.held ++ rest) now.state new.state
-breaks_told Step Lacks now new rest left broken =
-    let front = Takes_told rest broken.read new.left
+breaks_known : {S : Type 0} (Step : S → Request → Reply → S → Type 0) (RunsOut : S → Request → S → Type 0)
+    (now new : Connection S) (rest : List ℕ) → now.left ≡ Some rest → Breaks Step RunsOut now new
+    → IsUnreplied Step RunsOut (now.held ++ rest) now.state new.state
+breaks_known Step RunsOut now new rest left broken =
+    let prefix = Takes_known rest broken.read new.left
     (subst (λ (l : Option (List ℕ)). Takes l broken.read new.left) left broken.took) in
     record {
       request = broken.request;
-      rest = new.held ++ front.0;
-      begins = subst (λ (b : List ℕ). BeginsWith b broken.request (new.held ++ front.0))
-          (append_assoc now.held broken.read front.0 ∙ ap (λ (b : List ℕ). now.held ++ b) (sym front.2))
-          (BeginsWith-append (now.held ++ broken.read) broken.request new.held front.0 broken.begins);
+      rest = new.held ++ prefix.0;
+      begins = subst (λ (b : List ℕ). BeginsWith b broken.request (new.held ++ prefix.0))
+          (append_assoc now.held broken.read prefix.0 ∙ ap (λ (b : List ℕ). now.held ++ b) (sym prefix.2))
+          (BeginsWith-append (now.held ++ broken.read) broken.request new.held prefix.0 broken.begins);
       unreplied = broken.unreplied;
     }
 
 -- what a turn leaves when memory runs out
-next_told : {S : Type 0} (Step : S → Request → Reply → S → Type 0) (Lacks : S → Request → S → Type 0)
+next_known : {S : Type 0} (Step : S → Request → Reply → S → Type 0) (RunsOut : S → Request → S → Type 0)
     (now new : Connection S) (rest : List ℕ) → now.left ≡ Some rest
-    → (new.state ≡ now.state) ⊎ Breaks Step Lacks now new
-    → (new.state ≡ now.state) ⊎ IsUnreplied Step Lacks (now.held ++ rest) now.state new.state
-next_told Step Lacks now new rest left (inl same) = inl same
-next_told Step Lacks now new rest left (inr broken) = inr (breaks_told Step Lacks now new rest left broken)
+    → (new.state ≡ now.state) ⊎ Breaks Step RunsOut now new
+    → (new.state ≡ now.state) ⊎ IsUnreplied Step RunsOut (now.held ++ rest) now.state new.state
+next_known Step RunsOut now new rest left (inl same) = inl same
+next_known Step RunsOut now new rest left (inr broken) = inr (breaks_known Step RunsOut now new rest left broken)
 
 -- complete, or cut short where the fault count rose from a later value, hence from an earlier one
 rose_earlier : {P : Type 0} (a b c : ℕ) → a ≤ b → P ⊎ Rose b c → P ⊎ Rose a c
@@ -50,34 +50,34 @@ rose_earlier a b c up (inl p) = inl p
 rose_earlier a b c up (inr rose) = inr (omega (arith, up, rose))
 
 -- memory ran out after these requests
-pub gives_up : {S : Type 0} (Step : S → Request → Reply → S → Type 0) (Lacks : S → Request → S → Type 0)
+pub gives_up : {S : Type 0} (Step : S → Request → Reply → S → Type 0) (RunsOut : S → Request → S → Type 0)
     (start now new : Connection S) (requests : List Request) (last : Bool) (bytes : List ℕ) (end : End)
     (faults between faults_after : ℕ) → Talk Step start now requests → StayOpen requests → length requests < 1000
-    → start.left ≡ Some bytes → end ≡ Memory → Goes Step Lacks last now (Some end) new → faults ≤ between
+    → start.left ≡ Some bytes → end ≡ Memory → ServesTurn Step RunsOut last now (Some end) new → faults ≤ between
     → Sends500 now.sent between new.sent faults_after
-    → GivesUp Step Lacks bytes start.sent faults start.state new.state new.sent faults_after
-gives_up Step Lacks start now new requests last bytes end faults between faults_after talk stay few told is turn later tells =
-    let front = Takes_told bytes talk.read now.left
-    (subst (λ (l : Option (List ℕ)). Takes l talk.read now.left) told talk.took) in
+    → GivesUp Step RunsOut bytes start.sent faults start.state new.state new.sent faults_after
+gives_up Step RunsOut start now new requests last bytes end faults between faults_after talk stay few known is turn later sends_500 =
+    let prefix = Takes_known bytes talk.read now.left
+    (subst (λ (l : Option (List ℕ)). Takes l talk.read now.left) known talk.took) in
     record {
       requests = requests;
-      rest = now.held ++ front.0;
-      reads = subst (λ (b : List ℕ). Reads b requests (now.held ++ front.0)) (sym front.2)
-          (Reads-append talk.read requests now.held front.0 talk.reads);
+      rest = now.held ++ prefix.0;
+      reads = subst (λ (b : List ℕ). Reads b requests (now.held ++ prefix.0)) (sym prefix.2)
+          (Reads-append talk.read requests now.held prefix.0 talk.reads);
       first = record { few = few; open_all = stay };
       text = talk.text;
       replied = now.state;
       answered = talk.answered;
-      next = next_told Step Lacks now new front.0 front.1
-          (subst (λ (e : End). Goes Step Lacks last now (Some e) new) is turn);
+      next = next_known Step RunsOut now new prefix.0 prefix.1
+          (subst (λ (e : End). ServesTurn Step RunsOut last now (Some e) new) is turn);
       sent_before = now.sent;
       sends = talk.sends;
-      told = record {
-        part = tells.part;
-        after = tells.after;
-        split = tells.split;
-        sends = tells.sends;
-        whole = rose_earlier faults between faults_after later tells.whole;
+      sent_500 = record {
+        part = sends_500.part;
+        after = sends_500.after;
+        split = sends_500.split;
+        sends = sends_500.sends;
+        whole = rose_earlier faults between faults_after later sends_500.whole;
       };
     }
 
@@ -85,24 +85,24 @@ gives_up Step Lacks start now new requests last bytes end faults between faults_
 
 -- each step increments a count, and running out of memory doesn't
 pub record Counts
-    {S : Type 0} (Step : S → Request → Reply → S → Type 0) (Lacks : S → Request → S → Type 0) (count : S → ℕ) : Type 0 where
+    {S : Type 0} (Step : S → Request → Reply → S → Type 0) (RunsOut : S → Request → S → Type 0) (count : S → ℕ) : Type 0 where
   pub step : (s t : S) (q : Request) (r : Reply) → Step s q r t → count t ≡ count s + 1
-  pub lack : (s t : S) (q : Request) → Lacks s q t → count t ≡ count s
+  pub runs_out : (s t : S) (q : Request) → RunsOut s q t → count t ≡ count s
 
 -- the handler's own count is such a count
 pub Answers_count : {S : Type 0} (gives : S → Request → Draw → Reply → S → Type 0) (gives_up : S → Request → Draw → S → Type 0)
     → Counts (Answers gives) (RunsOutOfMemory gives_up) (λ s. s.count)
 Answers_count gives gives_up = record {
   step = λ s t q r one. one.counted;
-  lack = λ s t q none. none.counted;
+  runs_out = λ s t q none. none.counted;
 }
 
 -- one more request was answered in the last turn
-reaches_more : {S : Type 0} (Step : S → Request → Reply → S → Type 0) (Lacks : S → Request → S → Type 0) (count : S → ℕ)
-    → Counts Step Lacks count → (start now : Connection S) (after : S) (requests : List Request) (end : End)
+reaches_more : {S : Type 0} (Step : S → Request → Reply → S → Type 0) (RunsOut : S → Request → S → Type 0) (count : S → ℕ)
+    → Counts Step RunsOut count → (start now : Connection S) (after : S) (requests : List Request) (end : End)
     (request : Request) (reply : Reply) → Talk Step start now requests → length requests ≡ count now.state
-    → Step now.state request reply after → Reaches Step Lacks start.state end after (count after)
-reaches_more Step Lacks count counts start now after requests end request reply talk counted step = record {
+    → Step now.state request reply after → Reaches Step RunsOut start.state end after (count after)
+reaches_more Step RunsOut count counts start now after requests end request reply talk counted step = record {
   requests = requests ++ request ∷ [];
   text = talk.text ++ reply_text reply (request.close || length requests == 999);
   reached = after;
@@ -113,11 +113,11 @@ reaches_more Step Lacks count counts start now after requests end request reply 
 }
 
 -- no more requests were answered
-pub reaches_same : {S : Type 0} (Step : S → Request → Reply → S → Type 0) (Lacks : S → Request → S → Type 0)
+pub reaches_same : {S : Type 0} (Step : S → Request → Reply → S → Type 0) (RunsOut : S → Request → S → Type 0)
     (count : S → ℕ) (start now : Connection S) (after : S) (requests : List Request) (end : End)
     → Talk Step start now requests → length requests ≡ count now.state → after ≡ now.state
-    → Reaches Step Lacks start.state end after (count after)
-reaches_same Step Lacks count start now after requests end talk counted same = record {
+    → Reaches Step RunsOut start.state end after (count after)
+reaches_same Step RunsOut count start now after requests end talk counted same = record {
   requests = requests;
   text = talk.text;
   reached = now.state;
@@ -127,44 +127,44 @@ reaches_same Step Lacks count start now after requests end talk counted same = r
 }
 
 -- the last request was read, and memory ran out while it was answered or afterwards
-reaches_lacking : {S : Type 0} (Step : S → Request → Reply → S → Type 0) (Lacks : S → Request → S → Type 0)
-    (count : S → ℕ) → Counts Step Lacks count → (start now : Connection S) (after : S) (requests : List Request)
+reaches_running_out : {S : Type 0} (Step : S → Request → Reply → S → Type 0) (RunsOut : S → Request → S → Type 0)
+    (count : S → ℕ) → Counts Step RunsOut count → (start now : Connection S) (after : S) (requests : List Request)
     (request : Request) → Talk Step start now requests → length requests ≡ count now.state
-    → Unreplied Step Lacks now.state request after → Reaches Step Lacks start.state Memory after (count after)
-reaches_lacking Step Lacks count counts start now after requests request talk counted (inl lacks) = record {
+    → Unreplied Step RunsOut now.state request after → Reaches Step RunsOut start.state Memory after (count after)
+reaches_running_out Step RunsOut count counts start now after requests request talk counted (inl lacks) = record {
   requests = requests;
   text = talk.text;
   reached = now.state;
   answered = talk.answered;
-  counted = counted ∙ sym (counts.lack now.state after request lacks);
+  counted = counted ∙ sym (counts.runs_out now.state after request lacks);
   next = inr (refl, request, lacks);
 }
-reaches_lacking Step Lacks count counts start now after requests request talk counted (inr (reply, step)) =
-    reaches_more Step Lacks count counts start now after requests Memory request reply talk counted step
+reaches_running_out Step RunsOut count counts start now after requests request talk counted (inr (reply, step)) =
+    reaches_more Step RunsOut count counts start now after requests Memory request reply talk counted step
 
 -- as many requests were answered as were counted, however the last turn ended
-pub reaches : {S : Type 0} (Step : S → Request → Reply → S → Type 0) (Lacks : S → Request → S → Type 0)
-    (count : S → ℕ) → Counts Step Lacks count → (start now new : Connection S) (requests : List Request) (last : Bool)
+pub reaches : {S : Type 0} (Step : S → Request → Reply → S → Type 0) (RunsOut : S → Request → S → Type 0)
+    (count : S → ℕ) → Counts Step RunsOut count → (start now new : Connection S) (requests : List Request) (last : Bool)
     (end : End) → Talk Step start now requests → length requests ≡ count now.state
-    → Goes Step Lacks last now (Some end) new → Reaches Step Lacks start.state end new.state (count new.state)
-reaches Step Lacks count counts start now new requests last Asked talk counted turn =
-    reaches_more Step Lacks count counts start now new.state requests Asked turn.request turn.replies.reply talk counted
+    → ServesTurn Step RunsOut last now (Some end) new → Reaches Step RunsOut start.state end new.state (count new.state)
+reaches Step RunsOut count counts start now new requests last Asked talk counted turn =
+    reaches_more Step RunsOut count counts start now new.state requests Asked turn.request turn.replies.reply talk counted
     turn.replies.steps
-reaches Step Lacks count counts start now new requests last Closed talk counted stop =
-    reaches_same Step Lacks count start now new.state requests Closed talk counted stop.same
-reaches Step Lacks count counts start now new requests last CutOff talk counted stop =
-    reaches_same Step Lacks count start now new.state requests CutOff talk counted stop.same
-reaches Step Lacks count counts start now new requests last (Refused status) talk counted stop =
-    reaches_same Step Lacks count start now new.state requests (Refused status) talk counted stop.same
-reaches Step Lacks count counts start now new requests last Limit talk counted turn = absurd turn
-reaches Step Lacks count counts start now new requests last ReadFault talk counted stop =
-    reaches_same Step Lacks count start now new.state requests ReadFault talk counted stop.same
-reaches Step Lacks count counts start now new requests last WriteFault talk counted (inl (close, turn)) =
-    reaches_more Step Lacks count counts start now new.state requests WriteFault turn.request turn.replies.reply talk
+reaches Step RunsOut count counts start now new requests last Closed talk counted stop =
+    reaches_same Step RunsOut count start now new.state requests Closed talk counted stop.same
+reaches Step RunsOut count counts start now new requests last CutOff talk counted stop =
+    reaches_same Step RunsOut count start now new.state requests CutOff talk counted stop.same
+reaches Step RunsOut count counts start now new requests last (Refused status) talk counted stop =
+    reaches_same Step RunsOut count start now new.state requests (Refused status) talk counted stop.same
+reaches Step RunsOut count counts start now new requests last Limit talk counted turn = absurd turn
+reaches Step RunsOut count counts start now new requests last ReadFault talk counted stop =
+    reaches_same Step RunsOut count start now new.state requests ReadFault talk counted stop.same
+reaches Step RunsOut count counts start now new requests last WriteFault talk counted (inl (close, turn)) =
+    reaches_more Step RunsOut count counts start now new.state requests WriteFault turn.request turn.replies.reply talk
     counted turn.replies.steps
-reaches Step Lacks count counts start now new requests last WriteFault talk counted (inr (status, stop)) =
-    reaches_same Step Lacks count start now new.state requests WriteFault talk counted stop.same
-reaches Step Lacks count counts start now new requests last Memory talk counted (inl same) =
-    reaches_same Step Lacks count start now new.state requests Memory talk counted same
-reaches Step Lacks count counts start now new requests last Memory talk counted (inr broken) =
-    reaches_lacking Step Lacks count counts start now new.state requests broken.request talk counted broken.unreplied
+reaches Step RunsOut count counts start now new requests last WriteFault talk counted (inr (status, stop)) =
+    reaches_same Step RunsOut count start now new.state requests WriteFault talk counted stop.same
+reaches Step RunsOut count counts start now new requests last Memory talk counted (inl same) =
+    reaches_same Step RunsOut count start now new.state requests Memory talk counted same
+reaches Step RunsOut count counts start now new requests last Memory talk counted (inr broken) =
+    reaches_running_out Step RunsOut count counts start now new.state requests broken.request talk counted broken.unreplied

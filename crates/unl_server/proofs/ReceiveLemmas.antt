@@ -27,6 +27,6 @@ pub Taking_found : (held held' held'' : List ℕ) (left left' left'' : Option (L
 Taking_found held held' held'' left left' left'' found taking receives = record {
   read = taking.read ++ receives.read;
   took = Takes_more left left' left'' taking.read receives.read taking.took receives.took;
-  stands = subst (λ (b : List ℕ). IsNextItem b left'' found held'')
-      (ap (λ (h : List ℕ). h ++ receives.read) taking.holds ∙ append_assoc held taking.read receives.read) receives.stands;
+  next = subst (λ (b : List ℕ). IsNextItem b left'' found held'')
+      (ap (λ (h : List ℕ). h ++ receives.read) taking.holds ∙ append_assoc held taking.read receives.read) receives.next;
 }

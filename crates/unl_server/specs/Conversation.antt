@@ -1,5 +1,5 @@
 -- All of a connection: its requests, the reply to each, and how it ended. `Step before request reply after` is the effect
--- of one answer on the handler's state, and `Lacks before request after` the effect of running out of memory at a request.
+-- of one answer on the handler's state, and `RunsOut before request after` the effect of running out of memory at a request.
 use Rattle.std.specs.Prelude.{◌≡◌, ◌≢◌, ◌≤◌, ℕ, ◌+◌, ◌⊎◌, ◌==◌, ◌||◌, List, [], ◌∷◌, ◌++◌, length, Option, Some, ⊤}
 use Rattle.unl_base.specs.Faults.{Rose}
 use Rattle.unl_base.specs.Streams.{Sends, SendsFront}
@@ -45,7 +45,7 @@ pub record Serves
 
 -- A read failed. The bytes read until then, which are all but the bytes left, form a session of their own, whose requests
 -- were answered.
-pub record ServesFront
+pub record ServesPrefix
     {S : Type 0} (Step : S → Request → Reply → S → Type 0) (bytes : List ℕ) (sent : Option (List ℕ)) (before after : S)
     (left_after sent_after : Option (List ℕ)) : Type 0 where
   pub read : List ℕ
@@ -81,17 +81,17 @@ pub record CutInRefusal
 
 -- a request begins the bytes, and its reply was not sent in full
 pub record IsUnreplied
-    {S : Type 0} (Step : S → Request → Reply → S → Type 0) (Lacks : S → Request → S → Type 0) (bytes : List ℕ)
+    {S : Type 0} (Step : S → Request → Reply → S → Type 0) (RunsOut : S → Request → S → Type 0) (bytes : List ℕ)
     (before after : S) : Type 0 where
   pub request : Request
   pub rest : List ℕ
   pub begins : BeginsWith bytes request rest
-  pub unreplied : Unreplied Step Lacks before request after
+  pub unreplied : Unreplied Step RunsOut before request after
 
 -- Memory ran out after these requests were read and answered, and then the 500 reply was sent, as far as the link allowed.
 -- One more request may have been read; its reply was not sent.
 pub record GivesUp
-    {S : Type 0} (Step : S → Request → Reply → S → Type 0) (Lacks : S → Request → S → Type 0) (bytes : List ℕ)
+    {S : Type 0} (Step : S → Request → Reply → S → Type 0) (RunsOut : S → Request → S → Type 0) (bytes : List ℕ)
     (sent : Option (List ℕ)) (faults : ℕ) (before after : S) (sent_after : Option (List ℕ)) (faults_after : ℕ) : Type 0 where
   pub requests : List Request
   pub rest : List ℕ
@@ -100,10 +100,10 @@ pub record GivesUp
   pub text : List ℕ
   pub replied : S
   pub answered : Answered Step 0 before requests text replied
-  pub next : (after ≡ replied) ⊎ IsUnreplied Step Lacks rest replied after
+  pub next : (after ≡ replied) ⊎ IsUnreplied Step RunsOut rest replied after
   pub sent_before : Option (List ℕ)
   pub sends : Sends sent text sent_before
-  pub told : Sends500 sent_before faults sent_after faults_after
+  pub sent_500 : Sends500 sent_before faults sent_after faults_after
 
 -- what holds for each end, other than running out of memory
 abbrev pub Concludes :
@@ -116,7 +116,7 @@ Concludes Step bytes sent before (Refused status) after left_after sent_after =
     Serves Step bytes sent before (Refused status) after sent_after
 Concludes Step bytes sent before CutOff after left_after sent_after = Serves Step bytes sent before CutOff after sent_after
 Concludes Step bytes sent before ReadFault after left_after sent_after =
-    ServesFront Step bytes sent before after left_after sent_after
+    ServesPrefix Step bytes sent before after left_after sent_after
 Concludes Step bytes sent before WriteFault after left_after sent_after =
     CutInReply Step bytes sent before after sent_after ⊎ CutInRefusal Step bytes sent before after sent_after
 Concludes Step bytes sent before Memory after left_after sent_after = ⊤
@@ -132,18 +132,18 @@ pub record AnswersAll
 -- `count` requests were answered one after another, whether or not the bytes are observable. If memory ran out, one more
 -- may have been read, and it was not answered.
 pub record Reaches
-    {S : Type 0} (Step : S → Request → Reply → S → Type 0) (Lacks : S → Request → S → Type 0) (before : S) (end : End)
+    {S : Type 0} (Step : S → Request → Reply → S → Type 0) (RunsOut : S → Request → S → Type 0) (before : S) (end : End)
     (after : S) (count : ℕ) : Type 0 where
   pub requests : List Request
   pub text : List ℕ
   pub reached : S
   pub answered : Answered Step 0 before requests text reached
   pub counted : length requests ≡ count
-  pub next : (after ≡ reached) ⊎ ((end ≡ Memory) × (request : Request) × Lacks reached request after)
+  pub next : (after ≡ reached) ⊎ ((end ≡ Memory) × (request : Request) × RunsOut reached request after)
 
 -- A conversation on a link, from beginning to end, with `count` answered requests.
 pub record Converses
-    {S : Type 0} (Step : S → Request → Reply → S → Type 0) (Lacks : S → Request → S → Type 0) (link : LinkState) (before : S)
+    {S : Type 0} (Step : S → Request → Reply → S → Type 0) (RunsOut : S → Request → S → Type 0) (link : LinkState) (before : S)
     (end : End) (after : S) (count : ℕ) (link_after : LinkState) : Type 0 where
   -- the end is that of the session, and its requests were answered one after another
   pub session : (bytes : List ℕ) → link.left ≡ Some bytes
@@ -158,9 +158,9 @@ pub record Converses
       → IsRegular end × AnswersAll Step asked link.sent before end after link_after.sent
   -- if memory ran out, a 500 reply is sent after complete replies, as far as the link allows
   pub memory : (bytes : List ℕ) → link.left ≡ Some bytes → end ≡ Memory
-      → GivesUp Step Lacks bytes link.sent link.faults before after link_after.sent link_after.faults
+      → GivesUp Step RunsOut bytes link.sent link.faults before after link_after.sent link_after.faults
   -- in every case, `count` requests were answered one after another
-  pub answered : Reaches Step Lacks before end after count
+  pub answered : Reaches Step RunsOut before end after count
   -- a fault is reported only if the link's fault count rose
   pub later : link.faults ≤ link_after.faults
   pub read_cause : end ≡ ReadFault → Rose link.faults link_after.faults

@@ -21,8 +21,8 @@ pub record Replies
 -- the request has no complete reply, since memory ran out while it was answered or afterwards
 abbrev pub Unreplied :
     {S : Type 0} → (S → Request → Reply → S → Type 0) → (S → Request → S → Type 0) → S → Request → S → Type 0
-Unreplied Step Lacks before request after =
-    Lacks before request after ⊎ ((reply : Reply) × Step before request reply after)
+Unreplied Step RunsOut before request after =
+    RunsOut before request after ⊎ ((reply : Reply) × Step before request reply after)
 
 -- the state of a connection: the bytes received and not consumed, the bytes to come, the handler's state, and the bytes
 -- sent
@@ -55,32 +55,32 @@ pub record Stops
 
 -- a request was read, and its reply was not sent in full
 pub record Breaks
-    {S : Type 0} (Step : S → Request → Reply → S → Type 0) (Lacks : S → Request → S → Type 0)
+    {S : Type 0} (Step : S → Request → Reply → S → Type 0) (RunsOut : S → Request → S → Type 0)
     (old new : Connection S) : Type 0 where
   pub request : Request
   pub read : List ℕ
   pub took : Takes old.left read new.left
   pub begins : BeginsWith (old.held ++ read) request new.held
-  pub unreplied : Unreplied Step Lacks old.state request new.state
+  pub unreplied : Unreplied Step RunsOut old.state request new.state
 
 -- The effect of one turn: the connection stays open after a request that does not close it, or it ends. If memory ran out,
 -- a request was read whose reply was not sent in full, or none was read.
-abbrev pub Goes :
+abbrev pub ServesTurn :
     {S : Type 0} → (S → Request → Reply → S → Type 0) → (S → Request → S → Type 0) → Bool → Connection S → Option End
     → Connection S → Type 0
-Goes Step Lacks last old None new = Exchanges Sends Step last false old new
-Goes Step Lacks last old (Some Asked) new = Exchanges Sends Step last true old new
-Goes Step Lacks last old (Some Closed) new = Stops Sends (λ bytes left. (bytes ≡ []) × HasEnded left) [] old new
-Goes Step Lacks last old (Some CutOff) new =
+ServesTurn Step RunsOut last old None new = Exchanges Sends Step last false old new
+ServesTurn Step RunsOut last old (Some Asked) new = Exchanges Sends Step last true old new
+ServesTurn Step RunsOut last old (Some Closed) new = Stops Sends (λ bytes left. (bytes ≡ []) × HasEnded left) [] old new
+ServesTurn Step RunsOut last old (Some CutOff) new =
     Stops Sends (λ bytes left. (bytes ≢ []) × IsUnfinished bytes × HasEnded left) [] old new
-Goes Step Lacks last old (Some (Refused status)) new =
+ServesTurn Step RunsOut last old (Some (Refused status)) new =
     Stops Sends (λ bytes left. IsBad bytes status) (refusal_text status) old new
-Goes Step Lacks last old (Some Limit) new = ⊥
-Goes Step Lacks last old (Some ReadFault) new = Stops Sends (λ bytes left. IsUnfinished bytes) [] old new
-Goes Step Lacks last old (Some WriteFault) new =
+ServesTurn Step RunsOut last old (Some Limit) new = ⊥
+ServesTurn Step RunsOut last old (Some ReadFault) new = Stops Sends (λ bytes left. IsUnfinished bytes) [] old new
+ServesTurn Step RunsOut last old (Some WriteFault) new =
     ((close : Bool) × Exchanges SendsFront Step last close old new)
     ⊎ ((status : ℕ) × Stops SendsFront (λ bytes left. IsBad bytes status) (refusal_text status) old new)
-Goes Step Lacks last old (Some Memory) new = (new.state ≡ old.state) ⊎ Breaks Step Lacks old new
+ServesTurn Step RunsOut last old (Some Memory) new = (new.state ≡ old.state) ⊎ Breaks Step RunsOut old new
 
 -- the effect of writing a text; `None` if all of it was sent
 abbrev pub Writes : List ℕ → Option (List ℕ) → Option End → Option (List ℕ) → Type 0
@@ -93,16 +93,16 @@ Writes text sent (Some end) sent_after = ⊥
 abbrev pub Replied :
     {S : Type 0} → (S → Request → Reply → S → Type 0) → (S → Request → S → Type 0) → Request → Bool → S → S
     → Option (List ℕ) → Option End → Option (List ℕ) → Type 0
-Replied Step Lacks request close before after sent None sent_after =
+Replied Step RunsOut request close before after sent None sent_after =
     Replies Sends Step request close before after sent sent_after
-Replied Step Lacks request close before after sent (Some WriteFault) sent_after =
+Replied Step RunsOut request close before after sent (Some WriteFault) sent_after =
     Replies SendsFront Step request close before after sent sent_after
-Replied Step Lacks request close before after sent (Some Memory) sent_after = Unreplied Step Lacks before request after
-Replied Step Lacks request close before after sent (Some end) sent_after = ⊥
+Replied Step RunsOut request close before after sent (Some Memory) sent_after = Unreplied Step RunsOut before request after
+Replied Step RunsOut request close before after sent (Some end) sent_after = ⊥
 
 -- the effect of refusing
 abbrev pub Refuses : ℕ → Option (List ℕ) → End → Option (List ℕ) → Type 0
-Refuses status sent (Refused told) sent_after = (told ≡ status) × Sends sent (refusal_text status) sent_after
+Refuses status sent (Refused reported) sent_after = (reported ≡ status) × Sends sent (refusal_text status) sent_after
 Refuses status sent WriteFault sent_after = SendsFront sent (refusal_text status) sent_after
 Refuses status sent Memory sent_after = ⊤
 Refuses status sent end sent_after = ⊥

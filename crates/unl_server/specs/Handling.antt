@@ -16,8 +16,8 @@ pub record HandlerState (S : Type 0) : Type 0 where
   pub coming : Coming
 
 -- these three as a record
-abbrev pub answerer : {S : Type 0} → S → ℕ → Coming → HandlerState S
-answerer state count coming = record { state = state; count = count; coming = coming }
+abbrev pub handler_state : {S : Type 0} → S → ℕ → Coming → HandlerState S
+handler_state state count coming = record { state = state; count = count; coming = coming }
 
 -- a draw was taken, the handler gave this reply to the request with it, and the request was counted
 pub record Answers

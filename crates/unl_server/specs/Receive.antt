@@ -21,7 +21,7 @@ pub record Receives
     (left_after : Option (List ℕ)) : Type 0 where
   pub read : List ℕ
   pub took : Takes left read left_after
-  pub stands : IsNextItem (held ++ read) left_after found held_after
+  pub next : IsNextItem (held ++ read) left_after found held_after
 
 -- bytes were read from the link and appended to those held, which were not too many
 pub record TakesPiece

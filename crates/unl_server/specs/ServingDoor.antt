@@ -9,18 +9,18 @@ use Rattle.unl_server.specs.Handling.{Coming}
 use Rattle.unl_server.specs.Links.{LinkState}
 
 -- the server, the coming draws, and the door
-pub record Hosting (S : Type 0) : Type 0 where
+pub record ServerAndDoor (S : Type 0) : Type 0 where
   pub server : S
   pub coming : Coming
   pub door : DoorState
 
 -- these three as a record
-abbrev pub hosting : {S : Type 0} → S → Coming → DoorState → Hosting S
-hosting server coming door = record { server = server; coming = coming; door = door }
+abbrev pub server_and_door : {S : Type 0} → S → Coming → DoorState → ServerAndDoor S
+server_and_door server coming door = record { server = server; coming = coming; door = door }
 
 -- a link was handed out, served and returned
 pub record ServesDoorLink
-    {S : Type 0} (Serves : S → Coming → LinkState → LinkState → S → Coming → Type 0) (before after : Hosting S) : Type 0 where
+    {S : Type 0} (Serves : S → Coming → LinkState → LinkState → S → Coming → Type 0) (before after : ServerAndDoor S) : Type 0 where
   pub link : LinkState
   pub link_after : LinkState
   pub closed : Bool
@@ -30,19 +30,23 @@ pub record ServesDoorLink
   pub door : after.door ≡ taking_back link_after.sent link_after.faults (handing_out closed before.door)
 
 -- `n` links were handed out, served and returned, one after another
-abbrev pub ServesDoorLinks : {S : Type 0} → (S → Coming → LinkState → LinkState → S → Coming → Type 0) → ℕ → Hosting S → Hosting S → Type 0
+abbrev pub ServesDoorLinks :
+    {S : Type 0} → (S → Coming → LinkState → LinkState → S → Coming → Type 0) → ℕ → ServerAndDoor S → ServerAndDoor S → Type 0
 ServesDoorLinks Serves zero before after = after ≡ before
-ServesDoorLinks {S} Serves (suc n) before after = (middle : Hosting S) × ServesDoorLinks Serves n before middle × ServesDoorLink Serves middle after
+ServesDoorLinks {S} Serves (suc n) before after =
+    (middle : ServerAndDoor S) × ServesDoorLinks Serves n before middle × ServesDoorLink Serves middle after
 
 -- one link was served, or none if the door is closed or failed
 abbrev pub ServesNextLink :
-    {S : Type 0} → (S → Coming → LinkState → LinkState → S → Coming → Type 0) → Result LinkOutcome Failed → Hosting S → Hosting S → Type 0
+    {S : Type 0} → (S → Coming → LinkState → LinkState → S → Coming → Type 0) → Result LinkOutcome Failed
+    → ServerAndDoor S → ServerAndDoor S → Type 0
 ServesNextLink Serves (Ok Served) before after = ServesDoorLink Serves before after
 ServesNextLink Serves (Ok Closed) before after = after ≡ before
 ServesNextLink Serves (Err failed) before after = after ≡ before
 
 -- as many links as the result says were served; if the door failed, some number of them
 abbrev pub ServesDoor :
-    {S : Type 0} → (S → Coming → LinkState → LinkState → S → Coming → Type 0) → Result ℕ Failed → Hosting S → Hosting S → Type 0
+    {S : Type 0} → (S → Coming → LinkState → LinkState → S → Coming → Type 0) → Result ℕ Failed
+    → ServerAndDoor S → ServerAndDoor S → Type 0
 ServesDoor Serves (Ok served) before after = ServesDoorLinks Serves served before after
 ServesDoor Serves (Err failed) before after = (served : ℕ) × ServesDoorLinks Serves served before after

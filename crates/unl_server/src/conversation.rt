@@ -1,5 +1,5 @@
 //! Serves the requests of one connection.
-ghost use Rattle.unl_server.specs.Handling.{Answers, RunsOutOfMemory, answerer};
+ghost use Rattle.unl_server.specs.Handling.{Answers, RunsOutOfMemory, handler_state};
 ghost use Rattle.unl_server.specs.Conversation.{Converses};
 ghost use Rattle.unl_server.specs.Links.{link_state};
 
@@ -21,7 +21,7 @@ pub fn serve_requests<A: RequestHandler, L: Link, R: Draws>(
     requires { A.fits 0 state.old }
     ensures converses { Converses (Answers A.gives) (RunsOutOfMemory A.gives_up)
         (link_state (L.left link.old) (L.sent link.old) (L.Source.faults link.old))
-        (answerer state.old 0 (R.coming draws.old)) result.1 (answerer state.new result.0 (R.coming draws.new)) result.0
+        (handler_state state.old 0 (R.coming draws.old)) result.1 (handler_state state.new result.0 (R.coming draws.new)) result.0
         (link_state (L.left link.new) (L.sent link.new) (L.Source.faults link.new)) }
     ensures fits { A.fits result.0 state.new }
     ensures keeps { A.keeps state.old state.new }

@@ -3,7 +3,7 @@ ghost use Rattle.std.specs.Prelude.{◌≡◌, ◌<◌, IfOk, OnOk};
 ghost use Rattle.unl_base.specs.Doors.{IsClosed, IsListening, taking_back};
 ghost use Rattle.unl_base.specs.Faults.{HasCause};
 ghost use Rattle.unl_server.specs.Handling.{Coming};
-ghost use Rattle.unl_server.specs.ServingDoor.{ServesDoor, ServesNextLink, hosting};
+ghost use Rattle.unl_server.specs.ServingDoor.{ServesDoor, ServesNextLink, server_and_door};
 ghost use Rattle.unl_server.specs.Links.{LinkState, link_state};
 
 use std::alloc::Global;
@@ -52,7 +52,7 @@ pub(crate) enum LinkOutcome {
 ///
 /// # Errors
 /// `Failed`: the door could not hand out a link. The door increments its fault count.
-pub fn host<S: Server, D: Door, R: Draws, W: Wait>(
+pub fn serve_door<S: Server, D: Door, R: Draws, W: Wait>(
     rt: &W,
     alloc: Global,
     server: &mut S,
@@ -61,11 +61,11 @@ pub fn host<S: Server, D: Door, R: Draws, W: Wait>(
 ) -> Result<u64, Failed>
     requires listens { IsListening (D.state door.old) }
     requires fits { S.fits server.old }
-    ensures hosts { ServesDoor S.serves result (hosting server.old (R.coming draws.old) (D.state door.old))
-        (hosting server.new (R.coming draws.new) (D.state door.new)) }
+    ensures serves { ServesDoor S.serves result (server_and_door server.old (R.coming draws.old) (D.state door.old))
+        (server_and_door server.new (R.coming draws.new) (D.state door.new)) }
     ensures fits { S.fits server.new }
     ensures keeps { S.keeps server.old server.new }
-    ensures port { (D.state door.new).port ≡ (D.state door.old).port }
+    ensures ports { (D.state door.new).ports ≡ (D.state door.old).ports }
     ensures closed { OnOk result (IsClosed (D.state door.new)) }
     ensures cause { HasCause (D.faults door.old) (D.faults door.new) result }
 {
@@ -76,7 +76,7 @@ pub fn host<S: Server, D: Door, R: Draws, W: Wait>(
             Err(failed) => return Err(failed),
         }
     }
-    wait_for_ever(rt)
+    wait_forever(rt)
 }
 
 /// Waits for the next link, serves it, and returns it to the door.
@@ -88,11 +88,11 @@ fn serve_next<S: Server, D: Door, R: Draws>(
 ) -> Result<LinkOutcome, Failed>
     requires listens { IsListening (D.state door.old) }
     requires fits { S.fits server.old }
-    ensures hosts { ServesNextLink S.serves result (hosting server.old (R.coming draws.old) (D.state door.old))
-        (hosting server.new (R.coming draws.new) (D.state door.new)) }
+    ensures serves { ServesNextLink S.serves result (server_and_door server.old (R.coming draws.old) (D.state door.old))
+        (server_and_door server.new (R.coming draws.new) (D.state door.new)) }
     ensures fits { S.fits server.new }
     ensures keeps { S.keeps server.old server.new }
-    ensures port { (D.state door.new).port ≡ (D.state door.old).port }
+    ensures ports { (D.state door.new).ports ≡ (D.state door.old).ports }
     ensures closed { IfOk result (λ next. next ≡ LinkOutcome.Closed → IsClosed (D.state door.new)) }
     ensures cause { HasCause (D.faults door.old) (D.faults door.new) result }
 {
@@ -113,7 +113,7 @@ fn serve_and_return<S: Server, D: Door, R: Draws>(
     door: &mut D,
     draws: &mut R,
 )
-    requires lent { (D.state door.old).back < (D.state door.old).given }
+    requires handed_out { (D.state door.old).back < (D.state door.old).given }
     requires fits { S.fits server.old }
     ensures served { (after : LinkState)
         × S.serves server.old (R.coming draws.old)
@@ -128,7 +128,7 @@ fn serve_and_return<S: Server, D: Door, R: Draws>(
 }
 
 /// Never returns. It is reached after `u64::MAX` links, which no run of the program serves.
-fn wait_for_ever<T, W: Wait>(rt: &W) -> T
+fn wait_forever<T, W: Wait>(rt: &W) -> T
     ensures { ⊥ }
 {
     for _ in rt.forever() {}

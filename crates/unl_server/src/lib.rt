@@ -1,5 +1,5 @@
 //! The server. [`serve_requests`] reads the requests of one connection from a link, passes each to the handler, and sends the
-//! replies in order. [`host`] serves the links of a door, one after another.
+//! replies in order. [`serve_door`] serves the links of a door, one after another.
 #![tactic(auto)]
 
 mod conversation;
@@ -9,5 +9,5 @@ mod request_handler;
 mod serving;
 
 pub use conversation::serve_requests;
-pub use door::{Server, host};
+pub use door::{Server, serve_door};
 pub use request_handler::{MOST_REQUESTS, RequestHandler};

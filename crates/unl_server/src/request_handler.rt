@@ -1,5 +1,5 @@
 //! The handler for the requests of a connection.
-ghost use Rattle.std.specs.Prelude.{◌≡◌, ◌<◌, ◌+◌, ℕ, IfOk, OnErr, OnOk};
+ghost use Rattle.std.specs.Prelude.{◌<◌, ◌+◌, ℕ, IfOk, OnErr, OnOk};
 ghost use Rattle.http.specs.StatusCode.{IsStatusCode};
 ghost use Rattle.unl_base.specs.declared.draws.Draw.{Draw};
 ghost use Rattle.unl_http_api.specs.declared.reply.Reply.{Reply};

@@ -3,8 +3,8 @@ ghost use Rattle.std.specs.Prelude.{◌≡◌, ◌<◌, ◌≤◌, if◌then◌e
 ghost use Rattle.http.specs.StatusCode.{IsStatusCode};
 ghost use Rattle.unl_base.specs.Faults.{Rose};
 ghost use Rattle.unl_http_api.specs.Reply.{reply_text};
-ghost use Rattle.unl_server.specs.Handling.{Answers, RunsOutOfMemory, answerer};
-ghost use Rattle.unl_server.specs.Exchange.{Goes, Refuses, Replied, Sends500, Writes};
+ghost use Rattle.unl_server.specs.Handling.{Answers, RunsOutOfMemory, handler_state};
+ghost use Rattle.unl_server.specs.Exchange.{ServesTurn, Refuses, Replied, Sends500, Writes};
 
 use crate::receive::{PIECE, Received, receive};
 use crate::request_handler::{MOST_REQUESTS, RequestHandler};
@@ -26,18 +26,18 @@ pub(crate) fn serve_request<A: RequestHandler, L: Link, R: Draws>(
 ) -> Option<End>
     requires fits { A.fits count.old state.old }
     requires few { count.old < MOST_REQUESTS }
-    ensures goes { Goes (Answers A.gives) (RunsOutOfMemory A.gives_up) last
+    ensures turn { ServesTurn (Answers A.gives) (RunsOutOfMemory A.gives_up) last
         (record {
           held = reader.old;
           left = L.left link.old;
-          state = answerer state.old count.old (R.coming draws.old);
+          state = handler_state state.old count.old (R.coming draws.old);
           sent = L.sent link.old;
         })
         result
         (record {
           held = reader.new;
           left = L.left link.new;
-          state = answerer state.new count.new (R.coming draws.new);
+          state = handler_state state.new count.new (R.coming draws.new);
           sent = L.sent link.new;
         }) }
     ensures fits { A.fits count.new state.new }
@@ -84,7 +84,7 @@ fn reply_to<A: RequestHandler, L: Link, R: Draws>(
     requires fits { A.fits count.old state.old }
     requires few { count.old < MOST_REQUESTS }
     ensures replied { Replied (Answers A.gives) (RunsOutOfMemory A.gives_up) request.now close
-        (answerer state.old count.old (R.coming draws.old)) (answerer state.new count.new (R.coming draws.new))
+        (handler_state state.old count.old (R.coming draws.old)) (handler_state state.new count.new (R.coming draws.new))
         (L.sent link.old) result (L.sent link.new) }
     ensures fits { A.fits count.new state.new }
     ensures keeps { A.keeps state.old state.new }
@@ -145,7 +145,7 @@ fn send<L: Link>(alloc: Global, reply: &Reply, close: bool, link: &mut L) -> Opt
 /// Tries to send a 500 reply after memory ran out.
 fn send_500<L: Link>(link: &mut L) -> End
     ensures end { result ≡ End.Memory }
-    ensures told { Sends500 (L.sent link.old) (L.Source.faults link.old) (L.sent link.new) (L.Source.faults link.new) }
+    ensures sends { Sends500 (L.sent link.old) (L.Source.faults link.old) (L.sent link.new) (L.Source.faults link.new) }
     ensures left { L.left link.new ≡ L.left link.old }
     ensures later { L.Source.faults link.old ≤ L.Source.faults link.new }
 {

@@ -21,7 +21,7 @@ loop-turn-init g c = record {
 pub loop-turn-preserved : goal.loop-turn-preserved
 loop-turn-preserved g c =
     let so_far = c.loop-turn.invariant in
-    let turn = c.in_default.ensures.goes in
+    let turn = c.in_default.ensures.turn in
     record {
       requests = so_far.requests ++ turn.request ∷ [];
       talk = Talk_more _ _ _ _ so_far.requests _ _ so_far.talk (last_turn _ _ so_far.asked) turn;
@@ -39,11 +39,12 @@ returns-in-Some-clause-converses g c =
     let turn = c.in-Some.ensures in
     let few : length so_far.requests < 1000 = omega (arith, so_far.asked, c.loop-turn-test.true) in
     converses_so _ _ _ _ c.in-Some.end _ _ _
-    (λ bytes told. concludes _ _ _ _ _ so_far.requests _ bytes c.in-Some.end so_far.talk (last_turn _ _ so_far.asked) so_far.stay few told turn.goes)
-    (λ bytes told sent_500. gives_up _ _ _ _ _ so_far.requests _ bytes c.in-Some.end _ _ _ so_far.talk so_far.stay few told sent_500
-    turn.goes so_far.later (turn.sent_500 (ap Some sent_500)))
+    (λ bytes known. concludes _ _ _ _ _ so_far.requests _ bytes c.in-Some.end so_far.talk (last_turn _ _ so_far.asked)
+    so_far.stay few known turn.turn)
+    (λ bytes known sent_500. gives_up _ _ _ _ _ so_far.requests _ bytes c.in-Some.end _ _ _ so_far.talk so_far.stay few known sent_500
+    turn.turn so_far.later (turn.sent_500 (ap Some sent_500)))
     (reaches _ _ _ (Answers_count g.A.RequestHandler.gives g.A.RequestHandler.gives_up) _ _ _ so_far.requests _ c.in-Some.end
-    so_far.talk (omega (arith, so_far.asked, so_far.counted)) turn.goes)
+    so_far.talk (omega (arith, so_far.asked, so_far.counted)) turn.turn)
     (omega (arith, so_far.later, turn.later))
     (λ is. Rose_earlier _ _ _ so_far.later (turn.read_cause (ap Some is)))
     (λ is. Rose_earlier _ _ _ so_far.later (turn.write_cause (ap Some is)))
@@ -56,7 +57,7 @@ returns-clause-converses g c =
     let so_far = c.loop-turn.invariant in
     let full : length so_far.requests ≡ 1000 = omega (arith, so_far.asked, c.loop-turn-test.false) in
     converses_so _ _ _ _ Limit _ _ _
-    (λ bytes told. concludes_limit _ _ _ so_far.requests bytes so_far.talk so_far.stay full told)
-    (λ bytes told sent_500. absurd (cc))
+    (λ bytes known. concludes_limit _ _ _ so_far.requests bytes so_far.talk so_far.stay full known)
+    (λ bytes known sent_500. absurd (cc))
     (reaches_same _ _ (λ s. s.count) _ _ _ so_far.requests _ so_far.talk (omega (arith, so_far.asked, so_far.counted)) refl)
     so_far.later (λ is. absurd (cc)) (λ is. absurd (cc))

@@ -1,7 +1,7 @@
 use Rattle.std.proofs.Common.{◌≡◌, ◌≤◌, List, [], length}
 use Rattle.unl_http_api.specs.declared.request.Request.{Request}
 use Rattle.unl_http_api.specs.Session.{StayOpen}
-use Rattle.unl_server.specs.Handling.{Answers, answerer}
+use Rattle.unl_server.specs.Handling.{Answers, handler_state}
 use Rattle.unl_server.proofs.ConversationLemmas.{Talk}
 use Rattle.unl_server.proofs.conversation.serve_requests.Given as goal
 
@@ -13,13 +13,13 @@ invariant-loop-turn g l = record {
       (record {
         held = [];
         left = g.L.Source.left l.initial.link;
-        state = answerer l.initial.state 0 (g.R.Draws.coming l.initial.draws);
+        state = handler_state l.initial.state 0 (g.R.Draws.coming l.initial.draws);
         sent = g.L.Sink.sent l.initial.link;
       })
       (record {
         held = l.reader;
         left = g.L.Source.left l.link;
-        state = answerer l.state l.count (g.R.Draws.coming l.draws);
+        state = handler_state l.state l.count (g.R.Draws.coming l.draws);
         sent = g.L.Sink.sent l.link;
       })
       requests;

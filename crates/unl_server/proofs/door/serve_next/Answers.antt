@@ -3,8 +3,8 @@ use Rattle.unl_base.specs.Doors.{taking_back}
 use Rattle.unl_server.specs.Links.{link_state}
 use Rattle.unl_server.proofs.door.serve_next.Goals as goal
 
-pub returns-in-Some-clause-hosts : goal.returns-in-Some-clause-hosts
-returns-in-Some-clause-hosts g c =
+pub returns-in-Some-clause-serves : goal.returns-in-Some-clause-serves
+returns-in-Some-clause-serves g c =
     let accepted = rw (c.in-Some.is) at c.in_ok-link.ensures.accepts in
     let fresh = rw (c.in-Some.is) at c.in_ok-link.ensures.fresh in
     let served = c.serve_and_return.ensures.served in

@@ -9,7 +9,7 @@ returns-in-Ok-Bad-clause-turn g c =
     record {
       read = [];
       took = Takes_nothing _;
-      stands = (
+      next = (
         subst (λ (b : List ℕ). IsBad b c.in-Ok-Bad.status) (sym (append-nil c.args.reader.now)) bad.0,
         c.in-Ok-Bad.ensures.status c.in-Ok-Bad.status (ap Ok c.in-Ok-Bad.field-0-is),
       );

@@ -8,83 +8,92 @@ use Rattle.unl_http_api.specs.declared.reply.Reply.{Reply}
 use Rattle.unl_http_api.specs.declared.request.Request.{Request}
 use Rattle.unl_server.specs.Handling.{Coming}
 use Rattle.unl_server.specs.Conversation.{Concludes, Converses, GivesUp, Serves}
-use Rattle.unl_server.specs.ServingDoor.{Hosting, ServesDoorLinks, ServesDoorLink}
+use Rattle.unl_server.specs.ServingDoor.{ServerAndDoor, ServesDoorLinks, ServesDoorLink}
 use Rattle.unl_server.specs.Linked.{HandsBack, Linked, ServesLinks, linking}
 use Rattle.unl_server.specs.Links.{LinkState, link_state}
 
 -- ---- a chain
 
 -- one more link
-pub hosts_more : {S : Type 0} (Serves : S → Coming → LinkState → LinkState → S → Coming → Type 0) (n : ℕ) (before middle after : Hosting S)
+pub door_links_more : {S : Type 0} (Serves : S → Coming → LinkState → LinkState → S → Coming → Type 0) (n : ℕ)
+    (before middle after : ServerAndDoor S)
     → ServesDoorLinks Serves n before middle → ServesDoorLink Serves middle after → ServesDoorLinks Serves (n + 1) before after
-hosts_more {S} Serves n before middle after hosts link =
+door_links_more {S} Serves n before middle after links link =
     let longer : suc n ≡ n + 1 = omega arith in subst (λ (m : ℕ). ServesDoorLinks Serves m before after) longer both
   where
     both : ServesDoorLinks Serves (suc n) before after
-    both = (middle, hosts, link)
+    both = (middle, links, link)
 
 -- no more link
-pub hosts_still : {S : Type 0} (Serves : S → Coming → LinkState → LinkState → S → Coming → Type 0) (n : ℕ) (before middle after : Hosting S)
+pub door_links_same : {S : Type 0} (Serves : S → Coming → LinkState → LinkState → S → Coming → Type 0) (n : ℕ)
+    (before middle after : ServerAndDoor S)
     → ServesDoorLinks Serves n before middle → after ≡ middle → ServesDoorLinks Serves n before after
-hosts_still Serves n before middle after hosts same = subst (ServesDoorLinks Serves n before) (sym same) hosts
+door_links_same Serves n before middle after links same = subst (ServesDoorLinks Serves n before) (sym same) links
 
 -- a property that holds for no link, and is preserved by one more, holds for all
-pub hosts_all : {S : Type 0} (Serves : S → Coming → LinkState → LinkState → S → Coming → Type 0) (P : ℕ → Hosting S → Type 0) (before : Hosting S)
-    → P 0 before → ((n : ℕ) (middle after : Hosting S) → P n middle → ServesDoorLink Serves middle after → P (suc n) after)
-    → (n : ℕ) (after : Hosting S) → ServesDoorLinks Serves n before after → P n after
-hosts_all Serves P before none more zero after hosts = subst (P 0) (sym hosts) none
-hosts_all Serves P before none more (suc n) after hosts =
-    more n hosts.0 after (hosts_all Serves P before none more n hosts.0 hosts.1) hosts.2
+pub door_links_all : {S : Type 0} (Serves : S → Coming → LinkState → LinkState → S → Coming → Type 0)
+    (P : ℕ → ServerAndDoor S → Type 0) (before : ServerAndDoor S)
+    → P 0 before → ((n : ℕ) (middle after : ServerAndDoor S) → P n middle → ServesDoorLink Serves middle after → P (suc n) after)
+    → (n : ℕ) (after : ServerAndDoor S) → ServesDoorLinks Serves n before after → P n after
+door_links_all Serves P before none more zero after links = subst (P 0) (sym links) none
+door_links_all Serves P before none more (suc n) after links =
+    more n links.0 after (door_links_all Serves P before none more n links.0 links.1) links.2
 
 -- ---- a door whose links are observable
 
 -- what a link sends stays observable if it was at first
-sent_at : {S : Type 0} {Step : S → Request → Reply → S → Type 0} {Lacks : S → Request → S → Type 0} (bytes : List ℕ) (before after : S) (end : End) (left_after sent_after : Option (List ℕ)) (faults_after : ℕ)
+sent_at : {S : Type 0} {Step : S → Request → Reply → S → Type 0} {RunsOut : S → Request → S → Type 0} (bytes : List ℕ)
+    (before after : S) (end : End) (left_after sent_after : Option (List ℕ)) (faults_after : ℕ)
     → Concludes Step bytes (Some []) before end after left_after sent_after
-    → (end ≡ ends.Memory → GivesUp Step Lacks bytes (Some []) 0 before after sent_after faults_after)
+    → (end ≡ ends.Memory → GivesUp Step RunsOut bytes (Some []) 0 before after sent_after faults_after)
     → (text : List ℕ) × (sent_after ≡ Some text)
 sent_at bytes before after ends.Closed left_after sent_after faults_after c memory = (_, c.sends)
 sent_at bytes before after ends.Asked left_after sent_after faults_after c memory = (_, c.sends)
 sent_at bytes before after ends.Limit left_after sent_after faults_after c memory = (_, c.sends)
 sent_at bytes before after (ends.Refused status) left_after sent_after faults_after c memory = (_, c.sends)
 sent_at bytes before after ends.CutOff left_after sent_after faults_after c memory = (_, c.sends)
-sent_at {S} {Step} bytes before after ends.ReadFault left_after sent_after faults_after c memory = by_front c.serves
+sent_at {S} {Step} bytes before after ends.ReadFault left_after sent_after faults_after c memory = by_prefix c.serves
   where
-    by_front : Serves Step c.read (Some []) before ends.Closed after sent_after ⊎ Serves Step c.read (Some []) before ends.CutOff after sent_after
+    by_prefix : Serves Step c.read (Some []) before ends.Closed after sent_after
+        ⊎ Serves Step c.read (Some []) before ends.CutOff after sent_after
         → (text : List ℕ) × (sent_after ≡ Some text)
-    by_front (inl serves) = (_, serves.sends)
-    by_front (inr serves) = (_, serves.sends)
+    by_prefix (inl serves) = (_, serves.sends)
+    by_prefix (inr serves) = (_, serves.sends)
 sent_at bytes before after ends.WriteFault left_after sent_after faults_after (inl c) memory = (_, c.sends.sends)
 sent_at bytes before after ends.WriteFault left_after sent_after faults_after (inr c) memory = (_, c.sends.sends)
-sent_at {S} {Step} {Lacks} bytes before after ends.Memory left_after sent_after faults_after c memory =
-    let gives : GivesUp Step Lacks bytes (Some []) 0 before after sent_after faults_after = memory refl in
-    (_, gives.told.sends ∙ ap (λ (sent : Option (List ℕ)). option_map (λ text. text ++ gives.told.part) sent) gives.sends)
+sent_at {S} {Step} {RunsOut} bytes before after ends.Memory left_after sent_after faults_after c memory =
+    let gives : GivesUp Step RunsOut bytes (Some []) 0 before after sent_after faults_after = memory refl in
+    (_, gives.sent_500.sends ∙ ap (λ (sent : Option (List ℕ)). option_map (λ text. text ++ gives.sent_500.part) sent) gives.sends)
 
 -- what a link sends is observable if its bytes are
-pub sent_told : {S : Type 0} {Step : S → Request → Reply → S → Type 0} {Lacks : S → Request → S → Type 0} {before after : S} {end : End} {count : ℕ}
-    (bytes : List ℕ) (link_after : LinkState) → Converses Step Lacks (link_state (Some bytes) (Some []) 0) before end after count link_after
+pub sent_observable : {S : Type 0} {Step : S → Request → Reply → S → Type 0} {RunsOut : S → Request → S → Type 0}
+    {before after : S} {end : End} {count : ℕ} (bytes : List ℕ) (link_after : LinkState)
+    → Converses Step RunsOut (link_state (Some bytes) (Some []) 0) before end after count link_after
     → (text : List ℕ) × (link_after.sent ≡ Some text)
-sent_told {before} {after} {end} bytes link_after said =
+sent_observable {before} {after} {end} bytes link_after said =
     sent_at bytes before after end link_after.left link_after.sent link_after.faults (said.session bytes refl) (said.memory bytes refl)
 
 -- A link with these bytes, on which nothing was sent and nothing failed before, was served, and what it sent is observable.
-pub record TellsLink
+pub record ServedObservably
     {S : Type 0} (LinkServed : S → Coming → List ℕ → List ℕ × ℕ → S → Coming → Type 0) (before : S) (coming : Coming)
     (bytes : List ℕ) (link_after : LinkState) (after : S) (coming_after : Coming) : Type 0 where
   pub text : List ℕ
   pub sent : link_after.sent ≡ Some text
   pub served : LinkServed before coming bytes (text, link_after.faults) after coming_after
 
--- serving a link implies this for each link
-abbrev pub Tells :
-    {S : Type 0} → (S → Coming → LinkState → LinkState → S → Coming → Type 0) → (S → Coming → List ℕ → List ℕ × ℕ → S → Coming → Type 0) → Type 0
-Tells {S} Serves LinkServed = (before : S) (coming : Coming) (bytes : List ℕ) (link_after : LinkState) (after : S) (coming_after : Coming)
+-- serving implies `LinkServed` for each link whose bytes are observable
+abbrev pub Observable :
+    {S : Type 0} → (S → Coming → LinkState → LinkState → S → Coming → Type 0)
+    → (S → Coming → List ℕ → List ℕ × ℕ → S → Coming → Type 0) → Type 0
+Observable {S} Serves LinkServed =
+    (before : S) (coming : Coming) (bytes : List ℕ) (link_after : LinkState) (after : S) (coming_after : Coming)
     → Serves before coming (link_state (Some bytes) (Some []) 0) link_after after coming_after
-    → TellsLink LinkServed before coming bytes link_after after coming_after
+    → ServedObservably LinkServed before coming bytes link_after after coming_after
 
 linked_more : {S : Type 0} (LinkServed : S → Coming → List ℕ → List ℕ × ℕ → S → Coming → Type 0) (server : S) (coming : Coming)
-    (links : List (List ℕ)) (backs : List (List ℕ × ℕ)) (middle : S) (coming_middle : Coming) (bytes : List ℕ) (back : List ℕ × ℕ) (after : S)
-    (coming_after : Coming) → Linked LinkServed server coming links backs middle coming_middle
+    (links : List (List ℕ)) (backs : List (List ℕ × ℕ)) (middle : S) (coming_middle : Coming) (bytes : List ℕ)
+    (back : List ℕ × ℕ) (after : S) (coming_after : Coming)
+    → Linked LinkServed server coming links backs middle coming_middle
     → LinkServed middle coming_middle bytes back after coming_after
     → Linked LinkServed server coming (links ++ bytes ∷ []) (backs ++ back ∷ []) after coming_after
 linked_more {S} LinkServed server coming [] [] middle coming_middle bytes back after coming_after linked one = (
@@ -106,9 +115,9 @@ linked_more LinkServed server coming (l ∷ links) (b ∷ backs) middle coming_m
 -- a door whose returned links are observable has one more pair
 returns_one : (backs : List (List ℕ × ℕ)) (sent : Option (List ℕ)) (text : List ℕ) (faults : ℕ) (returned : Option (List (List ℕ × ℕ)))
     → sent ≡ Some text → returned ≡ Some backs → with_returned sent faults returned ≡ Some (backs ++ (text, faults) ∷ [])
-returns_one backs sent text faults returned told told_back =
-    ap (λ (r : Option (List (List ℕ × ℕ))). with_returned sent faults r) told_back
-    ∙ ap (λ (s : Option (List ℕ)). option_map (λ bytes. backs ++ (bytes, faults) ∷ []) s) told
+returns_one backs sent text faults returned known known_back =
+    ap (λ (r : Option (List (List ℕ × ℕ))). with_returned sent faults r) known_back
+    ∙ ap (λ (s : Option (List ℕ)). option_map (λ bytes. backs ++ (bytes, faults) ∷ []) s) known
 
 -- a list of coming links is its first and the others
 first_of : (links : List (List ℕ)) → ¬ (links ≡ []) → links ≡ next_of links ∷ drop 1 links
@@ -117,23 +126,25 @@ first_of (bytes ∷ links) some = refl
 
 -- one more link was served
 serves_more : {S : Type 0} (Serves : S → Coming → LinkState → LinkState → S → Coming → Type 0)
-    (LinkServed : S → Coming → List ℕ → List ℕ × ℕ → S → Coming → Type 0) → Tells Serves LinkServed
-    → (before middle after : Hosting S) (n : ℕ) (links : List (List ℕ)) (returned : List (List ℕ × ℕ))
-    → ServesLinks LinkServed (linking before.server before.coming before.door) (linking middle.server middle.coming middle.door) n links returned
+    (LinkServed : S → Coming → List ℕ → List ℕ × ℕ → S → Coming → Type 0) → Observable Serves LinkServed
+    → (before middle after : ServerAndDoor S) (n : ℕ) (links : List (List ℕ)) (returned : List (List ℕ × ℕ))
+    → ServesLinks LinkServed (linking before.server before.coming before.door) (linking middle.server middle.coming middle.door)
+    n links returned
     → ServesDoorLink Serves middle after
-    → ServesLinks LinkServed (linking before.server before.coming before.door) (linking after.server after.coming after.door) (suc n) links returned
-serves_more {S} Serves LinkServed tells before middle after n links returned ones one =
+    → ServesLinks LinkServed (linking before.server before.coming before.door) (linking after.server after.coming after.door)
+    (suc n) links returned
+serves_more {S} Serves LinkServed observable before middle after n links returned ones one =
     let some : ¬ (ones.rest ≡ []) = rw (ones.left) at one.is_open.some_left in
     let bytes : List ℕ = next_of ones.rest in
-    let stood : one.link ≡ link_state (Some bytes) (Some []) 0 =
+    let same : one.link ≡ link_state (Some bytes) (Some []) 0 =
     (λ i. link_state
     ((one.fresh.gives ∙ ap (λ (list : Option (List (List ℕ))). option_map next_of list) ones.left) i)
     ((one.fresh.silent ∙ ap (λ (list : Option (List (List ℕ × ℕ))). option_map (λ _. []) list) ones.returned_after) i)
     (one.fresh.faultless i)) in
-    let told : TellsLink LinkServed middle.server middle.coming bytes one.link_after after.server after.coming =
-    tells middle.server middle.coming bytes one.link_after after.server after.coming
-    (subst (λ (link : LinkState). Serves middle.server middle.coming link one.link_after after.server after.coming) stood one.served) in
-    let back : List ℕ × ℕ = (told.text, one.link_after.faults) in
+    let seen : ServedObservably LinkServed middle.server middle.coming bytes one.link_after after.server after.coming =
+    observable middle.server middle.coming bytes one.link_after after.server after.coming
+    (subst (λ (link : LinkState). Serves middle.server middle.coming link one.link_after after.server after.coming) same one.served) in
+    let back : List ℕ × ℕ = (seen.text, one.link_after.faults) in
     let handed : middle.door.returned ≡ (handing_out one.closed middle.door).returned = refl in
     record {
       given_links = ones.given_links ++ bytes ∷ [];
@@ -143,42 +154,45 @@ serves_more {S} Serves LinkServed tells before middle after n links returned one
           ∙ sym (append_assoc ones.given_links (bytes ∷ []) (drop 1 ones.rest));
       left = ap (λ (d : DoorState). d.links) one.door ∙ ap (λ (l : Option (List (List ℕ))). option_map (λ list. drop 1 list) l) ones.left;
       returned_after = ap (λ (d : DoorState). d.returned) one.door
-          ∙ returns_one (returned ++ ones.backs) one.link_after.sent told.text one.link_after.faults middle.door.returned told.sent ones.returned_after
+          ∙ returns_one (returned ++ ones.backs) one.link_after.sent seen.text one.link_after.faults middle.door.returned
+          seen.sent ones.returned_after
           ∙ ap Some (append_assoc returned ones.backs (back ∷ []));
       counted = length-append ones.given_links (bytes ∷ []) ∙ ap (λ m. m + 1) ones.counted ∙ omega arith;
       linked = linked_more LinkServed before.server before.coming ones.given_links ones.backs middle.server middle.coming bytes back
-          after.server after.coming ones.linked told.served;
+          after.server after.coming ones.linked seen.served;
     }
 
 -- the links of a door were served, as far as they are observable
 pub hands_back : {S : Type 0} (Serves : S → Coming → LinkState → LinkState → S → Coming → Type 0)
-    (LinkServed : S → Coming → List ℕ → List ℕ × ℕ → S → Coming → Type 0) → Tells Serves LinkServed
-    → (n : ℕ) (before after : Hosting S) → ServesDoorLinks Serves n before after
+    (LinkServed : S → Coming → List ℕ → List ℕ × ℕ → S → Coming → Type 0) → Observable Serves LinkServed
+    → (n : ℕ) (before after : ServerAndDoor S) → ServesDoorLinks Serves n before after
     → HandsBack LinkServed (linking before.server before.coming before.door) (linking after.server after.coming after.door) n
-hands_back {S} Serves LinkServed tells n before after hosts = hosts_all Serves Handed before begun more n after hosts
+hands_back {S} Serves LinkServed observable n before after links = door_links_all Serves Handed before begun more n after links
   where
-    Handed : ℕ → Hosting S → Type 0
+    Handed : ℕ → ServerAndDoor S → Type 0
     Handed m now = HandsBack LinkServed (linking before.server before.coming before.door) (linking now.server now.coming now.door) m
 
     begun : Handed 0 before
     begun = record {
       given = omega arith;
       back = omega arith;
-      linked = λ links returned told told_back. record {
+      linked = λ links returned known known_back. record {
         given_links = [];
         rest = links;
         backs = [];
         are = refl;
-        left = told;
-        returned_after = told_back ∙ ap Some (sym (append-nil returned));
+        left = known;
+        returned_after = known_back ∙ ap Some (sym (append-nil returned));
         counted = refl;
         linked = (refl, refl);
       };
     }
 
-    more : (m : ℕ) (middle next : Hosting S) → Handed m middle → ServesDoorLink Serves middle next → Handed (suc m) next
+    more : (m : ℕ) (middle next : ServerAndDoor S) → Handed m middle → ServesDoorLink Serves middle next → Handed (suc m) next
     more m middle next handed one = record {
       given = ap (λ (d : DoorState). d.given) one.door ∙ ap (λ k. k + 1) handed.given ∙ omega arith;
       back = ap (λ (d : DoorState). d.back) one.door ∙ ap (λ k. k + 1) handed.back ∙ omega arith;
-      linked = λ links returned told told_back. serves_more Serves LinkServed tells before middle next m links returned (handed.linked links returned told told_back) one;
+      linked = λ links returned known known_back.
+          serves_more Serves LinkServed observable before middle next m links returned
+          (handed.linked links returned known known_back) one;
     }
