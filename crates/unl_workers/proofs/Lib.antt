@@ -4,6 +4,6 @@ mod Collecting
 mod Handing
 mod Lasts
 mod Shares
-mod Takings
+mod TakingLemmas
 mod Weights
 mod WorkerSlots

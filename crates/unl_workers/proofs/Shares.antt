@@ -39,12 +39,12 @@ module _ {S R L W : Type 0} (Serves : S → Coming → LinkState → LinkState �
   )
 
   served_one : (before after : Worker S R L W) → RunsWorker Serves Keeps coming_of state_of before after → Ready before
-      → ServedAt Serves coming_of state_of (taken_by after) before.post after.post
+      → ServedAt Serves coming_of state_of (taken_by after) before.slot after.slot
   served_one before after work ready =
       let same : work.took.links ≡ taken_by after = sym (ap (λ (v : Tally L). v.taken) (took before after work ready)) in
       record {
         served = subst (λ (links : List L). ServesEach (with_draws Serves) (map state_of links)
-            (serving before.post.server (coming_of before.post.draws)) (serving after.post.server (coming_of after.post.draws)))
+            (serving before.slot.server (coming_of before.slot.draws)) (serving after.slot.server (coming_of after.slot.draws)))
             same work.took.served;
         counted = ap length (sym same) ∙ work.took.counted;
       }
@@ -85,32 +85,32 @@ weigh_ones [] = refl
 weigh_ones (x ∷ xs) = let rest = weigh_ones xs in omega (arith, rest)
 
 counted_each : {S R L : Type 0} (Serves : S → Coming → LinkState → LinkState → S → Coming → Type 0) (coming_of : R → Coming)
-    (state_of : L → LinkState) (shares : List (List L)) (posts done : List (WorkerSlot S R))
-    → ServedAtEach Serves coming_of state_of shares posts done
-    → sum_by (λ (post : WorkerSlot S R). post.links) done ≡ length (flat_map (λ (share : List L). share) shares)
+    (state_of : L → LinkState) (shares : List (List L)) (slots done : List (WorkerSlot S R))
+    → ServedAtEach Serves coming_of state_of shares slots done
+    → sum_by (λ (slot : WorkerSlot S R). slot.links) done ≡ length (flat_map (λ (share : List L). share) shares)
 counted_each Serves coming_of state_of [] [] [] served = refl
 counted_each Serves coming_of state_of [] [] (after ∷ done) served = absurd served
-counted_each Serves coming_of state_of [] (before ∷ posts) done served = absurd served
+counted_each Serves coming_of state_of [] (before ∷ slots) done served = absurd served
 counted_each Serves coming_of state_of (links ∷ shares) [] done served = absurd served
-counted_each Serves coming_of state_of (links ∷ shares) (before ∷ posts) [] served = absurd served
-counted_each {S} {R} {L} Serves coming_of state_of (links ∷ shares) (before ∷ posts) (after ∷ done) served =
-    let rest = counted_each Serves coming_of state_of shares posts done served.1 in
+counted_each Serves coming_of state_of (links ∷ shares) (before ∷ slots) [] served = absurd served
+counted_each {S} {R} {L} Serves coming_of state_of (links ∷ shares) (before ∷ slots) (after ∷ done) served =
+    let rest = counted_each Serves coming_of state_of shares slots done served.1 in
     omega (
       arith,
       rest,
       served.0.counted,
-      sum_by-cons (λ (post : WorkerSlot S R). post.links) after done,
+      sum_by-cons (λ (slot : WorkerSlot S R). slot.links) after done,
       length-append links (flat_map (λ (share : List L). share) shares),
     )
 
 -- the counts of the slots add up to the number of links that were handed out
 pub all_counted : {S R L : Type 0} (Serves : S → Coming → LinkState → LinkState → S → Coming → Type 0) (coming_of : R → Coming)
-    (state_of : L → LinkState) (given : List L) (shares : List (List L)) (posts done : List (WorkerSlot S R))
-    → ServedAtEach Serves coming_of state_of shares posts done
+    (state_of : L → LinkState) (given : List L) (shares : List (List L)) (slots done : List (WorkerSlot S R))
+    → ServedAtEach Serves coming_of state_of shares slots done
     → SameLinks given (flat_map (λ (share : List L). share) shares)
-    → sum_by (λ (post : WorkerSlot S R). post.links) done ≡ length given
-all_counted {S} {R} {L} Serves coming_of state_of given shares posts done served same =
-    counted_each Serves coming_of state_of shares posts done served ∙ sym (weigh_ones (flat_map (λ (share : List L). share) shares))
+    → sum_by (λ (slot : WorkerSlot S R). slot.links) done ≡ length given
+all_counted {S} {R} {L} Serves coming_of state_of given shares slots done served same =
+    counted_each Serves coming_of state_of shares slots done served ∙ sym (weigh_ones (flat_map (λ (share : List L). share) shares))
     ∙ sym (same (λ _. 1)) ∙ weigh_ones given
 
 -- The pass that has all parts at last: after a part was split off for each worker (`ready`), after the acceptor's work

@@ -1,7 +1,6 @@
 -- The links that a door handed out and that were put into a queue. `left`, `sent` and `faults` give a link's bytes to come, the
 -- bytes it has sent, and its fault count.
-use Rattle.std.specs.Prelude.{◌≡◌, ℕ, List, [], ◌∷◌, ◌++◌, Option, length, Result, Ok, Err}
-use Rattle.unl_base.specs.declared.Failed.{Failed}
+use Rattle.std.specs.Prelude.{◌≡◌, ℕ, List, [], ◌∷◌, ◌++◌, Option, length}
 use Rattle.unl_base.specs.Doors.{DoorState, IsOpen, IsFresh, handing_out}
 use Rattle.unl_workers.specs.Tallies.{tally}
 use Rattle.unl_workers.specs.declared.tally.Tally.{Tally}
@@ -19,9 +18,7 @@ module _ {L : Type 0} (left sent : L → Option (List ℕ)) (faults : L → ℕ)
     pub put : view_after ≡ tally view_before.parts (view_before.put ++ links) view_before.taken may_put view_before.ends_seen
     pub handed : HandsOutEach links before after
 
-  -- as many links as the result says were handed out and put; if the door failed, some number of links was
-  abbrev pub QueuesAll : ℕ → Result ℕ Failed → Tally L → DoorState → Tally L → DoorState → Type 0
-  QueuesAll may_put (Ok n) view_before before view_after after =
-      (links : List L) × QueuesLinks may_put links view_before before view_after after × (length links ≡ n)
-  QueuesAll may_put (Err failed) view_before before view_after after =
-      (links : List L) × QueuesLinks may_put links view_before before view_after after
+  -- this many links were handed out and put
+  abbrev pub QueuesAll : ℕ → ℕ → Tally L → DoorState → Tally L → DoorState → Type 0
+  QueuesAll may_put count view_before before view_after after =
+      (links : List L) × QueuesLinks may_put links view_before before view_after after × (length links ≡ count)

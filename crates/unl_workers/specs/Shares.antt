@@ -22,23 +22,23 @@ abbrev pub ServedAtEach :
     {S R L : Type 0} → (S → Coming → LinkState → LinkState → S → Coming → Type 0) → (R → Coming) → (L → LinkState)
     → List (List L) → List (WorkerSlot S R) → List (WorkerSlot S R) → Type 0
 ServedAtEach Serves coming_of state_of [] [] [] = Unit {0}
-ServedAtEach Serves coming_of state_of (links ∷ shares) (before ∷ posts) (after ∷ done) =
-    ServedAt Serves coming_of state_of links before after × ServedAtEach Serves coming_of state_of shares posts done
+ServedAtEach Serves coming_of state_of (links ∷ shares) (before ∷ slots) (after ∷ done) =
+    ServedAt Serves coming_of state_of links before after × ServedAtEach Serves coming_of state_of shares slots done
 ServedAtEach Serves coming_of state_of [] [] (after ∷ done) = ⊥
-ServedAtEach Serves coming_of state_of [] (before ∷ posts) done = ⊥
+ServedAtEach Serves coming_of state_of [] (before ∷ slots) done = ⊥
 ServedAtEach Serves coming_of state_of (links ∷ shares) [] done = ⊥
-ServedAtEach Serves coming_of state_of (links ∷ shares) (before ∷ posts) [] = ⊥
+ServedAtEach Serves coming_of state_of (links ∷ shares) (before ∷ slots) [] = ⊥
 
 -- The door handed out `count` links. Each was served once, at one of the slots, from the state in which it was handed out, and
 -- no other link was served. So the counts of the slots add up to `count`.
 pub record EachLinkServedOnce
     {S R L : Type 0} (Serves : S → Coming → LinkState → LinkState → S → Coming → Type 0) (coming_of : R → Coming)
     (left sent : L → Option (List ℕ)) (faults : L → ℕ)
-    (door door_after : DoorState) (count : ℕ) (posts done : List (WorkerSlot S R)) : Type 0 where
+    (door door_after : DoorState) (count : ℕ) (slots done : List (WorkerSlot S R)) : Type 0 where
   pub given : List L
   pub shares : List (List L)
   pub handed : HandsOutEach left sent faults given door door_after
   pub counted : length given ≡ count
-  pub served : ServedAtEach Serves coming_of (λ link. link_state (left link) (sent link) (faults link)) shares posts done
+  pub served : ServedAtEach Serves coming_of (λ link. link_state (left link) (sent link) (faults link)) shares slots done
   pub same : SameLinks given (flat_map (λ share. share) shares)
-  pub total : sum_by (λ (post : WorkerSlot S R). post.links) done ≡ count
+  pub total : sum_by (λ (slot : WorkerSlot S R). slot.links) done ≡ count

@@ -1,16 +1,25 @@
 //! Accepts links.
 ghost use Rattle.std.specs.Prelude.{◌≡◌, ◌<◌, false};
 ghost use Rattle.crossbeam_queue.specs.Passes.{view, IsSamePass};
-ghost use Rattle.unl_base.specs.Doors.{DoorState, IsListening};
+ghost use Rattle.unl_base.specs.Doors.{IsListening};
 ghost use Rattle.unl_base.specs.Faults.{HasCause};
 ghost use Rattle.unl_workers.specs.Accepting.{AcceptsAll};
 ghost use Rattle.unl_workers.specs.Passes.{IsPassOfQueue};
 ghost use Rattle.unl_workers.specs.Queueing.{QueuesAll};
 
-use crate::ever::wait_forever;
+use crate::forever::wait_forever;
 use crate::{LinkQueue, QueuePass};
 use std::sync::Wait;
 use unl_base::{Door, Failed, Job};
+
+/// What a door handed out, and how accepting ended.
+#[derive(Clone, Copy, Debug, PartialEq, Eq)]
+pub struct AcceptOutcome {
+    /// The number of links that the door handed out.
+    pub links: u64,
+    /// `Ok` if the door is closed. `Failed` if it could not hand out a link; the door incremented its fault count.
+    pub door: Result<(), Failed>,
+}
 
 /// Accepts the links of a listening door and queues them for the workers.
 pub(crate) struct Acceptor<'a, D: Door, W> {
@@ -20,8 +29,8 @@ pub(crate) struct Acceptor<'a, D: Door, W> {
     pub rt: &'a W,
     /// Whether it has closed the queue.
     pub closed: bool,
-    /// The number of links queued, or that the door failed.
-    pub outcome: Result<u64, Failed>,
+    /// The number of links queued, and whether the door failed.
+    pub outcome: AcceptOutcome,
     ghost listens: { IsListening (D.state door.now) },
     ghost queue_is: { IsPassOfQueue queue.now pass },
     ghost parts: { 0 < (view pass).parts },
@@ -51,7 +60,10 @@ impl<'a, D: Door, W> Acceptor<'a, D, W> {
             pass,
             rt,
             closed: false,
-            outcome: Err(Failed),
+            outcome: AcceptOutcome {
+                links: 0,
+                door: Err(Failed),
+            },
         }
     }
 }
@@ -62,9 +74,9 @@ where
 {
     ghost worked = { λ before after. (after.door.ghost_name ≡ before.door.ghost_name)
         × (before.closed ≡ false → AcceptsAll after.outcome (D.state before.door.now) (D.state after.door.now)
-        × HasCause (D.faults before.door.now) (D.faults after.door.now) after.outcome
+        × HasCause (D.faults before.door.now) (D.faults after.door.now) after.outcome.door
         × IsSamePass before.pass after.pass
-        × QueuesAll D.L.Source.left D.L.Sink.sent D.L.Source.faults 0 after.outcome
+        × QueuesAll D.L.Source.left D.L.Sink.sent D.L.Source.faults 0 after.outcome.links
         (view before.pass) (D.state before.door.now) (view after.pass) (D.state after.door.now)) };
 
     ghost cancelled = { λ before after. (after.door.ghost_name ≡ before.door.ghost_name) × (after.door.now ≡ before.door.now) };
@@ -87,16 +99,13 @@ where
     }
 }
 
-/// Accepts links until the door is closed, and puts each into the queue. Returns how many were accepted.
-///
-/// # Errors
-/// `Failed`: the door could not hand out a link. The door increments its fault count.
+/// Accepts links until the door is closed or fails, and puts each into the queue.
 fn accept_all<D: Door, W: Wait>(
     rt: &W,
     queue: &LinkQueue<D::L>,
     pass: &mut QueuePass<D::L>,
     door: &mut D,
-) -> Result<u64, Failed>
+) -> AcceptOutcome
 where
     D::L: Drop,
     requires listens { IsListening (D.state door.old) }
@@ -104,17 +113,27 @@ where
     requires parts { 0 < (view pass.old).parts }
     requires may_put { (view pass.old).may_put ≡ 1 }
     ensures accepts { AcceptsAll result (D.state door.old) (D.state door.new) }
-    ensures cause { HasCause (D.faults door.old) (D.faults door.new) result }
+    ensures cause { HasCause (D.faults door.old) (D.faults door.new) result.door }
     ensures listens { IsListening (D.state door.new) }
     ensures same { IsSamePass pass.old pass.new }
-    ensures puts { QueuesAll D.L.Source.left D.L.Sink.sent D.L.Source.faults 1 result
+    ensures puts { QueuesAll D.L.Source.left D.L.Sink.sent D.L.Source.faults 1 result.links
         (view pass.old) (D.state door.old) (view pass.new) (D.state door.new) }
 {
     for count in 0..u64::MAX {
         match door.accept() {
             Ok(Some(link)) => queue.put(rt, pass, link),
-            Ok(None) => return Ok(count),
-            Err(failed) => return Err(failed),
+            Ok(None) => {
+                return AcceptOutcome {
+                    links: count,
+                    door: Ok(()),
+                };
+            }
+            Err(failed) => {
+                return AcceptOutcome {
+                    links: count,
+                    door: Err(failed),
+                };
+            }
         }
     }
     wait_forever(rt)

@@ -3,7 +3,7 @@ ghost use Rattle.std.specs.Prelude.{◌≡◌, ◌<◌, ◌-◌, IfSome, IsTrue,
 ghost use Rattle.unl_workers.specs.Periodic.{MakesTurns};
 
 use crate::LinkQueue;
-use crate::ever::wait_forever;
+use crate::forever::wait_forever;
 use std::alloc::Global;
 use std::sync::Wait;
 use unl_base::{Job, Pace};
@@ -41,7 +41,7 @@ pub(crate) struct PeriodicJob<'a, 'n, 'p, N, T, L, W> {
 }
 
 impl<'a, 'n, 'p, N, T, L, W> PeriodicJob<'a, 'n, 'p, N, T, L, W> {
-    /// A refresher that has not made a turn yet.
+    /// A job that has made no turn yet.
     pub fn new(
         alloc: Global,
         rt: &'a W,
@@ -73,14 +73,14 @@ impl<'a, 'n, 'p, N: PeriodicTask, T: Pace, L, W: Wait> Job for PeriodicJob<'a, '
     ghost cancelled = { λ before after. Unit {0} };
 
     fn work(&mut self) {
-        self.turns = refresh(self.alloc, self.rt, self.queue, self.pace, self.turn);
+        self.turns = make_turns(self.alloc, self.rt, self.queue, self.pace, self.turn);
     }
 
     fn cancel(&mut self) {}
 }
 
 /// Makes turns until the pace ends or the queue is closed. Returns how many were made.
-fn refresh<N: PeriodicTask, T: Pace, L, W: Wait>(
+fn make_turns<N: PeriodicTask, T: Pace, L, W: Wait>(
     alloc: Global,
     rt: &W,
     queue: &LinkQueue<L>,
@@ -90,7 +90,7 @@ fn refresh<N: PeriodicTask, T: Pace, L, W: Wait>(
     ensures { MakesTurns N.turned N.keeps result turn.old turn.new (T.turns pace.old) (T.turns pace.new) }
 {
     for made in 0..u64::MAX {
-        if !goes_on(rt, queue, pace) {
+        if !has_next_turn(rt, queue, pace) {
             return made;
         }
         turn.turn(alloc);
@@ -99,7 +99,7 @@ fn refresh<N: PeriodicTask, T: Pace, L, W: Wait>(
 }
 
 /// Whether the pace has a next turn, and links may still come. Waits for the turn.
-fn goes_on<T: Pace, L, W: Wait>(rt: &W, queue: &LinkQueue<L>, pace: &mut T) -> bool
+fn has_next_turn<T: Pace, L, W: Wait>(rt: &W, queue: &LinkQueue<L>, pace: &mut T) -> bool
     ensures asked { T.turns pace.new ≡ option_map (λ n. n - 1) (T.turns pace.old) }
     ensures had { IsTrue result → IfSome (T.turns pace.old) (λ n. 0 < n) }
 {

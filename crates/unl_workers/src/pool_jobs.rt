@@ -3,7 +3,7 @@ ghost use Rattle.std.specs.Prelude.{◌≡◌, ◌<◌, ◌≤◌, ◌+◌, ◌-
 ghost use Rattle.std.specs.Prelude.{filter_map, flat_map, length, map, option_to_list, vec_capacity, vec_len};
 ghost use Rattle.std.specs.List.{All, AllZip};
 ghost use Rattle.crossbeam_queue.specs.Passes.{view, IsSamePass};
-ghost use Rattle.unl_base.specs.Faults.{HasCause};
+ghost use Rattle.unl_base.specs.Spawning.{HasSpawnCause};
 ghost use Rattle.unl_server.specs.Links.{link_state};
 ghost use Rattle.unl_workers.specs.Passes.{IsPassOfQueue};
 ghost use Rattle.unl_workers.specs.Pool.{PoolJobWorked, RunsWorker, slot_of, taken_by, worker_of};
@@ -14,7 +14,7 @@ use crate::worker::{LinkHandler, Worker, WorkerSlot, serve_all};
 use crate::{LinkQueue, QueuePass};
 use std::alloc::{AllocError, Global};
 use std::sync::Wait;
-use unl_base::{Draws, Failed, Job, Link, Spawner};
+use unl_base::{Draws, Job, Link, SpawnFault, Spawner};
 
 /// A job with a thread of its own: a worker, or another job.
 #[derive(Drop)]
@@ -50,7 +50,7 @@ pub(crate) fn workers_of<'a, S, R, L, W, B>(
     rt: &'a W,
     queue: &'a LinkQueue<L>,
     pass: &mut QueuePass<L>,
-    posts: Vec<WorkerSlot<S, R>>,
+    slots: Vec<WorkerSlot<S, R>>,
 ) -> Result<(Vec<PoolJob<'a, S, R, L, W, B>>, Vec<WorkerSlot<S, R>>), AllocError>
 where
     S: Drop,
@@ -58,21 +58,21 @@ where
     L: Drop,
     B: Drop,
     requires queue { IsPassOfQueue queue.now pass.old }
-    requires parts { length posts.items < (view pass.old).parts }
+    requires parts { length slots.items < (view pass.old).parts }
     ensures queue { IsSamePass pass.old pass.new }
-    ensures parts { IfOk result (λ made. view pass.new ≡ tally ((view pass.old).parts - length posts.items)
+    ensures parts { IfOk result (λ made. view pass.new ≡ tally ((view pass.old).parts - length slots.items)
         (view pass.old).put (view pass.old).taken (view pass.old).may_put (view pass.old).ends_seen) }
-    ensures workers { IfOk result (λ made. map slot_of (filter_map worker_of made.0.items) ≡ posts.items) }
+    ensures workers { IfOk result (λ made. map slot_of (filter_map worker_of made.0.items) ≡ slots.items) }
     ensures passes { IfOk result (λ made. All (λ worker. IsPassOfQueue queue.now worker.pass × (view worker.pass ≡ new_tally))
         (filter_map worker_of made.0.items)) }
     ensures more { IfOk result (λ made. vec_len made.0 < vec_capacity made.0) }
-    ensures room { IfOk result (λ made. length posts.items ≤ vec_capacity made.1) }
+    ensures room { IfOk result (λ made. length slots.items ≤ vec_capacity made.1) }
     ensures empty { IfOk result (λ made. made.1.items ≡ []) }
 {
-    let room = Vec::with_capacity(alloc, posts.len())?;
+    let room = Vec::with_capacity(alloc, slots.len())?;
     let mut jobs = Vec::new(alloc);
-    for post in posts {
-        let worker = new_worker(alloc, rt, queue, queue.split_pass(pass), post);
+    for slot in slots {
+        let worker = new_worker(alloc, rt, queue, queue.split_pass(pass), slot);
         jobs.push(PoolJob::Worker(worker))?;
     }
     jobs.reserve_exact(1)?;
@@ -85,15 +85,15 @@ fn new_worker<'a, S, R, L, W>(
     rt: &'a W,
     queue: &'a LinkQueue<L>,
     pass: QueuePass<L>,
-    post: WorkerSlot<S, R>,
+    slot: WorkerSlot<S, R>,
 ) -> Worker<'a, S, R, L, W>
     requires queue { IsPassOfQueue queue.now pass }
     requires parts { 0 < (view pass).parts }
-    ensures post { result.post ≡ post }
+    ensures slot { result.slot ≡ slot }
     ensures pass { result.pass ≡ pass }
 {
     Worker {
-        post,
+        slot,
         queue,
         pass,
         rt,
@@ -104,13 +104,13 @@ fn new_worker<'a, S, R, L, W>(
 /// Runs workers and another job concurrently, and `here` on this thread. Returns `here`, the workers and the other job.
 ///
 /// # Errors
-/// `Failed`: a job couldn't be started. The spawner increments its fault count.
+/// `NotStarted`: a job couldn't be started, and the spawner increments its fault count. `Memory`: out of memory.
 pub(crate) fn run_jobs<'a, S, R, L, W, P: Spawner, B: Job, M: Job>(
     spawner: &mut P,
     workers: Vec<PoolJob<'a, S, R, L, W, B>>,
     other: B,
     here: M,
-) -> (M, Result<(Vec<PoolJob<'a, S, R, L, W, B>>, B), Failed>)
+) -> (M, Result<(Vec<PoolJob<'a, S, R, L, W, B>>, B), SpawnFault>)
 where
     S: LinkHandler + Drop + Send,
     R: Draws + Drop + Send,
@@ -123,7 +123,7 @@ where
         (λ l. link_state (L.Source.left l) (L.Sink.sent l) (L.Source.faults l))) B.worked) workers.entry.items done.0.items) }
     ensures other { IfOk result.1 (λ done. B.worked other done.1) }
     ensures cancelled { OnErr result.1 (M.cancelled here result.0) }
-    ensures cause { HasCause (P.faults spawner.old) (P.faults spawner.new) result.1 }
+    ensures cause { HasSpawnCause (P.faults spawner.old) (P.faults spawner.new) result.1 }
 {
     let (here, done) = with_last(spawner, workers, PoolJob::Other(other), here);
     match done {
@@ -131,7 +131,7 @@ where
             PoolJob::Other(other) => (here, Ok((workers, other))),
             PoolJob::Worker(_) => unreachable!(),
         },
-        Err(failed) => (here, Err(failed)),
+        Err(fault) => (here, Err(fault)),
     }
 }
 
@@ -149,46 +149,46 @@ pub(crate) fn collect_slots<S: Drop, R: Drop, L: Drop, W, B: Drop>(
     requires room { length (filter_map worker_of jobs.items) ≤ vec_capacity room }
     requires empty { room.items ≡ [] }
     ensures queue { IsSamePass pass.old pass.new }
-    ensures posts { result.items ≡ map slot_of (filter_map worker_of jobs.entry.items) }
+    ensures slots { result.items ≡ map slot_of (filter_map worker_of jobs.entry.items) }
     ensures whole { view pass.new ≡ tally ((view pass.old).parts + length (filter_map worker_of jobs.entry.items)) (view pass.old).put
         ((view pass.old).taken ++ flat_map taken_by (filter_map worker_of jobs.entry.items))
         (view pass.old).may_put ((view pass.old).ends_seen + length (filter_map worker_of jobs.entry.items)) }
 {
-    let mut posts = room;
+    let mut slots = room;
     for job in jobs {
-        collect_slot(queue, pass, &mut posts, job);
+        collect_slot(queue, pass, &mut slots, job);
     }
-    posts
+    slots
 }
 
 /// Appends the slot of a worker, for which there is capacity, and joins its pass to `pass`.
 fn collect_slot<S: Drop, R: Drop, L: Drop, W, B: Drop>(
     queue: &LinkQueue<L>,
     pass: &mut QueuePass<L>,
-    posts: &mut Vec<WorkerSlot<S, R>>,
+    slots: &mut Vec<WorkerSlot<S, R>>,
     job: PoolJob<'_, S, R, L, W, B>,
 )
     requires queue { IsPassOfQueue queue.now pass.old }
     requires parts { 0 < (view pass.old).parts }
     requires passes { All (λ worker. IsPassOfQueue queue.now worker.pass
         × (view worker.pass ≡ tally 1 [] (taken_by worker) 0 1)) (option_to_list (worker_of job)) }
-    requires room { length posts.old.items + length (option_to_list (worker_of job)) ≤ vec_capacity posts.old }
+    requires room { length slots.old.items + length (option_to_list (worker_of job)) ≤ vec_capacity slots.old }
     ensures queue { IsSamePass pass.old pass.new }
-    ensures items { posts.new.items ≡ posts.old.items ++ map slot_of (option_to_list (worker_of job.entry)) }
+    ensures items { slots.new.items ≡ slots.old.items ++ map slot_of (option_to_list (worker_of job.entry)) }
     ensures whole { view pass.new ≡ tally ((view pass.old).parts + length (option_to_list (worker_of job.entry))) (view pass.old).put
         ((view pass.old).taken ++ flat_map taken_by (option_to_list (worker_of job.entry)))
         (view pass.old).may_put ((view pass.old).ends_seen + length (option_to_list (worker_of job.entry))) }
-    ensures room { vec_capacity posts.old ≤ vec_capacity posts.new }
+    ensures room { vec_capacity slots.old ≤ vec_capacity slots.new }
 {
     match job {
         PoolJob::Worker(worker) => {
             let Worker {
-                post,
+                slot,
                 pass: theirs,
                 ..
             } = worker;
             queue.join_pass(pass, theirs);
-            posts.push(post).unwrap();
+            slots.push(slot).unwrap();
         }
         PoolJob::Other(_) => {}
     }

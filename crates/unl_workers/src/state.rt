@@ -5,9 +5,11 @@ ghost use Rattle.unl_workers.specs.Links.{Links, Pops, Pushes, is_full, is_waiti
 use std::alloc::{AllocError, Global};
 use std::collections::VecDeque;
 use std::marker::Model;
+use thiserror::Error;
 
 /// Out of memory for a queue of 64 links.
-#[derive(Clone, Copy, Debug, PartialEq, Eq)]
+#[derive(Clone, Copy, Debug, Error, PartialEq, Eq)]
+#[error("out of memory")]
 pub struct LinksMemory;
 
 impl From<AllocError> for LinksMemory {

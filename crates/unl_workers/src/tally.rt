@@ -1,5 +1,4 @@
 //! What a queue of links holds, and what each thread knows of the links that passed through it.
-ghost use Rattle.std.specs.Prelude.{[], ◌++◌};
 
 use crossbeam_queue::protocol::{Join, Lesson, Outcome, Protocol, Split};
 use std::collections::LinkedList;

@@ -6,7 +6,7 @@ ghost use Rattle.unl_workers.specs.Passes.{IsPassOfQueue};
 ghost use Rattle.unl_workers.specs.Serving.{ServesSlot, ServesMany, ServesOne, serving};
 ghost use Rattle.unl_workers.specs.Taking.{ServesLink, TakesAndServes, TakesAndServesAt, with_draws};
 
-use crate::ever::wait_forever;
+use crate::forever::wait_forever;
 use crate::{LinkQueue, QueuePass};
 use std::alloc::Global;
 use std::sync::Wait;
@@ -46,7 +46,7 @@ impl<S, R> WorkerSlot<S, R> {
 /// Serves the links of a queue.
 #[derive(Drop)]
 pub(crate) struct Worker<'a, S, R, L, W> {
-    pub post: WorkerSlot<S, R>,
+    pub slot: WorkerSlot<S, R>,
     pub queue: &'a LinkQueue<L>,
     pub pass: QueuePass<L>,
     pub rt: &'a W,
@@ -59,18 +59,18 @@ pub(crate) struct Worker<'a, S, R, L, W> {
 pub(crate) fn serve_all<S: LinkHandler, R: Draws, L: Link + Drop, W: Wait>(
     worker: &mut Worker<'_, S, R, L, W>,
 )
-    ensures slot { ServesSlot S.serves S.keeps R.coming worker.old.post worker.new.post }
+    ensures slot { ServesSlot S.serves S.keeps R.coming worker.old.slot worker.new.slot }
     ensures same { IsSamePass worker.old.pass worker.new.pass }
     ensures took { TakesAndServesAt S.serves R.coming (λ l. link_state (L.Source.left l) (L.Sink.sent l) (L.Source.faults l))
-        (view worker.old.pass) worker.old.post (view worker.new.pass) worker.new.post }
+        (view worker.old.pass) worker.old.slot (view worker.new.pass) worker.new.slot }
 {
-    worker.post.links = run_worker(
+    worker.slot.links = run_worker(
         worker.alloc,
         worker.rt,
         worker.queue,
         &mut worker.pass,
-        &mut worker.post.server,
-        &mut worker.post.draws,
+        &mut worker.slot.server,
+        &mut worker.slot.draws,
     );
 }
 

@@ -1,9 +1,8 @@
-use Rattle.std.proofs.Common.{ℕ, ◌+◌, ◌++◌, ◌∷◌, [], refl, rules, arith, ap, ◌∙◌}
-use Rattle.std.specs.Prelude.{is_some}
+use Rattle.std.proofs.Common.{◌≡◌, ℕ, ◌+◌, List, ◌++◌, ◌∷◌, [], refl, rules, arith, ap, sym, subst, ◌∙◌}
 use Rattle.unl_base.specs.Doors.{DoorState}
 use Rattle.unl_workers.proofs.Handing.{hands_more, hands_none}
 use Rattle.std.proofs.lemmas.List.{length-append}
-use Rattle.unl_workers.proofs.Takings.{queues_more, queues_none}
+use Rattle.unl_workers.proofs.TakingLemmas.{queues_more, queues_none}
 use Rattle.unl_workers.proofs.acceptor.accept_all.Goals as goal
 
 pub loop-count-init : goal.loop-count-init
@@ -22,7 +21,8 @@ loop-count-preserved g c =
     let so_far = c.loop-count.invariant.puts in
     record {
       hands = hands_more c.loop-count.count _ _ _ c.loop-count.invariant.hands accepted.0 accepted.1;
-      listens = ap (λ (door : DoorState). is_some door.port) accepted.1 ∙ c.loop-count.invariant.listens;
+      listens = subst (λ (ports : List ℕ). ¬ (ports ≡ [])) (sym (ap (λ (door : DoorState). door.ports) accepted.1))
+          c.loop-count.invariant.listens;
       same = search rules;
       puts = (
         so_far.0 ++ c.in-Ok-Some.link ∷ [],

@@ -1,9 +1,8 @@
-use Rattle.std.proofs.Common.{◌≡◌, ◌≤◌, List, refl, ap, sym, ◌∙◌, length, map, subst, rules, arith}
+use Rattle.std.proofs.Common.{◌≡◌, List, refl, ap, sym, ◌∙◌, length, map, subst, rules, arith}
 use Rattle.std.specs.Prelude.{filter_map, flat_map}
 use Rattle.std.specs.List.{AllZip}
 use Rattle.std.proofs.lemmas.Slice.Zip.{AllZip-long}
 use Rattle.crossbeam_queue.specs.Passes.{Pass}
-use Rattle.unl_base.specs.Faults.{Rose}
 use Rattle.unl_server.specs.Links.{LinkState, link_state}
 use Rattle.unl_workers.specs.Passes.{IsPassOfQueue}
 use Rattle.unl_workers.specs.declared.tally.Entry.{Entry}
@@ -18,8 +17,8 @@ use Rattle.unl_workers.proofs.Shares.{all_slots, all_counted, all_done, all_serv
 use Rattle.unl_workers.proofs.WorkerSlots.{workers_worked}
 use Rattle.unl_workers.proofs.pool.run_prepared.Goals as goal
 
-pub collect_slots-posts-requires-clause-passes : goal.collect_slots-posts-requires-clause-passes
-collect_slots-posts-requires-clause-passes g c =
+pub collect_slots-slots-requires-clause-passes : goal.collect_slots-slots-requires-clause-passes
+collect_slots-slots-requires-clause-passes g c =
     let state_of : g.row.D-L.Denot → LinkState =
     λ link. link_state (g.D.L.Source.left link) (g.D.L.Sink.sent link) (g.D.L.Source.faults link) in
     let Fits : Pass (Entry g.row.D-L.Denot) (Tally g.row.D-L.Denot) → Type 0 = λ pass. IsPassOfQueue c.args.queue.now pass in
@@ -31,8 +30,8 @@ collect_slots-posts-requires-clause-passes g c =
     all_done g.S.Server.serves g.S.Server.keeps g.R.Draws.coming state_of Fits (λ p q same fits. (same.0 ∙ fits.0, same.2 ∙ fits.1))
     was done each c.requires.passes
 
-pub collect_slots-posts-requires-clause-room : goal.collect_slots-posts-requires-clause-room
-collect_slots-posts-requires-clause-room g c =
+pub collect_slots-slots-requires-clause-room : goal.collect_slots-slots-requires-clause-room
+collect_slots-slots-requires-clause-room g c =
     let state_of : g.row.D-L.Denot → LinkState =
     λ link. link_state (g.D.L.Source.left link) (g.D.L.Sink.sent link) (g.D.L.Source.faults link) in
     let was : List (Worker g.row.S.Denot g.row.R.Denot g.row.D-L.Denot g.row.W.Denot) = filter_map worker_of c.args.workers.items in
@@ -55,11 +54,11 @@ all_taken-requires-clause-whole g c =
     let long : length done ≡ length was = AllZip-long _ _ _ each in
     let worked = rw (c.in-Ok.is) at c.run_jobs-acceptor.ensures.here in
     let accepted = worked.1 c.requires.begins in
-    let puts = rw (c.in-Ok-outcome.is) at accepted.3 in
-    whole_parts first_tally _ _ _ _ _ _ _ refl c.requires.knows puts.1.put c.collect_slots-posts.ensures.whole long c.args.acceptor.parts
+    let puts = accepted.3 in
+    whole_parts first_tally _ _ _ _ _ _ _ refl c.requires.knows puts.1.put c.collect_slots-slots.ensures.whole long c.args.acceptor.parts
 
-pub returns-clause-posts : goal.returns-clause-posts
-returns-clause-posts g c =
+pub returns-in-Ok-clause-slots : goal.returns-in-Ok-clause-slots
+returns-in-Ok-clause-slots g c =
     let state_of : g.row.D-L.Denot → LinkState =
     λ link. link_state (g.D.L.Source.left link) (g.D.L.Sink.sent link) (g.D.L.Source.faults link) in
     let was : List (Worker g.row.S.Denot g.row.R.Denot g.row.D-L.Denot g.row.W.Denot) = filter_map worker_of c.args.workers.items in
@@ -68,12 +67,12 @@ returns-clause-posts g c =
     workers_worked (RunsWorker g.S.Server.serves g.S.Server.keeps g.R.Draws.coming state_of) g.B.Job.worked c.args.workers.items
     c.in-Ok.workers.items (rw (c.in-Ok.is) at c.run_jobs-acceptor.ensures.each) in
     let attended = all_slots g.S.Server.serves g.S.Server.keeps g.R.Draws.coming state_of was done each in
-    subst (λ (posts : List (WorkerSlot g.row.S.Denot g.row.R.Denot)).
-    AllZip (ServesSlot g.S.Server.serves g.S.Server.keeps g.R.Draws.coming) (map slot_of was) posts)
-    (sym c.collect_slots-posts.ensures.posts) attended
+    subst (λ (slots : List (WorkerSlot g.row.S.Denot g.row.R.Denot)).
+    AllZip (ServesSlot g.S.Server.serves g.S.Server.keeps g.R.Draws.coming) (map slot_of was) slots)
+    (sym c.collect_slots-slots.ensures.slots) attended
 
-pub returns-clause-each_link_served_once : goal.returns-clause-each_link_served_once
-returns-clause-each_link_served_once g c some =
+pub returns-in-Ok-clause-each_link_served_once : goal.returns-in-Ok-clause-each_link_served_once
+returns-in-Ok-clause-each_link_served_once g c some =
     let state_of : g.row.D-L.Denot → LinkState =
     λ link. link_state (g.D.L.Source.left link) (g.D.L.Sink.sent link) (g.D.L.Source.faults link) in
     let Fits : Pass (Entry g.row.D-L.Denot) (Tally g.row.D-L.Denot) → Type 0 = λ pass. IsPassOfQueue c.args.queue.now pass in
@@ -84,11 +83,11 @@ returns-clause-each_link_served_once g c some =
     c.in-Ok.workers.items (rw (c.in-Ok.is) at c.run_jobs-acceptor.ensures.each) in
     let worked = rw (c.in-Ok.is) at c.run_jobs-acceptor.ensures.here in
     let accepted = worked.1 c.requires.begins in
-    let puts = rw (c.in-Ok-outcome.is) at accepted.3 in
+    let puts = accepted.3 in
     let long : length done ≡ length was = AllZip-long _ _ _ each in
-    let seen = ap (λ (v : Tally g.row.D-L.Denot). v.ends_seen) c.collect_slots-posts.ensures.whole in
-    let put = whole_put first_tally _ _ _ _ _ _ _ refl c.requires.knows puts.1.put c.collect_slots-posts.ensures.whole in
-    let taken = whole_taken first_tally _ _ _ _ _ _ _ refl c.requires.knows puts.1.put c.collect_slots-posts.ensures.whole
+    let seen = ap (λ (v : Tally g.row.D-L.Denot). v.ends_seen) c.collect_slots-slots.ensures.whole in
+    let put = whole_put first_tally _ _ _ _ _ _ _ refl c.requires.knows puts.1.put c.collect_slots-slots.ensures.whole in
+    let taken = whole_taken first_tally _ _ _ _ _ _ _ refl c.requires.knows puts.1.put c.collect_slots-slots.ensures.whole
     ∙ pieces_of taken_by done in
     let shares : List (List g.row.D-L.Denot) = map taken_by done in
     let same : SameLinks puts.0 (flat_map (λ (share : List g.row.D-L.Denot). share) shares) =
@@ -96,10 +95,10 @@ returns-clause-each_link_served_once g c some =
     let before : List (WorkerSlot g.row.S.Denot g.row.R.Denot) = map slot_of was in
     let at_posts = all_served g.S.Server.serves g.S.Server.keeps g.R.Draws.coming state_of Fits
     (λ p q same fits. (same.0 ∙ fits.0, same.2 ∙ fits.1)) was done each c.requires.passes in
-    let served : ServedAtEach g.S.Server.serves g.R.Draws.coming state_of shares before c.collect_slots-posts.result.items =
-    subst (λ (posts : List (WorkerSlot g.row.S.Denot g.row.R.Denot)).
-    ServedAtEach g.S.Server.serves g.R.Draws.coming state_of shares before posts)
-    (sym c.collect_slots-posts.ensures.posts) at_posts in
+    let served : ServedAtEach g.S.Server.serves g.R.Draws.coming state_of shares before c.collect_slots-slots.result.items =
+    subst (λ (slots : List (WorkerSlot g.row.S.Denot g.row.R.Denot)).
+    ServedAtEach g.S.Server.serves g.R.Draws.coming state_of shares before slots)
+    (sym c.collect_slots-slots.ensures.slots) at_posts in
     record {
       given = puts.0;
       shares = shares;
@@ -107,38 +106,23 @@ returns-clause-each_link_served_once g c some =
       counted = puts.2;
       served = served;
       same = same;
-      total = all_counted g.S.Server.serves g.R.Draws.coming state_of puts.0 shares before c.collect_slots-posts.result.items served same
+      total = all_counted g.S.Server.serves g.R.Draws.coming state_of puts.0 shares before c.collect_slots-slots.result.items served same
           ∙ puts.2;
     }
 
-pub returns-clause-accepts : goal.returns-clause-accepts
-returns-clause-accepts g c =
+pub returns-in-Ok-clause-accepts : goal.returns-in-Ok-clause-accepts
+returns-in-Ok-clause-accepts g c =
     let worked = rw (c.in-Ok.is) at c.run_jobs-acceptor.ensures.here in
     let accepted = worked.1 c.requires.begins in
-    rw (c.in-Ok-outcome.is) at accepted.0
+    accepted.0
 
-pub returns-clause-causes : goal.returns-clause-causes
-returns-clause-causes g c =
+pub returns-in-Ok-clause-causes : goal.returns-in-Ok-clause-causes
+returns-in-Ok-clause-causes g c =
     let worked = rw (c.in-Ok.is) at c.run_jobs-acceptor.ensures.here in
     let accepted = worked.1 c.requires.begins in
-    let later : g.D.Door.faults c.args.acceptor.door.now ≤ g.D.Door.faults c.run_jobs-acceptor.result.0.door.now = accepted.1.later in
     record {
-      door_later = later;
+      door_later = accepted.1.later;
       spawner_later = c.run_jobs-acceptor.ensures.cause.later;
-      door = search rules;
-      spawner = search rules;
-    }
-
-pub returns-in-Err-clause-causes : goal.returns-in-Err-clause-causes
-returns-in-Err-clause-causes g c =
-    let worked = rw (c.in-Ok.is) at c.run_jobs-acceptor.ensures.here in
-    let accepted = worked.1 c.requires.begins in
-    let later : g.D.Door.faults c.args.acceptor.door.now ≤ g.D.Door.faults c.run_jobs-acceptor.result.0.door.now = accepted.1.later in
-    let rose : Rose (g.D.Door.faults c.args.acceptor.door.now) (g.D.Door.faults c.run_jobs-acceptor.result.0.door.now) =
-    rw (c.in-Err.is) at accepted.1.failed in
-    record {
-      door_later = later;
-      spawner_later = c.run_jobs-acceptor.ensures.cause.later;
-      door = λ _. rose;
+      door = accepted.1.failed;
       spawner = search rules;
     }

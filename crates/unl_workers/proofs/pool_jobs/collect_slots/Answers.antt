@@ -35,7 +35,7 @@ loop-job-preserved g c =
     let Done : Worker g.row.S.Denot g.row.R.Denot g.row.L.Denot g.row.W.Denot → Type 0 =
     λ worker. IsPassOfQueue c.args.queue.now worker.pass × (view worker.pass ≡ tally 1 [] (taken_by worker) 0 1) in
     let whole = c.collect_slot.ensures.whole in
-    let longer = ap length c.collect_slot.ensures.items ∙ length-append c.loop-job.posts.items _ in
+    let longer = ap length c.collect_slot.ensures.items ∙ length-append c.loop-job.slots.items _ in
     record {
       same = search rules;
       parts = omega (arith, so_far.parts, shorter, ap (λ (v : Tally g.row.L.Denot). v.parts) whole);
@@ -43,7 +43,7 @@ loop-job-preserved g c =
       put = ap (λ (v : Tally g.row.L.Denot). v.put) whole ∙ so_far.put;
       may_put = ap (λ (v : Tally g.row.L.Denot). v.may_put) whole ∙ so_far.may_put;
       taken = pieces_chunk _ _ _ chunk _ rest _ so_far.taken steps (ap (λ (v : Tally g.row.L.Denot). v.taken) whole);
-      posts = items_chunk _ _ _ chunk _ rest _ so_far.posts steps c.collect_slot.ensures.items;
+      slots = items_chunk _ _ _ chunk _ rest _ so_far.slots steps c.collect_slot.ensures.items;
       passes = all_back Done chunk rest (All-same Done _ _ (sym steps) so_far.passes);
       more = omega (arith, so_far.more, ap (λ (v : Tally g.row.L.Denot). v.parts) whole);
       room = omega (arith, so_far.room, shorter, c.collect_slot.ensures.room, longer, length-map chunk slot_of);
@@ -61,16 +61,16 @@ loop-job-init g c =
       put = refl;
       may_put = refl;
       taken = refl;
-      posts = ap (λ posts. posts ++ map slot_of (filter_map worker_of c.into_iter-job-iterator.result.rest.items))
+      slots = ap (λ slots. slots ++ map slot_of (filter_map worker_of c.into_iter-job-iterator.result.rest.items))
           c.requires.empty;
       passes = All-same Done _ _ all c.requires.passes;
       more = omega arith;
       room = omega (arith, ap length all, ap length c.requires.empty, c.requires.room);
     }
 
-pub returns-clause-posts : goal.returns-clause-posts
-returns-clause-posts g c =
+pub returns-clause-slots : goal.returns-clause-slots
+returns-clause-slots g c =
     let none : length c.loop-job.job-iterator.rest.items ≡ 0 = search rules in
     mapped_all slot_of _ (filter_map worker_of c.loop-job.job-iterator.rest.items) _
-    c.loop-job.invariant.posts (none_found worker_of c.loop-job.job-iterator.rest.items none)
+    c.loop-job.invariant.slots (none_found worker_of c.loop-job.job-iterator.rest.items none)
     ∙ same_slots _ _ c.into_iter-job-iterator.ensures.into_iter_gives.0

@@ -19,10 +19,10 @@ invariant-loop-job g l = record {
   may_put : (view l.pass).may_put ≡ (view l.initial.pass).may_put;
   taken : (view l.pass).taken ++ flat_map taken_by (filter_map worker_of l.job-iterator.rest.items)
       ≡ (view l.initial.pass).taken ++ flat_map taken_by (filter_map worker_of l.initial.job-iterator.rest.items);
-  posts : l.posts.items ++ map slot_of (filter_map worker_of l.job-iterator.rest.items)
+  slots : l.slots.items ++ map slot_of (filter_map worker_of l.job-iterator.rest.items)
       ≡ map slot_of (filter_map worker_of l.initial.job-iterator.rest.items);
   passes : All (λ worker. IsPassOfQueue l.queue worker.pass × (view worker.pass ≡ tally 1 [] (taken_by worker) 0 1))
       (filter_map worker_of l.job-iterator.rest.items);
   more : (view l.initial.pass).parts ≤ (view l.pass).parts;
-  room : length l.posts.items + length (filter_map worker_of l.job-iterator.rest.items) ≤ vec_capacity l.posts;
+  room : length l.slots.items + length (filter_map worker_of l.job-iterator.rest.items) ≤ vec_capacity l.slots;
 }

@@ -1,5 +1,5 @@
 use Rattle.std.proofs.Common.{rules}
-use Rattle.unl_workers.proofs.Takings.{takes_more}
+use Rattle.unl_workers.proofs.TakingLemmas.{takes_more}
 use Rattle.unl_workers.proofs.Chains.{serves_more}
 use Rattle.unl_workers.proofs.worker.run_worker.Goals as goal
 

@@ -1,7 +1,7 @@
 use Rattle.std.proofs.Common.{◌≡◌, ◌≤◌, ◌-◌}
 use Rattle.std.specs.Prelude.{option_map, IfSome}
 use Rattle.unl_workers.specs.Periodic.{Turns}
-use Rattle.unl_workers.proofs.periodic.refresh.Given as goal
+use Rattle.unl_workers.proofs.periodic.make_turns.Given as goal
 
 -- this many turns were made
 abbrev pub invariant-loop-made : goal.invariant-loop-made
