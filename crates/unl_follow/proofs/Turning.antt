@@ -8,7 +8,7 @@ use Rattle.unl_base.specs.declared.draws.Draw.{Draw}
 use Rattle.unl_base.specs.Doors.{next_of}
 use Rattle.unl_base.specs.Draws.{TakesDraw}
 use Rattle.unl_base.specs.Faults.{Rose}
-use Rattle.unl_base.specs.Peers.{PeerState}
+use Rattle.unl_base.specs.Peers.{PeerState, history_of}
 use Rattle.unl_base.specs.Streams.{Sends, SendsFront}
 use Rattle.unl_refresh.specs.declared.ask.Ask.{Ask}
 use Rattle.unl_refresh.specs.Exchange.{IsRead, ReplyOrFault}
@@ -18,7 +18,7 @@ use Rattle.unl_follow.specs.declared.fault.FollowFault.{FollowFault}
 use Rattle.unl_follow.specs.declared.fault.FollowFault.TheVariants.{WriteFault, Memory}
 use Rattle.unl_refresh.specs.declared.outcome.Outcome.{Outcome}
 use Rattle.unl_follow.specs.Run.{AreAsMany, AsksOnce, Ends, Follows, Meets, RoseBy, Runs, TakesTurn}
-use Rattle.unl_follow.specs.Turns.{Comes, IsAsked, TurnState, Turn, TurnEffect, first_stand, follow_text, reply_at, request_at, state_after, turn_line, turned_to}
+use Rattle.unl_follow.specs.Turns.{IsReceived, IsAsked, TurnState, Turn, TurnEffect, first_state, follow_text, reply_at, request_at, state_after, turn_line, turned_to}
 
 -- ---- what is sent
 
@@ -31,8 +31,8 @@ Sends_more None mid new a b first next = next ∙ ap (λ (o : Option (List ℕ))
 Sends_more (Some bytes) mid new a b first next =
     next ∙ ap (λ (o : Option (List ℕ)). option_map (λ sent. sent ++ b) o) first ∙ ap Some (append_assoc bytes a b)
 
-front_more : (old mid new : Option (List ℕ)) (a b : List ℕ) → Sends old a mid → SendsFront mid b new → SendsFront old (a ++ b) new
-front_more old mid new a b first next = record {
+prefix_more : (old mid new : Option (List ℕ)) (a b : List ℕ) → Sends old a mid → SendsFront mid b new → SendsFront old (a ++ b) new
+prefix_more old mid new a b first next = record {
   part = a ++ next.part;
   after = next.after;
   split = ap (λ (bytes : List ℕ). a ++ bytes) next.split ∙ sym (append_assoc a next.part next.after);
@@ -56,10 +56,10 @@ next_is (Some list) j = refl
 -- ---- one more turn
 
 -- a turn that received this, after turns that used up `i` replies and had `k` faults
-record Came_on (came : ReplyOrFault) (replies : Option (List (List ℕ))) (i k before : ℕ) (replies_after : Option (List (List ℕ))) (after : ℕ) : Type 0 where
+record ReceivedOn (received : ReplyOrFault) (replies : Option (List (List ℕ))) (i k before : ℕ) (replies_after : Option (List (List ℕ))) (after : ℕ) : Type 0 where
   taken : ℕ
   failed : ℕ
-  comes : Comes replies came i k taken failed
+  comes : IsReceived replies received i k taken failed
   left : replies_after ≡ option_map (λ list. drop taken list) replies
   counted : RoseBy failed before after
 
@@ -69,24 +69,24 @@ later_still k before mid after rose later = omega (arith, rose, later)
 one_more : (k before mid after : ℕ) → RoseBy k before mid → Rose mid after → RoseBy (k + 1) before after
 one_more k before mid after rose more = omega (arith, rose, more)
 
-came_on : (came : ReplyOrFault) (request : List ℕ) (replies : Option (List (List ℕ))) (between peer_after : PeerState) (i k before mid after : ℕ)
+received_on : (received : ReplyOrFault) (request : List ℕ) (replies : Option (List (List ℕ))) (between peer_after : PeerState) (i k before mid after : ℕ)
     → between.replies ≡ option_map (λ list. drop i list) replies → RoseBy k before mid
-    → Meets came request between mid peer_after after → Came_on came replies i k before peer_after.replies after
-came_on (Some reading) request replies between peer_after i k before mid after left counted meets = record {
+    → Meets received request between mid peer_after after → ReceivedOn received replies i k before peer_after.replies after
+received_on (Some reading) request replies between peer_after i k before mid after left counted meets = record {
   taken = i + 1;
   failed = k;
   comes = (subst (λ (o : Option (List ℕ)). IsRead o reading) (ap (option_map next_of) left ∙ next_is replies i) meets.0, refl, refl);
   left = meets.1.one_reply ∙ ap (option_map (λ list. drop 1 list)) left ∙ taken_more replies i;
   counted = later_still k before mid after counted (omega (arith, meets.2));
 }
-came_on None request replies between peer_after i k before mid after left counted (inl kept, rose) = record {
+received_on None request replies between peer_after i k before mid after left counted (inl kept, rose) = record {
   taken = i;
   failed = k + 1;
   comes = (inl refl, refl);
   left = kept.0 ∙ left;
   counted = one_more k before mid after counted rose;
 }
-came_on None request replies between peer_after i k before mid after left counted (inr part, rose) = record {
+received_on None request replies between peer_after i k before mid after left counted (inr part, rose) = record {
   taken = i + 1;
   failed = k + 1;
   comes = (inr refl, refl);
@@ -95,24 +95,24 @@ came_on None request replies between peer_after i k before mid after left counte
 }
 
 -- what the peer was sent in a turn
-asked_on : (came : ReplyOrFault) (request : List ℕ) (peer peer_after : PeerState) (faults faults_after : ℕ)
-    → Meets came request peer faults peer_after faults_after → IsAsked came request peer.sent peer_after.sent
+asked_on : (received : ReplyOrFault) (request : List ℕ) (peer peer_after : PeerState) (faults faults_after : ℕ)
+    → Meets received request peer faults peer_after faults_after → IsAsked received request (history_of peer) (history_of peer_after)
 asked_on (Some reading) request peer peer_after faults faults_after meets = meets.1.sends
 asked_on None request peer peer_after faults faults_after meets = ⊎_elim (λ kept. inl kept.1) (λ part. inr part.sends) meets.0
 
 -- ---- the run so far
 
 -- `count` turns were made, and this is the state after them
-pub record Reached (ask : Ask) (subject : Subject) (start : Ends) (count : ℕ) (stand : TurnState) (now : Ends) : Type 0 where
+pub record Reached (ask : Ask) (subject : Subject) (start : Ends) (count : ℕ) (turn_state : TurnState) (now : Ends) : Type 0 where
   pub turns : List Turn
   pub many : length turns ≡ count
-  pub represents : stand ≡ state_after ask.delta turns
+  pub represents : turn_state ≡ state_after ask.delta turns
   pub follows : Follows Sends ask subject start turns now
 
-pub Reached_begin : (ask : Ask) (subject : Subject) (start : Ends) (stand : TurnState) → stand ≡ first_stand
-    → Reached ask subject start 0 stand start
+pub Reached_begin : (ask : Ask) (subject : Subject) (start : Ends) (turn_state : TurnState) → turn_state ≡ first_state
+    → Reached ask subject start 0 turn_state start
 unfolding state_after follow_text
-Reached_begin ask subject start stand first = record {
+Reached_begin ask subject start turn_state first = record {
   turns = [];
   many = refl;
   represents = first;
@@ -135,46 +135,46 @@ Reached_begin ask subject start stand first = record {
 -- one more turn, with its text sent by a relation that continues after what was sent in full
 turns_more : (Sent : Option (List ℕ) → List ℕ → Option (List ℕ) → Type 0)
     → ((old mid new : Option (List ℕ)) (a b : List ℕ) → Sends old a mid → Sent mid b new → Sent old (a ++ b) new)
-    → (ask : Ask) (subject : Subject) (start mid now : Ends) (count : ℕ) (stand next : TurnState) (reached : Reached ask subject start count stand mid)
-    → (takes : TakesTurn Sent ask subject (count + 1) stand mid next now) → Follows Sent ask subject start (takes.turn ∷ reached.turns) now
+    → (ask : Ask) (subject : Subject) (start mid now : Ends) (count : ℕ) (turn_state next : TurnState) (reached : Reached ask subject start count turn_state mid)
+    → (takes : TakesTurn Sent ask subject (count + 1) turn_state mid next now) → Follows Sent ask subject start (takes.turn ∷ reached.turns) now
 unfolding follow_text
-turns_more Sent goes_on ask subject start mid now count stand next reached takes =
-    let on = came_on takes.turn.came (request_at ask stand) start.peer.replies mid.peer now.peer reached.follows.taken reached.follows.failed
+turns_more Sent has_next_turn ask subject start mid now count turn_state next reached takes =
+    let on = received_on takes.turn.received (request_at ask turn_state) start.peer.replies mid.peer now.peer reached.follows.taken reached.follows.failed
     start.faults mid.faults now.faults reached.follows.left reached.follows.counted takes.meets in
-    let asks = asked_on takes.turn.came (request_at ask stand) mid.peer now.peer mid.faults now.faults takes.meets in
+    let asks = asked_on takes.turn.received (request_at ask turn_state) mid.peer now.peer mid.faults now.faults takes.meets in
     record {
       taken = on.taken;
       failed = on.failed;
       turned = (reached.follows.taken, reached.follows.failed, reached.follows.turned, on.comes);
       left = on.left;
       asked = (
-        mid.peer.sent,
+        history_of mid.peer,
         reached.follows.asked,
-        subst (λ (s : TurnState). IsAsked takes.turn.came (request_at ask s) mid.peer.sent now.peer.sent) reached.represents asks,
+        subst (λ (s : TurnState). IsAsked takes.turn.received (request_at ask s) (history_of mid.peer) (history_of now.peer)) reached.represents asks,
       );
       counted = on.counted;
       drawn = (mid.coming, reached.follows.drawn, takes.drawn);
-      sends = goes_on start.sent mid.sent now.sent (follow_text ask.delta subject reached.turns) _ reached.follows.sends
-          (subst (λ (k : ℕ). Sent mid.sent (turn_line subject (k + 1) takes.turn.draw (turned_to ask.delta (state_after ask.delta reached.turns) takes.turn.came)) now.sent) (sym reached.many)
-          (subst (λ (s : TurnState). Sent mid.sent (turn_line subject (count + 1) takes.turn.draw (turned_to ask.delta s takes.turn.came)) now.sent) reached.represents takes.sends));
+      sends = has_next_turn start.sent mid.sent now.sent (follow_text ask.delta subject reached.turns) _ reached.follows.sends
+          (subst (λ (k : ℕ). Sent mid.sent (turn_line subject (k + 1) takes.turn.draw (turned_to ask.delta (state_after ask.delta reached.turns) takes.turn.received)) now.sent) (sym reached.many)
+          (subst (λ (s : TurnState). Sent mid.sent (turn_line subject (count + 1) takes.turn.draw (turned_to ask.delta s takes.turn.received)) now.sent) reached.represents takes.sends));
     }
 
 -- one more turn
-pub Reached_more : (ask : Ask) (subject : Subject) (start mid now : Ends) (count : ℕ) (stand next : TurnState) → Reached ask subject start count stand mid
-    → TakesTurn Sends ask subject (count + 1) stand mid next now → Reached ask subject start (count + 1) next now
+pub Reached_more : (ask : Ask) (subject : Subject) (start mid now : Ends) (count : ℕ) (turn_state next : TurnState) → Reached ask subject start count turn_state mid
+    → TakesTurn Sends ask subject (count + 1) turn_state mid next now → Reached ask subject start (count + 1) next now
 unfolding state_after
-Reached_more ask subject start mid now count stand next reached takes = record {
+Reached_more ask subject start mid now count turn_state next reached takes = record {
   turns = takes.turn ∷ reached.turns;
   many = omega (arith, reached.many);
-  represents = takes.represents ∙ ap (λ (s : TurnState). (turned_to ask.delta s takes.turn.came).stand) reached.represents;
-  follows = turns_more Sends Sends_more ask subject start mid now count stand next reached takes;
+  represents = takes.represents ∙ ap (λ (s : TurnState). (turned_to ask.delta s takes.turn.received).turn_state) reached.represents;
+  follows = turns_more Sends Sends_more ask subject start mid now count turn_state next reached takes;
 }
 
 -- one more turn, with a prefix of its line sent
-pub Reached_cut : (ask : Ask) (subject : Subject) (start mid now : Ends) (count : ℕ) (stand next : TurnState) → Reached ask subject start count stand mid
-    → TakesTurn SendsFront ask subject (count + 1) stand mid next now → (turns : List Turn) × Follows SendsFront ask subject start turns now
-Reached_cut ask subject start mid now count stand next reached takes =
-    (takes.turn ∷ reached.turns, turns_more SendsFront front_more ask subject start mid now count stand next reached takes)
+pub Reached_cut : (ask : Ask) (subject : Subject) (start mid now : Ends) (count : ℕ) (turn_state next : TurnState) → Reached ask subject start count turn_state mid
+    → TakesTurn SendsFront ask subject (count + 1) turn_state mid next now → (turns : List Turn) × Follows SendsFront ask subject start turns now
+Reached_cut ask subject start mid now count turn_state next reached takes =
+    (takes.turn ∷ reached.turns, turns_more SendsFront prefix_more ask subject start mid now count turn_state next reached takes)
 
 -- ---- the pace
 
@@ -238,50 +238,50 @@ stopped asked (suc made) start mid now turns paced many few first told unobserva
 -- ---- one turn of the code
 
 pub turn_taken : (Sent : Option (List ℕ) → List ℕ → Option (List ℕ) → Type 0) (ask : Ask) (subject : Subject) (number : ℕ)
-    (stand next : TurnState) (before after : Ends) (draw : Draw) (outcome : Option Outcome) (line : List ℕ)
+    (turn_state next : TurnState) (before after : Ends) (draw : Draw) (outcome : Option Outcome) (line : List ℕ)
     → TakesDraw before.coming draw after.coming
-    → AsksOnce ask stand before.peer before.faults (record { outcome = outcome; stand = next }) after.peer after.faults
-    → line ≡ turn_line subject number draw (record { outcome = outcome; stand = next })
-    → Sent before.sent line after.sent → TakesTurn Sent ask subject number stand before next after
-turn_taken Sent ask subject number stand next before after draw outcome line drawn asks same sends = record {
-  turn = record { draw = draw; came = asks.came };
+    → AsksOnce ask turn_state before.peer before.faults (record { outcome = outcome; turn_state = next }) after.peer after.faults
+    → line ≡ turn_line subject number draw (record { outcome = outcome; turn_state = next })
+    → Sent before.sent line after.sent → TakesTurn Sent ask subject number turn_state before next after
+turn_taken Sent ask subject number turn_state next before after draw outcome line drawn asks same sends = record {
+  turn = record { draw = draw; received = asks.received };
   drawn = drawn;
   meets = asks.meets;
-  represents = ap (λ (t : TurnEffect). t.stand) asks.turned_so;
+  represents = ap (λ (t : TurnEffect). t.turn_state) asks.turned_so;
   sends = subst (λ (bytes : List ℕ). Sent before.sent bytes after.sent)
       (same ∙ ap (λ (t : TurnEffect). turn_line subject number draw t) asks.turned_so) sends;
 }
 
 -- the ask of a turn differs from the run's only in its tag, and makes the request that the run's makes with the current tag
 of_the_run : (Sent : Option (List ℕ) → List ℕ → Option (List ℕ) → Type 0) (ask asked : Ask) → asked ≡ with_tag asked.tag ask
-    → (subject : Subject) (number : ℕ) (stand next : TurnState) (before after : Ends)
-    → TakesTurn Sent asked subject number stand before next after → TakesTurn Sent ask subject number stand before next after
-of_the_run Sent ask asked same subject number stand next before after takes =
-    at_tag asked.tag (subst (λ (a : Ask). TakesTurn Sent a subject number stand before next after) same takes)
+    → (subject : Subject) (number : ℕ) (turn_state next : TurnState) (before after : Ends)
+    → TakesTurn Sent asked subject number turn_state before next after → TakesTurn Sent ask subject number turn_state before next after
+of_the_run Sent ask asked same subject number turn_state next before after takes =
+    at_tag asked.tag (subst (λ (a : Ask). TakesTurn Sent a subject number turn_state before next after) same takes)
   where
-    at_tag : (tag : Option (List ℕ)) → TakesTurn Sent (with_tag tag ask) subject number stand before next after
-        → TakesTurn Sent ask subject number stand before next after
+    at_tag : (tag : Option (List ℕ)) → TakesTurn Sent (with_tag tag ask) subject number turn_state before next after
+        → TakesTurn Sent ask subject number turn_state before next after
     at_tag tag turn =
         record { turn = turn.turn; drawn = turn.drawn; meets = turn.meets; represents = turn.represents; sends = turn.sends }
 
 -- one more turn, with an ask that differs from the run's only in its tag
 pub Reached_next : (ask asked : Ask) → asked ≡ with_tag asked.tag ask → (subject : Subject) (start mid now : Ends) (count : ℕ)
-    (stand next : TurnState) → Reached ask subject start count stand mid → TakesTurn Sends asked subject (count + 1) stand mid next now
+    (turn_state next : TurnState) → Reached ask subject start count turn_state mid → TakesTurn Sends asked subject (count + 1) turn_state mid next now
     → Reached ask subject start (count + 1) next now
-Reached_next ask asked same subject start mid now count stand next reached takes =
-    Reached_more ask subject start mid now count stand next reached
-    (of_the_run Sends ask asked same subject (count + 1) stand next mid now takes)
+Reached_next ask asked same subject start mid now count turn_state next reached takes =
+    Reached_more ask subject start mid now count turn_state next reached
+    (of_the_run Sends ask asked same subject (count + 1) turn_state next mid now takes)
 
 -- the run after a turn that failed
 pub cut_runs : {T : Type 0} (ask asked : Ask) → asked ≡ with_tag asked.tag ask → (subject : Subject) (start mid now : Ends) (count : ℕ)
-    (stand next : TurnState) (most : ℕ) (pace : Option ℕ) (result : Result T FollowFault) (fault : FollowFault)
-    → Reached ask subject start count stand mid → result ≡ Err fault
-    → (result ≡ Err WriteFault → TakesTurn SendsFront asked subject (count + 1) stand mid next now)
+    (turn_state next : TurnState) (most : ℕ) (pace : Option ℕ) (result : Result T FollowFault) (fault : FollowFault)
+    → Reached ask subject start count turn_state mid → result ≡ Err fault
+    → (result ≡ Err WriteFault → TakesTurn SendsFront asked subject (count + 1) turn_state mid next now)
     → (result ≡ Err Memory → now.sent ≡ mid.sent) → Runs {T = T} most pace ask subject start (Err fault) now
-cut_runs ask asked same subject start mid now count stand next most pace result WriteFault reached is cut silent =
-    Reached_cut ask subject start mid now count stand next reached
-    (of_the_run SendsFront ask asked same subject (count + 1) stand next mid now (cut is))
-cut_runs ask asked same subject start mid now count stand next most pace result Memory reached is cut silent =
+cut_runs ask asked same subject start mid now count turn_state next most pace result WriteFault reached is cut silent =
+    Reached_cut ask subject start mid now count turn_state next reached
+    (of_the_run SendsFront ask asked same subject (count + 1) turn_state next mid now (cut is))
+cut_runs ask asked same subject start mid now count turn_state next most pace result Memory reached is cut silent =
     (reached.turns, silent is ∙ reached.follows.sends)
 
 -- out of memory before the first turn: nothing was sent

@@ -3,7 +3,7 @@ use Rattle.std.specs.Prelude.{◌≡◌, ◌≤◌, ℕ, ◌+◌, ◌-◌, ◌^�
 use Rattle.std.specs.Prelude.{Result, Ok, Err}
 use Rattle.unl_base.specs.declared.draws.Draw.{Draw}
 use Rattle.unl_base.specs.Draws.{TakesDraw}
-use Rattle.unl_base.specs.Peers.{PeerState}
+use Rattle.unl_base.specs.Peers.{PeerState, history_of}
 use Rattle.unl_base.specs.Streams.{Sends, SendsFront}
 use Rattle.unl_refresh.specs.declared.ask.Ask.{Ask}
 use Rattle.unl_refresh.specs.Exchange.{Meets as MeetsPeer, ReplyOrFault, peer_view}
@@ -13,7 +13,7 @@ use Rattle.unl_follow.specs.Replica.{Subject}
 use Rattle.unl_follow.specs.Turns.{HaveAsked, HaveDrawn, HaveTurned, TurnState, Turn, TurnEffect, follow_text, request_at, turn_line}
 use Rattle.unl_follow.specs.Turns.{turned_to}
 
--- The ends of a run: the peer (what it was sent on its last connection, and what its next ones give to read) with its count of
+-- The ends of a run: the peer (what it was sent on each connection, and what its next ones give to read) with its count of
 -- faults; the draws to come; and what the sink was sent.
 pub record Ends : Type 0 where
   pub peer : PeerState
@@ -25,26 +25,26 @@ pub record Ends : Type 0 where
 
 -- The peer was sent the request, and the next reply was read; or it failed, after at most one connection.
 abbrev pub Meets : ReplyOrFault → List ℕ → PeerState → ℕ → PeerState → ℕ → Type 0
-Meets came request peer faults peer_after faults_after =
-    MeetsPeer came request (peer_view peer.replies peer.sent faults) (peer_view peer_after.replies peer_after.sent faults_after)
+Meets received request peer faults peer_after faults_after =
+    MeetsPeer received request (peer_view peer faults) (peer_view peer_after faults_after)
 
--- One request was made in state `stand`, and it had this outcome and effect.
+-- One request was made in state `turn_state`, and it had this outcome and effect.
 pub record AsksOnce
-    (ask : Ask) (stand : TurnState) (peer : PeerState) (faults : ℕ) (turned : TurnEffect) (peer_after : PeerState) (faults_after : ℕ)
+    (ask : Ask) (turn_state : TurnState) (peer : PeerState) (faults : ℕ) (turned : TurnEffect) (peer_after : PeerState) (faults_after : ℕ)
     : Type 0 where
-  pub came : ReplyOrFault
-  pub meets : Meets came (request_at ask stand) peer faults peer_after faults_after
-  pub turned_so : turned ≡ turned_to ask.delta stand came
+  pub received : ReplyOrFault
+  pub meets : Meets received (request_at ask turn_state) peer faults peer_after faults_after
+  pub turned_so : turned ≡ turned_to ask.delta turn_state received
 
 -- Turn `number` was made, and its line was sent, as `Sent` says (in full, or a prefix).
 pub record TakesTurn
     (Sent : Option (List ℕ) → List ℕ → Option (List ℕ) → Type 0) (ask : Ask) (subject : Subject) (number : ℕ)
-    (stand : TurnState) (before : Ends) (state_after : TurnState) (after : Ends) : Type 0 where
+    (turn_state : TurnState) (before : Ends) (state_after : TurnState) (after : Ends) : Type 0 where
   pub turn : Turn
   pub drawn : TakesDraw before.coming turn.draw after.coming
-  pub meets : Meets turn.came (request_at ask stand) before.peer before.faults after.peer after.faults
-  pub represents : state_after ≡ (turned_to ask.delta stand turn.came).stand
-  pub sends : Sent before.sent (turn_line subject number turn.draw (turned_to ask.delta stand turn.came)) after.sent
+  pub meets : Meets turn.received (request_at ask turn_state) before.peer before.faults after.peer after.faults
+  pub represents : state_after ≡ (turned_to ask.delta turn_state turn.received).turn_state
+  pub sends : Sent before.sent (turn_line subject number turn.draw (turned_to ask.delta turn_state turn.received)) after.sent
 
 -- ---- the run
 
@@ -61,13 +61,13 @@ pub record Follows
   pub failed : ℕ
   pub turned : HaveTurned before.peer.replies turns taken failed
   pub left : after.peer.replies ≡ option_map (λ list. drop taken list) before.peer.replies
-  pub asked : HaveAsked ask before.peer.sent turns after.peer.sent
+  pub asked : HaveAsked ask (history_of before.peer) turns (history_of after.peer)
   pub counted : RoseBy failed before.faults after.faults
   pub drawn : HaveDrawn before.coming turns after.coming
   pub sends : Sent before.sent (follow_text ask.delta subject turns) after.sent
 
 -- The number of turns is the smaller of `asked` and what the pace allowed: the first turn, and one for each of the pace.
--- A pace that is not observable always goes on, so then it is `asked`.
+-- A pace that is not observable always has a next turn, so then it is `asked`.
 abbrev pub AreAsMany : ℕ → Option ℕ → List Turn → Type 0
 AreAsMany asked None turns = length turns ≡ asked
 AreAsMany asked (Some more) turns = length turns ≡ min asked (more + 1)

@@ -3,12 +3,11 @@ use Rattle.std.specs.Prelude.{◌≡◌, ℕ, ◌+◌, ◌⊎◌, Bool, List, []
 use Rattle.unl_base.specs.declared.draws.Draw.{Draw}
 use Rattle.unl_base.specs.Doors.{next_of}
 use Rattle.unl_base.specs.Draws.{TakesDraw}
-use Rattle.unl_base.specs.Streams.{SendsFront}
 use Rattle.unl_delta.specs.declared.version.EnvVersion.{EnvVersion}
 use Rattle.unl_delta.specs.Installing.{Installed, place_of}
 use Rattle.unl_refresh.specs.declared.ask.Ask.{Ask}
 use Rattle.unl_refresh.specs.declared.outcome.Outcome.{Outcome}
-use Rattle.unl_refresh.specs.Exchange.{IsRead, ReplyOrFault}
+use Rattle.unl_refresh.specs.Exchange.{AddsFront, AddsText, IsRead, ReplyOrFault}
 use Rattle.unl_refresh.specs.Refresh.{Refreshed, after_reading, refresh_request}
 use Rattle.unl_strategies.specs.Moment.{Moment}
 use Rattle.unl_follow.specs.Line.{line_of, number_text, on_text, word_of}
@@ -17,7 +16,7 @@ use Rattle.unl_follow.specs.Replica.{Subject, found_in, installed_by, new_replic
 -- a turn: its draw, and what its request received
 pub record Turn : Type 0 where
   pub draw : Draw
-  pub came : ReplyOrFault
+  pub received : ReplyOrFault
 
 -- the state between two turns: what is installed, and the tag of the next request
 pub record TurnState : Type 0 where
@@ -27,29 +26,29 @@ pub record TurnState : Type 0 where
 -- the effect of a turn: its outcome (none if the peer failed) and the state after it
 pub record TurnEffect : Type 0 where
   pub outcome : Option Outcome
-  pub stand : TurnState
+  pub turn_state : TurnState
 
 -- the state before the first turn
-abbrev pub first_stand : TurnState
-first_stand = record { installed = installed_by new_replica; tag = None }
+abbrev pub first_state : TurnState
+first_state = record { installed = installed_by new_replica; tag = None }
 
 -- the effect of a refresh
 abbrev pub turned_by : Refreshed → TurnEffect
-turned_by after = record { outcome = Some after.outcome; stand = record { installed = after.installed; tag = after.tag } }
+turned_by after = record { outcome = Some after.outcome; turn_state = record { installed = after.installed; tag = after.tag } }
 
 -- the effect of what was received; after a fault nothing is applied, and the next request has no tag
 unfoldable pub turned_to : Bool → TurnState → ReplyOrFault → TurnEffect
-turned_to delta before None = record { outcome = None; stand = record { installed = before.installed; tag = None } }
+turned_to delta before None = record { outcome = None; turn_state = record { installed = before.installed; tag = None } }
 turned_to delta before (Some reading) = turned_by (after_reading 0 delta before.tag before.installed reading)
 
 -- the state after these turns
 unfoldable pub state_after : Bool → List Turn → TurnState
-state_after delta [] = first_stand
-state_after delta (turn ∷ earlier) = (turned_to delta (state_after delta earlier) turn.came).stand
+state_after delta [] = first_state
+state_after delta (turn ∷ earlier) = (turned_to delta (state_after delta earlier) turn.received).turn_state
 
 -- the version of the place
 abbrev pub version_in : TurnState → Option EnvVersion
-version_in stand = (place_of stand.installed 0).version
+version_in turn_state = (place_of turn_state.installed 0).version
 
 -- the moment of a draw, on a host without a name
 abbrev pub moment_of : Draw → Moment
@@ -58,15 +57,15 @@ moment_of draw = record { now = draw.now; word = draw.word; host = [] }
 -- the line of turn `k`, by its draw and effect
 unfoldable pub turn_line : Subject → ℕ → Draw → TurnEffect → List ℕ
 turn_line subject k draw turned =
-    line_of k (word_of turned.outcome) (number_text (version_in turned.stand))
-    (on_text (found_in (version_in turned.stand) subject.feature subject.context (moment_of draw)))
+    line_of k (word_of turned.outcome) (number_text (version_in turned.turn_state))
+    (on_text (found_in (version_in turned.turn_state) subject.feature subject.context (moment_of draw)))
 
 -- the text printed for these turns, with deltas or whole feeds requested: one line for each, in order
 unfoldable pub follow_text : Bool → Subject → List Turn → List ℕ
 follow_text delta subject [] = []
 follow_text delta subject (turn ∷ earlier) =
     follow_text delta subject earlier
-    ++ turn_line subject (length earlier + 1) turn.draw (turned_to delta (state_after delta earlier) turn.came)
+    ++ turn_line subject (length earlier + 1) turn.draw (turned_to delta (state_after delta earlier) turn.received)
 
 -- ---- the replies, requests and draws of the turns
 
@@ -76,32 +75,32 @@ reply_at replies j = option_map (λ list. next_of (drop j list)) replies
 
 -- What a turn received, after turns that used up `i` replies and had `k` faults; with it these are `j` and `m`. A reply is the
 -- next one of the list and is used up. A fault counts as one more, and may have used up a reply.
-abbrev pub Comes : Option (List (List ℕ)) → ReplyOrFault → ℕ → ℕ → ℕ → ℕ → Type 0
-Comes replies (Some reading) i k j m = IsRead (reply_at replies i) reading × (j ≡ i + 1) × (m ≡ k)
-Comes replies None i k j m = ((j ≡ i) ⊎ (j ≡ i + 1)) × (m ≡ k + 1)
+abbrev pub IsReceived : Option (List (List ℕ)) → ReplyOrFault → ℕ → ℕ → ℕ → ℕ → Type 0
+IsReceived replies (Some reading) i k j m = IsRead (reply_at replies i) reading × (j ≡ i + 1) × (m ≡ k)
+IsReceived replies None i k j m = ((j ≡ i) ⊎ (j ≡ i + 1)) × (m ≡ k + 1)
 
 -- these turns used up `j` of the replies and had `m` faults
 abbrev pub HaveTurned : Option (List (List ℕ)) → List Turn → ℕ → ℕ → Type 0
 HaveTurned replies [] j m = (j ≡ 0) × (m ≡ 0)
 HaveTurned replies (turn ∷ earlier) j m =
-    (i : ℕ) × (k : ℕ) × HaveTurned replies earlier i k × Comes replies turn.came i k j m
+    (i : ℕ) × (k : ℕ) × HaveTurned replies earlier i k × IsReceived replies turn.received i k j m
 
 -- the request of a turn: for the ask's host, token and mode, with the tag before the turn
 abbrev pub request_at : Ask → TurnState → List ℕ
-request_at ask stand = refresh_request ask.delta ask.host ask.token stand.tag
+request_at ask turn_state = refresh_request ask.delta ask.host ask.token turn_state.tag
 
--- The bytes sent on the peer's last connection after a turn: the turn's request, on a new connection. If the peer failed: a
--- prefix of the request, perhaps all of it, or the bytes of before.
-abbrev pub IsAsked : ReplyOrFault → List ℕ → Option (List ℕ) → Option (List ℕ) → Type 0
-IsAsked (Some reading) request asked asked_after = asked_after ≡ option_map (λ _. request) asked
-IsAsked None request asked asked_after = (asked_after ≡ asked) ⊎ SendsFront (option_map (λ _. []) asked) request asked_after
+-- All that the peer was sent, a text for each connection, after a turn: the turn's request is one more, and all that was sent on
+-- that connection. If the peer failed: a prefix of the request is one more, perhaps all of it, or there is none.
+abbrev pub IsAsked : ReplyOrFault → List ℕ → Option (List (List ℕ)) → Option (List (List ℕ)) → Type 0
+IsAsked (Some reading) request asked asked_after = AddsText asked request asked_after
+IsAsked None request asked asked_after = (asked_after ≡ asked) ⊎ AddsFront asked request asked_after
 
--- the bytes sent on the peer's last connection after these turns
-abbrev pub HaveAsked : Ask → Option (List ℕ) → List Turn → Option (List ℕ) → Type 0
+-- all that the peer was sent after these turns
+abbrev pub HaveAsked : Ask → Option (List (List ℕ)) → List Turn → Option (List (List ℕ)) → Type 0
 HaveAsked ask asked [] asked_after = asked_after ≡ asked
 HaveAsked ask asked (turn ∷ earlier) asked_after =
-    (between : Option (List ℕ)) × HaveAsked ask asked earlier between
-    × IsAsked turn.came (request_at ask (state_after ask.delta earlier)) between asked_after
+    (between : Option (List (List ℕ))) × HaveAsked ask asked earlier between
+    × IsAsked turn.received (request_at ask (state_after ask.delta earlier)) between asked_after
 
 -- these turns took their draws one after another
 abbrev pub HaveDrawn : Option (List Draw × Draw) → List Turn → Option (List Draw × Draw) → Type 0

@@ -28,25 +28,25 @@ pub fn follow_once<P: Peer>(
     // What is applied, the next tag, and what is sent.
     ensures leaves { RefreshedOnce 0
         (refresh_state (installed_by replica.old) ask.old
-        (peer_view (P.state peer.old).replies (P.Sink.sent peer.old) (P.Source.faults peer.old)))
+        (peer_view (P.state peer.old) (P.Source.faults peer.old)))
         result
         (refresh_state (installed_by replica.new) ask.new
-        (peer_view (P.state peer.new).replies (P.Sink.sent peer.new) (P.Source.faults peer.new))) }
+        (peer_view (P.state peer.new) (P.Source.faults peer.new))) }
 
     // The next of the peer's replies determines the result, and is used up.
     ensures next_reply { TakesNextReply 0
         (refresh_state (installed_by replica.old) ask.old
-        (peer_view (P.state peer.old).replies (P.Sink.sent peer.old) (P.Source.faults peer.old)))
+        (peer_view (P.state peer.old) (P.Source.faults peer.old)))
         result
         (refresh_state (installed_by replica.new) ask.new
-        (peer_view (P.state peer.new).replies (P.Sink.sent peer.new) (P.Source.faults peer.new))) }
+        (peer_view (P.state peer.new) (P.Source.faults peer.new))) }
 
     // If the server sends batches from a line of histories, the place has one revision of that line.
     ensures delivery { Delivers 0
         (refresh_state (installed_by replica.old) ask.old
-        (peer_view (P.state peer.old).replies (P.Sink.sent peer.old) (P.Source.faults peer.old)))
+        (peer_view (P.state peer.old) (P.Source.faults peer.old)))
         (refresh_state (installed_by replica.new) ask.new
-        (peer_view (P.state peer.new).replies (P.Sink.sent peer.new) (P.Source.faults peer.new))) }
+        (peer_view (P.state peer.new) (P.Source.faults peer.new))) }
 
     // On an error the replica is unchanged.
     ensures fault { OnErr result (replica.new ≡ replica.old) }

@@ -57,7 +57,7 @@ pub fn follow<P: Peer, R: Draws, T: Pace, K: Sink>(
 {
     let mut replica = Replica::new(alloc);
     for made in 0..turns {
-        if !goes_on(made, pace) {
+        if !has_next_turn(made, pace) {
             return Ok(());
         }
         match turn(
@@ -78,10 +78,10 @@ pub fn follow<P: Peer, R: Draws, T: Pace, K: Sink>(
 }
 
 /// Returns whether there is a turn after `made` turns. There is a first one; each later one waits for the pace.
-fn goes_on<T: Pace>(made: u32, pace: &mut T) -> bool
+fn has_next_turn<T: Pace>(made: u32, pace: &mut T) -> bool
     ensures first { made ≡ 0 → (result ≡ true) × (T.turns pace.new ≡ T.turns pace.old) }
     ensures takes { 0 < made → T.turns pace.new ≡ option_map (λ n. n - 1) (T.turns pace.old) }
-    ensures told { 0 < made → IfSome (T.turns pace.old) (λ n. result ≡ nat_lt 0 n) }
+    ensures observable { 0 < made → IfSome (T.turns pace.old) (λ n. result ≡ nat_lt 0 n) }
     ensures unobservable { 0 < made → IfNone (T.turns pace.old) (result ≡ true) }
 {
     if made == 0 {

@@ -92,7 +92,7 @@ fn ask_once<P: Peer>(
     ensures asks { IfOk result (λ outcome. AsksOnce ask.old
         (record { installed = installed_by replica.old; tag = ask.old.tag })
         (P.state peer.old) (P.Source.faults peer.old)
-        (record { outcome = outcome; stand = record { installed = installed_by replica.new; tag = ask.new.tag } })
+        (record { outcome = outcome; turn_state = record { installed = installed_by replica.new; tag = ask.new.tag } })
         (P.state peer.new) (P.Source.faults peer.new)) }
     ensures same_ask { ask.new ≡ with_tag ask.new.tag ask.old }
     ensures next_tag { IsTrue (fits_if_any ask.new.tag) }
@@ -116,7 +116,7 @@ fn told(
     draw: &Draw,
 ) -> Result<String, Memory>
     ensures { (tag : Option (List ℕ)) → IfOk result (λ line. string_bytes line ≡ turn_line subject.now number draw.entry.now
-        (record { outcome = outcome.now; stand = record { installed = installed_by replica.now; tag = tag } })) }
+        (record { outcome = outcome.now; turn_state = record { installed = installed_by replica.now; tag = tag } })) }
 {
     let moment = Moment {
         now: draw.now,

@@ -61,23 +61,23 @@ pub after_fault : (least : ℕ) (replies replies_after : Option (List (List ℕ)
 after_fault least replies replies_after faults faults_after later rose = record { later = later; made = λ none. absurd (none rose) }
 
 -- an exchange makes one connection
-pub one_connect : {request : List ℕ} {replies replies_after : Option (List (List ℕ))} {sent sent_after : Option (List ℕ)} {faults faults_after : ℕ}
-    → Asks request replies sent replies_after sent_after → faults ≤ faults_after → Connects 1 replies faults replies_after faults_after
+pub one_connect : {request : List ℕ} {replies replies_after history history_after : Option (List (List ℕ))} {faults faults_after : ℕ}
+    → Asks request replies history replies_after history_after → faults ≤ faults_after → Connects 1 replies faults replies_after faults_after
 one_connect asks later = record { later = later; made = λ none. (1, omega arith, asks.one_reply) }
 
 -- at most one exchange makes at least zero connections
-pub none_or_one : {request : List ℕ} {replies replies_after : Option (List (List ℕ))} {sent sent_after : Option (List ℕ)} {faults faults_after : ℕ}
-    → AsksAtMostOnce request replies sent replies_after sent_after → faults ≤ faults_after → Connects 0 replies faults replies_after faults_after
+pub none_or_one : {request : List ℕ} {replies replies_after history history_after : Option (List (List ℕ))} {faults faults_after : ℕ}
+    → AsksAtMostOnce request replies history replies_after history_after → faults ≤ faults_after → Connects 0 replies faults replies_after faults_after
 none_or_one {replies = replies} (inl (same, silent)) later = record { later = later; made = λ none. (0, omega arith, same ∙ none_taken replies) }
 none_or_one (inr part) later = record { later = later; made = λ none. (1, omega arith, part.one_reply) }
 
 -- as above, if there may be nothing to send
-pub told_at_most_once : (found : Option (Data × ℕ)) (host token : List ℕ) (replies replies_after : Option (List (List ℕ))) (sent sent_after : Option (List ℕ))
-    (faults faults_after : ℕ) → AsksBulkAtMostOnce found host token replies sent replies_after sent_after → faults ≤ faults_after
+pub report_at_most_once : (found : Option (Data × ℕ)) (host token : List ℕ) (replies replies_after history history_after : Option (List (List ℕ)))
+    (faults faults_after : ℕ) → AsksBulkAtMostOnce found host token replies history replies_after history_after → faults ≤ faults_after
     → Connects 0 replies faults replies_after faults_after
-told_at_most_once None host token replies replies_after sent sent_after faults faults_after asks later =
+report_at_most_once None host token replies replies_after history history_after faults faults_after asks later =
     record { later = later; made = λ none. (0, omega arith, asks.0 ∙ none_taken replies) }
-told_at_most_once (Some (report, count)) host token replies replies_after sent sent_after faults faults_after asks later = none_or_one asks later
+report_at_most_once (Some (report, count)) host token replies replies_after history history_after faults faults_after asks later = none_or_one asks later
 
 -- some connections, and then others
 pub connects_both : {least more : ℕ} {replies middle last : Option (List (List ℕ))} {faults faults_middle faults_last : ℕ}
@@ -102,25 +102,25 @@ connects_fewer few connects = record {
 -- ---- what is installed after a refresh
 
 -- nothing was installed
-pub same_goes : (before after : Installed) → after ≡ before → PublishesAtMostOnce before after
-same_goes before after same = subst (PublishesAtMostOnce before) (sym same) (record { places = refl; front = omega arith })
+pub same_at_most_once : (before after : Installed) → after ≡ before → PublishesAtMostOnce before after
+same_at_most_once before after same = subst (PublishesAtMostOnce before) (sym same) (record { places = refl; front = omega arith })
 
-verdict_goes : (slot : ℕ) (batch : TheBatch) (tag : Option (List ℕ)) (before : Installed) (verdict : Verdict)
+verdict_at_most_once : (slot : ℕ) (batch : TheBatch) (tag : Option (List ℕ)) (before : Installed) (verdict : Verdict)
     → PublishesAtMostOnce before (after_verdict slot batch tag before verdict).installed
-verdict_goes slot batch tag before verdict.Apply = record { places = length-set _ _ _; front = omega arith }
-verdict_goes slot batch tag before verdict.Repeat = same_goes before before refl
-verdict_goes slot batch tag before verdict.Old = same_goes before before refl
-verdict_goes slot batch tag before verdict.Gap = record { places = length-set _ _ _; front = omega arith }
-verdict_goes slot batch tag before verdict.Held = same_goes before before refl
+verdict_at_most_once slot batch tag before verdict.Apply = record { places = length-set _ _ _; front = omega arith }
+verdict_at_most_once slot batch tag before verdict.Repeat = same_at_most_once before before refl
+verdict_at_most_once slot batch tag before verdict.Old = same_at_most_once before before refl
+verdict_at_most_once slot batch tag before verdict.Gap = record { places = length-set _ _ _; front = omega arith }
+verdict_at_most_once slot batch tag before verdict.Held = same_at_most_once before before refl
 
-batch_goes : (slot : ℕ) (tag : Option (List ℕ)) (before : Installed) (read : Result TheBatch Bad) → PublishesAtMostOnce before (after_batch slot tag before read).installed
-batch_goes slot tag before (Ok batch) = verdict_goes slot batch tag before (verdict_of (place_of before slot) batch)
-batch_goes slot tag before (Err bad) = same_goes before before refl
+batch_at_most_once : (slot : ℕ) (tag : Option (List ℕ)) (before : Installed) (read : Result TheBatch Bad) → PublishesAtMostOnce before (after_batch slot tag before read).installed
+batch_at_most_once slot tag before (Ok batch) = verdict_at_most_once slot batch tag before (verdict_of (place_of before slot) batch)
+batch_at_most_once slot tag before (Err bad) = same_at_most_once before before refl
 
-reading_goes : (slot : ℕ) (delta : Bool) (tag : Option (List ℕ)) (before : Installed) (reading : Result Got BadReply)
+reading_at_most_once : (slot : ℕ) (delta : Bool) (tag : Option (List ℕ)) (before : Installed) (reading : Result Got BadReply)
     → PublishesAtMostOnce before (after_reading slot delta tag before reading).installed
-reading_goes slot delta tag before (Err bad) = same_goes before before refl
-reading_goes slot delta tag before (Ok got) = by_status (got.status == 304) (got.status == 200)
+reading_at_most_once slot delta tag before (Err bad) = same_at_most_once before before refl
+reading_at_most_once slot delta tag before (Ok got) = by_status (got.status == 304) (got.status == 200)
   where
     taken : Refreshed
     taken = after_batch slot got.tag before (batch_in delta (number_held (place_of before slot)) got.body)
@@ -128,58 +128,58 @@ reading_goes slot delta tag before (Ok got) = by_status (got.status == 304) (got
     by_status : (unchanged found : Bool)
         → PublishesAtMostOnce before (cond unchanged (record { outcome = Unchanged; installed = before; tag = tag })
         (cond (not found) (record { outcome = Refused got.status; installed = before; tag = tag }) taken)).installed
-    by_status true found = same_goes before before refl
-    by_status false true = batch_goes slot got.tag before (batch_in delta (number_held (place_of before slot)) got.body)
-    by_status false false = same_goes before before refl
+    by_status true found = same_at_most_once before before refl
+    by_status false true = batch_at_most_once slot got.tag before (batch_in delta (number_held (place_of before slot)) got.body)
+    by_status false false = same_at_most_once before before refl
 
 -- the effect of refreshing a slot
-pub slot_goes : {slot : ℕ} {ask : Ask} {before : Installed} {coming : Option (List ℕ)} {after : Refreshed}
+pub slot_at_most_once : {slot : ℕ} {ask : Ask} {before : Installed} {coming : Option (List ℕ)} {after : Refreshed}
     → Refreshes slot ask before coming after → PublishesAtMostOnce before after.installed
-slot_goes {slot} {ask} {before} refreshes =
-    subst (λ (r : Refreshed). PublishesAtMostOnce before r.installed) (sym refreshes.gives) (reading_goes slot ask.delta ask.tag before refreshes.reading)
+slot_at_most_once {slot} {ask} {before} refreshes =
+    subst (λ (r : Refreshed). PublishesAtMostOnce before r.installed) (sym refreshes.gives) (reading_at_most_once slot ask.delta ask.tag before refreshes.reading)
 
-installs_go : (read : Result (List Token) Outcome) (before : Installed) (outcome : Outcome) (after : Installed) → Installs read before outcome after
+installs_at_most_once : (read : Result (List Token) Outcome) (before : Installed) (outcome : Outcome) (after : Installed) → Installs read before outcome after
     → PublishesAtMostOnce before after
-installs_go (Err other) before outcome after installs = same_goes before after installs.1
-installs_go (Ok book) before (Published front) after installs =
+installs_at_most_once (Err other) before outcome after installs = same_at_most_once before after installs.1
+installs_at_most_once (Ok book) before (Published front) after installs =
     subst (PublishesAtMostOnce before) (sym installs.2) (record { places = refl; front = omega arith })
-installs_go (Ok book) before Repeat after installs = same_goes before after installs.1
-installs_go (Ok book) before Unchanged after installs = absurd installs
-installs_go (Ok book) before Old after installs = absurd installs
-installs_go (Ok book) before Gap after installs = absurd installs
-installs_go (Ok book) before Held after installs = absurd installs
-installs_go (Ok book) before (Refused status) after installs = absurd installs
-installs_go (Ok book) before (BadAnswer bad) after installs = absurd installs
+installs_at_most_once (Ok book) before Repeat after installs = same_at_most_once before after installs.1
+installs_at_most_once (Ok book) before Unchanged after installs = absurd installs
+installs_at_most_once (Ok book) before Old after installs = absurd installs
+installs_at_most_once (Ok book) before Gap after installs = absurd installs
+installs_at_most_once (Ok book) before Held after installs = absurd installs
+installs_at_most_once (Ok book) before (Refused status) after installs = absurd installs
+installs_at_most_once (Ok book) before (BadAnswer bad) after installs = absurd installs
 
 -- the effect of refreshing the book
-pub book_goes : {texts : List (List ℕ)} {before : Installed} {coming : Option (List ℕ)} {outcome : Outcome} {after : Installed}
+pub book_at_most_once : {texts : List (List ℕ)} {before : Installed} {coming : Option (List ℕ)} {outcome : Outcome} {after : Installed}
     → RefreshesTokens texts before coming outcome after → PublishesAtMostOnce before after
-book_goes {texts} {before} {coming} {outcome} {after} refreshes =
-    installs_go (book_in_reply texts refreshes.reading) before outcome after refreshes.installs
+book_at_most_once {texts} {before} {coming} {outcome} {after} refreshes =
+    installs_at_most_once (book_in_reply texts refreshes.reading) before outcome after refreshes.installs
 
 -- ---- from the result of a refresh
 
 -- the effect of refreshing the book, whatever the result is
-pub book_told : (texts : List (List ℕ)) {before after : Installed} (coming : Option (List ℕ)) (told : Result Outcome RefreshFault)
+pub book_result_at_most_once : (texts : List (List ℕ)) {before after : Installed} (coming : Option (List ℕ)) (told : Result Outcome RefreshFault)
     → IfOk told (λ outcome. RefreshesTokens texts before coming outcome after) → OnErr told (after ≡ before) → PublishesAtMostOnce before after
-book_told texts coming (Ok outcome) takes fault = book_goes takes
-book_told texts {before} {after} coming (Err e) takes fault = same_goes before after fault
+book_result_at_most_once texts coming (Ok outcome) takes fault = book_at_most_once takes
+book_result_at_most_once texts {before} {after} coming (Err e) takes fault = same_at_most_once before after fault
 
 -- the effect of refreshing a slot, whatever the result is
-pub slot_told : (slot : ℕ) (ask : Ask) {before after : Installed} (coming tag : Option (List ℕ)) (told : Result Outcome RefreshFault)
+pub slot_result_at_most_once : (slot : ℕ) (ask : Ask) {before after : Installed} (coming tag : Option (List ℕ)) (told : Result Outcome RefreshFault)
     → IfOk told (λ outcome. Refreshes slot ask before coming (record { outcome = outcome; installed = after; tag = tag }))
     → OnErr told (after ≡ before) → PublishesAtMostOnce before after
-slot_told slot ask coming tag (Ok outcome) takes fault = slot_goes takes
-slot_told slot ask {before} {after} coming tag (Err e) takes fault = same_goes before after fault
+slot_result_at_most_once slot ask coming tag (Ok outcome) takes fault = slot_at_most_once takes
+slot_result_at_most_once slot ask {before} {after} coming tag (Err e) takes fault = same_at_most_once before after fault
 
 -- unless out of memory, one connection was made
-pub asked_once : {A : Type 0} (request : List ℕ) (replies replies_after : Option (List (List ℕ))) (sent sent_after : Option (List ℕ)) {faults faults_after : ℕ}
-    (told : Result A RefreshFault) (result : Result Unit Memory) → OnOk result (told ≢ Err want) → OnOk told (Asks request replies sent replies_after sent_after)
+pub asked_once : {A : Type 0} (request : List ℕ) (replies replies_after history history_after : Option (List (List ℕ))) {faults faults_after : ℕ}
+    (told : Result A RefreshFault) (result : Result Unit Memory) → OnOk result (told ≢ Err want) → OnOk told (Asks request replies history replies_after history_after)
     → (told ≡ Err peer_fault → Rose faults faults_after) → faults ≤ faults_after → OnOk result (Connects 1 replies faults replies_after faults_after)
-asked_once request replies replies_after sent sent_after told (Err e) some asks cause later = tt
-asked_once request replies replies_after sent sent_after (Ok outcome) (Ok _) some asks cause later = one_connect asks later
-asked_once request replies replies_after sent sent_after (Err peer_fault) (Ok _) some asks cause later = after_fault _ _ _ _ _ later (cause refl)
-asked_once request replies replies_after sent sent_after (Err want) (Ok _) some asks cause later = absurd (some refl)
+asked_once request replies replies_after history history_after told (Err e) some asks cause later = tt
+asked_once request replies replies_after history history_after (Ok outcome) (Ok _) some asks cause later = one_connect asks later
+asked_once request replies replies_after history history_after (Err peer_fault) (Ok _) some asks cause later = after_fault _ _ _ _ _ later (cause refl)
+asked_once request replies replies_after history history_after (Err want) (Ok _) some asks cause later = absurd (some refl)
 
 -- a fact holds in the `Ok` case too
 pub if_ok : {A E X : Type 0} (result : Result A E) → X → OnOk result X

@@ -62,8 +62,8 @@ refreshed_leaves P (Ok outcome) slot ask before after tag coming takes fault lea
 refreshed_leaves P (Err e) slot ask before after tag coming takes fault leaves = subst P (sym fault) leaves.stays
 
 -- The place represents the line, and its revision is not older than before.
-abbrev Stands : List Era → Sees → Place → Place → Type 0
-Stands line sees before after = PlaceRepresents line sees after × IsNotBelow before.version after.version
+abbrev RepresentsNoOlder : List Era → Sees → Place → Place → Type 0
+RepresentsNoOlder line sees before after = PlaceRepresents line sees after × IsNotBelow before.version after.version
 
 -- If the server sends batches from a line, the slot represents that line after a refresh, with no older revision.
 pub delivered : (result : Result Outcome RefreshFault) (slot : ℕ) (ask : Ask) (before after : Installed) (tag coming : Option (List ℕ))
@@ -73,10 +73,10 @@ pub delivered : (result : Result Outcome RefreshFault) (slot : ℕ) (ask : Ask) 
     → Brings line sees ask.delta (place_of before slot) coming
     → PlaceRepresents line sees (place_of after slot) × IsNotBelow (place_of before slot).version (place_of after slot).version
 delivered result slot ask before after tag coming line sees low takes fault is_line represents brings =
-    refreshed_leaves (λ (now : Installed). Stands line sees (place_of before slot) (place_of now slot)) result slot ask before after tag coming takes fault
+    refreshed_leaves (λ (now : Installed). RepresentsNoOlder line sees (place_of before slot) (place_of now slot)) result slot ask before after tag coming takes fault
     (record {
       stays = (represents, not_below_itself (place_of before slot).version);
       takes = λ got batch is status reads.
-          subst (Stands line sees (place_of before slot)) (sym (batch_placed (verdict_of (place_of before slot) batch) slot batch before low))
+          subst (RepresentsNoOlder line sees (place_of before slot)) (sym (batch_placed (verdict_of (place_of before slot) batch) slot batch before low))
           (one_taken line sees (place_of before slot) batch is_line represents (brings got batch is status reads));
     })

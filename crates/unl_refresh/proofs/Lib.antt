@@ -1,6 +1,7 @@
 pub mod Leaving
 mod Receiving
-mod Telling
+mod NextReply
+mod Asked
 pub mod Connecting
 mod SlotParameters
 mod TurnsTaken

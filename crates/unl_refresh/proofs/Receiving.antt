@@ -45,7 +45,7 @@ abbrev err_of : {T : Type 0} → RefreshFault → Result T RefreshFault → Refr
 err_of other (Ok x) = other
 err_of other (Err fault) = fault
 
--- the causes of a call that handed on the error of another, before which the count was the same
+-- the causes of a call that forwarded the error of another, before which the count was the same
 pub causes_on : {A B : Type 0} (fault : RefreshFault) (before mid after : ℕ) → mid ≡ before → HasPeerCause {T = A} (Err fault) mid after
     → HasPeerCause {T = B} (Err fault) before after
 causes_on {A} {B} fault before mid after same causes = record {

@@ -48,14 +48,14 @@ book_polled texts asked host before after peer peer_after tags metrics told resu
       still = causes.untouched is;
     }
     by_result (Ok outcome) (Ok u) some is causes leaves = record {
-      came = Some leaves.takes.reading;
+      received = Some leaves.takes.reading;
       meets = (leaves.takes.is_read, leaves.asks, causes.still);
       applies = (outcome, leaves.takes.installs);
       tags = refl;
       metrics = refl;
     }
     by_result (Err peer_fault) (Ok u) some is causes leaves = record {
-      came = None;
+      received = None;
       meets = (leaves.once, causes.cause refl);
       applies = leaves.fault;
       tags = refl;
@@ -84,14 +84,14 @@ slot_refreshed slot environment ask ask_after before after peer peer_after tags 
   still = causes.untouched is;
 }
 slot_refreshed slot environment ask ask_after before after peer peer_after tags metrics (Ok outcome) (Ok u) some is leaves causes = record {
-  came = Some leaves.takes.reading;
+  received = Some leaves.takes.reading;
   meets = (leaves.takes.is_read, leaves.asks, causes.still);
   installed = ap (λ (r : Refreshed). r.installed) leaves.takes.gives;
   tags = ap (λ (r : Refreshed). set tags slot r.tag) leaves.takes.gives;
   metrics = refl;
 }
 slot_refreshed slot environment ask ask_after before after peer peer_after tags metrics (Err peer_fault) (Ok u) some is leaves causes = record {
-  came = None;
+  received = None;
   meets = (leaves.once, causes.cause refl);
   installed = leaves.fault;
   tags = ap (λ (t : Option (List ℕ)). set tags slot t) leaves.no_tag;
@@ -114,8 +114,8 @@ report_sent : (found : Option (Data × ℕ)) (parameters : SlotParameters) (inst
     → OnOk result (told ≢ Err want) → OnErr result (told ≡ Err want)
     → IfOk told (SendsBulk found (option_map next_of peer.replies))
     → IfOk told (λ outcome. after ≡ book_after parameters.environment outcome before) → OnErr told (after ≡ before)
-    → OnOk told (AsksBulk found parameters.host parameters.token peer.replies peer.sent peer_after.replies peer_after.sent)
-    → AsksBulkAtMostOnce found parameters.host parameters.token peer.replies peer.sent peer_after.replies peer_after.sent
+    → OnOk told (AsksBulk found parameters.host parameters.token peer.replies peer.history peer_after.replies peer_after.history)
+    → AsksBulkAtMostOnce found parameters.host parameters.token peer.replies peer.history peer_after.replies peer_after.history
     → HasPeerCause told peer.faults peer_after.faults → (found ≡ None → peer_after ≡ peer)
     → ByResult result (SendsIfAny found parameters) (StopsIfAny found parameters)
     (poll_state installed tags before peer) (poll_state installed tags after peer_after)
@@ -133,14 +133,14 @@ report_sent (Some (report, count)) parameters installed tags before after peer p
   still = causes.untouched is;
 }
 report_sent (Some (report, count)) parameters installed tags before after peer peer_after (Ok outcome) (Ok u) some is sends book fault asks once causes silent = record {
-  came = Some sends.reading;
+  received = Some sends.reading;
   meets = (sends.is_read, asks, causes.still);
   metrics = book ∙ ap (λ (o : MetricsOutcome). book_after parameters.environment o before) sends.gives;
   installed = refl;
   tags = refl;
 }
 report_sent (Some (report, count)) parameters installed tags before after peer peer_after (Err peer_fault) (Ok u) some is sends book fault asks once causes silent = record {
-  came = None;
+  received = None;
   meets = (once, causes.cause refl);
   metrics = fault;
   installed = refl;

@@ -1,9 +1,10 @@
 -- One exchange with a peer: a connect, a request, and the reply to it.
-use Rattle.std.specs.Prelude.{◌≡◌, ℕ, ◌<◌, ◌≤◌, ◌⊎◌, Bool, true, false, List, [], ◌++◌, drop, length, Option, Some, None, option_map}
-use Rattle.std.specs.Prelude.{Result, Err, OnOk, ⊤}
+use Rattle.std.specs.Prelude.{◌≡◌, ℕ, ◌<◌, ◌≤◌, ◌⊎◌, Bool, true, false, List, [], ◌∷◌, ◌++◌, drop, length, Option, Some, None}
+use Rattle.std.specs.Prelude.{option_map, Result, Err, OnOk, ⊤}
 use Rattle.unl_base.specs.Doors.{next_of}
 use Rattle.unl_base.specs.Faults.{Rose}
-use Rattle.unl_base.specs.Streams.{Takes, HasEnded, SendsFront}
+use Rattle.unl_base.specs.Peers.{PeerState, history_of}
+use Rattle.unl_base.specs.Streams.{Takes, HasEnded}
 use Rattle.unl_http_api.specs.declared.got.Got.{Got}
 use Rattle.unl_http_api.specs.declared.got.BadReply.{BadReply}
 use Rattle.unl_http_api.specs.Received.{IsReply}
@@ -12,25 +13,31 @@ use Rattle.unl_refresh.specs.declared.outcome.RefreshFault.TheVariants.{PeerFaul
 
 -- ---- what is sent
 
--- One connection is made, it uses up one reply, and the whole request is sent on it.
-pub record Asks
-    (request : List ℕ) (replies : Option (List (List ℕ))) (sent : Option (List ℕ))
-    (replies_after : Option (List (List ℕ))) (sent_after : Option (List ℕ)) : Type 0 where
-  pub one_reply : replies_after ≡ option_map (λ list. drop 1 list) replies
-  pub sends : sent_after ≡ option_map (λ _. request) sent
+-- The history of a peer has this text as one more, the last: all that is sent on a new connection.
+abbrev pub AddsText : Option (List (List ℕ)) → List ℕ → Option (List (List ℕ)) → Type 0
+AddsText history text history_after = history_after ≡ option_map (λ texts. texts ++ text ∷ []) history
 
--- One connection is made, it uses up one reply, and a prefix of the request is sent on it.
-pub record AsksPart
-    (request : List ℕ) (replies : Option (List (List ℕ))) (sent : Option (List ℕ))
-    (replies_after : Option (List (List ℕ))) (sent_after : Option (List ℕ)) : Type 0 where
+-- The history has a prefix of this text as one more, the last.
+pub record AddsFront (history : Option (List (List ℕ))) (text : List ℕ) (history_after : Option (List (List ℕ))) : Type 0 where
+  pub part : List ℕ
+  pub after : List ℕ
+  pub split : text ≡ part ++ after
+  pub adds : AddsText history part history_after
+
+-- One connection is made, it uses up one reply, and the whole request is sent on it, and nothing else.
+pub record Asks (request : List ℕ) (replies history replies_after history_after : Option (List (List ℕ))) : Type 0 where
   pub one_reply : replies_after ≡ option_map (λ list. drop 1 list) replies
-  pub sends : SendsFront (option_map (λ _. []) sent) request sent_after
+  pub sends : AddsText history request history_after
+
+-- One connection is made, it uses up one reply, and a prefix of the request is sent on it, and nothing else.
+pub record AsksPart (request : List ℕ) (replies history replies_after history_after : Option (List (List ℕ))) : Type 0 where
+  pub one_reply : replies_after ≡ option_map (λ list. drop 1 list) replies
+  pub sends : AddsFront history request history_after
 
 -- Nothing is used up and nothing sent; or one connection is made, and the request or a prefix of it is sent on it.
-abbrev pub AsksAtMostOnce :
-    List ℕ → Option (List (List ℕ)) → Option (List ℕ) → Option (List (List ℕ)) → Option (List ℕ) → Type 0
-AsksAtMostOnce request replies sent replies_after sent_after =
-    ((replies_after ≡ replies) × (sent_after ≡ sent)) ⊎ AsksPart request replies sent replies_after sent_after
+abbrev pub AsksAtMostOnce : (request : List ℕ) (replies history replies_after history_after : Option (List (List ℕ))) → Type 0
+AsksAtMostOnce request replies history replies_after history_after =
+    ((replies_after ≡ replies) × (history_after ≡ history)) ⊎ AsksPart request replies history replies_after history_after
 
 -- ---- what is read
 
@@ -65,15 +72,15 @@ IsRead (Some bytes) reading = IsReply bytes reading
 
 -- ---- the whole exchange
 
--- What contracts see of a peer: the replies to come, the bytes sent on its current connection, and its fault count.
+-- What contracts see of a peer: the replies to come, all that it was sent, a text for each connection, and its fault count.
 pub record PeerView : Type 0 where
   pub replies : Option (List (List ℕ))
-  pub sent : Option (List ℕ)
+  pub history : Option (List (List ℕ))
   pub faults : ℕ
 
--- a constructor of `PeerView`
-abbrev pub peer_view : Option (List (List ℕ)) → Option (List ℕ) → ℕ → PeerView
-peer_view replies sent faults = record { replies = replies; sent = sent; faults = faults }
+-- what contracts see of a peer in this state, with this fault count
+abbrev pub peer_view : PeerState → ℕ → PeerView
+peer_view peer faults = record { replies = peer.replies; history = history_of peer; faults = faults }
 
 -- what a request received: a reply, as it was parsed, or nothing if the peer failed
 abbrev pub ReplyOrFault : Type 0
@@ -83,10 +90,10 @@ ReplyOrFault = Option (Result Got BadReply)
 -- connection.
 abbrev pub Meets : ReplyOrFault → List ℕ → PeerView → PeerView → Type 0
 Meets (Some reading) request before after =
-    IsRead (option_map next_of before.replies) reading × Asks request before.replies before.sent after.replies after.sent
+    IsRead (option_map next_of before.replies) reading × Asks request before.replies before.history after.replies after.history
     × (after.faults ≡ before.faults)
 Meets None request before after =
-    AsksAtMostOnce request before.replies before.sent after.replies after.sent × Rose before.faults after.faults
+    AsksAtMostOnce request before.replies before.history after.replies after.history × Rose before.faults after.faults
 
 -- The causes of a call that makes at most one exchange: the peer's fault count rose if the result is `PeerFault`, and is unchanged
 -- otherwise.

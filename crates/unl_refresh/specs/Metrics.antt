@@ -1,6 +1,6 @@
 -- The outcome of sending metrics.
-use Rattle.std.specs.Prelude.{◌≡◌, ◌≢◌, ◌==◌, ◌||◌, ℕ, List, Option, Some, None, Result, Ok, Err, codes, if◌then◌else◌, ⊤}
-use Rattle.std.specs.Prelude.{IfOk, OnErr, OnOk, option_map}
+use Rattle.std.specs.Prelude.{◌≡◌, ◌≢◌, ◌==◌, ◌||◌, ℕ, List, Option, Some, None, Result, Ok, Err, codes, if◌then◌else◌}
+use Rattle.std.specs.Prelude.{IfOk, OnErr, OnOk, option_map, ⊤}
 use Rattle.serde_json.specs.Data.{Data}
 use Rattle.serde_json.specs.Written.{compact_text}
 use Rattle.unl_base.specs.Doors.{next_of}
@@ -45,17 +45,17 @@ SendsBulk (Some (report, count)) coming outcome = SendsKeys count coming outcome
 
 -- One connection is made, it uses up one reply, and the report is sent. If there is no report, the peer is unchanged.
 abbrev pub AsksBulk :
-    Option (Data × ℕ) → List ℕ → List ℕ → Option (List (List ℕ)) → Option (List ℕ) → Option (List (List ℕ)) → Option (List ℕ) → Type 0
-AsksBulk None host token replies sent replies_after sent_after = (replies_after ≡ replies) × (sent_after ≡ sent)
-AsksBulk (Some (report, count)) host token replies sent replies_after sent_after =
-    Asks (metrics_request host token report) replies sent replies_after sent_after
+    (found : Option (Data × ℕ)) (host token : List ℕ) (replies history replies_after history_after : Option (List (List ℕ))) → Type 0
+AsksBulk None host token replies history replies_after history_after = (replies_after ≡ replies) × (history_after ≡ history)
+AsksBulk (Some (report, count)) host token replies history replies_after history_after =
+    Asks (metrics_request host token report) replies history replies_after history_after
 
 -- As `AsksBulk`, but perhaps no connection is made, or only a prefix of the request is sent.
 abbrev pub AsksBulkAtMostOnce :
-    Option (Data × ℕ) → List ℕ → List ℕ → Option (List (List ℕ)) → Option (List ℕ) → Option (List (List ℕ)) → Option (List ℕ) → Type 0
-AsksBulkAtMostOnce None host token replies sent replies_after sent_after = (replies_after ≡ replies) × (sent_after ≡ sent)
-AsksBulkAtMostOnce (Some (report, count)) host token replies sent replies_after sent_after =
-    AsksAtMostOnce (metrics_request host token report) replies sent replies_after sent_after
+    (found : Option (Data × ℕ)) (host token : List ℕ) (replies history replies_after history_after : Option (List (List ℕ))) → Type 0
+AsksBulkAtMostOnce None host token replies history replies_after history_after = (replies_after ≡ replies) × (history_after ≡ history)
+AsksBulkAtMostOnce (Some (report, count)) host token replies history replies_after history_after =
+    AsksAtMostOnce (metrics_request host token report) replies history replies_after history_after
 
 -- the book after an outcome: the keys that were accepted are dropped
 abbrev pub book_after : List ℕ → MetricsOutcome → Book → Book
@@ -83,5 +83,5 @@ pub record SentMetrics
   pub book : IfOk result (λ outcome. after ≡ book_after environment outcome before)
   pub fault : OnErr result (after ≡ before)
   -- If there is something to send, one connection is made, and one request is sent on it; on an error perhaps none, or a prefix.
-  pub asks : OnOk result (AsksBulk (bulk environment before) host token peer.replies peer.sent peer_after.replies peer_after.sent)
-  pub once : AsksBulkAtMostOnce (bulk environment before) host token peer.replies peer.sent peer_after.replies peer_after.sent
+  pub asks : OnOk result (AsksBulk (bulk environment before) host token peer.replies peer.history peer_after.replies peer_after.history)
+  pub once : AsksBulkAtMostOnce (bulk environment before) host token peer.replies peer.history peer_after.replies peer_after.history

@@ -49,8 +49,8 @@ pub record RefreshedOnce (slot : ℕ) (before : RefreshState) (result : Result O
   pub same_ask : after.ask ≡ with_tag after.ask.tag before.ask
   pub next_tag : IsTrue (fits_if_any after.ask.tag)
   -- One connection is made, and one request is sent on it; on an error perhaps none, or a prefix of it.
-  pub asks : OnOk result (Asks (asked_by before.ask) before.peer.replies before.peer.sent after.peer.replies after.peer.sent)
-  pub once : AsksAtMostOnce (asked_by before.ask) before.peer.replies before.peer.sent after.peer.replies after.peer.sent
+  pub asks : OnOk result (Asks (asked_by before.ask) before.peer.replies before.peer.history after.peer.replies after.peer.history)
+  pub once : AsksAtMostOnce (asked_by before.ask) before.peer.replies before.peer.history after.peer.replies after.peer.history
 
 -- What a refresh of a slot makes of the peer's replies.
 pub record TakesNextReply (slot : ℕ) (before : RefreshState) (result : Result Outcome RefreshFault) (after : RefreshState) : Type 0 where

@@ -120,7 +120,7 @@ pub record Refreshes (slot : ℕ) (ask : Ask) (before : Installed) (coming : Opt
 
 -- ---- where the batches come from
 
--- Each batch that the bytes to come (any bytes, if they are not observable) bring to the place is sent from the line.
+-- Each batch that is read for the place from the bytes to come (any bytes, if they are not observable) is sent from the line.
 abbrev pub Brings : List Era → Sees → Bool → Place → Option (List ℕ) → Type 0
 Brings line sees delta place coming =
     (got : Got) (batch : TheBatch) → IsRead coming (Ok got) → got.status ≡ 200

@@ -67,5 +67,5 @@ pub record RefreshedTokens
   -- On an error nothing is applied.
   pub fault : OnErr result (after ≡ before)
   -- One connection is made, and one request is sent on it; on an error perhaps none, or a prefix of it.
-  pub asks : OnOk result (Asks (tokens_request texts host) peer.replies peer.sent peer_after.replies peer_after.sent)
-  pub once : AsksAtMostOnce (tokens_request texts host) peer.replies peer.sent peer_after.replies peer_after.sent
+  pub asks : OnOk result (Asks (tokens_request texts host) peer.replies peer.history peer_after.replies peer_after.history)
+  pub once : AsksAtMostOnce (tokens_request texts host) peer.replies peer.history peer_after.replies peer_after.history

@@ -52,7 +52,7 @@ pub record Stops (request : List ℕ) (tags_after : List (Option (List ℕ))) (b
   pub installed : after.installed ≡ before.installed
   pub tags : after.tags ≡ tags_after
   pub metrics : after.metrics ≡ before.metrics
-  pub once : AsksAtMostOnce request before.peer.replies before.peer.sent after.peer.replies after.peer.sent
+  pub once : AsksAtMostOnce request before.peer.replies before.peer.history after.peer.replies after.peer.history
   pub still : after.peer.faults ≡ before.peer.faults
 
 -- ---- the book
@@ -64,9 +64,9 @@ AppliesBook texts (Some reading) before after = (outcome : Outcome) × Installs 
 
 -- The server at this host was asked for the book of these texts.
 pub record TakesBook (texts : List (List ℕ)) (host : List ℕ) (before after : PollState) : Type 0 where
-  pub came : ReplyOrFault
-  pub meets : Meets came (tokens_request texts host) before.peer after.peer
-  pub applies : AppliesBook texts came before.installed after.installed
+  pub received : ReplyOrFault
+  pub meets : Meets received (tokens_request texts host) before.peer after.peer
+  pub applies : AppliesBook texts received before.installed after.installed
   pub tags : after.tags ≡ before.tags
   pub metrics : after.metrics ≡ before.metrics
 
@@ -96,10 +96,10 @@ tag_then slot delta tag before (Some reading) = (after_reading slot delta tag be
 
 -- One request was made for what is new in the slot, with this tag. The tags of the other slots stay.
 pub record TakesSlot (slot : ℕ) (parameters : SlotParameters) (tag : Option (List ℕ)) (before after : PollState) : Type 0 where
-  pub came : ReplyOrFault
-  pub meets : Meets came (slot_request parameters tag) before.peer after.peer
-  pub installed : after.installed ≡ installed_after slot parameters.delta tag before.installed came
-  pub tags : after.tags ≡ set before.tags slot (tag_then slot parameters.delta tag before.installed came)
+  pub received : ReplyOrFault
+  pub meets : Meets received (slot_request parameters tag) before.peer after.peer
+  pub installed : after.installed ≡ installed_after slot parameters.delta tag before.installed received
+  pub tags : after.tags ≡ set before.tags slot (tag_then slot parameters.delta tag before.installed received)
   pub metrics : after.metrics ≡ before.metrics
 
 -- Memory ran out in that request. The slot's next request has no tag.
@@ -115,9 +115,9 @@ metrics_after environment count (Some reading) book = book_after environment (se
 
 -- A report of `count` keys was sent to the slot's server, with its token.
 pub record SendsReport (report : Data) (count : ℕ) (parameters : SlotParameters) (before after : PollState) : Type 0 where
-  pub came : ReplyOrFault
-  pub meets : Meets came (metrics_request parameters.host parameters.token report) before.peer after.peer
-  pub metrics : after.metrics ≡ metrics_after parameters.environment count came before.metrics
+  pub received : ReplyOrFault
+  pub meets : Meets received (metrics_request parameters.host parameters.token report) before.peer after.peer
+  pub metrics : after.metrics ≡ metrics_after parameters.environment count received before.metrics
   pub installed : after.installed ≡ before.installed
   pub tags : after.tags ≡ before.tags
 

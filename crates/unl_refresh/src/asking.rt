@@ -27,7 +27,7 @@ pub(crate) fn refresh_book<I: Installer, P: Peer>(
     peer: &mut P,
 ) -> Result<(), Memory>
     requires { IsTrue (fits_line host.now) }
-    ensures goes { PublishesAtMostOnce (I.installed to.old) (I.installed to.new) }
+    ensures publishes_at_most_once { PublishesAtMostOnce (I.installed to.old) (I.installed to.new) }
     ensures asks { (I.installed to.old).front < 2 ^ 64 - 1 → OnOk result (Connects 1
         (P.state peer.old).replies (P.Source.faults peer.old) (P.state peer.new).replies (P.Source.faults peer.new)) }
     ensures connects { Connects 0
@@ -35,9 +35,9 @@ pub(crate) fn refresh_book<I: Installer, P: Peer>(
     ensures polls { (I.installed to.old).front < 2 ^ 64 - 1 → (tags : List (Option (List ℕ))) (metrics : Book)
         → ByResult result (TakesBook known.now host.now) (StopsAtBook known.now host.now)
         (poll_state (I.installed to.old) tags metrics
-        (peer_view (P.state peer.old).replies (P.Sink.sent peer.old) (P.Source.faults peer.old)))
+        (peer_view (P.state peer.old) (P.Source.faults peer.old)))
         (poll_state (I.installed to.new) tags metrics
-        (peer_view (P.state peer.new).replies (P.Sink.sent peer.new) (P.Source.faults peer.new))) }
+        (peer_view (P.state peer.new) (P.Source.faults peer.new))) }
 {
     if to.front() == u64::MAX {
         return Ok(());
@@ -55,7 +55,7 @@ fn refresh_slot<I: Installer, P: Peer>(
     peer: &mut P,
 ) -> Result<(), Memory>
     requires { slot < length (I.installed to.old).places }
-    ensures goes { PublishesAtMostOnce (I.installed to.old) (I.installed to.new) }
+    ensures publishes_at_most_once { PublishesAtMostOnce (I.installed to.old) (I.installed to.new) }
     ensures asks { (I.installed to.old).front < 2 ^ 64 - 1 → OnOk result (Connects 1
         (P.state peer.old).replies (P.Source.faults peer.old) (P.state peer.new).replies (P.Source.faults peer.new)) }
     ensures connects { Connects 0
@@ -64,9 +64,9 @@ fn refresh_slot<I: Installer, P: Peer>(
         → ByResult result (TakesSlot slot (parameters_of slot_poller.old) (tag_of slot_poller.old))
         (StopsRefreshing slot (parameters_of slot_poller.old) (tag_of slot_poller.old))
         (poll_state (I.installed to.old) tags metrics
-        (peer_view (P.state peer.old).replies (P.Sink.sent peer.old) (P.Source.faults peer.old)))
+        (peer_view (P.state peer.old) (P.Source.faults peer.old)))
         (poll_state (I.installed to.new) (set tags slot (tag_of slot_poller.new)) metrics
-        (peer_view (P.state peer.new).replies (P.Sink.sent peer.new) (P.Source.faults peer.new))) }
+        (peer_view (P.state peer.new) (P.Source.faults peer.new))) }
     ensures same { parameters_of slot_poller.new ≡ parameters_of slot_poller.old }
 {
     if to.front() == u64::MAX {
@@ -88,9 +88,9 @@ fn send_slot_metrics<P: Peer>(
     ensures sends { (installed : Installed) (tags : List (Option (List ℕ)))
         → ByResult result (SendsMetrics (parameters_of slot_poller.now)) (StopsSending (parameters_of slot_poller.now))
         (poll_state installed tags book.old
-        (peer_view (P.state peer.old).replies (P.Sink.sent peer.old) (P.Source.faults peer.old)))
+        (peer_view (P.state peer.old) (P.Source.faults peer.old)))
         (poll_state installed tags book.new
-        (peer_view (P.state peer.new).replies (P.Sink.sent peer.new) (P.Source.faults peer.new))) }
+        (peer_view (P.state peer.new) (P.Source.faults peer.new))) }
 {
     let environment = slot_poller.environment.as_str();
     let (token, host) = (
@@ -111,7 +111,7 @@ fn poll_slot<I: Installer, P: Peer>(
     peer: &mut P,
 ) -> Result<(), Memory>
     requires { slot < length (I.installed to.old).places }
-    ensures goes { PublishesAtMostOnce (I.installed to.old) (I.installed to.new) }
+    ensures publishes_at_most_once { PublishesAtMostOnce (I.installed to.old) (I.installed to.new) }
     ensures asks { (I.installed to.old).front < 2 ^ 64 - 1 → OnOk result (Connects 1
         (P.state peer.old).replies (P.Source.faults peer.old) (P.state peer.new).replies (P.Source.faults peer.new)) }
     ensures connects { Connects 0
@@ -120,9 +120,9 @@ fn poll_slot<I: Installer, P: Peer>(
         → tag_at tags slot ≡ tag_of slot_poller.old
         → ByResult result (PollsSlot slot (parameters_of slot_poller.old)) (StopsAtSlot slot (parameters_of slot_poller.old))
         (poll_state (I.installed to.old) tags book.old
-        (peer_view (P.state peer.old).replies (P.Sink.sent peer.old) (P.Source.faults peer.old)))
+        (peer_view (P.state peer.old) (P.Source.faults peer.old)))
         (poll_state (I.installed to.new) (set tags slot (tag_of slot_poller.new)) book.new
-        (peer_view (P.state peer.new).replies (P.Sink.sent peer.new) (P.Source.faults peer.new))) }
+        (peer_view (P.state peer.new) (P.Source.faults peer.new))) }
     ensures same { parameters_of slot_poller.new ≡ parameters_of slot_poller.old }
 {
     match refresh_slot(alloc, to, slot, slot_poller, peer) {
@@ -149,9 +149,9 @@ pub(crate) fn poll_slots<I: Installer, P: Peer>(
         → length slot_pollers.old ≤ length (I.installed to.old).places
         → ByResult result (PollsSlotsFrom 0 (map parameters_of slot_pollers.old)) (StopsFrom 0 (map parameters_of slot_pollers.old))
         (poll_state (I.installed to.old) (map tag_of slot_pollers.old) book.old
-        (peer_view (P.state peer.old).replies (P.Sink.sent peer.old) (P.Source.faults peer.old)))
+        (peer_view (P.state peer.old) (P.Source.faults peer.old)))
         (poll_state (I.installed to.new) (map tag_of slot_pollers.new) book.new
-        (peer_view (P.state peer.new).replies (P.Sink.sent peer.new) (P.Source.faults peer.new))) }
+        (peer_view (P.state peer.new) (P.Source.faults peer.new))) }
     ensures same { map parameters_of slot_pollers.new ≡ map parameters_of slot_pollers.old }
 {
     let count = to.slots().min(slot_pollers.len());

@@ -1,6 +1,7 @@
 //! One exchange with a peer: a connect, a request, and the reply to it.
 ghost use Rattle.std.specs.Prelude.{◌≡◌, ◌≢◌, ◌<◌, [], IfOk, IfErr, OnOk, IsTrue, length, option_map};
 ghost use Rattle.unl_base.specs.Doors.{next_of};
+ghost use Rattle.unl_base.specs.Peers.{history_of};
 ghost use Rattle.unl_http_api.specs.Received.{IsReply};
 ghost use Rattle.unl_http_api.specs.RequestText.{fits_if_any};
 ghost use Rattle.unl_refresh.specs.Exchange.{Asks, AsksAtMostOnce, HasPeerCause, HoldsEnough, IsRead, TakesPiece};
@@ -28,9 +29,9 @@ pub(crate) fn exchange<P: Peer>(
     ensures tag { IfOk result (λ reading. IfOk reading (λ got. IsTrue (fits_if_any got.tag))) }
     ensures named { IfOk result (λ reading. IfErr reading (λ e. e ≢ BadReply.Memory)) }
     ensures asks { OnOk result (Asks request.now
-        (P.state peer.old).replies (P.Sink.sent peer.old) (P.state peer.new).replies (P.Sink.sent peer.new)) }
+        (P.state peer.old).replies (history_of (P.state peer.old)) (P.state peer.new).replies (history_of (P.state peer.new))) }
     ensures once { AsksAtMostOnce request.now
-        (P.state peer.old).replies (P.Sink.sent peer.old) (P.state peer.new).replies (P.Sink.sent peer.new) }
+        (P.state peer.old).replies (history_of (P.state peer.old)) (P.state peer.new).replies (history_of (P.state peer.new)) }
     ensures causes { HasPeerCause result (P.Source.faults peer.old) (P.Source.faults peer.new) }
 {
     peer.connect()?;

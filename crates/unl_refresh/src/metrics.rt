@@ -4,6 +4,7 @@ ghost use Rattle.std.specs.Prelude.{option_map, false};
 ghost use Rattle.serde_json.specs.View.{view};
 ghost use Rattle.serde_json.specs.Written.{has_float};
 ghost use Rattle.unl_base.specs.Doors.{next_of};
+ghost use Rattle.unl_base.specs.Peers.{history_of};
 ghost use Rattle.unl_http_api.specs.declared.got.BadReply.{BadReply};
 ghost use Rattle.unl_http_api.specs.declared.got.Got.{Got};
 ghost use Rattle.unl_http_api.specs.Received.{IsReply};
@@ -42,9 +43,9 @@ pub fn send_metrics<P: Peer>(
 
     // What is sent, and what is dropped from the book.
     ensures leaves { SentMetrics environment.now host.now token.now book.old
-        (peer_view (P.state peer.old).replies (P.Sink.sent peer.old) (P.Source.faults peer.old))
+        (peer_view (P.state peer.old) (P.Source.faults peer.old))
         result book.new
-        (peer_view (P.state peer.new).replies (P.Sink.sent peer.new) (P.Source.faults peer.new)) }
+        (peer_view (P.state peer.new) (P.Source.faults peer.new)) }
 
     // If the peer's replies are observable, the reply is the next one of them.
     ensures next_reply { (list : List (List ℕ)) (reading : Result Got BadReply) → (P.state peer.old).replies ≡ Some list
@@ -72,9 +73,9 @@ fn send<P: Peer>(
     requires host { IsTrue (fits_line host.now) }
     requires token { IsTrue (fits_line token.now) }
     ensures leaves { SentMetrics environment.now host.now token.now book.old
-        (peer_view (P.state peer.old).replies (P.Sink.sent peer.old) (P.Source.faults peer.old))
+        (peer_view (P.state peer.old) (P.Source.faults peer.old))
         result book.new
-        (peer_view (P.state peer.new).replies (P.Sink.sent peer.new) (P.Source.faults peer.new)) }
+        (peer_view (P.state peer.new) (P.Source.faults peer.new)) }
     ensures silent { bulk_of environment.now book.old ≡ None → peer.new ≡ peer.old }
     ensures causes { HasPeerCause result (P.Source.faults peer.old) (P.Source.faults peer.new) }
 {
@@ -99,9 +100,9 @@ fn send_found<P: Peer>(
         (option_map next_of (P.state peer.old).replies)) }
     ensures named { IfOk result IsNamedMetrics }
     ensures asks { IfOk result (λ _. AsksBulk (option_map (λ sent. (view sent.0, sent.1)) found) host.now token.now
-        (P.state peer.old).replies (P.Sink.sent peer.old) (P.state peer.new).replies (P.Sink.sent peer.new)) }
+        (P.state peer.old).replies (history_of (P.state peer.old)) (P.state peer.new).replies (history_of (P.state peer.new))) }
     ensures once { AsksBulkAtMostOnce (option_map (λ sent. (view sent.0, sent.1)) found) host.now token.now
-        (P.state peer.old).replies (P.Sink.sent peer.old) (P.state peer.new).replies (P.Sink.sent peer.new) }
+        (P.state peer.old).replies (history_of (P.state peer.old)) (P.state peer.new).replies (history_of (P.state peer.new)) }
     ensures silent { found ≡ None → peer.new ≡ peer.old }
     ensures causes { HasPeerCause result (P.Source.faults peer.old) (P.Source.faults peer.new) }
 {

@@ -107,9 +107,9 @@ impl Poller {
             → ByResult result (MakesTurn self.old.known self.old.upstream self.old.slot_pollers)
             (StopsInTurn self.old.known self.old.upstream self.old.slot_pollers)
             (poll_state (I.installed to.old) self.old.tags self.old.metrics
-            (peer_view (P.state peer.old).replies (P.Sink.sent peer.old) (P.Source.faults peer.old)))
+            (peer_view (P.state peer.old) (P.Source.faults peer.old)))
             (poll_state (I.installed to.new) self.new.tags self.new.metrics
-            (peer_view (P.state peer.new).replies (P.Sink.sent peer.new) (P.Source.faults peer.new))) }
+            (peer_view (P.state peer.new) (P.Source.faults peer.new))) }
 
         // So one connection is made for the book and one for each slot, unless the peer failed.
         ensures asks { (I.installed to.old).front + self.old.slots + 1 < 2 ^ 64 - 1

@@ -36,25 +36,25 @@ pub fn refresh_once<I: Installer, P: Peer>(
     // What is applied, the next tag, and what is sent.
     ensures leaves { RefreshedOnce slot
         (refresh_state (I.installed to.old) ask.old
-        (peer_view (P.state peer.old).replies (P.Sink.sent peer.old) (P.Source.faults peer.old)))
+        (peer_view (P.state peer.old) (P.Source.faults peer.old)))
         result
         (refresh_state (I.installed to.new) ask.new
-        (peer_view (P.state peer.new).replies (P.Sink.sent peer.new) (P.Source.faults peer.new))) }
+        (peer_view (P.state peer.new) (P.Source.faults peer.new))) }
 
     // The next of the peer's replies determines the result, and is used up.
     ensures next_reply { TakesNextReply slot
         (refresh_state (I.installed to.old) ask.old
-        (peer_view (P.state peer.old).replies (P.Sink.sent peer.old) (P.Source.faults peer.old)))
+        (peer_view (P.state peer.old) (P.Source.faults peer.old)))
         result
         (refresh_state (I.installed to.new) ask.new
-        (peer_view (P.state peer.new).replies (P.Sink.sent peer.new) (P.Source.faults peer.new))) }
+        (peer_view (P.state peer.new) (P.Source.faults peer.new))) }
 
     // If the server sends batches from a line of histories, the slot has one revision of that line.
     ensures delivery { Delivers slot
         (refresh_state (I.installed to.old) ask.old
-        (peer_view (P.state peer.old).replies (P.Sink.sent peer.old) (P.Source.faults peer.old)))
+        (peer_view (P.state peer.old) (P.Source.faults peer.old)))
         (refresh_state (I.installed to.new) ask.new
-        (peer_view (P.state peer.new).replies (P.Sink.sent peer.new) (P.Source.faults peer.new))) }
+        (peer_view (P.state peer.new) (P.Source.faults peer.new))) }
 
     // `PeerFault` is returned only if the peer's fault count rose, and otherwise it didn't change.
     ensures causes { HasPeerCause result (P.Source.faults peer.old) (P.Source.faults peer.new) }
@@ -77,10 +77,10 @@ fn refresh<I: Installer, P: Peer>(
     requires tag { IsTrue (fits_if_any ask.old.tag) }
     ensures leaves { RefreshedOnce slot
         (refresh_state (I.installed to.old) ask.old
-        (peer_view (P.state peer.old).replies (P.Sink.sent peer.old) (P.Source.faults peer.old)))
+        (peer_view (P.state peer.old) (P.Source.faults peer.old)))
         result
         (refresh_state (I.installed to.new) ask.new
-        (peer_view (P.state peer.new).replies (P.Sink.sent peer.new) (P.Source.faults peer.new))) }
+        (peer_view (P.state peer.new) (P.Source.faults peer.new))) }
     ensures causes { HasPeerCause result (P.Source.faults peer.old) (P.Source.faults peer.new) }
 {
     let tag = ask.tag.take();

@@ -19,7 +19,8 @@ pub(crate) fn slot_pollers(
     requires tokens { All (λ token. IsTrue (fits_line token)) tokens.now }
     requires environments { length environments.now ≡ length tokens.now }
     ensures count { IfOk result (λ slot_pollers. length slot_pollers.items ≡ length tokens.now) }
-    ensures made { IfOk result (λ slot_pollers. map parameters_of slot_pollers.items ≡ slot_parameters host.now delta tokens.now environments.now) }
+    ensures parameters { IfOk result (λ slot_pollers. map parameters_of slot_pollers.items
+        ≡ slot_parameters host.now delta tokens.now environments.now) }
     ensures tags { IfOk result (λ slot_pollers. map tag_of slot_pollers.items ≡ no_tags tokens.now) }
 {
     pollers_of(
@@ -43,7 +44,8 @@ fn pollers_of(
     requires tokens { All (λ token. IsTrue (fits_line token)) tokens.now }
     requires environments { length environments.now ≡ length tokens.now }
     ensures count { IfOk result (λ slot_pollers. length slot_pollers.items ≡ length tokens.now) }
-    ensures made { IfOk result (λ slot_pollers. map parameters_of slot_pollers.items ≡ slot_parameters host.now delta tokens.now environments.now) }
+    ensures parameters { IfOk result (λ slot_pollers. map parameters_of slot_pollers.items
+        ≡ slot_parameters host.now delta tokens.now environments.now) }
     ensures tags { IfOk result (λ slot_pollers. map tag_of slot_pollers.items ≡ no_tags tokens.now) }
 {
     let mut slot_pollers = Vec::new(alloc);

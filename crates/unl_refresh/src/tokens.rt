@@ -40,9 +40,9 @@ pub fn refresh_tokens<I: Installer, P: Peer>(
 
     // What is applied and what is sent.
     ensures leaves { RefreshedTokens texts.now host.now (I.installed to.old)
-        (peer_view (P.state peer.old).replies (P.Sink.sent peer.old) (P.Source.faults peer.old))
+        (peer_view (P.state peer.old) (P.Source.faults peer.old))
         result (I.installed to.new)
-        (peer_view (P.state peer.new).replies (P.Sink.sent peer.new) (P.Source.faults peer.new)) }
+        (peer_view (P.state peer.new) (P.Source.faults peer.new)) }
 
     // If the peer's replies are observable, the reply is the next one of them.
     ensures next_reply { (list : List (List ℕ)) (reading : Result Got BadReply) → (P.state peer.old).replies ≡ Some list
@@ -70,9 +70,9 @@ fn refresh<I: Installer, P: Peer>(
     requires front { (I.installed to.old).front < 2 ^ 64 - 1 }
     requires host { IsTrue (fits_line host.now) }
     ensures leaves { RefreshedTokens texts.now host.now (I.installed to.old)
-        (peer_view (P.state peer.old).replies (P.Sink.sent peer.old) (P.Source.faults peer.old))
+        (peer_view (P.state peer.old) (P.Source.faults peer.old))
         result (I.installed to.new)
-        (peer_view (P.state peer.new).replies (P.Sink.sent peer.new) (P.Source.faults peer.new)) }
+        (peer_view (P.state peer.new) (P.Source.faults peer.new)) }
     ensures causes { HasPeerCause result (P.Source.faults peer.old) (P.Source.faults peer.new) }
 {
     let request = request_of(alloc, texts, host)?;

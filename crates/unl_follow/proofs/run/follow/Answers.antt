@@ -35,27 +35,27 @@ pub loop-made-preserved : goal.loop-made-preserved
 loop-made-preserved g c =
     let so_far = c.loop-made.invariant in
     let turn = c.in-Ok.ensures in
-    let paces = c.if-not-goes_on.ensures in
+    let paces = c.if-not-has_next_turn.ensures in
     record {
       reached = Reached_next _ _ so_far.same _ _ _ _ _ _ _ so_far.reached turn.turn;
-      paced = went_on _ _ _ _ so_far.paced paces.first paces.takes paces.told;
+      paced = went_on _ _ _ _ so_far.paced paces.first paces.takes paces.observable;
       front = omega (arith, so_far.front, turn.next_front);
       same = turn.same_ask ∙ ap (λ (a : Ask). with_tag c.turn.new.ask.tag a) so_far.same;
       tag = turn.next_tag;
       later = omega (arith, so_far.later, turn.later);
     }
 
-pub returns-then-not-goes_on-clause-runs : goal.returns-then-not-goes_on-clause-runs
-returns-then-not-goes_on-clause-runs g c =
+pub returns-then-not-has_next_turn-clause-runs : goal.returns-then-not-has_next_turn-clause-runs
+returns-then-not-has_next_turn-clause-runs g c =
     let so_far = c.loop-made.invariant in
-    let paces = c.if-not-goes_on.ensures in (
+    let paces = c.if-not-has_next_turn.ensures in (
       so_far.reached.turns,
-      stopped _ _ _ _ _ _ so_far.paced so_far.reached.many c.loop-made-test.true paces.first paces.told paces.unobservable,
+      stopped _ _ _ _ _ _ so_far.paced so_far.reached.many c.loop-made-test.true paces.first paces.observable paces.unobservable,
       so_far.reached.follows,
     )
 
-pub returns-then-not-goes_on-clause-later : goal.returns-then-not-goes_on-clause-later
-returns-then-not-goes_on-clause-later g c = c.loop-made.invariant.later
+pub returns-then-not-has_next_turn-clause-later : goal.returns-then-not-has_next_turn-clause-later
+returns-then-not-has_next_turn-clause-later g c = c.loop-made.invariant.later
 
 pub returns-in-Err-clause-runs : goal.returns-in-Err-clause-runs
 returns-in-Err-clause-runs g c =

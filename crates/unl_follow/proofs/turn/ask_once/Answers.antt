@@ -1,5 +1,4 @@
 use Rattle.std.proofs.Common.{Err, ap}
-use Rattle.unl_base.specs.Peers.{PeerState}
 use Rattle.unl_follow.proofs.Asking.{parted, replied}
 use Rattle.unl_follow.proofs.turn.ask_once.Goals as goal
 
@@ -7,17 +6,15 @@ pub returns-in-Ok-clause-asks : goal.returns-in-Ok-clause-asks
 returns-in-Ok-clause-asks g c =
     let leaves = c.in-Ok.ensures.leaves in
     let causes = c.in-Ok.ensures.causes in
-    replied c.args.ask.now c.args.replica.now c.follow_once.new.replica c.follow_once.new.ask.tag c.in-Ok.outcome _ _ _ _ _ _
-    (ap (λ (p : PeerState). p.sent) (g.met.P.Peer.writes c.args.peer.now))
-    (ap (λ (p : PeerState). p.sent) (g.met.P.Peer.writes c.follow_once.new.peer))
+    replied c.args.ask.now c.args.replica.now c.follow_once.new.replica c.follow_once.new.ask.tag c.in-Ok.outcome
+    (g.P.Peer.state c.args.peer.now) (g.P.Peer.state c.follow_once.new.peer) _ _
     leaves.takes leaves.asks causes.still
 
 pub returns-in-Err-PeerFault-clause-asks : goal.returns-in-Err-PeerFault-clause-asks
 returns-in-Err-PeerFault-clause-asks g c =
     let leaves = c.in-Err-PeerFault.ensures.leaves in
     let causes = c.in-Err-PeerFault.ensures.causes in
-    parted c.args.ask.now c.args.replica.now c.follow_once.new.replica c.follow_once.new.ask.tag _ _ _ _ _ _
-    (ap (λ (p : PeerState). p.sent) (g.met.P.Peer.writes c.args.peer.now))
-    (ap (λ (p : PeerState). p.sent) (g.met.P.Peer.writes c.follow_once.new.peer))
+    parted c.args.ask.now c.args.replica.now c.follow_once.new.replica c.follow_once.new.ask.tag
+    (g.P.Peer.state c.args.peer.now) (g.P.Peer.state c.follow_once.new.peer) _ _
     c.in-Err-PeerFault.ensures.fault leaves.no_tag leaves.once
     (causes.cause (ap Err c.in-Err-PeerFault.field-0-is))

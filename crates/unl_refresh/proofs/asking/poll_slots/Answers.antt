@@ -26,10 +26,10 @@ returns-in-Err-clause-polls g c room slots =
 
 pub loop-slot-preserved : goal.loop-slot-preserved
 loop-slot-preserved g c =
-    let front = c.in-Ok.ensures.goes.front in
+    let front = c.in-Ok.ensures.publishes_at_most_once.front in
     let inside : c.loop-slot.slot < length c.loop-slot.slot_pollers = omega (arith, c.loop-slot.invariant.size, c.loop-slot-test.true, c.min-count.ensures) in
     record {
-      places = c.in-Ok.ensures.goes.places ∙ c.loop-slot.invariant.places;
+      places = c.in-Ok.ensures.publishes_at_most_once.places ∙ c.loop-slot.invariant.places;
       front = omega (arith, c.loop-slot.invariant.front, front);
       size = length-set c.loop-slot.slot_pollers c.loop-slot.slot c.poll_slot.new.slot_poller ∙ c.loop-slot.invariant.size;
       same = map-set_same parameters_of c.loop-slot.slot_pollers c.loop-slot.slot c.poll_slot.new.slot_poller c.index-slot_pollers-slot.result

@@ -19,16 +19,16 @@ invariant-loop-slot g l = record {
       → (last : PollState)
       → PollsSlotsFrom l.slot (drop l.slot (map parameters_of l.initial.slot_pollers))
       (poll_state (g.I.Installer.installed l.to) (map tag_of l.slot_pollers) l.book
-      (peer_view (g.P.Peer.state l.peer).replies (g.P.Sink.sent l.peer) (g.P.Source.faults l.peer))) last
+      (peer_view (g.P.Peer.state l.peer) (g.P.Source.faults l.peer))) last
       → PollsSlotsFrom 0 (map parameters_of l.initial.slot_pollers)
       (poll_state (g.I.Installer.installed l.initial.to) (map tag_of l.initial.slot_pollers) l.initial.book
-      (peer_view (g.P.Peer.state l.initial.peer).replies (g.P.Sink.sent l.initial.peer) (g.P.Source.faults l.initial.peer))) last;
+      (peer_view (g.P.Peer.state l.initial.peer) (g.P.Source.faults l.initial.peer))) last;
   stops : (g.I.Installer.installed l.initial.to).front + length l.initial.slot_pollers < 2 ^ 64 - 1
       → (last : PollState)
       → StopsFrom l.slot (drop l.slot (map parameters_of l.initial.slot_pollers))
       (poll_state (g.I.Installer.installed l.to) (map tag_of l.slot_pollers) l.book
-      (peer_view (g.P.Peer.state l.peer).replies (g.P.Sink.sent l.peer) (g.P.Source.faults l.peer))) last
+      (peer_view (g.P.Peer.state l.peer) (g.P.Source.faults l.peer))) last
       → StopsFrom 0 (map parameters_of l.initial.slot_pollers)
       (poll_state (g.I.Installer.installed l.initial.to) (map tag_of l.initial.slot_pollers) l.initial.book
-      (peer_view (g.P.Peer.state l.initial.peer).replies (g.P.Sink.sent l.initial.peer) (g.P.Source.faults l.initial.peer))) last;
+      (peer_view (g.P.Peer.state l.initial.peer) (g.P.Source.faults l.initial.peer))) last;
 }

@@ -1,4 +1,4 @@
-use Rattle.unl_refresh.proofs.Connecting.{asked_once, book_told, none_or_one}
+use Rattle.unl_refresh.proofs.Connecting.{asked_once, book_result_at_most_once, none_or_one}
 use Rattle.unl_refresh.proofs.TurnsTaken.{book_polled}
 use Rattle.unl_refresh.proofs.asking.refresh_book.Goals as goal
 
@@ -14,9 +14,9 @@ returns-clause-connects g c =
     let causes = c.refresh_tokens-kept.ensures.causes in
     none_or_one leaves.once causes.later
 
-pub returns-clause-goes : goal.returns-clause-goes
-returns-clause-goes g c =
-    let leaves = c.refresh_tokens-kept.ensures.leaves in book_told _ _ c.refresh_tokens-kept.result leaves.takes leaves.fault
+pub returns-clause-publishes_at_most_once : goal.returns-clause-publishes_at_most_once
+returns-clause-publishes_at_most_once g c =
+    let leaves = c.refresh_tokens-kept.ensures.leaves in book_result_at_most_once _ _ c.refresh_tokens-kept.result leaves.takes leaves.fault
 
 pub returns-clause-polls : goal.returns-clause-polls
 returns-clause-polls g c room tags metrics =

@@ -1,4 +1,4 @@
-use Rattle.unl_refresh.proofs.Connecting.{asked_once, none_or_one, slot_told}
+use Rattle.unl_refresh.proofs.Connecting.{asked_once, none_or_one, slot_result_at_most_once}
 use Rattle.unl_refresh.proofs.TurnsTaken.{slot_refreshed}
 use Rattle.unl_refresh.proofs.asking.refresh_slot.Goals as goal
 
@@ -14,9 +14,9 @@ returns-clause-connects g c =
     let causes = c.refresh_once-refreshed.ensures.causes in
     none_or_one leaves.once causes.later
 
-pub returns-clause-goes : goal.returns-clause-goes
-returns-clause-goes g c =
-    let leaves = c.refresh_once-refreshed.ensures.leaves in slot_told _ _ _ _ c.refresh_once-refreshed.result leaves.takes leaves.fault
+pub returns-clause-publishes_at_most_once : goal.returns-clause-publishes_at_most_once
+returns-clause-publishes_at_most_once g c =
+    let leaves = c.refresh_once-refreshed.ensures.leaves in slot_result_at_most_once _ _ _ _ c.refresh_once-refreshed.result leaves.takes leaves.fault
 
 pub returns-clause-polls : goal.returns-clause-polls
 returns-clause-polls g c room tags metrics =

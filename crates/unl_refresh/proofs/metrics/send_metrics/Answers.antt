@@ -1,6 +1,6 @@
-use Rattle.unl_refresh.proofs.Telling.{sent_told}
+use Rattle.unl_refresh.proofs.NextReply.{outcome_by_reply}
 use Rattle.unl_refresh.proofs.metrics.send_metrics.Goals as goal
 
 pub returns-clause-next_reply : goal.returns-clause-next_reply
 returns-clause-next_reply g c list reading told is =
-    let leaves = c.send.ensures.leaves in sent_told _ _ _ list reading leaves.sends told is
+    let leaves = c.send.ensures.leaves in outcome_by_reply _ _ _ list reading leaves.sends told is

@@ -1,5 +1,5 @@
 use Rattle.unl_refresh.proofs.Leaving.{delivered}
-use Rattle.unl_refresh.proofs.Telling.{applies, completes, refreshed_told, takes_one}
+use Rattle.unl_refresh.proofs.NextReply.{applies, completes, refreshed_by_reply, takes_one}
 use Rattle.unl_refresh.proofs.refreshing.refresh_once.Goals as goal
 
 pub returns-clause-next_reply : goal.returns-clause-next_reply
@@ -7,9 +7,9 @@ returns-clause-next_reply g c =
     let leaves = c.refresh.ensures.leaves in
     let causes = c.refresh.ensures.causes in
     record {
-      next_reply = λ list reading told is. refreshed_told _ _ _ _ _ _ _ list reading leaves.takes told is;
+      next_reply = λ list reading told is. refreshed_by_reply _ _ _ _ _ _ _ list reading leaves.takes told is;
       complete = λ list got batch told is status batch_is verdict calm found.
-          completes _ _ _ _ _ _ (refreshed_told _ _ _ _ _ _ _ list _ leaves.takes told is)
+          completes _ _ _ _ _ _ (refreshed_by_reply _ _ _ _ _ _ _ list _ leaves.takes told is)
           (applies _ _ _ _ got batch status batch_is verdict) causes.cause calm found;
       one_reply = λ calm found. takes_one _ _ _ _ _ _ _ leaves.asks causes.cause calm found;
     }

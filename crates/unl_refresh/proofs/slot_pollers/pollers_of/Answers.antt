@@ -15,8 +15,8 @@ loop-place-preserved c =
           c.loop-place-test.true (ap (λ (a : Ask). a.tag) c.in_ok-poller_with.ensures.ask) c.in_ok-push.ensures.items c.loop-place.invariant.tags;
     }
 
-pub returns-clause-made : goal.returns-clause-made
-returns-clause-made c =
+pub returns-clause-parameters : goal.returns-clause-parameters
+returns-clause-parameters c =
     all_fed c.args.host.now c.args.delta c.args.tokens.now c.args.environments.now c.loop-place.place _ c.loop-place-test.false
     c.loop-place.invariant.made
 

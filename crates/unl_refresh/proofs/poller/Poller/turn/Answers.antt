@@ -7,8 +7,8 @@ use Rattle.unl_refresh.proofs.poller.Poller.turn.Goals as goal
 
 pub returns-in-Ok-clause-asks : goal.returns-in-Ok-clause-asks
 returns-in-Ok-clause-asks g c room slots =
-    let front = c.in-Ok.ensures.goes.front in
-    let places = c.in-Ok.ensures.goes.places in
+    let front = c.in-Ok.ensures.publishes_at_most_once.front in
+    let places = c.in-Ok.ensures.publishes_at_most_once.places in
     let many : length c.self.inside.slot_pollers.items ≡ c.args.self.now.slots = ap (λ (d : Duty). d.slots) c.self.view_is in
     one_and_more _ _ _ c.poll_slots.result (omega (arith, many, c.deref_mut.ensures.len)) (c.in-Ok.ensures.asks (omega (arith, room)))
     (c.poll_slots.ensures.asks (omega (arith, room, front, many, c.deref_mut.ensures.len))
@@ -19,8 +19,8 @@ returns-in-Ok-clause-connects g c = connects_both c.in-Ok.ensures.connects c.pol
 
 pub returns-in-Ok-clause-polls : goal.returns-in-Ok-clause-polls
 returns-in-Ok-clause-polls g c room slots =
-    let front = c.in-Ok.ensures.goes.front in
-    let places = c.in-Ok.ensures.goes.places in
+    let front = c.in-Ok.ensures.publishes_at_most_once.front in
+    let places = c.in-Ok.ensures.publishes_at_most_once.places in
     let many : length c.self.inside.slot_pollers.items ≡ c.args.self.now.slots = ap (λ (d : Duty). d.slots) c.self.view_is in
     let count = many_left _ c.self.inside.slot_pollers.items c.poll_slots.new.slot_pollers c.deref_mut.ensures.value c.poll_slots.ensures.same in
     turn_left c.poll_slots.result c.args.self.now _ _ _ _ _ c.self.inside.slot_pollers.len c.poll_slots.new.slot_pollers _

@@ -26,26 +26,26 @@ use Rattle.unl_refresh.proofs.Receiving.{same_reading}
 
 -- Unless the peer failed or memory ran out, exactly one reply is used up.
 pub takes_one : {T : Type 0} (result : Result T RefreshFault) (request : List ℕ) (replies after : Option (List (List ℕ)))
-    (sent sent_after : Option (List ℕ)) (Rises : Type 0)
-    → OnOk result (Asks request replies sent after sent_after) → (result ≡ Err PeerFault → Rises) → ¬ Rises
+    (history history_after : Option (List (List ℕ))) (Rises : Type 0)
+    → OnOk result (Asks request replies history after history_after) → (result ≡ Err PeerFault → Rises) → ¬ Rises
     → result ≢ Err Memory → after ≡ option_map (λ list. drop 1 list) replies
-takes_one (Ok x) request replies after sent sent_after Rises asks cause calm found = asks.one_reply
-takes_one (Err PeerFault) request replies after sent sent_after Rises asks cause calm found = absurd (calm (cause refl))
-takes_one (Err Memory) request replies after sent sent_after Rises asks cause calm found = absurd (found refl)
+takes_one (Ok x) request replies after history history_after Rises asks cause calm found = asks.one_reply
+takes_one (Err PeerFault) request replies after history history_after Rises asks cause calm found = absurd (calm (cause refl))
+takes_one (Err Memory) request replies after history history_after Rises asks cause calm found = absurd (found refl)
 
 -- ---- a slot
 
-pub refreshed_told : (result : Result Outcome RefreshFault) (slot : ℕ) (ask : Ask) (before after : Installed)
+pub refreshed_by_reply : (result : Result Outcome RefreshFault) (slot : ℕ) (ask : Ask) (before after : Installed)
     (tag : Option (List ℕ)) (replies : Option (List (List ℕ))) (list : List (List ℕ)) (reading : Result Got BadReply)
     → IfOk result (λ outcome. Refreshes slot ask before (option_map next_of replies)
     (record { outcome = outcome; installed = after; tag = tag }))
     → replies ≡ Some list → IsReply (next_of list) reading
     → IfOk result (λ outcome. record { outcome = outcome; installed = after; tag = tag }
     ≡ after_reading slot ask.delta ask.tag before reading)
-refreshed_told (Ok outcome) slot ask before after tag replies list reading takes told is =
+refreshed_by_reply (Ok outcome) slot ask before after tag replies list reading takes observed is =
     takes.gives
-    ∙ ap (after_reading slot ask.delta ask.tag before) (same_reading replies list takes.reading reading takes.is_read told is)
-refreshed_told (Err fault) slot ask before after tag replies list reading takes told is = _
+    ∙ ap (after_reading slot ask.delta ask.tag before) (same_reading replies list takes.reading reading takes.is_read observed is)
+refreshed_by_reply (Err fault) slot ask before after tag replies list reading takes observed is = _
 
 -- A batch that applies is published.
 pub applies : (slot : ℕ) (delta : Bool) (tag : Option (List ℕ)) (before : Installed) (got : Got) (batch : Batch)
@@ -73,23 +73,23 @@ completes (Err Memory) given wanted after tag Rises is same cause calm found = a
 
 -- ---- a book
 
-pub installed_told : (result : Result Outcome RefreshFault) (texts : List (List ℕ)) (before after : Installed)
+pub installed_by_reply : (result : Result Outcome RefreshFault) (texts : List (List ℕ)) (before after : Installed)
     (replies : Option (List (List ℕ))) (list : List (List ℕ)) (reading : Result Got BadReply)
     → IfOk result (λ outcome. RefreshesTokens texts before (option_map next_of replies) outcome after)
     → replies ≡ Some list → IsReply (next_of list) reading
     → IfOk result (λ outcome. Installs (book_in_reply texts reading) before outcome after)
-installed_told (Ok outcome) texts before after replies list reading takes told is =
+installed_by_reply (Ok outcome) texts before after replies list reading takes observed is =
     subst (λ (r : Result Got BadReply). Installs (book_in_reply texts r) before outcome after)
-    (same_reading replies list takes.reading reading takes.is_read told is) takes.installs
-installed_told (Err fault) texts before after replies list reading takes told is = _
+    (same_reading replies list takes.reading reading takes.is_read observed is) takes.installs
+installed_by_reply (Err fault) texts before after replies list reading takes observed is = _
 
 -- ---- metrics
 
-pub sent_told : (result : Result MetricsOutcome RefreshFault) (found : Option (Data × ℕ))
+pub outcome_by_reply : (result : Result MetricsOutcome RefreshFault) (found : Option (Data × ℕ))
     (replies : Option (List (List ℕ))) (list : List (List ℕ)) (reading : Result Got BadReply)
     → IfOk result (SendsBulk found (option_map next_of replies))
     → replies ≡ Some list → IsReply (next_of list) reading → IfOk result (OutcomeFromReply found reading)
-sent_told (Ok outcome) None replies list reading sends told is = sends
-sent_told (Ok outcome) (Some (report, count)) replies list reading sends told is =
-    sends.gives ∙ ap (sent_by count) (same_reading replies list sends.reading reading sends.is_read told is)
-sent_told (Err fault) found replies list reading sends told is = _
+outcome_by_reply (Ok outcome) None replies list reading sends observed is = sends
+outcome_by_reply (Ok outcome) (Some (report, count)) replies list reading sends observed is =
+    sends.gives ∙ ap (sent_by count) (same_reading replies list sends.reading reading sends.is_read observed is)
+outcome_by_reply (Err fault) found replies list reading sends observed is = _
