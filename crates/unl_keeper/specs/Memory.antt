@@ -1,9 +1,10 @@
 -- The model of a keeper and of a maker in memory, as contracts see them.
 use Rattle.std.specs.Prelude.{◌≡◌, Result, Ok, Err, None, Some, IsSome, true, false, [], ◌∷◌, ℕ, ◌+◌, ◌-◌, ◌^◌, ◌==◌, min, Bool, List}
-use Rattle.std.specs.Prelude.{Option, option_map, unwrap_or, is_some, find, if◌then◌else◌, ◌++◌, option_to_list}
+use Rattle.std.specs.Prelude.{Option, option_map, unwrap_or, is_some, find, if◌then◌else◌, ◌++◌, length, option_to_list}
 use Rattle.unl_keeper.specs.declared.refusal.KeepRefusal.{KeepRefusal}
 use Rattle.unl_keeper.specs.declared.refusal.KeepRefusal.TheVariants.{Fault, Memory}
 use Rattle.unl_keeper.specs.declared.memory_keeper.KeepFail.{KeepFail}
+use Rattle.unl_keeper.specs.State.{KeeperState, MakerState}
 
 -- the calls that are to fail, the number of calls so far, and the number of failed ones
 pub record Counting : Type 0 where
@@ -42,6 +43,15 @@ new_keeping failing = record { opened = false; kept = []; past = None; counting 
 abbrev pub rows_of : MemoryKeeperState → List (List ℕ)
 rows_of keeping = keeping.kept ++ option_to_list keeping.past
 
+-- its state as a keeper, whose rows are observable
+abbrev pub memory_state : MemoryKeeperState → KeeperState
+memory_state keeping = record {
+  opened = keeping.opened;
+  faults = keeping.counting.faults;
+  count = length keeping.kept;
+  rows = Some (rows_of keeping);
+}
+
 -- the keeper after a successful `open`: the row that a failed put left is kept too
 abbrev pub opened_keeping : MemoryKeeperState → MemoryKeeperState
 opened_keeping keeping = record { opened = true; kept = rows_of keeping; past = None; counting = after_call keeping.counting }
@@ -69,12 +79,17 @@ left_keeping text keeping = record {
 }
 
 -- How a call ends: success if the call is not listed as failing, `Fault` if it is. After `Memory` nothing has changed.
-abbrev pub CallOutcome : {T : Type 0} → MemoryKeeperState → MemoryKeeperState → MemoryKeeperState → MemoryKeeperState → Result T KeepRefusal → Type 0
+abbrev pub CallOutcome :
+    {T : Type 0} → MemoryKeeperState → MemoryKeeperState → MemoryKeeperState → MemoryKeeperState → Result T KeepRefusal → Type 0
 CallOutcome well failed old new (Ok answer) = (planned_failure old.counting.failing old.counting.calls ≡ None) × (new ≡ well)
 CallOutcome well failed old new (Err Fault) = IsSome (planned_failure old.counting.failing old.counting.calls) × (new ≡ failed)
 CallOutcome well failed old new (Err Memory) = new ≡ old
 
 -- a maker: the rows kept by the keeper that was returned last, and how many returned keepers had failed
-pub record Making : Type 0 where
+pub record MemoryMakerState : Type 0 where
   pub held : List (List ℕ)
   pub faults : ℕ
+
+-- its state as a maker, which holds observable rows
+abbrev pub memory_maker_state : MemoryMakerState → MakerState
+memory_maker_state maker = record { held = Some maker.held; faults = maker.faults }

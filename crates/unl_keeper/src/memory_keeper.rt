@@ -2,9 +2,9 @@
 ghost use Rattle.std.specs.Prelude.{◌<◌, true, ◌+◌, ◌≡◌, [], ◌∷◌, ◌++◌, ◌-◌, ◌≤◌, None, Some, false, length, slice_get, IfOk, IfErr};
 ghost use Rattle.std.specs.Prelude.{OnOk, is_some, if◌then◌else◌};
 ghost use Rattle.unl_keeper.specs.Faults.{HasCause, HasRisen};
-ghost use Rattle.unl_keeper.specs.Rows.{IsSameAtMemory, Leaves, with_row};
-ghost use Rattle.unl_keeper.specs.Memory.{CallOutcome, after_call, left_keeping, planned_failure, new_keeping, opened_keeping, put_keeping, read_keeping};
-ghost use Rattle.unl_keeper.specs.Memory.{rows_of};
+ghost use Rattle.unl_keeper.specs.Memory.{CallOutcome, after_call, left_keeping, memory_state, new_keeping, opened_keeping};
+ghost use Rattle.unl_keeper.specs.Memory.{planned_failure, put_keeping, read_keeping, rows_of};
+ghost use Rattle.unl_keeper.specs.State.{Opens, PutsRow, ReadsRow};
 ghost use Rattle.std.proofs.Common.{rules, length-append};
 
 use crate::keeper::Keeper;
@@ -170,21 +170,11 @@ fn row_at(alloc: Global, rows: &[Text], place: u64) -> Result<Option<Text>, Keep
 }
 
 impl Keeper for MemoryKeeper {
-    ghost opened = { λ k. k.opened };
-
-    ghost faults = { λ k. k.counting.faults };
-
-    ghost count = { λ k. length k.kept };
-
-    ghost rows = { λ k. Some (rows_of k) };
+    ghost state = { memory_state };
 
     /// Fails with `Fault` exactly if this call is listed as failing.
     fn open(&mut self, _alloc: Global) -> Result<u64, KeepRefusal>
-        ensures opens { IfOk result (λ n. (self.new.opened ≡ true) × (n ≡ length self.new.kept) × (n ≡ length (rows_of self.new))) }
-        ensures stays { self.old.opened ≡ true → self.new.opened ≡ true }
-        ensures same_rows { Some (rows_of self.new) ≡ Some (rows_of self.old) }
-        ensures refused { IfErr result
-            (λ e. (length self.new.kept ≡ length self.old.kept) × IsSameAtMemory self.old.opened self.new.opened e) }
+        ensures opens { Opens (memory_state self.old) result (memory_state self.new) }
         ensures cause { HasCause self.old.counting.faults self.new.counting.faults result }
         ensures exact { CallOutcome (opened_keeping self.old) (read_keeping self.old) self.old self.new result }
     {
@@ -204,14 +194,8 @@ impl Keeper for MemoryKeeper {
 
     /// Fails with `Fault` exactly if this call is listed as failing.
     fn put(&mut self, alloc: Global, text: &Text) -> Result<(), KeepRefusal>
-        requires opened { self.old.opened ≡ true }
-        requires room { length self.old.kept < 10000000 }
-        ensures stays { self.new.opened ≡ true }
-        ensures written { OnOk result ((length self.new.kept ≡ length self.old.kept + 1)
-            × (Some (rows_of self.new) ≡ with_row (length self.old.kept) text.now (Some (rows_of self.old)))) }
-        ensures refused { IfErr result (λ e. (length self.new.kept ≡ length self.old.kept)
-            × Leaves (length self.old.kept) text.now (Some (rows_of self.old)) (Some (rows_of self.new)) e) }
-        ensures cause { HasCause self.old.counting.faults self.new.counting.faults result }
+        requires { self.old.opened ≡ true }
+        ensures puts { PutsRow text.now (memory_state self.old) result (memory_state self.new) }
         ensures exact { CallOutcome (put_keeping text.now self.old) (left_keeping text.now self.old) self.old self.new result }
     {
         let row = Text::new(alloc, text.as_str())?;
@@ -233,10 +217,7 @@ impl Keeper for MemoryKeeper {
     fn read(&mut self, alloc: Global, place: u64) -> Result<Option<Text>, KeepRefusal>
         requires opened { self.old.opened ≡ true }
         requires place { (1 ≤ place) × (place ≤ length self.old.kept) }
-        ensures stays { self.new.opened ≡ true }
-        ensures same { (length self.new.kept ≡ length self.old.kept) × (Some (rows_of self.new) ≡ Some (rows_of self.old)) }
-        ensures row { IfOk result (λ found. found ≡ slice_get (rows_of self.old) (place - 1)) }
-        ensures there { IfOk result (λ found. found ≡ None → Some (rows_of self.old) ≡ None) }
+        ensures reads { ReadsRow place (memory_state self.old) result (memory_state self.new) }
         ensures cause { HasCause self.old.counting.faults self.new.counting.faults result }
         ensures exact { CallOutcome (read_keeping self.old) (read_keeping self.old) self.old self.new result }
     {

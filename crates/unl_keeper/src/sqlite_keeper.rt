@@ -1,6 +1,6 @@
 //! A keeper over a SQLite database.
-ghost use Rattle.std.specs.Prelude.{◌≡◌, ◌≤◌, ◌<◌, ◌↔◌, false, IfOk, OnOk};
-ghost use Rattle.unl_keeper.specs.Faults.{Blames};
+ghost use Rattle.std.specs.Prelude.{◌≡◌, ◌↔◌, false};
+ghost use Rattle.unl_keeper.specs.Faults.{HasRisen};
 
 use crate::keeper::Keeper;
 use crate::refusal::KeepRefusal;
@@ -36,7 +36,7 @@ impl<D: Alter + Drop> Drop for SqliteKeeper<D> {
 }
 
 impl<D: Alter> Model for SqliteKeeper<D> {
-    ghost use Rattle.unl_keeper.specs.Standing.{SqliteKeeperState};
+    ghost use Rattle.unl_keeper.specs.Sqlite.{SqliteKeeperState};
 
     ghost Value = { SqliteKeeperState };
 
@@ -154,29 +154,19 @@ impl<D: Alter> SqliteKeeper<D> {
         (connection, faults)
     }
 
-    /// Increments the fault count if the refusal is a fault.
-    fn refuse(&mut self, refusal: KeepRefusal)
+    /// Increments the fault count.
+    fn add_fault(&mut self)
         ensures same { self.new ≡ record self.old { faults = self.new.faults } }
-        ensures cause { Blames self.old.faults self.new.faults refusal }
-        ensures later { self.old.faults ≤ self.new.faults }
+        ensures risen { HasRisen self.old.faults self.new.faults }
     {
-        match refusal {
-            KeepRefusal::Fault => self.faults = self.faults.saturating_add(1),
-            KeepRefusal::Memory => {}
-        }
+        self.faults = self.faults.saturating_add(1);
     }
 }
 
 impl<D: Alter> Keeper for SqliteKeeper<D> {
-    ghost use Rattle.std.specs.Prelude.{None};
+    ghost use Rattle.unl_keeper.specs.Sqlite.{sqlite_state};
 
-    ghost opened = { λ k. k.opened };
-
-    ghost faults = { λ k. k.faults };
-
-    ghost count = { λ k. k.count };
-
-    ghost rows = { λ _. None };
+    ghost state = { sqlite_state };
 
     fn open(&mut self, _alloc: Global) -> Result<u64, KeepRefusal> {
         match rows_of(&mut self.connection) {
@@ -185,10 +175,11 @@ impl<D: Alter> Keeper for SqliteKeeper<D> {
                 self.opened = true;
                 Ok(count)
             }
-            Err(refusal) => {
-                self.refuse(refusal);
-                Err(refusal)
+            Err(KeepRefusal::Fault) => {
+                self.add_fault();
+                Err(KeepRefusal::Fault)
             }
+            Err(KeepRefusal::Memory) => Err(KeepRefusal::Memory),
         }
     }
 
@@ -202,20 +193,22 @@ impl<D: Alter> Keeper for SqliteKeeper<D> {
                 self.count += 1;
                 Ok(())
             }
-            Err(refusal) => {
-                self.refuse(refusal);
-                Err(refusal)
+            Err(KeepRefusal::Fault) => {
+                self.add_fault();
+                Err(KeepRefusal::Fault)
             }
+            Err(KeepRefusal::Memory) => Err(KeepRefusal::Memory),
         }
     }
 
     fn read(&mut self, _alloc: Global, place: u64) -> Result<Option<Text>, KeepRefusal> {
         match row_at(&mut self.connection, place) {
             Ok(found) => Ok(found),
-            Err(refusal) => {
-                self.refuse(refusal);
-                Err(refusal)
+            Err(KeepRefusal::Fault) => {
+                self.add_fault();
+                Err(KeepRefusal::Fault)
             }
+            Err(KeepRefusal::Memory) => Err(KeepRefusal::Memory),
         }
     }
 

@@ -37,9 +37,7 @@ impl KeepMaker for SqliteMaker {
 
     type K = SqliteKeeper<MemStore>;
 
-    ghost faults = { λ m. m };
-
-    ghost held = { λ _. None };
+    ghost state = { λ faults. record { held = None; faults = faults } };
 
     fn make(&mut self, alloc: Global) -> Result<SqliteKeeper<MemStore>, KeepRefusal> {
         match Connection::open_in_memory(alloc) {

@@ -1,0 +1,103 @@
+-- The state of a keeper and of a maker of keepers, and how each call changes it.
+use Rattle.std.specs.Prelude.{◌≡◌, ◌≤◌, ◌⊎◌, ℕ, ◌+◌, ◌-◌, Bool, true, false, List, [], length, slice_get}
+use Rattle.std.specs.Prelude.{Option, None, Some, option_and_then, Result, Ok, Err, IfOk, IfErr, IfSome}
+use Rattle.unl_keeper.specs.declared.refusal.KeepRefusal.{KeepRefusal}
+use Rattle.unl_keeper.specs.declared.refusal.KeepRefusal.TheVariants.{Fault, Memory}
+use Rattle.unl_keeper.specs.Faults.{Rose, TakesFaults}
+use Rattle.unl_keeper.specs.Rows.{kept, with_row}
+
+-- ---- a keeper
+
+-- The state of a keeper: whether it is open; its fault count, which is how often it has failed; the number of kept rows; and
+-- its rows, which are the kept ones and then what a failed put left. The rows are `None` if they are not observable.
+pub record KeeperState : Type 0 where
+  pub opened : Bool
+  pub faults : ℕ
+  pub count : ℕ
+  pub rows : Option (List (List ℕ))
+
+-- the kept rows, if observable
+abbrev pub kept_rows : KeeperState → Option (List (List ℕ))
+kept_rows keeper = kept keeper.count keeper.rows
+
+-- there are at least as many rows as are kept
+abbrev pub HasKept : KeeperState → Type 0
+HasKept keeper = IfSome keeper.rows (λ list. keeper.count ≤ length list)
+
+-- at most one row follows the kept ones
+abbrev pub HasAtMostOneMore : KeeperState → Type 0
+HasAtMostOneMore keeper = IfSome keeper.rows (λ list. length list ≤ keeper.count + 1)
+
+-- ---- opening
+
+-- the keeper is open and keeps `count` rows, which is every row there is
+pub record KeepsAll (keeper : KeeperState) (count : ℕ) : Type 0 where
+  pub opened : keeper.opened ≡ true
+  pub counted : count ≡ keeper.count
+  pub whole : IfSome keeper.rows (λ list. count ≡ length list)
+
+-- the number of kept rows is unchanged after a refused open, and at `Memory` everything is
+abbrev pub FailsToOpen : KeeperState → KeeperState → KeepRefusal → Type 0
+FailsToOpen old new Fault = new.count ≡ old.count
+FailsToOpen old new Memory = new ≡ old
+
+-- The keeper was opened, or not. Its rows are unchanged in every case, and it stays open if it was.
+pub record Opens (old : KeeperState) (result : Result ℕ KeepRefusal) (new : KeeperState) : Type 0 where
+  pub opened : IfOk result (KeepsAll new)
+  pub rows : new.rows ≡ old.rows
+  pub stays : old.opened ≡ true → new.opened ≡ true
+  pub refused : IfErr result (FailsToOpen old new)
+
+-- ---- a put
+
+-- a put succeeded: the text is the last kept row, and no row follows it
+pub record IsWritten (text : List ℕ) (before after : KeeperState) : Type 0 where
+  pub opened : after.opened ≡ true
+  pub counted : after.count ≡ before.count + 1
+  pub rows : after.rows ≡ with_row before.count text before.rows
+  pub still : after.faults ≡ before.faults
+
+-- a put failed: the kept rows are unchanged; what follows them is unchanged too, or is the text
+pub record IsFailed (text : List ℕ) (before after : KeeperState) : Type 0 where
+  pub opened : after.opened ≡ true
+  pub counted : after.count ≡ before.count
+  pub rows : (after.rows ≡ before.rows) ⊎ (after.rows ≡ with_row before.count text before.rows)
+  pub later : before.faults ≤ after.faults
+  pub rose : Rose before.faults after.faults
+
+-- the effect of a put, by its result
+abbrev pub PutsRow : List ℕ → KeeperState → Result (Unit {0}) KeepRefusal → KeeperState → Type 0
+PutsRow text old (Ok done) new = IsWritten text old new
+PutsRow text old (Err Fault) new = IsFailed text old new
+PutsRow text old (Err Memory) new = new ≡ old
+
+-- ---- a read
+
+-- The row at this place was read, or not. Nothing but the fault count changes. There is no row only if the rows are not
+-- observable.
+pub record ReadsRow (place : ℕ) (old : KeeperState) (result : Result (Option (List ℕ)) KeepRefusal) (new : KeeperState) : Type 0 where
+  pub opened : new.opened ≡ true
+  pub counted : new.count ≡ old.count
+  pub rows : new.rows ≡ old.rows
+  pub row : IfOk result (λ found. IfSome old.rows (λ list. found ≡ slice_get list (place - 1)))
+  pub there : IfOk result (λ found. found ≡ None → old.rows ≡ None)
+
+-- ---- a maker
+
+-- The state of a maker: the rows kept by the keeper that was returned last, if observable, which are none before the first
+-- return; and its fault count, which is how many calls have failed, plus how many returned keepers had a fault count above 0.
+pub record MakerState : Type 0 where
+  pub held : Option (List (List ℕ))
+  pub faults : ℕ
+
+-- A new keeper: it is not open and has a fault count of 0. If what its maker holds is observable, its rows are too, and it
+-- has none.
+pub record IsNewKeeper (held : Option (List (List ℕ))) (keeper : KeeperState) : Type 0 where
+  pub unopened : keeper.opened ≡ false
+  pub faultless : keeper.faults ≡ 0
+  pub empty : IfSome held (λ _. keeper.rows ≡ Some [])
+
+-- the maker takes a keeper back: it holds the keeper's kept rows, and its fault count rises if the keeper's is above 0
+pub record TakesBack (keeper : KeeperState) (old new : MakerState) : Type 0 where
+  pub held : new.held ≡ option_and_then (λ _. kept_rows keeper) old.held
+  pub faults : TakesFaults keeper.faults old.faults new.faults
