@@ -11,7 +11,7 @@ use Rattle.unl_delta.specs.Valid.{IsValidPlace, IsValidVersion}
 use Rattle.unl_core.specs.declared.board.Board.{Board}
 use Rattle.unl_core.specs.declared.board.Slot.{Slot}
 use Rattle.unl_core.specs.Board.{AreSlots, empty_slot, place_in, taking, with_snapshot}
-use Rattle.unl_core.specs.DeskStates.{DeskState, IsStanding, place_at, snapshot_at, installed_by, with_hold, with_batch}
+use Rattle.unl_core.specs.DeskStates.{DeskState, PlacesMatch, place_at, snapshot_at, installed_by, with_hold, with_batch}
 use Rattle.unl_delta.specs.declared.batch.Batch.{Batch}
 use Rattle.unl_delta.specs.Installing.{place_of}
 use Rattle.std.specs.Prelude.{option_and_then, option_map, slice_get}
@@ -32,8 +32,8 @@ abbrev standing : Board → List Place → ℕ → DeskState
 standing board places front = record { board = board; places = places; front = front }
 
 -- The initial places of a board's slots.
-pub standing_begun : (board : Board) (places : List Place) → AreSlots board.slots → places ≡ map place_at board.slots → All IsValidPlace places → IsStanding board places
-standing_begun board places slots made valid = record { slots = slots; versions = ap versions made ∙ versions_at board.slots; valid = valid }
+pub places_match_begun : (board : Board) (places : List Place) → AreSlots board.slots → places ≡ map place_at board.slots → All IsValidPlace places → PlacesMatch board places
+places_match_begun board places slots made valid = record { slots = slots; versions = ap versions made ∙ versions_at board.slots; valid = valid }
 
 snapshots_taking : (slot : ℕ) (version : EnvVersion) (slots : List Slot) → snapshots (taking slot version slots) ≡ set (snapshots slots) slot (Some version)
 snapshots_taking slot version [] = refl
@@ -41,9 +41,9 @@ snapshots_taking zero version (x ∷ xs) = refl
 snapshots_taking (suc slot) version (x ∷ xs) = ap (λ vs. x.snapshot ∷ vs) (snapshots_taking slot version xs)
 
 -- A version is put at a slot and at its place.
-pub standing_taking : (board : Board) (places : List Place) (slot : ℕ) (version : EnvVersion) (place : Place) → IsStanding board places → place.version ≡ Some version → IsValidVersion version
-    → IsStanding (with_snapshot slot version board) (set places slot place)
-standing_taking board places slot version place standing there valid =
+pub places_match_taking : (board : Board) (places : List Place) (slot : ℕ) (version : EnvVersion) (place : Place) → PlacesMatch board places → place.version ≡ Some version → IsValidVersion version
+    → PlacesMatch (with_snapshot slot version board) (set places slot place)
+places_match_taking board places slot version place standing there valid =
     let sound : IsValidPlace place = subst (λ (v : Option EnvVersion). IfSome v IsValidVersion) (sym there) valid in
     record {
       slots = slots_kept slot version board.slots standing.slots;
@@ -58,9 +58,9 @@ joined f None = refl
 joined f (Some x) = refl
 
 -- The version of a place is that of its slot.
-pub stands_at : (board : Board) (places : List Place) (slot : ℕ) (p : Place) → IsStanding board places → slot < length places → p ≡ get_or places slot p
+pub place_version : (board : Board) (places : List Place) (slot : ℕ) (p : Place) → PlacesMatch board places → slot < length places → p ≡ get_or places slot p
     → p.version ≡ snapshot_at board.slots slot
-stands_at board places slot p standing low is =
+place_version board places slot p standing low is =
     ap (λ (q : Place). q.version) is
     ∙ ap (λ (o : Option Place). unwrap_or (option_map (λ q. q.version) o) None) (sym (slice_get-get_or places slot p low))
     ∙ ap (λ (o : Option (Option EnvVersion)). unwrap_or o None) (sym (slice_get-map (λ q. q.version) places slot))
@@ -69,9 +69,9 @@ stands_at board places slot p standing low is =
     ∙ joined (λ (s : Slot). s.snapshot) (slice_get board.slots slot)
 
 -- A place is held or released, and keeps its version.
-pub standing_held : (board : Board) (places : List Place) (slot : ℕ) (place : Place) (d : Place) → IsStanding board places → slot < length places
-    → place.version ≡ (get_or places slot d).version → IsStanding board (set places slot place)
-standing_held board places slot place d standing low same =
+pub places_match_held : (board : Board) (places : List Place) (slot : ℕ) (place : Place) (d : Place) → PlacesMatch board places → slot < length places
+    → place.version ≡ (get_or places slot d).version → PlacesMatch board (set places slot place)
+places_match_held board places slot place d standing low same =
     let sound : IsValidPlace place =
     subst (λ (v : Option EnvVersion). IfSome v IsValidVersion) (sym same) (All-get_or IsValidPlace places slot d low standing.valid) in
     record {
@@ -81,10 +81,10 @@ standing_held board places slot place d standing low same =
     }
 
 -- A slot is added for a new name, with an empty place.
-pub standing_more : (board grown : Board) (places : List Place) (environment : List ℕ) (slot : Slot) → IsStanding board places → length board.slots < 8
+pub places_match_more : (board grown : Board) (places : List Place) (environment : List ℕ) (slot : Slot) → PlacesMatch board places → length board.slots < 8
     → None ≡ place_in environment board.slots → slot ≡ empty_slot environment → grown.slots ≡ board.slots ++ slot ∷ []
-    → IsStanding grown (places ++ empty_place ∷ [])
-standing_more board grown places environment slot standing room none made pushed = record {
+    → PlacesMatch grown (places ++ empty_place ∷ [])
+places_match_more board grown places environment slot standing room none made pushed = record {
   slots = slots_more environment board.slots grown.slots slot standing.slots room none (ap (λ (x : Slot). x.environment) made) pushed;
   versions =
       map-append (λ p. p.version) places (empty_place ∷ [])
@@ -123,8 +123,8 @@ install_is board new places front slot batch p v kept shared s same low is next 
     ∙ ap (with_batch slot batch) same
 
 -- It still agrees with its board.
-pub install_standing : (board new : Board) (places : List Place) (slot : ℕ) (v kept shared : EnvVersion) → IsStanding board places → new ≡ with_snapshot slot shared board
-    → shared ≡ v → kept ≡ v → IsValidVersion v → IsStanding new (set places slot (record { version = Some kept; held = false }))
-install_standing board new places slot v kept shared before changed shared_is kept_is valid =
-    subst (λ (b : Board). IsStanding b (set places slot (record { version = Some kept; held = false }))) (sym changed)
-    (standing_taking board places slot shared (record { version = Some kept; held = false }) before (ap Some (kept_is ∙ sym shared_is)) (subst IsValidVersion (sym shared_is) valid))
+pub places_match_install : (board new : Board) (places : List Place) (slot : ℕ) (v kept shared : EnvVersion) → PlacesMatch board places → new ≡ with_snapshot slot shared board
+    → shared ≡ v → kept ≡ v → IsValidVersion v → PlacesMatch new (set places slot (record { version = Some kept; held = false }))
+places_match_install board new places slot v kept shared before changed shared_is kept_is valid =
+    subst (λ (b : Board). PlacesMatch b (set places slot (record { version = Some kept; held = false }))) (sym changed)
+    (places_match_taking board places slot shared (record { version = Some kept; held = false }) before (ap Some (kept_is ∙ sym shared_is)) (subst IsValidVersion (sym shared_is) valid))

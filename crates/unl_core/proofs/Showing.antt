@@ -14,29 +14,29 @@ use Rattle.unl_core.specs.declared.board.Board.{Board}
 use Rattle.unl_core.specs.declared.board.Slot.{Slot}
 use Rattle.unl_core.specs.declared.shown.TokenRefusal.{TokenRefusal}
 use Rattle.unl_core.specs.Board.{is_named, snapshot_in}
-use Rattle.unl_core.specs.Histories.{AllRepresented, Histories, ShowsRevision, ShowsIfRepresented, both_see}
+use Rattle.unl_core.specs.Histories.{AllRepresented, Histories, ShowsRevision, both_see}
 use Rattle.unl_core.specs.Shown.{Ready, Shown, ready_by, ready_for, shown_by, with_its_version}
 use Rattle.unl_core.proofs.Same.{text_same}
 
 -- The version found for an environment is a revision of its line.
-pub found_stands : (told : Histories) (environment : List ℕ) (slots : List Slot) (v : EnvVersion) → AllRepresented told slots → snapshot_in environment slots ≡ Some v
-    → RepresentsLine (told.line environment) (told.sees environment) v
-found_stands told environment [] v stand is = absurd cc
-found_stands told environment (slot ∷ slots) v stand is = decided (is_named environment slot) refl is (found_stands told environment slots v stand.1)
+pub version_represents : (histories : Histories) (environment : List ℕ) (slots : List Slot) (v : EnvVersion) → AllRepresented histories slots → snapshot_in environment slots ≡ Some v
+    → RepresentsLine (histories.line environment) (histories.sees environment) v
+version_represents histories environment [] v all is = absurd cc
+version_represents histories environment (slot ∷ slots) v all is = decided (is_named environment slot) refl is (version_represents histories environment slots v all.1)
   where
     decided : (t : Bool) → is_named environment slot ≡ t → option_and_then (λ (s : Slot). s.snapshot) (cond t (Some slot) (find (is_named environment) slots)) ≡ Some v
-        → (snapshot_in environment slots ≡ Some v → RepresentsLine (told.line environment) (told.sees environment) v) → RepresentsLine (told.line environment) (told.sees environment) v
+        → (snapshot_in environment slots ≡ Some v → RepresentsLine (histories.line environment) (histories.sees environment) v) → RepresentsLine (histories.line environment) (histories.sees environment) v
     decided true named so more =
         let same : slot.environment ≡ environment = text_same slot.environment environment named in
-        subst (λ (e : List ℕ). RepresentsLine (told.line e) (told.sees e) v) same
-        (subst (λ (o : Option EnvVersion). IfSome o (RepresentsLine (told.line slot.environment) (told.sees slot.environment))) so stand.0)
+        subst (λ (e : List ℕ). RepresentsLine (histories.line e) (histories.sees e) v) same
+        (subst (λ (o : Option EnvVersion). IfSome o (RepresentsLine (histories.line slot.environment) (histories.sees slot.environment))) so all.0)
     decided false named so more = more so
 
 -- The version that a token sees is that of its environment.
-ready_stands : (board : Board) (shown : Result Shown TokenRefusal) (ready : Ready) → ready_for board shown ≡ Ok ready
+ready_version : (board : Board) (shown : Result Shown TokenRefusal) (ready : Ready) → ready_for board shown ≡ Ok ready
     → snapshot_in ready.token.environment board.slots ≡ Some ready.version
-ready_stands board (Err unseen) ready is = absurd cc
-ready_stands board (Ok shown) ready is = decided (snapshot_in shown.token.environment board.slots) refl is
+ready_version board (Err unseen) ready is = absurd cc
+ready_version board (Ok shown) ready is = decided (snapshot_in shown.token.environment board.slots) refl is
   where
     decided : (o : Option EnvVersion) → snapshot_in shown.token.environment board.slots ≡ o → with_its_version shown o ≡ Ok ready
         → snapshot_in ready.token.environment board.slots ≡ Some ready.version
@@ -45,26 +45,21 @@ ready_stands board (Ok shown) ready is = decided (snapshot_in shown.token.enviro
         let same : record { place = shown.place; token = shown.token; version = version } ≡ ready = cc in
         subst (λ (r : Ready). snapshot_in r.token.environment board.slots ≡ Some r.version) same here
 
-ready_is : (told : Histories) (board : Board) (q : Request) (kind : Kind) (ready : Ready) → AllRepresented told board.slots → ready_by board q kind ≡ Ok ready
-    → RepresentsLine (told.line ready.token.environment) (told.sees ready.token.environment) ready.version
-ready_is told board q kind ready stand is =
-    found_stands told ready.token.environment board.slots ready.version stand (ready_stands board (shown_by board q kind) ready is)
+ready_is : (histories : Histories) (board : Board) (q : Request) (kind : Kind) (ready : Ready) → AllRepresented histories board.slots → ready_by board q kind ≡ Ok ready
+    → RepresentsLine (histories.line ready.token.environment) (histories.sees ready.token.environment) ready.version
+ready_is histories board q kind ready all is =
+    version_represents histories ready.token.environment board.slots ready.version all (ready_version board (shown_by board q kind) ready is)
 
 -- It is one revision.
-pub shows_revision : (told : Histories) (board : Board) (q : Request) (kind : Kind) (ready : Ready) → AllRepresented told board.slots → ready_by board q kind ≡ Ok ready
-    → ShowsRevision told ready
-shows_revision told board q kind ready stand is =
-    seen_in (told.line ready.token.environment) (told.sees ready.token.environment) (sees ready.token.projects) ready.version (ready_is told board q kind ready stand is)
+pub shows_revision : (histories : Histories) (board : Board) (q : Request) (kind : Kind) (ready : Ready) → AllRepresented histories board.slots → ready_by board q kind ≡ Ok ready
+    → ShowsRevision histories ready
+shows_revision histories board q kind ready all is =
+    seen_in (histories.line ready.token.environment) (histories.sees ready.token.environment) (sees ready.token.projects) ready.version (ready_is histories board q kind ready all is)
 
 -- The events that a token is sent are sent of its environment's line.
-pub tells_of_line : (told : Histories) (board : Board) (q : Request) (kind : Kind) (ready : Ready) (since : Option ℕ) (batch : Batch) → AllRepresented told board.slots
+pub batch_of_line : (histories : Histories) (board : Board) (q : Request) (kind : Kind) (ready : Ready) (since : Option ℕ) (batch : Batch) → AllRepresented histories board.slots
     → ready_by board q kind ≡ Ok ready → delta_answer ready.version since (sees ready.token.projects) ≡ Sent batch
-    → IsSent (told.line ready.token.environment) (both_see told ready) batch
-tells_of_line told board q kind ready since batch stand is answer =
-    answer_sent (told.line ready.token.environment) (told.sees ready.token.environment) ready.version since (sees ready.token.projects) batch
-    (ready_is told board q kind ready stand is) answer
-
--- The same for a board that may be known.
-pub shows_where_stands : (told : Histories) (known : Option Board) → ShowsIfRepresented told known
-shows_where_stands told None stand = tt
-shows_where_stands told (Some board) stand = λ q kind ready is. shows_revision told board q kind ready stand is
+    → IsSent (histories.line ready.token.environment) (both_see histories ready) batch
+batch_of_line histories board q kind ready since batch all is answer =
+    answer_sent (histories.line ready.token.environment) (histories.sees ready.token.environment) ready.version since (sees ready.token.projects) batch
+    (ready_is histories board q kind ready all is) answer

@@ -1,5 +1,5 @@
 -- Tags, and the numbers that are read from them.
-use Rattle.std.proofs.Common.{◌≡◌, ℕ, ◌+◌, ◌-◌, ◌<◌, ◌^◌, List, [], ◌∷◌, ◌++◌, length, take, drop, codes, decimal, Bool, true, false, cond, Option, Some, None, option_and_then, refl, sym, ap, ◌∙◌, arith, append-nil, length-append}
+use Rattle.std.proofs.Common.{◌≡◌, ℕ, ◌+◌, ◌-◌, ◌<◌, ◌^◌, List, [], ◌∷◌, ◌++◌, length, take, drop, decimal, Bool, true, false, cond, Option, Some, None, option_and_then, refl, sym, ap, ◌∙◌, arith, append-nil, length-append}
 use Rattle.std.proofs.Math.Seq.{drop-append_seam, take-append_seam}
 use Rattle.std.proofs.lemmas.Fmt.{IsAscii-decimal}
 use Rattle.std.proofs.lemmas.Slice.Eq.{bytes_eq-Decides}
@@ -12,14 +12,13 @@ use Rattle.json.proofs.Printed.Tokens.{tokens-print}
 use Rattle.json.proofs.Printed.Trees.{value-json_tokens}
 use Rattle.json.specs.Json as json
 use Rattle.json.specs.Lex.{tokens}
-use Rattle.json.specs.Print.{print, print_from, ArePrintable}
+use Rattle.json.specs.Print.{print_from, ArePrintable}
 use Rattle.json.specs.Token.{Token}
 use Rattle.serde_json.proofs.Numbers.{number_of-decimal}
 use Rattle.serde_json.specs.Read.{read, of_json, max_depth}
 use Rattle.unl_documents.proofs.Spelled.{spelled as spelled_json}
 use Rattle.serde_json.specs.Data.{number, unsigned}
 use Rattle.serde_json.specs.Find.{as_number, as_u64}
-use Rattle.unl_documents.specs.Results.{json_of}
 use Rattle.unl_core.specs.declared.board.Board.{Board}
 use Rattle.unl_core.specs.Laws.{TagIsOfItsNumber, TagIsRead}
 use Rattle.unl_core.specs.Tag.{number_of_tag, if_spelled, tag_prefix, tag_text, whole_in, number_part}

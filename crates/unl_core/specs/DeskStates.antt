@@ -19,7 +19,7 @@ pub record DeskState : Type 0 where
   pub front : ℕ
 
 -- The place of each slot has the slot's version.
-pub record IsStanding (board : Board) (places : List Place) : Type 0 where
+pub record PlacesMatch (board : Board) (places : List Place) : Type 0 where
   pub slots : AreSlots board.slots
   pub versions : map (λ place. place.version) places ≡ map (λ slot. slot.snapshot) board.slots
   pub valid : All IsValidPlace places

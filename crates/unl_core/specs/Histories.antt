@@ -20,30 +20,27 @@ pub record Histories : Type 0 where
 
 -- Each of them is a line.
 abbrev pub AreLines : Histories → Type 0
-AreLines told = (environment : List ℕ) → IsLine (told.line environment)
+AreLines histories = (environment : List ℕ) → IsLine (histories.line environment)
 
 -- The version of an environment, if there is one, is a revision of its line, filtered by the projects that are seen.
 abbrev pub RepresentedAt : Histories → List ℕ → Option EnvVersion → Type 0
-RepresentedAt told environment version = IfSome version (RepresentsLine (told.line environment) (told.sees environment))
+RepresentedAt histories environment version = IfSome version (RepresentsLine (histories.line environment) (histories.sees environment))
 
 -- This holds for each slot.
 abbrev pub AllRepresented : Histories → List Slot → Type 0
-AllRepresented told slots = AllByRecursion (λ slot. RepresentedAt told slot.environment slot.snapshot) slots
+AllRepresented histories slots = AllByRecursion (λ slot. RepresentedAt histories slot.environment slot.snapshot) slots
 
 -- The projects that both the environment's copy and the token see.
 abbrev pub both_see : Histories → Ready → Sees
-both_see told ready = both (told.sees ready.token.environment) (sees ready.token.projects)
+both_see histories ready = both (histories.sees ready.token.environment) (sees ready.token.projects)
 
 -- What a token sees is one revision of its environment's line, filtered by the projects that both see.
 abbrev pub ShowsRevision : Histories → Ready → Type 0
-ShowsRevision told ready =
-    option_map (view_of (both_see told ready)) (revision_in (told.line ready.token.environment) (revision_of ready.version))
+ShowsRevision histories ready =
+    option_map (view_of (both_see histories ready)) (revision_in (histories.line ready.token.environment) (revision_of ready.version))
     ≡ Some (seen ready)
 
 -- This holds for each request to the board.
 abbrev pub ShowsRevisions : Histories → Board → Type 0
-ShowsRevisions told board = (q : Request) (kind : Kind) (ready : Ready) → ready_by board q kind ≡ Ok ready → ShowsRevision told ready
-
--- This holds for a board that may be known, if its slots are revisions of their lines.
-abbrev pub ShowsIfRepresented : Histories → Option Board → Type 0
-ShowsIfRepresented told known = IfSome known (λ board. AllRepresented told board.slots) → IfSome known (ShowsRevisions told)
+ShowsRevisions histories board =
+    (q : Request) (kind : Kind) (ready : Ready) → ready_by board q kind ≡ Ok ready → ShowsRevision histories ready

@@ -19,7 +19,7 @@ abbrev pub with_epoch : ℕ → List ℕ → List ℕ
 with_epoch epoch rest = if epoch == 0 then rest else decimal epoch ++ (codes "." ++ rest)
 
 -- The part of a tag before its number, for the token at `place` and an epoch.
-abbrev pub tag_prefix : Board → ℕ → ℕ → List ℕ
+unfoldable pub tag_prefix : Board → ℕ → ℕ → List ℕ
 tag_prefix board place epoch =
     codes "\"" ++ (hex_16 board.boot ++ (codes "-" ++ (decimal board.generation ++
     (codes "-" ++ (decimal place ++ (codes "-" ++ with_epoch epoch []))))))

@@ -2,11 +2,13 @@
 ghost use Rattle.std.specs.Prelude.{◌≡◌, ◌≢◌, ◌∷◌, [], codes, IfOk, IfSome, Err, Ok, Some};
 ghost use Rattle.unl_core.specs.Answer.{answer_of, asked_context, at_route, delta_reply, document_reply, feature_reply, feed_for};
 ghost use Rattle.unl_core.specs.Answer.{feed_reply, feed_state, feed_tag, feed_with, has_tag, listed, news_since, one_text, plain};
-ghost use Rattle.unl_core.specs.Answer.{registered, reply, reported, reported_by, seen, not_modified_at, tag_at, toggles_for, toggles_reply};
-ghost use Rattle.unl_core.specs.Answer.{validated};
+ghost use Rattle.unl_core.specs.Answer.{registered, reply, reported, reported_by, seen, not_modified_at, tag_at, toggles_for};
+ghost use Rattle.unl_core.specs.Answer.{toggles_reply, validated};
 ghost use Rattle.unl_core.specs.Board.{AreSlots};
 ghost use Rattle.unl_core.specs.Shown.{ready_by, shown_by};
 ghost use Rattle.unl_dependencies.specs.Evaluation.{feature_named};
+ghost use Rattle.unl_context.specs.Json.{body_of};
+ghost use Rattle.unl_context.specs.Query.{query_context};
 ghost use Rattle.unl_context.specs.declared.fault.BadContext.TheVariants.{Memory as memory};
 ghost use Rattle.unl_documents.specs.Results.{Gives};
 ghost use Rattle.unl_documents.specs.States.{IsValidState};
@@ -232,9 +234,21 @@ fn asked_context(alloc: Global, request: &Request) -> Result<Context, BadContext
     ensures { Gives memory result (asked_context request.now) }
 {
     if is_post(request.method) {
-        return Context::read_body(alloc, request.body.as_slice());
+        return body_context(alloc, request.body.as_slice());
     }
-    Context::read_query(alloc, query_of(request.target.as_slice()))
+    query_context(alloc, query_of(request.target.as_slice()))
+}
+
+fn body_context(alloc: Global, body: &[u8]) -> Result<Context, BadContext>
+    ensures { Gives memory result (body_of body.now) }
+{
+    Context::read_body(alloc, body)
+}
+
+fn query_context(alloc: Global, query: &[u8]) -> Result<Context, BadContext>
+    ensures { Gives memory result (query_context query.now) }
+{
+    Context::read_query(alloc, query)
 }
 
 /// The context with its environment replaced.
@@ -450,16 +464,17 @@ fn listed(alloc: Global, projects: &Projects) -> Result<List<Text>, Memory>
     ensures { IfOk result (λ names. names ≡ listed projects.now) }
 {
     match projects {
-        Projects::All => star(alloc),
+        Projects::All => one_name(alloc, "*"),
         Projects::Only(names) => names.copy(alloc),
     }
 }
 
-/// The one name that stands for all projects.
-fn star(alloc: Global) -> Result<List<Text>, Memory>
-    ensures { IfOk result (λ names. names ≡ codes "*" ∷ []) }
+/// A list of one name.
+fn one_name(alloc: Global, name: &str) -> Result<List<Text>, Memory>
+    ensures { IfOk result (λ names. names ≡ name.now ∷ []) }
 {
+    let name = Text::new(alloc, name)?;
     let mut names = List::new(alloc);
-    names.push(Text::new(alloc, "*")?)?;
+    names.push(name)?;
     Ok(names)
 }

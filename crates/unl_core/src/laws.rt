@@ -26,9 +26,9 @@ pub fn tag_is_read()
 /// revision of that line, and the events it is sent are sent of that line. Both are filtered by the projects that the
 /// slot and the token see.
 pub fn answers_show_one_revision()
-    ensures state { (told : Histories) (board : Board) → AllRepresented told board.slots → ShowsRevisions told board }
-    ensures events { (told : Histories) (board : Board) (q : Request) (kind : Kind) (ready : Ready) (since : Option ℕ) (batch : Batch)
-        → AllRepresented told board.slots → ready_by board q kind ≡ Ok ready
+    ensures state { (histories : Histories) (board : Board) → AllRepresented histories board.slots → ShowsRevisions histories board }
+    ensures events { (histories : Histories) (board : Board) (q : Request) (kind : Kind) (ready : Ready) (since : Option ℕ) (batch : Batch)
+        → AllRepresented histories board.slots → ready_by board q kind ≡ Ok ready
         → delta_answer ready.version since (sees ready.token.projects) ≡ answer.Batch batch
-        → IsSent (told.line ready.token.environment) (both_see told ready) batch }
+        → IsSent (histories.line ready.token.environment) (both_see histories ready) batch }
 {}

@@ -38,8 +38,11 @@ fn sum_up(
     ensures full { result ≡ Err AddRefusal.Full → summed book.old report.now environment.now ≡ Err AddRefusal.Full }
     ensures same { OnErr result (book.new ≡ book.old) }
 {
-    match (report, environment) {
-        (Some(report), Some(environment)) => book.add(alloc, report, environment.as_str()),
-        _ => Ok(()),
-    }
+    let Some(report) = report else {
+        return Ok(());
+    };
+    let Some(environment) = environment else {
+        return Ok(());
+    };
+    book.add(alloc, report, environment.as_str())
 }

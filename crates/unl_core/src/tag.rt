@@ -38,6 +38,7 @@ pub(crate) fn inlined_tag_of(
 }
 
 /// The part of a tag before its number, for the token at `place` and an epoch.
+#[tactic(auto, unfolding(crate::specs::Tag::tag_prefix))]
 fn tag_prefix(alloc: Global, board: &Board, place: u32, epoch: u64) -> Result<String, AllocError>
     ensures { IfOk result (λ s. string_bytes s ≡ tag_prefix board.now place epoch) }
 {

@@ -23,5 +23,5 @@ faulted (k ∷ ks) rows e has not = ap Err (bad_else (refusal_of (kind_of e)) no
 -- If a refusal is forwarded unchanged, what was shown for it holds for the result.
 pub forwarded_refusal : (result : WordsReading) (refusal : WordsRefusal) (reading : WordsReading) → IsErr result → IsErrAnd result (λ e. e ≡ refusal)
     → (refusal ≢ Memory → reading ≡ Err refusal) → Gives Memory result reading
-forwarded_refusal (Ok words) refusal reading is same gives = absurd (true≢false (sym is))
+forwarded_refusal (Ok command) refusal reading is same gives = absurd (true≢false (sym is))
 forwarded_refusal (Err e) refusal reading is same gives = λ not. subst (λ r. reading ≡ Err r) (sym same) (gives (λ memory. not (subst (λ r. r ≡ Memory) (sym same) memory)))

@@ -34,10 +34,10 @@ use Rattle.unl_words.proofs.Known.{others_differ}
 -- ---- one text
 
 -- What is known of a token's text that names its projects.
-record Says (words : List ℕ) : Type 0 where
-  few : length words ≤ 512
+record IsOwnToken (spelling : List ℕ) : Type 0 where
+  few : length spelling ≤ 512
   scope : Scope
-  spelled : scope_of words ≡ Ok scope
+  spelled : scope_of spelling ≡ Ok scope
   environment : is_name scope.environment ≡ true
   projects : are_names scope.projects ≡ true
   closed : scope.listed ≡ false
@@ -46,35 +46,35 @@ denied : (b : Bool) → (false || not b) ≡ true → b ≡ false
 denied true e = absurd (true≢false (sym e))
 denied false e = refl
 
-says_of : (words : List ℕ) (reading : Result Scope BadToken) → scope_of words ≡ reading → is_named false reading ≡ true → length words ≤ 512 → Says words
-says_of words (Ok scope) spelled named few =
+own_token_from : (spelling : List ℕ) (reading : Result Scope BadToken) → scope_of spelling ≡ reading → is_named false reading ≡ true → length spelling ≤ 512 → IsOwnToken spelling
+own_token_from spelling (Ok scope) spelled named few =
     let parts = both (is_name scope.environment) (are_names scope.projects && (false || not scope.listed)) named in
     let rest = both (are_names scope.projects) (false || not scope.listed) parts.1 in
     record { few = few; scope = scope; spelled = spelled; environment = parts.0; projects = rest.0; closed = denied scope.listed rest.1 }
-says_of words (Err e) spelled named few = absurd (true≢false (sym named))
+own_token_from spelling (Err e) spelled named few = absurd (true≢false (sym named))
 
-says : (words : List ℕ) → is_token false words ≡ true → Says words
-says words is =
-    let parts = both (nat_le (length words) 512) (is_line words && is_named false (scope_of words)) is in
-    let rest = both (is_line words) (is_named false (scope_of words)) parts.1 in
-    let few : length words ≤ 512 = grind (arith, nat_tests) in
-    says_of words (scope_of words) refl rest.1 few
+own_token : (spelling : List ℕ) → is_token false spelling ≡ true → IsOwnToken spelling
+own_token spelling is =
+    let parts = both (nat_le (length spelling) 512) (is_line spelling && is_named false (scope_of spelling)) is in
+    let rest = both (is_line spelling) (is_named false (scope_of spelling)) parts.1 in
+    let few : length spelling ≤ 512 = grind (arith, nat_tests) in
+    own_token_from spelling (scope_of spelling) refl rest.1 few
 
 -- The value is read as the token with this text.
 IsEntry : Data → List ℕ → Type 0
-IsEntry value words = (token : Token) × (entry_of value ≡ Ok (Some token)) × (token.text ≡ words)
+IsEntry value spelling = (token : Token) × (entry_of value ≡ Ok (Some token)) × (token.text ≡ spelling)
 
-entry_read : (word : List ℕ) (kind : Kind) (words : List ℕ) → kind_of word ≡ Some kind → is_token false words ≡ true → IsEntry (own_entry word words) words
+entry_read : (word : List ℕ) (kind : Kind) (spelling : List ℕ) → kind_of word ≡ Some kind → is_token false spelling ≡ true → IsEntry (own_entry word spelling) spelling
 unfolding IsEntry entry_of own_entry at
-entry_read word kind words known is =
-    let told : Says words = says words is in
-    let value : Data = own_entry word words in
-    let spelled = required_back (text 512) field.Token value (string words) words refl (text_back 512 field.Token words told.few) in
-    let worded = required_back any_text field.Kind value (string word) word refl (any_text_back field.Kind word) in
-    let scope : with_named field.Token (scope_of words) ≡ Ok told.scope = rw (told.spelled, told.environment) refl in
+entry_read word kind spelling known is =
+    let own : IsOwnToken spelling = own_token spelling is in
+    let value : Data = own_entry word spelling in
+    let spelled = required_back (text 512) field.Token value (string spelling) spelling refl (text_back 512 field.Token spelling own.few) in
+    let of_kind = required_back any_text field.Kind value (string word) word refl (any_text_back field.Kind word) in
+    let scope : with_named field.Token (scope_of spelling) ≡ Ok own.scope = rw (own.spelled, own.environment) refl in
     let names = optional_none project_names field.Projects value refl in (
-      record { text = words; kind = kind; projects = told.scope.projects; environment = told.scope.environment },
-      rw (spelled, worded, scope, names, told.closed, told.projects, known) refl,
+      record { text = spelling; kind = kind; projects = own.scope.projects; environment = own.scope.environment },
+      rw (spelled, of_kind, scope, names, own.closed, own.projects, known) refl,
       refl,
     )
 
@@ -83,25 +83,25 @@ entry_read word kind words known is =
 -- The values are read as the tokens with these texts.
 AreEntries : List Data → List (List ℕ) → Type 0
 AreEntries [] [] = ⊤
-AreEntries [] (words ∷ texts) = ⊥
+AreEntries [] (spelling ∷ texts) = ⊥
 AreEntries (value ∷ values) [] = ⊥
-AreEntries (value ∷ values) (words ∷ texts) = IsEntry value words × AreEntries values texts
+AreEntries (value ∷ values) (spelling ∷ texts) = IsEntry value spelling × AreEntries values texts
 
 entries_read : (word : List ℕ) (kind : Kind) (texts : List (List ℕ)) → kind_of word ≡ Some kind → list_all (is_token false) texts ≡ true
     → AreEntries (map (own_entry word) texts) texts
 unfolding AreEntries
 entries_read word kind [] known are = tt
-entries_read word kind (words ∷ texts) known are =
-    let parts = both (is_token false words) (list_all (is_token false) texts) are in
-    (entry_read word kind words known parts.0, entries_read word kind texts known parts.1)
+entries_read word kind (spelling ∷ texts) known are =
+    let parts = both (is_token false spelling) (list_all (is_token false) texts) are in
+    (entry_read word kind spelling known parts.0, entries_read word kind texts known parts.1)
 
 entries_both : (values : List Data) (texts : List (List ℕ)) (more : List Data) (others : List (List ℕ)) → AreEntries values texts → AreEntries more others
     → AreEntries (values ++ more) (texts ++ others)
 unfolding AreEntries
 entries_both [] [] more others are also = also
-entries_both [] (words ∷ texts) more others are also = absurd are
+entries_both [] (spelling ∷ texts) more others are also = absurd are
 entries_both (value ∷ values) [] more others are also = absurd are
-entries_both (value ∷ values) (words ∷ texts) more others are also = (are.0, entries_both values texts more others are.1 also)
+entries_both (value ∷ values) (spelling ∷ texts) more others are also = (are.0, entries_both values texts more others are.1 also)
 
 -- The tokens that are read from the values.
 record AreTokens (place : ℕ) (values : List Data) (texts : List (List ℕ)) : Type 0 where
@@ -112,14 +112,14 @@ record AreTokens (place : ℕ) (values : List Data) (texts : List (List ℕ)) : 
 tokens_of : (place : ℕ) (values : List Data) (texts : List (List ℕ)) → AreEntries values texts → AreTokens place values texts
 unfolding AreEntries IsEntry tokens_from
 tokens_of place [] [] are = record { tokens = []; read = refl; named = refl }
-tokens_of place [] (words ∷ texts) are = absurd are
+tokens_of place [] (spelling ∷ texts) are = absurd are
 tokens_of place (value ∷ values) [] are = absurd are
-tokens_of place (value ∷ values) (words ∷ texts) are =
+tokens_of place (value ∷ values) (spelling ∷ texts) are =
     let rest : AreTokens (place + 1) values texts = tokens_of (place + 1) values texts are.1 in
     record {
       tokens = are.0.0 ∷ rest.tokens;
       read = rw (are.0.1, rest.read) refl;
-      named = ap (λ (t : List ℕ). t ∷ map (λ (t : Token). t.text) rest.tokens) are.0.2 ∙ ap (λ (ts : List (List ℕ)). words ∷ ts) rest.named;
+      named = ap (λ (t : List ℕ). t ∷ map (λ (t : Token). t.text) rest.tokens) are.0.2 ∙ ap (λ (ts : List (List ℕ)). spelling ∷ ts) rest.named;
     }
 
 -- No token has the same text as this one.

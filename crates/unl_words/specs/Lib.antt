@@ -1,3 +1,4 @@
+pub mod Commands
 pub mod Lists
 pub mod OwnBook
 pub mod Ranges

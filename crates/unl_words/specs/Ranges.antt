@@ -15,32 +15,32 @@ abbrev pub IsWithin : ℕ → ℕ → ℕ → Type 0
 IsWithin least most number = (least ≤ number) × (number ≤ most)
 
 -- The values of the options of `edge` are in their ranges.
-pub record IsEdge (words : EdgeArguments) : Type 0 where
-  pub listens : IsWithin 1 65535 words.port
-  pub asks : is_address words.upstream ≡ true
-  pub shows : are_upstream_tokens words.upstream_tokens ≡ true
-  pub knows : are_tokens words.tokens ≡ true
-  pub named : is_line words.host ≡ true
-  pub threads : IsWithin 1 16 words.workers
-  pub seconds : IsWithin 1 3600 words.interval
+pub record IsEdge (arguments : EdgeArguments) : Type 0 where
+  pub listens : IsWithin 1 65535 arguments.port
+  pub asks : is_address arguments.upstream ≡ true
+  pub shows : are_upstream_tokens arguments.upstream_tokens ≡ true
+  pub knows : are_tokens arguments.tokens ≡ true
+  pub named : is_line arguments.host ≡ true
+  pub threads : IsWithin 1 16 arguments.workers
+  pub seconds : IsWithin 1 3600 arguments.interval
 
 -- The values of the options of `upstream` are in their ranges.
-pub record IsUpstream (words : UpstreamArguments) : Type 0 where
-  pub listens : IsWithin 1 65535 words.port
-  pub hides : is_secret words.secret ≡ true
-  pub named : are_environments words.environments ≡ true
-  pub clients : are_own_tokens words.client_tokens ≡ true
-  pub frontends : are_own_tokens words.frontend_tokens ≡ true
-  pub one_book : fit_one_book words.client_tokens words.frontend_tokens ≡ true
+pub record IsUpstream (arguments : UpstreamArguments) : Type 0 where
+  pub listens : IsWithin 1 65535 arguments.port
+  pub hides : is_secret arguments.secret ≡ true
+  pub named : are_environments arguments.environments ≡ true
+  pub clients : are_own_tokens arguments.client_tokens ≡ true
+  pub frontends : are_own_tokens arguments.frontend_tokens ≡ true
+  pub one_book : fit_one_book arguments.client_tokens arguments.frontend_tokens ≡ true
 
 -- The values of the options of `follow` are in their ranges.
-pub record IsFollow (words : FollowArguments) : Type 0 where
-  pub asks : is_address words.upstream ≡ true
-  pub shows : is_token true words.token ≡ true
-  pub named : is_name words.feature ≡ true
-  pub within : is_within_limits words.context ≡ true
-  pub ends : IsWithin 1 1000000 words.turns
-  pub seconds : IsWithin 1 3600 words.interval
+pub record IsFollow (arguments : FollowArguments) : Type 0 where
+  pub asks : is_address arguments.upstream ≡ true
+  pub shows : is_token true arguments.token ≡ true
+  pub named : is_name arguments.feature ≡ true
+  pub within : is_within_limits arguments.context ≡ true
+  pub ends : IsWithin 1 1000000 arguments.turns
+  pub seconds : IsWithin 1 3600 arguments.interval
 
 -- The values of the options of `load` are in their ranges.
 abbrev pub IsLoad : ℕ → Type 0
@@ -50,8 +50,8 @@ IsLoad count = IsWithin 1 1000000 count
 abbrev pub IsInRange : Words → Type 0
 IsInRange Replay = ⊤
 IsInRange (Check now word) = now ≤ 100000000000000
-IsInRange (Edge words) = IsEdge words
-IsInRange (Upstream words) = IsUpstream words
-IsInRange (Follow words) = IsFollow words
+IsInRange (Edge arguments) = IsEdge arguments
+IsInRange (Upstream arguments) = IsUpstream arguments
+IsInRange (Follow arguments) = IsFollow arguments
 IsInRange Explain = ⊤
 IsInRange (Load seed count) = IsLoad count

@@ -58,12 +58,12 @@ is_port text = is_ok (number_within 1 65535 text)
 -- ---- texts
 
 -- The byte is not a carriage return, line feed or NUL.
-abbrev pub goes_on : ℕ → Bool
-goes_on byte = not (byte == 13) && (not (byte == 10) && not (byte == 0))
+abbrev pub is_line_byte : ℕ → Bool
+is_line_byte byte = not (byte == 13) && (not (byte == 10) && not (byte == 0))
 
 -- The text contains no carriage return, line feed or NUL.
 abbrev pub is_line : Text → Bool
-is_line text = list_all goes_on text
+is_line text = list_all is_line_byte text
 
 -- The text, if it contains no carriage return, line feed or NUL.
 abbrev pub line_of : Text → Value Text

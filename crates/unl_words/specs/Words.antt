@@ -93,14 +93,14 @@ edge_app = with_options (codes "edge") (option_named (codes "port")
 unfoldable pub asks_edge : List Row → WordsReading
 asks_edge rows = do
   port ← number_or 3063 1 65535 (first_of (codes "port") rows)
-  upstream ← required address_of (first_of (codes "upstream") rows)
-  upstream_tokens ← required (items_of are_upstream_tokens) (first_of (codes "upstream-tokens") rows)
-  tokens ← required (items_of are_tokens) (first_of (codes "tokens") rows)
-  host ← or_empty line_of (first_of (codes "host") rows)
   workers ← number_or 4 1 16 (first_of (codes "workers") rows)
   interval ← number_or 15 1 3600 (first_of (codes "interval") rows)
   connections ← number_or 0 0 last_number (first_of (codes "connections") rows)
   delta ← mode_or_delta (first_of (codes "mode") rows)
+  upstream ← required address_of (first_of (codes "upstream") rows)
+  upstream_tokens ← required (items_of are_upstream_tokens) (first_of (codes "upstream-tokens") rows)
+  tokens ← required (items_of are_tokens) (first_of (codes "tokens") rows)
+  host ← or_empty line_of (first_of (codes "host") rows)
   Ok (Edge (record {
     port = port;
     upstream = upstream;
@@ -130,13 +130,13 @@ upstream_app = with_options (codes "upstream") (option_named (codes "port")
 unfoldable pub asks_upstream : List Row → WordsReading
 asks_upstream rows = do
   port ← number_or 4242 1 65535 (first_of (codes "port") rows)
+  connections ← number_or 0 0 last_number (first_of (codes "connections") rows)
+  epoch ← number_or 0 0 last_number (first_of (codes "epoch") rows)
+  sqlite ← sqlite_or_memory (first_of (codes "keep") rows)
   secret ← required secret_of (first_of (codes "secret") rows)
   environments ← required (items_of are_environments) (first_of (codes "environments") rows)
   client_tokens ← or_empty (items_of are_own_tokens) (first_of (codes "client-tokens") rows)
   frontend_tokens ← or_empty (items_of are_own_tokens) (first_of (codes "frontend-tokens") rows)
-  connections ← number_or 0 0 last_number (first_of (codes "connections") rows)
-  epoch ← number_or 0 0 last_number (first_of (codes "epoch") rows)
-  sqlite ← sqlite_or_memory (first_of (codes "keep") rows)
   passed (fit_one_book client_tokens frontend_tokens)
       (Upstream (record {
         port = port;
@@ -164,13 +164,13 @@ follow_app = with_options (codes "follow") (required_named (codes "upstream") �
 -- How `follow` is read from its rows of values. The context's environment is that of the token.
 unfoldable pub asks_follow : List Row → WordsReading
 asks_follow rows = do
+  delta ← mode_or_delta (first_of (codes "mode") rows)
+  turns ← number_or 1 1 1000000 (first_of (codes "turns") rows)
+  interval ← number_or 15 1 3600 (first_of (codes "interval") rows)
   upstream ← required address_of (first_of (codes "upstream") rows)
   token ← required token_of (first_of (codes "token") rows)
   feature ← required name_of (first_of (codes "feature") rows)
   context ← or_empty context_by (first_of (codes "context") rows)
-  delta ← mode_or_delta (first_of (codes "mode") rows)
-  turns ← number_or 1 1 1000000 (first_of (codes "turns") rows)
-  interval ← number_or 15 1 3600 (first_of (codes "interval") rows)
   Ok (Follow (record {
     upstream = upstream;
     token = token;
@@ -212,12 +212,11 @@ asks_load rows = do
 abbrev pub load : Command
 load = record { app = load_app; asks = asks_load }
 
--- ---- the first word
+-- ---- the first argument
 
--- The command that the first argument names.
-unfoldable pub command_of : List Text → Option Command
-command_of [] = None
-command_of (name ∷ words) =
+-- The command with this name.
+abbrev pub command_named : Text → Option Command
+command_named name =
     if bytes_eq name (codes "replay") then Some replay
     else (if bytes_eq name (codes "check") then Some check
     else (if bytes_eq name (codes "edge") then Some edge
@@ -225,6 +224,11 @@ command_of (name ∷ words) =
     else (if bytes_eq name (codes "follow") then Some follow
     else (if bytes_eq name (codes "explain") then Some explain
     else (if bytes_eq name (codes "load") then Some load else None))))))
+
+-- The command that the first argument names.
+unfoldable pub command_of : List Text → Option Command
+command_of [] = None
+command_of (name ∷ arguments) = command_named name
 
 -- ---- reading
 
@@ -235,20 +239,21 @@ faultless (kind ∷ kinds) rows = Err Bad
 
 -- The rows of values that clap finds in the arguments after the first, if it finds no fault.
 unfoldable pub matched : App → List Text → Result (List Row) WordsRefusal
-matched app words = faultless (fault_of app words) (matches_of app words)
+matched app arguments = faultless (fault_of app arguments) (matches_of app arguments)
 
 -- A command as read from the arguments after the first.
 abbrev pub asked_of : Command → List Text → WordsReading
-asked_of command words = do
-  rows ← matched command.app words
+asked_of command arguments = do
+  rows ← matched command.app arguments
   command.asks rows
 
 -- The command that the arguments name, with its values.
 unfoldable pub words_of : List Text → WordsReading
-words_of words = do
-  command ← ok_or (command_of words) Bad
-  asked_of command words
+words_of arguments = do
+  command ← ok_or (command_of arguments) Bad
+  asked_of command arguments
 
 -- If clap's definition of the command accepts the arguments, the result depends only on the values, unless memory ran out.
 abbrev pub DecidedByRanges : Command → List Text → WordsReading → Type 0
-DecidedByRanges command words result = takes command.app words ≡ true → Gives Memory result (command.asks (matches_of command.app words))
+DecidedByRanges command arguments result =
+    takes command.app arguments ≡ true → Gives Memory result (command.asks (matches_of command.app arguments))

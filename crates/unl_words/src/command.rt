@@ -2,17 +2,35 @@
 ghost use Rattle.std.specs.Prelude.{◌≡◌, ◌≢◌, true, false, map, IfOk, IfErr, Ok, Err, string_bytes};
 ghost use Rattle.std.specs.List.{fold};
 ghost use Rattle.clap.specs.Words.{app_of, found_of, is_simple_and_free, matches_of, rows_of, rule_of, takes, with_rule};
+ghost use Rattle.unl_words.specs.Commands.{command_by};
 ghost use Rattle.unl_words.specs.Words.{check_app, edge_app, explain_app, follow_app, load_app, matched, option_named};
 ghost use Rattle.unl_words.specs.Words.{replay_app, upstream_app};
 ghost use Rattle.unl_words.specs.declared.refusal.WordsRefusal.TheVariants.{Memory};
 
 use crate::WordsRefusal;
+use crate::name::CommandName;
 use clap::{Arg, ArgAction, ArgMatches, Command};
 use std::alloc::{AllocError, Global};
 
+/// Returns the command of a name.
+#[tactic(auto, unfolding(crate::specs::Commands::command_by))]
+pub(crate) fn named<'a>(alloc: Global, name: CommandName) -> Result<Command<'a>, AllocError>
+    ensures { IfOk result (λ command. app_of command ≡ (command_by name).app) }
+{
+    match name {
+        CommandName::Replay => Ok(replay(alloc)),
+        CommandName::Check => check(alloc),
+        CommandName::Edge => edge(alloc),
+        CommandName::Upstream => upstream(alloc),
+        CommandName::Follow => follow(alloc),
+        CommandName::Explain => Ok(explain(alloc)),
+        CommandName::Load => load(alloc),
+    }
+}
+
 /// `replay` has no options.
 #[tactic(auto, unfolding(crate::specs::Words::replay_app))]
-pub(crate) fn replay<'a>(alloc: Global) -> Command<'a>
+fn replay<'a>(alloc: Global) -> Command<'a>
     ensures { app_of result ≡ replay_app }
 {
     Command::new(alloc, "replay")
@@ -20,7 +38,7 @@ pub(crate) fn replay<'a>(alloc: Global) -> Command<'a>
 
 /// `check` has options for a moment and a random word.
 #[tactic(auto, unfolding(crate::specs::Words::check_app))]
-pub(crate) fn check<'a>(alloc: Global) -> Result<Command<'a>, AllocError>
+fn check<'a>(alloc: Global) -> Result<Command<'a>, AllocError>
     ensures { IfOk result (λ command. app_of command ≡ check_app) }
 {
     with_options(alloc, Command::new(alloc, "check"), &["now", "word"], false)
@@ -28,7 +46,7 @@ pub(crate) fn check<'a>(alloc: Global) -> Result<Command<'a>, AllocError>
 
 /// `edge` requires its upstream and the tokens.
 #[tactic(auto, unfolding(crate::specs::Words::edge_app))]
-pub(crate) fn edge<'a>(alloc: Global) -> Result<Command<'a>, AllocError>
+fn edge<'a>(alloc: Global) -> Result<Command<'a>, AllocError>
     ensures { IfOk result (λ command. app_of command ≡ edge_app) }
 {
     let required = ["upstream", "upstream-tokens", "tokens"];
@@ -40,7 +58,7 @@ pub(crate) fn edge<'a>(alloc: Global) -> Result<Command<'a>, AllocError>
 
 /// `upstream` requires its secret and its environments.
 #[tactic(auto, unfolding(crate::specs::Words::upstream_app))]
-pub(crate) fn upstream<'a>(alloc: Global) -> Result<Command<'a>, AllocError>
+fn upstream<'a>(alloc: Global) -> Result<Command<'a>, AllocError>
     ensures { IfOk result (λ command. app_of command ≡ upstream_app) }
 {
     let required = ["secret", "environments"];
@@ -58,7 +76,7 @@ pub(crate) fn upstream<'a>(alloc: Global) -> Result<Command<'a>, AllocError>
 
 /// `follow` requires its upstream, its token and its feature.
 #[tactic(auto, unfolding(crate::specs::Words::follow_app))]
-pub(crate) fn follow<'a>(alloc: Global) -> Result<Command<'a>, AllocError>
+fn follow<'a>(alloc: Global) -> Result<Command<'a>, AllocError>
     ensures { IfOk result (λ command. app_of command ≡ follow_app) }
 {
     let required = ["upstream", "token", "feature"];
@@ -69,7 +87,7 @@ pub(crate) fn follow<'a>(alloc: Global) -> Result<Command<'a>, AllocError>
 
 /// `explain` has no options.
 #[tactic(auto, unfolding(crate::specs::Words::explain_app))]
-pub(crate) fn explain<'a>(alloc: Global) -> Command<'a>
+fn explain<'a>(alloc: Global) -> Command<'a>
     ensures { app_of result ≡ explain_app }
 {
     Command::new(alloc, "explain")
@@ -77,7 +95,7 @@ pub(crate) fn explain<'a>(alloc: Global) -> Command<'a>
 
 /// `load` requires both of its numbers.
 #[tactic(auto, unfolding(crate::specs::Words::load_app))]
-pub(crate) fn load<'a>(alloc: Global) -> Result<Command<'a>, AllocError>
+fn load<'a>(alloc: Global) -> Result<Command<'a>, AllocError>
     ensures { IfOk result (λ command. app_of command ≡ load_app) }
 {
     with_options(alloc, Command::new(alloc, "load"), &["seed", "count"], true)
@@ -107,7 +125,8 @@ fn with_option<'a>(
     name: &'a str,
     required: bool,
 ) -> Result<Command<'a>, AllocError>
-    ensures { IfOk result (λ more. app_of more ≡ with_rule (app_of command.entry) (record (option_named name.entry.now) { required = required })) }
+    ensures { IfOk result (λ more. app_of more
+        ≡ with_rule (app_of command.entry) (record (option_named name.entry.now) { required = required })) }
 {
     command.arg(option_named(alloc, name, required))
 }
@@ -126,17 +145,17 @@ fn option_named<'a>(alloc: Global, name: &'a str, required: bool) -> Arg<'a>
 /// Returns what clap finds in the arguments after the first.
 pub(crate) fn matched<'a>(
     command: Command<'a>,
-    words: &'a [String],
+    arguments: &'a [String],
 ) -> Result<ArgMatches<'a>, WordsRefusal>
     requires simple { is_simple_and_free (app_of command) ≡ true }
     ensures rows { IfOk result (λ matches. rows_of (found_of matches)
-        ≡ matches_of (app_of command.entry) (map string_bytes words.entry.now)) }
-    ensures found { IfOk result (λ matches. matched (app_of command.entry) (map string_bytes words.entry.now)
+        ≡ matches_of (app_of command.entry) (map string_bytes arguments.entry.now)) }
+    ensures found { IfOk result (λ matches. matched (app_of command.entry) (map string_bytes arguments.entry.now)
         ≡ Ok (rows_of (found_of matches))) }
     ensures refused { IfErr result (λ refusal. refusal ≢ Memory
-        → matched (app_of command.entry) (map string_bytes words.entry.now) ≡ Err refusal) }
-    ensures taken { IfErr result (λ refusal. takes (app_of command.entry) (map string_bytes words.entry.now) ≡ true
+        → matched (app_of command.entry) (map string_bytes arguments.entry.now) ≡ Err refusal) }
+    ensures accepted { IfErr result (λ refusal. takes (app_of command.entry) (map string_bytes arguments.entry.now) ≡ true
         → refusal ≡ Memory) }
 {
-    Ok(command.try_get_matches_from(words)?)
+    Ok(command.try_get_matches_from(arguments)?)
 }

@@ -4,6 +4,7 @@
 mod book;
 mod command;
 mod items;
+mod name;
 mod number;
 mod read;
 mod refusal;

@@ -2,13 +2,13 @@
 ghost use Rattle.std.specs.Prelude.{◌≡◌, Some, IfOk, map, string_bytes};
 ghost use Rattle.clap.specs.Words.{found_of, rows_of};
 ghost use Rattle.unl_documents.specs.Results.{Gives};
+ghost use Rattle.unl_words.specs.Commands.{command_by};
 ghost use Rattle.unl_words.specs.Ranges.{IsInRange};
 ghost use Rattle.unl_words.specs.Words.{DecidedByRanges, Command, asked_of, asks_check, asks_edge, asks_follow, asks_load, asks_upstream};
-ghost use Rattle.unl_words.specs.Words.{check as check_command, command_of, edge as edge_command, explain as explain_command};
-ghost use Rattle.unl_words.specs.Words.{follow as follow_command, load as load_command, replay as replay_command};
-ghost use Rattle.unl_words.specs.Words.{upstream as upstream_command, words_of};
+ghost use Rattle.unl_words.specs.Words.{command_of, words_of};
 ghost use Rattle.unl_words.specs.declared.refusal.WordsRefusal.TheVariants.{Memory};
 
+use crate::name::{CommandName, first_name};
 use crate::number::{number_or, required_number};
 use crate::value::given;
 use crate::{
@@ -49,99 +49,52 @@ const LAST_MOMENT: u64 = 100_000_000_000_000;
 /// - `Bad`: there are no arguments, the first names no command, clap rejects the others (including `--help`), or a value is
 ///   outside its range.
 /// - `Memory`: out of memory.
-#[tactic(auto, unfolding(crate::specs::Words::words_of, crate::specs::Words::command_of))]
+#[tactic(auto, unfolding(crate::specs::Words::words_of))]
 pub fn read_words(alloc: Global, words: &[String]) -> Result<Words, WordsRefusal>
     // The result depends only on what clap finds in the arguments and on the ranges of the values.
     ensures exact { Gives Memory result (words_of (map string_bytes words.now)) }
     // If clap's definition accepts the arguments, the result depends only on the ranges of the values.
-    ensures taken { (command : Command) → command_of (map string_bytes words.now) ≡ Some command
+    ensures decided { (command : Command) → command_of (map string_bytes words.now) ≡ Some command
         → DecidedByRanges command (map string_bytes words.now) result }
     // The values are in their ranges.
     ensures valid { IfOk result IsInRange }
 {
-    let Some(name) = words.first() else {
-        return Err(WordsRefusal::Bad);
-    };
-    match name.as_str() {
-        "replay" => read_replay(alloc, words),
-        "check" => read_check(alloc, words),
-        "edge" => read_edge(alloc, words),
-        "upstream" => read_upstream(alloc, words),
-        "follow" => read_follow(alloc, words),
-        "explain" => read_explain(alloc, words),
-        "load" => read_load(alloc, words),
-        _ => Err(WordsRefusal::Bad),
+    match first_name(words) {
+        Some(name) => read_command(alloc, name, words),
+        None => Err(WordsRefusal::Bad),
     }
 }
 
-/// Reads the arguments of `replay`.
-fn read_replay(alloc: Global, words: &[String]) -> Result<Words, WordsRefusal>
-    ensures exact { Gives Memory result (asked_of replay_command (map string_bytes words.now)) }
-    ensures taken { DecidedByRanges replay_command (map string_bytes words.now) result }
+/// Reads the arguments of a command.
+fn read_command(
+    alloc: Global,
+    name: CommandName,
+    arguments: &[String],
+) -> Result<Words, WordsRefusal>
+    ensures exact { Gives Memory result (asked_of (command_by name) (map string_bytes arguments.now)) }
+    ensures decided { DecidedByRanges (command_by name) (map string_bytes arguments.now) result }
     ensures valid { IfOk result IsInRange }
 {
-    command::matched(command::replay(alloc), words)?;
-    Ok(Words::Replay)
+    let command = command::named(alloc, name)?;
+    let matches = command::matched(command, arguments)?;
+    asked(alloc, name, &matches)
 }
 
-/// Reads the arguments of `check`.
-fn read_check(alloc: Global, words: &[String]) -> Result<Words, WordsRefusal>
-    ensures exact { Gives Memory result (asked_of check_command (map string_bytes words.now)) }
-    ensures taken { DecidedByRanges check_command (map string_bytes words.now) result }
+/// Returns a command with the values that clap found.
+#[tactic(auto, unfolding(crate::specs::Commands::command_by))]
+fn asked(alloc: Global, name: CommandName, matches: &ArgMatches<'_>) -> Result<Words, WordsRefusal>
+    ensures gives { Gives Memory result ((command_by name).asks (rows_of (found_of matches.now))) }
     ensures valid { IfOk result IsInRange }
 {
-    let matches = command::matched(command::check(alloc)?, words)?;
-    asked_check(&matches)
-}
-
-/// Reads the arguments of `edge`.
-fn read_edge(alloc: Global, words: &[String]) -> Result<Words, WordsRefusal>
-    ensures exact { Gives Memory result (asked_of edge_command (map string_bytes words.now)) }
-    ensures taken { DecidedByRanges edge_command (map string_bytes words.now) result }
-    ensures valid { IfOk result IsInRange }
-{
-    let matches = command::matched(command::edge(alloc)?, words)?;
-    asked_edge(alloc, &matches)
-}
-
-/// Reads the arguments of `upstream`.
-fn read_upstream(alloc: Global, words: &[String]) -> Result<Words, WordsRefusal>
-    ensures exact { Gives Memory result (asked_of upstream_command (map string_bytes words.now)) }
-    ensures taken { DecidedByRanges upstream_command (map string_bytes words.now) result }
-    ensures valid { IfOk result IsInRange }
-{
-    let matches = command::matched(command::upstream(alloc)?, words)?;
-    asked_upstream(alloc, &matches)
-}
-
-/// Reads the arguments of `follow`.
-fn read_follow(alloc: Global, words: &[String]) -> Result<Words, WordsRefusal>
-    ensures exact { Gives Memory result (asked_of follow_command (map string_bytes words.now)) }
-    ensures taken { DecidedByRanges follow_command (map string_bytes words.now) result }
-    ensures valid { IfOk result IsInRange }
-{
-    let matches = command::matched(command::follow(alloc)?, words)?;
-    asked_follow(alloc, &matches)
-}
-
-/// Reads the arguments of `explain`.
-fn read_explain(alloc: Global, words: &[String]) -> Result<Words, WordsRefusal>
-    ensures exact { Gives Memory result (asked_of explain_command (map string_bytes words.now)) }
-    ensures taken { DecidedByRanges explain_command (map string_bytes words.now) result }
-    ensures valid { IfOk result IsInRange }
-{
-    command::matched(command::explain(alloc), words)?;
-    Ok(Words::Explain)
-}
-
-/// Reads the arguments of `load`.
-fn read_load(alloc: Global, words: &[String]) -> Result<Words, WordsRefusal>
-    ensures exact { Gives Memory result (asked_of load_command (map string_bytes words.now)) }
-    ensures taken { DecidedByRanges load_command (map string_bytes words.now) result }
-    ensures valid { IfOk result IsInRange }
-{
-    let matches = command::matched(command::load(alloc)?, words)?;
-    asked_load(&matches)
+    match name {
+        CommandName::Replay => Ok(Words::Replay),
+        CommandName::Check => asked_check(matches),
+        CommandName::Edge => asked_edge(alloc, matches),
+        CommandName::Upstream => asked_upstream(alloc, matches),
+        CommandName::Follow => asked_follow(alloc, matches),
+        CommandName::Explain => Ok(Words::Explain),
+        CommandName::Load => asked_load(matches),
+    }
 }
 
 /// Returns the `check` command with the values that clap found.
@@ -162,14 +115,14 @@ fn asked_edge(alloc: Global, matches: &ArgMatches<'_>) -> Result<Words, WordsRef
     ensures valid { IfOk result IsInRange }
 {
     let port = number_or(given(matches, "port"), 3063, 1, 65_535)?;
-    let upstream = value::address(alloc, given(matches, "upstream"))?;
-    let upstream_tokens = items::upstream_tokens(alloc, given(matches, "upstream-tokens"))?;
-    let tokens = items::tokens(alloc, given(matches, "tokens"))?;
-    let host = value::line_or_empty(alloc, given(matches, "host"))?;
     let workers = number_or(given(matches, "workers"), 4, 1, 16)?;
     let interval = number_or(given(matches, "interval"), 15, 1, 3600)?;
     let connections = number_or(given(matches, "connections"), 0, 0, u64::MAX)?;
     let delta = value::mode_or_delta(given(matches, "mode"))?;
+    let upstream = value::address(alloc, given(matches, "upstream"))?;
+    let upstream_tokens = items::upstream_tokens(alloc, given(matches, "upstream-tokens"))?;
+    let tokens = items::tokens(alloc, given(matches, "tokens"))?;
+    let host = value::line_or_empty(alloc, given(matches, "host"))?;
     Ok(Words::Edge(EdgeArguments {
         port: port as u16,
         upstream,
@@ -190,13 +143,13 @@ fn asked_upstream(alloc: Global, matches: &ArgMatches<'_>) -> Result<Words, Word
     ensures valid { IfOk result IsInRange }
 {
     let port = number_or(given(matches, "port"), 4242, 1, 65_535)?;
+    let connections = number_or(given(matches, "connections"), 0, 0, u64::MAX)?;
+    let epoch = number_or(given(matches, "epoch"), 0, 0, u64::MAX)?;
+    let sqlite = value::sqlite_or_memory(given(matches, "keep"))?;
     let secret = value::secret(alloc, given(matches, "secret"))?;
     let environments = items::environments(alloc, given(matches, "environments"))?;
     let client_tokens = items::own_tokens(alloc, given(matches, "client-tokens"))?;
     let frontend_tokens = items::own_tokens(alloc, given(matches, "frontend-tokens"))?;
-    let connections = number_or(given(matches, "connections"), 0, 0, u64::MAX)?;
-    let epoch = number_or(given(matches, "epoch"), 0, 0, u64::MAX)?;
-    let sqlite = value::sqlite_or_memory(given(matches, "keep"))?;
     if !items::fit_one_book(&client_tokens, &frontend_tokens) {
         return Err(WordsRefusal::Bad);
     }
@@ -218,13 +171,13 @@ fn asked_follow(alloc: Global, matches: &ArgMatches<'_>) -> Result<Words, WordsR
     ensures gives { Gives Memory result (asks_follow (rows_of (found_of matches.now))) }
     ensures valid { IfOk result IsInRange }
 {
+    let delta = value::mode_or_delta(given(matches, "mode"))?;
+    let turns = number_or(given(matches, "turns"), 1, 1, 1_000_000)?;
+    let interval = number_or(given(matches, "interval"), 15, 1, 3600)?;
     let upstream = value::address(alloc, given(matches, "upstream"))?;
     let token = value::token(alloc, given(matches, "token"))?;
     let feature = value::name(alloc, given(matches, "feature"))?;
     let context = value::context_or_none(alloc, given(matches, "context"))?;
-    let delta = value::mode_or_delta(given(matches, "mode"))?;
-    let turns = number_or(given(matches, "turns"), 1, 1, 1_000_000)?;
-    let interval = number_or(given(matches, "interval"), 15, 1, 3600)?;
     let context = value::placed(alloc, context, &token)?;
     Ok(Words::Follow(FollowArguments {
         upstream,

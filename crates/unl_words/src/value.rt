@@ -7,7 +7,7 @@ ghost use Rattle.unl_context.specs.Limits.{is_within_limits};
 ghost use Rattle.unl_documents.specs.Results.{Gives};
 ghost use Rattle.unl_documents.specs.Texts.{is_name};
 ghost use Rattle.unl_words.specs.Lists.{environment_of, is_token, token_of};
-ghost use Rattle.unl_words.specs.Values.{address_of, context_by, goes_on, is_address, is_line, is_secret, line_of, mode_or_delta, mode_of};
+ghost use Rattle.unl_words.specs.Values.{address_of, context_by, is_line_byte, is_address, is_line, is_secret, line_of, mode_or_delta, mode_of};
 ghost use Rattle.unl_words.specs.Values.{name_of, or_empty, passed, placed, required, secret_of, sqlite_or_memory};
 ghost use Rattle.unl_words.specs.declared.refusal.WordsRefusal.TheVariants.{Memory};
 
@@ -168,17 +168,17 @@ fn is_secret(text: &str) -> bool
 pub(crate) fn is_line(text: &str) -> bool
     ensures { result ≡ is_line text.now }
 {
-    all_go_on(text.as_bytes())
+    are_line_bytes(text.as_bytes())
 }
 
-fn all_go_on(bytes: &[u8]) -> bool
-    ensures { result ≡ list_all goes_on bytes.now }
+fn are_line_bytes(bytes: &[u8]) -> bool
+    ensures { result ≡ list_all is_line_byte bytes.now }
 {
-    bytes.iter().all(|byte| goes_on(*byte))
+    bytes.iter().all(|byte| is_line_byte(*byte))
 }
 
-fn goes_on(byte: u8) -> bool
-    ensures { result ≡ goes_on byte }
+fn is_line_byte(byte: u8) -> bool
+    ensures { result ≡ is_line_byte byte }
 {
     byte != b'\r' && byte != b'\n' && byte != 0
 }

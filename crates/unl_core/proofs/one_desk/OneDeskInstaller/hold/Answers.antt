@@ -1,13 +1,13 @@
 use Rattle.std.proofs.Common.{◌<◌, length, subst, sym, ap}
 use Rattle.unl_core.specs.DeskStates.{DeskState, installed_by}
 use Rattle.unl_delta.proofs.Installs.{hold_keeps}
-use Rattle.unl_core.proofs.DeskStateLemmas.{hold_is, standing_held}
+use Rattle.unl_core.proofs.DeskStateLemmas.{hold_is, places_match_held}
 use Rattle.unl_core.proofs.one_desk.OneDeskInstaller.hold.Goals as goal
 
 pub invariant_of-self : goal.invariant_of-self
 invariant_of-self c =
     let low : c.args.slot < length c.self.inside.places.items = subst (λ (s : DeskState). c.args.slot < length s.places) (sym c.self.view_is) c.requires in
-    standing_held c.self.inside.board c.self.inside.places.items c.args.slot _ c.index_mut.result.now c.self.invariant low (ap (λ p. p.version) c.index_mut.ensures.value)
+    places_match_held c.self.inside.board c.self.inside.places.items c.args.slot _ c.index_mut.result.now c.self.invariant low (ap (λ p. p.version) c.index_mut.ensures.value)
 
 pub returns-clause-held : goal.returns-clause-held
 returns-clause-held c =

@@ -1,0 +1,14 @@
+-- The commands by their names.
+use Rattle.unl_words.specs.declared.name.CommandName.{CommandName}
+use Rattle.unl_words.specs.declared.name.CommandName.TheVariants as name
+use Rattle.unl_words.specs.Words.{Command, check, edge, explain, follow, load, replay, upstream}
+
+-- The command of each name.
+unfoldable pub command_by : CommandName → Command
+command_by name.Replay = replay
+command_by name.Check = check
+command_by name.Edge = edge
+command_by name.Upstream = upstream
+command_by name.Follow = follow
+command_by name.Explain = explain
+command_by name.Load = load
