@@ -3,7 +3,7 @@ use Rattle.std.proofs.Common.{◌≡◌, ℕ, ◌+◌, ◌⊎◌, inl, inr, List
 use Rattle.std.proofs.lemmas.List.{drop-drop}
 use Rattle.unl_base.specs.declared.draws.Draw.{Draw}
 use Rattle.unl_base.specs.Draws.{TakesDraw}
-use Rattle.unl_server.specs.Handling.{HandlerState, Answers, Coming, RunsOutOfMemory, answerer}
+use Rattle.unl_server.specs.Handling.{HandlerState, Answers, Coming, RunsOutOfMemory, handler_state}
 use Rattle.unl_server.specs.Conversation.{Answered as AnsweredAll, Concludes, GivesUp}
 use Rattle.unl_server.proofs.AskedLemmas.{Asks, asks}
 use Rattle.unl_http_api.specs.declared.end.End.{End}
@@ -28,12 +28,12 @@ answered_counts {S} gives count (q ∷ qs) text before after answered =
 -- taking n draws and then m is taking n + m
 pub draws_both : (m n : ℕ) (coming : Coming) → draws_after m (draws_after n coming) ≡ draws_after (n + m) coming
 draws_both m n None = refl
-draws_both m n (Some told) = ap (λ (ds : List Draw). Some (ds, told.1)) (drop-drop m n told.0)
+draws_both m n (Some draws) = ap (λ (ds : List Draw). Some (ds, draws.1)) (drop-drop m n draws.0)
 
 -- taking no draw changes nothing
 draws_none : (coming : Coming) → coming ≡ draws_after 0 coming
 draws_none None = refl
-draws_none (Some told) = refl
+draws_none (Some draws) = refl
 
 -- taking one draw leaves the draws after one
 draws_one : (coming : Coming) (draw : Draw) (coming_after : Coming) → TakesDraw coming draw coming_after → coming_after ≡ draws_after 1 coming
@@ -69,7 +69,7 @@ pub record Took
   pub counted : length requests ≡ count
   pub text : List ℕ
   pub reached : HandlerState S
-  pub answered : AnsweredAll (Answers gives) 0 (answerer before 0 coming) requests text reached
+  pub answered : AnsweredAll (Answers gives) 0 (handler_state before 0 coming) requests text reached
   pub state : after ≡ reached.state
   pub taken : ℕ
   pub takes : (taken ≡ count) ⊎ ((end ≡ ends.Memory) × (taken ≡ count + 1))
@@ -77,19 +77,19 @@ pub record Took
 
 pub took : {S : Type 0} (gives : Giving S) (bytes : List ℕ) (back : List ℕ × ℕ) (before : S) (coming : Coming) (end : End) (count : ℕ) (after : S)
     (coming_after : Coming) (left_after : Option (List ℕ))
-    → Concludes (Answers gives) bytes (Some []) (answerer before 0 coming) end (answerer after count coming_after) left_after (Some back.0)
-    → (end ≡ ends.Memory → GivesUp (Answers gives) (RunsOutOfMemory Stays) bytes (Some []) 0 (answerer before 0 coming) (answerer after count coming_after) (Some back.0) back.1)
+    → Concludes (Answers gives) bytes (Some []) (handler_state before 0 coming) end (handler_state after count coming_after) left_after (Some back.0)
+    → (end ≡ ends.Memory → GivesUp (Answers gives) (RunsOutOfMemory Stays) bytes (Some []) 0 (handler_state before 0 coming) (handler_state after count coming_after) (Some back.0) back.1)
     → Took gives bytes before coming end count after coming_after
 took {S} gives bytes back before coming end count after coming_after left_after conversation memory = by_next asked.next
   where
-    asked : Asks (Answers gives) (RunsOutOfMemory Stays) bytes (answerer before 0 coming) end (answerer after count coming_after)
-    asked = asks bytes (answerer before 0 coming) (answerer after count coming_after) end (Some []) left_after (Some back.0) 0 back.1 conversation memory
+    asked : Asks (Answers gives) (RunsOutOfMemory Stays) bytes (handler_state before 0 coming) end (handler_state after count coming_after)
+    asked = asks bytes (handler_state before 0 coming) (handler_state after count coming_after) end (Some []) left_after (Some back.0) 0 back.1 conversation memory
 
     counts : asked.reached.count ≡ 0 + length asked.requests
-    counts = answered_counts gives 0 asked.requests asked.text (answerer before 0 coming) asked.reached asked.answered
+    counts = answered_counts gives 0 asked.requests asked.text (handler_state before 0 coming) asked.reached asked.answered
 
     draws : asked.reached.coming ≡ draws_after (length asked.requests) coming
-    draws = answered_draws gives 0 asked.requests asked.text (answerer before 0 coming) asked.reached asked.answered
+    draws = answered_draws gives 0 asked.requests asked.text (handler_state before 0 coming) asked.reached asked.answered
 
     so_many : (taken : ℕ) → after ≡ asked.reached.state → count ≡ asked.reached.count → coming_after ≡ draws_after taken coming
         → (taken ≡ count) ⊎ ((end ≡ ends.Memory) × (taken ≡ count + 1)) → Took gives bytes before coming end count after coming_after
@@ -107,8 +107,8 @@ took {S} gives bytes back before coming end count after coming_after left_after 
       draws = come;
     }
 
-    by_next : (answerer after count coming_after ≡ asked.reached)
-        ⊎ ((end ≡ ends.Memory) × (request : Request) × RunsOutOfMemory Stays asked.reached request (answerer after count coming_after))
+    by_next : (handler_state after count coming_after ≡ asked.reached)
+        ⊎ ((end ≡ ends.Memory) × (request : Request) × RunsOutOfMemory Stays asked.reached request (handler_state after count coming_after))
         → Took gives bytes before coming end count after coming_after
     by_next (inl same) =
         let notes : count ≡ asked.reached.count = ap (λ (s : HandlerState S). s.count) same in

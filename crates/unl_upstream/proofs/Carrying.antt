@@ -1,13 +1,13 @@
 -- What keeping commands preserves and changes.
-use Rattle.std.proofs.Common.{◌≡◌, ◌≢◌, ◌<◌, ◌≤◌, ◌⊎◌, inl, inr, ℕ, ◌+◌, Bool, true, false, cond, List, [], ◌∷◌, ◌++◌, take, drop, length, length-append, Option, Some, None, Result, Ok, Err, IsOk, IfErr, option_map, IfSome, refl, sym, ap, ◌∙◌, subst, arith, append_assoc, append-nil}
+use Rattle.std.proofs.Common.{◌≡◌, ◌≢◌, ◌<◌, ◌≤◌, ◌⊎◌, inl, inr, ℕ, ◌+◌, Bool, true, false, cond, List, [], ◌∷◌, ◌++◌, drop, length, length-append, Option, Some, None, Result, Ok, Err, IsOk, IfErr, option_map, IfSome, refl, sym, ap, ◌∙◌, subst, arith, append_assoc, append-nil}
 use Rattle.std.specs.Prelude.{nat_lt}
 use Rattle.std.specs.Result.{IsErrAnd}
 use Rattle.std.proofs.lemmas.Bool.{le-ltb, lt-ltb}
-use Rattle.std.proofs.lemmas.List.{drop_all, length-take-le}
 use Rattle.unl_keeper.specs.declared.refusal.KeepRefusal.{KeepRefusal}
 use Rattle.unl_keeper.specs.declared.refusal.KeepRefusal.TheVariants as fault
-use Rattle.unl_keeper.specs.Rows.{kept, with_row}
-use Rattle.unl_keeper.proofs.Kept.{kept_more, kept_same, past_is}
+use Rattle.unl_keeper.specs.Rows.{with_row}
+use Rattle.unl_keeper.specs.State.{HasKept, IsFailed, IsWritten, KeeperState, kept_rows}
+use Rattle.unl_keeper.proofs.Kept.{has_failed, has_written, past_failed, past_written, rows_failed, rows_written}
 use Rattle.unl_documents.specs.Results.{◌>>=◌}
 use Rattle.unl_upstream.specs.declared.command.Command.{Command}
 use Rattle.unl_upstream.specs.declared.refusal.CommandRefusal.{CommandRefusal}
@@ -16,34 +16,34 @@ use Rattle.unl_upstream.specs.declared.refusal.KeepCommandRefusal.{KeepCommandRe
 use Rattle.unl_upstream.specs.declared.refusal.KeepCommandRefusal.TheVariants.{NoSuchEnvironment, NoSuchFeature, NoSuchSegment, TooMany, KeeperFull, KeeperFault, Memory}
 use Rattle.unl_upstream.specs.Command.{command_in}
 use Rattle.unl_upstream.specs.History.{accepted, after_commands, if_accepted, up_after}
-use Rattle.unl_upstream.specs.Kept.{Acknowledges, AreLeft, Carries, FailsToKeep, HasKept, AttemptsPreserve, IsFailed, IsLeft, IsWritten, KeeperState, Keeps, AttemptsInOrder, SomeAttempts, KeptState, LeadTo, LeavesOne, Moves, Puts, KeepAttempt, acknowledged, commands_in, failed_after, faults_among, if_kept, keepable, kept_commands, kept_rows, most_rows, past_rows, with_room}
+use Rattle.unl_upstream.specs.Kept.{Acknowledges, AreLeft, Carries, FailsToKeep, AttemptsPreserve, IsLeft, IsPending, Keeps, AttemptsInOrder, SomeAttempts, KeptState, ResultIn, LeavesOne, Moves, Puts, KeepAttempt, acknowledged, commands_in, failed_after, faults_among, if_kept, keepable, kept_commands, most_rows, past_rows, with_room}
 use Rattle.unl_upstream.specs.Upstream.{AppliedCommand, CommandResult, Prepared, UpstreamState, apply_command, committed, prepared, refused_as}
 use Rattle.unl_upstream.specs.Writing.{command_text}
-use Rattle.unl_upstream.proofs.Leading.{command_one, commands_both, lead_more}
+use Rattle.unl_upstream.proofs.Leading.{command_one, commands_both, results_more}
 use Rattle.unl_upstream.proofs.Served.{after_both}
 use Rattle.unl_upstream.proofs.VersionLemmas.{accepted_both, are_added}
 
 -- ---- prepared commands
 
 -- the result of committing a prepared command
-abbrev obeyed_with : Prepared → UpstreamState → AppliedCommand
-obeyed_with ready up = record { up = committed ready up; number = ready.number }
+abbrev applied_with : Prepared → UpstreamState → AppliedCommand
+applied_with ready up = record { up = committed ready up; number = ready.number }
 
 -- a prepared command for which there is room is accepted with this result
-room_obeyed : (count : ℕ) (r : CommandResult Prepared) (up : UpstreamState) (ready : Prepared) → with_room count r ≡ Ok ready
-    → with_room count (r >>= λ made. Ok (obeyed_with made up)) ≡ Ok (obeyed_with ready up)
-room_obeyed count (Err refusal) up ready is = absurd cc
-room_obeyed count (Ok made) up ready is = decided (nat_lt count most_rows) is
+room_applied : (count : ℕ) (r : CommandResult Prepared) (up : UpstreamState) (ready : Prepared) → with_room count r ≡ Ok ready
+    → with_room count (r >>= λ made. Ok (applied_with made up)) ≡ Ok (applied_with ready up)
+room_applied count (Err refusal) up ready is = absurd cc
+room_applied count (Ok made) up ready is = decided (nat_lt count most_rows) is
   where
     decided : (t : Bool) → cond t (Ok made) (Err (KeeperFull count)) ≡ Ok ready
-        → cond t (Ok (obeyed_with made up)) (Err (KeeperFull count)) ≡ Ok (obeyed_with ready up)
-    decided true is = let same : made ≡ ready = cc in ap (λ (p : Prepared). Ok (obeyed_with p up)) same
+        → cond t (Ok (applied_with made up)) (Err (KeeperFull count)) ≡ Ok (applied_with ready up)
+    decided true is = let same : made ≡ ready = cc in ap (λ (p : Prepared). Ok (applied_with p up)) same
     decided false is = absurd cc
 
-pub keepable_is : (command : Command) (before : KeptState) (ready : Prepared) → with_room before.keeper.count (prepared command before.up) ≡ Ok ready
+keepable_is : (command : Command) (before : KeptState) (ready : Prepared) → with_room before.keeper.count (prepared command before.up) ≡ Ok ready
     → keepable command before ≡ Ok (record { up = committed ready before.up; number = ready.number })
 unfolding apply_command
-keepable_is command before ready is = room_obeyed before.keeper.count (prepared command before.up) before.up ready is
+keepable_is command before ready is = room_applied before.keeper.count (prepared command before.up) before.up ready is
 
 -- below the maximum there is room
 room : {T : Type 0} (count : ℕ) (x : T) → count < 10000000 → with_room count (Ok x) ≡ Ok x
@@ -53,29 +53,29 @@ room count x low = let yes : nat_lt count most_rows ≡ true = lt-ltb count most
 no_room : {T : Type 0} (count : ℕ) (x : T) → 10000000 ≤ count → with_room count (Ok x) ≡ Err (KeeperFull count)
 no_room count x high = let no : nat_lt count most_rows ≡ false = le-ltb count most_rows high in rw no refl
 
-pub awaited : (count : ℕ) (command : Command) (up : UpstreamState) (ready : Prepared) → prepared command up ≡ Ok ready → count < 10000000
+pub room_left : (count : ℕ) (command : Command) (up : UpstreamState) (ready : Prepared) → prepared command up ≡ Ok ready → count < 10000000
     → with_room count (prepared command up) ≡ Ok ready
-awaited count command up ready is low = ap (with_room count) is ∙ room count ready low
+room_left count command up ready is low = ap (with_room count) is ∙ room count ready low
 
 pub full : (count : ℕ) (command : Command) (up : UpstreamState) (ready : Prepared) → prepared command up ≡ Ok ready → 10000000 ≤ count
     → with_room count (apply_command command up) ≡ Err (KeeperFull count)
 unfolding apply_command
 full count command up ready is high =
-    ap (λ (r : CommandResult Prepared). with_room count (r >>= λ made. Ok (obeyed_with made up))) is ∙ no_room count (obeyed_with ready up) high
+    ap (λ (r : CommandResult Prepared). with_room count (r >>= λ made. Ok (applied_with made up))) is ∙ no_room count (applied_with ready up) high
 
-pub refused_so : (count : ℕ) (command : Command) (up : UpstreamState) (refusal : CommandRefusal) (e : KeepCommandRefusal) → e ≡ refused_as refusal
+pub refused_for : (count : ℕ) (command : Command) (up : UpstreamState) (refusal : CommandRefusal) (e : KeepCommandRefusal) → e ≡ refused_as refusal
     → (refusal ≢ command_refusal.Memory → prepared command up ≡ Err refusal) → e ≢ Memory → with_room count (apply_command command up) ≡ Err e
 unfolding apply_command
-refused_so count command up refusal e is told some =
-    let here : prepared command up ≡ Err refusal = told (λ wanting. some (is ∙ ap refused_as wanting)) in
-    ap (λ (r : CommandResult Prepared). with_room count (r >>= λ made. Ok (obeyed_with made up))) here ∙ ap Err (sym is)
+refused_for count command up refusal e is refused some =
+    let here : prepared command up ≡ Err refusal = refused (λ failure. some (is ∙ ap refused_as failure)) in
+    ap (λ (r : CommandResult Prepared). with_room count (r >>= λ made. Ok (applied_with made up))) here ∙ ap Err (sym is)
 
 -- the same for a refusal that was converted and returned
-pub passed_on : {T : Type 0} (r : Result T KeepCommandRefusal) (count : ℕ) (command : Command) (up : UpstreamState) (refusal : CommandRefusal)
+pub refused_by : {T : Type 0} (r : Result T KeepCommandRefusal) (count : ℕ) (command : Command) (up : UpstreamState) (refusal : CommandRefusal)
     → IsErrAnd r (λ e. e ≡ refused_as refusal) → (refusal ≢ command_refusal.Memory → prepared command up ≡ Err refusal)
     → IfErr r (λ e. e ≢ Memory → with_room count (apply_command command up) ≡ Err e)
-passed_on (Ok x) count command up refusal is told = absurd is
-passed_on (Err e) count command up refusal is told = refused_so count command up refusal e is told
+refused_by (Ok x) count command up refusal is refused = absurd is
+refused_by (Err e) count command up refusal is refused = refused_for count command up refusal e is refused
 
 -- a keeper's fault is not a refusal of a command
 no_fault : (count : ℕ) (r : CommandResult AppliedCommand) → with_room count r ≡ Err KeeperFault → ⊥
@@ -91,14 +91,14 @@ no_fault count (Err (command_refusal.TooMany n)) is = cc
 no_fault count (Err command_refusal.Memory) is = cc
 
 -- a refused command is not kept, and nothing changes
-pub refuses_so : (command : Command) (state : KeptState) (e : KeepCommandRefusal) → (e ≢ Memory → keepable command state ≡ Err e) → Keeps command state (Err e) state
-refuses_so command state NoSuchEnvironment told = record { cause = told (λ m. cc); same = refl }
-refuses_so command state NoSuchFeature told = record { cause = told (λ m. cc); same = refl }
-refuses_so command state NoSuchSegment told = record { cause = told (λ m. cc); same = refl }
-refuses_so command state (TooMany n) told = record { cause = told (λ m. cc); same = refl }
-refuses_so command state (KeeperFull n) told = record { cause = told (λ m. cc); same = refl }
-refuses_so command state KeeperFault told = absurd (no_fault state.keeper.count (apply_command command state.up) (told (λ m. cc)))
-refuses_so command state Memory told = refl
+pub refuses : (command : Command) (state : KeptState) (e : KeepCommandRefusal) → (e ≢ Memory → keepable command state ≡ Err e) → Keeps command state (Err e) state
+refuses command state NoSuchEnvironment because = record { cause = because (λ m. cc); same = refl }
+refuses command state NoSuchFeature because = record { cause = because (λ m. cc); same = refl }
+refuses command state NoSuchSegment because = record { cause = because (λ m. cc); same = refl }
+refuses command state (TooMany n) because = record { cause = because (λ m. cc); same = refl }
+refuses command state (KeeperFull n) because = record { cause = because (λ m. cc); same = refl }
+refuses command state KeeperFault because = absurd (no_fault state.keeper.count (apply_command command state.up) (because (λ m. cc)))
+refuses command state Memory because = refl
 
 -- the result of storing a text, as that of keeping its command
 abbrev pub kept_as : Result ℕ KeepRefusal → Result ℕ KeepCommandRefusal
@@ -110,23 +110,22 @@ is_ok : {T E : Type 0} (r : Result T E) (x : T) → r ≡ Ok x → IsOk r
 is_ok (Ok y) x is = refl
 is_ok (Err e) x is = absurd cc
 
-pub kept_so : (command : Command) (before after : KeptState) (ready : Prepared) (text : List ℕ) (result : Result ℕ KeepRefusal)
-    → with_room before.keeper.count (prepared command before.up) ≡ Ok ready → text ≡ command_text command → command_in (command_text command) ≡ Ok command
-    → Puts ready text before result after → Keeps command before (kept_as result) after
-kept_so command before after ready text (Ok number) awaits is spelled puts =
-    let obeyed : keepable command before ≡ Ok (obeyed_with ready before.up) = keepable_is command before ready awaits in record {
-      obeyed = obeyed ∙ (λ i. Ok (record { up = sym puts.up i; number = sym puts.is i }));
-      spelled = spelled;
-      row = subst (λ (t : List ℕ). IsWritten t before.keeper after.keeper) is puts.row;
+-- the result of keeping a command, by that of the put of its text
+pub keeps_by_put : (command : Command) (before after : KeptState) (ready : Prepared) (text : List ℕ) (result : Result ℕ KeepRefusal)
+    → IsPending command before ready text → Puts ready text before result after → Keeps command before (kept_as result) after
+keeps_by_put command before after ready text (Ok number) pending puts =
+    let applied : keepable command before ≡ Ok (applied_with ready before.up) = keepable_is command before ready pending.accepts in record {
+      obeyed = applied ∙ (λ i. Ok (record { up = sym puts.up i; number = sym puts.is i }));
+      spelled = pending.spelled;
+      row = subst (λ (t : List ℕ). IsWritten t before.keeper after.keeper) pending.text_is puts.row;
     }
-kept_so command before after ready text (Err fault.Fault) awaits is spelled puts =
-    let obeyed : keepable command before ≡ Ok (obeyed_with ready before.up) = keepable_is command before ready awaits in record {
-      obeyed = is_ok (keepable command before) (obeyed_with ready before.up) obeyed;
-      spelled = spelled;
-      up = puts.up;
-      row = subst (λ (t : List ℕ). IsFailed t before.keeper after.keeper) is puts.row;
-    }
-kept_so command before after ready text (Err fault.Memory) awaits is spelled puts = puts
+keeps_by_put command before after ready text (Err fault.Fault) pending puts = record {
+  obeyed = is_ok (keepable command before) (applied_with ready before.up) (keepable_is command before ready pending.accepts);
+  spelled = pending.spelled;
+  up = puts.up;
+  row = subst (λ (t : List ℕ). IsFailed t before.keeper after.keeper) pending.text_is puts.row;
+}
+keeps_by_put command before after ready text (Err fault.Memory) pending puts = λ i. record { up = puts.up i; keeper = puts.row i }
 
 -- a command that can be kept is accepted
 pub accepted_kept : (command : Command) (before : KeptState) (obeyed : AppliedCommand) → keepable command before ≡ Ok obeyed → apply_command command before.up ≡ Ok obeyed
@@ -139,68 +138,6 @@ accepted_kept command before obeyed is = decided (apply_command command before.u
     decided : (r : CommandResult AppliedCommand) → apply_command command before.up ≡ r → with_room before.keeper.count r ≡ Ok obeyed → apply_command command before.up ≡ Ok obeyed
     decided (Ok made) here is = here ∙ ap Ok (same made (nat_lt before.keeper.count most_rows) is)
     decided (Err refusal) here is = absurd cc
-
--- ---- the rows
-
--- no row follows a row just written
-past_none : (count : ℕ) (text : List ℕ) (rows : Option (List (List ℕ))) → IfSome rows (λ list. count ≤ length list)
-    → option_map (λ list. drop (count + 1) list) (with_row count text rows) ≡ option_map (λ list. []) rows
-past_none count text None has = refl
-past_none count text (Some list) has =
-    let here : length (take count list) ≡ count = length-take-le count list has in
-    let all : length (take count list ++ text ∷ []) ≡ length (take count list) + 1 = length-append (take count list) (text ∷ []) in
-    ap Some (drop_all (count + 1) (take count list ++ text ∷ []) (omega (arith, here, all)))
-
--- after a put, successful or not, there are still at least as many rows as are kept
-has_row : (count : ℕ) (text : List ℕ) (rows : Option (List (List ℕ))) → IfSome rows (λ list. count ≤ length list)
-    → IfSome (with_row count text rows) (λ list. count + 1 ≤ length list)
-has_row count text None has = tt
-has_row count text (Some list) has =
-    let here : length (take count list) ≡ count = length-take-le count list has in
-    let all : length (take count list ++ text ∷ []) ≡ length (take count list) + 1 = length-append (take count list) (text ∷ []) in
-    omega (arith, here, all)
-
-fewer : (count : ℕ) (rows : Option (List (List ℕ))) → IfSome rows (λ list. count + 1 ≤ length list) → IfSome rows (λ list. count ≤ length list)
-fewer count None has = tt
-fewer count (Some list) has = omega (arith, has)
-
--- after a successful put, the text follows the earlier kept rows
-rows_written : (text : List ℕ) (before after : KeeperState) → HasKept before → IsWritten text before after
-    → kept_rows after ≡ option_map (λ list. list ++ text ∷ []) (kept_rows before)
-rows_written text before after has row = (λ i. kept (row.counted i) (row.rows i)) ∙ kept_more before.count text before.rows has
-
-past_written : (text : List ℕ) (before after : KeeperState) → HasKept before → IsWritten text before after
-    → past_rows after ≡ option_map (λ list. []) before.rows
-past_written text before after has row =
-    (λ i. option_map (λ list. drop (row.counted i) list) (row.rows i)) ∙ past_none before.count text before.rows has
-
--- after a failed put, the kept rows are unchanged
-rows_failed : (text : List ℕ) (before after : KeeperState) → HasKept before → IsFailed text before after → kept_rows after ≡ kept_rows before
-rows_failed text before after has row = by_rows row.rows
-  where
-    by_rows : (after.rows ≡ before.rows) ⊎ (after.rows ≡ with_row before.count text before.rows) → kept_rows after ≡ kept_rows before
-    by_rows (inl same) = λ i. kept (row.counted i) (same i)
-    by_rows (inr left) = (λ i. kept (row.counted i) (left i)) ∙ kept_same before.count text before.rows has
-
--- after any attempt to keep a command, there are still at least as many rows as are kept
-has_written : (text : List ℕ) (before after : KeeperState) → HasKept before → IsWritten text before after → HasKept after
-has_written text before after has row =
-    subst (λ (rows : Option (List (List ℕ))). IfSome rows (λ list. after.count ≤ length list)) (sym row.rows)
-    (subst (λ (n : ℕ). IfSome (with_row before.count text before.rows) (λ list. n ≤ length list)) (sym row.counted) (has_row before.count text before.rows has))
-
-has_failed : (text : List ℕ) (before after : KeeperState) → HasKept before → IsFailed text before after → HasKept after
-has_failed text before after has row = by_rows row.rows
-  where
-    of_rows : (rows : Option (List (List ℕ))) → after.rows ≡ rows → IfSome rows (λ list. before.count ≤ length list) → HasKept after
-    of_rows rows are enough =
-        subst (λ (o : Option (List (List ℕ))). IfSome o (λ list. after.count ≤ length list)) (sym are)
-        (subst (λ (n : ℕ). IfSome rows (λ list. n ≤ length list)) (sym row.counted) enough)
-
-    by_rows : (after.rows ≡ before.rows) ⊎ (after.rows ≡ with_row before.count text before.rows) → HasKept after
-    by_rows (inl same) = of_rows before.rows same has
-    by_rows (inr left) =
-        of_rows (with_row before.count text before.rows) left
-        (fewer before.count (with_row before.count text before.rows) (has_row before.count text before.rows has))
 
 -- ---- what changed
 
@@ -224,16 +161,16 @@ moves_same one none before after same =
 
 moves_written : (command : Command) (before : KeptState) (number : ℕ) (after : KeptState) → Acknowledges command before number after
     → Moves (record { command = command; result = Ok number } ∷ []) before after
-moves_written command before number after told =
+moves_written command before number after done =
     let accepts : apply_command command before.up ≡ Ok (record { up = after.up; number = number }) =
-    accepted_kept command before (record { up = after.up; number = number }) told.obeyed in
+    accepted_kept command before (record { up = after.up; number = number }) done.obeyed in
     moves_by (record { command = command; result = Ok number } ∷ []) before after (sym (ap (up_after before.up) accepts))
-    (ap (λ (r : CommandResult AppliedCommand). if_accepted command r []) accepts) told.row.counted
+    (ap (λ (r : CommandResult AppliedCommand). if_accepted command r []) accepts) done.row.counted
 
 moves_failed : (command : Command) (before after : KeptState) → FailsToKeep command before after
     → Moves (record { command = command; result = Err KeeperFault } ∷ []) before after
-moves_failed command before after told =
-    moves_by (record { command = command; result = Err KeeperFault } ∷ []) before after told.up refl (told.row.counted ∙ omega arith)
+moves_failed command before after fails =
+    moves_by (record { command = command; result = Err KeeperFault } ∷ []) before after fails.up refl (fails.row.counted ∙ omega arith)
 
 moves_one : (command : Command) (before : KeptState) (result : Result ℕ KeepCommandRefusal) (after : KeptState) → Keeps command before result after
     → Moves (record { command = command; result = result } ∷ []) before after
@@ -280,22 +217,22 @@ append_none (Some commands) = ap Some (append-nil commands)
 
 carries_same : (one : KeepAttempt) → acknowledged (one ∷ []) ≡ [] → faults_among (one ∷ []) ≡ 0 → ((failed : List Command) → failed_after failed (one ∷ []) ≡ failed)
     → (before after : KeptState) → after ≡ before → Carries (one ∷ []) before after
-carries_same one none calm as_before before after same =
+carries_same one none no_faults as_before before after same =
     subst (λ (s : KeptState). Carries (one ∷ []) before s) (sym same) (record {
       represents = λ opening holds. holds;
       moves = moves_same one none before before refl;
       appended = sym (append_none (kept_commands before.keeper))
           ∙ ap (λ (cs : List Command). option_map (λ commands. commands ++ cs) (kept_commands before.keeper)) (sym none);
       left = λ failed left. subst (LeavesOne before) (sym (as_before failed)) left;
-      faults = omega (arith, calm);
+      faults = omega (arith, no_faults);
     })
 
 -- one more row, of an accepted command, still leads to the upstream
-lead_further : (opening : UpstreamState) (text : List ℕ) (command : Command) (up : UpstreamState) (obeyed : AppliedCommand) → command_in text ≡ Ok command
-    → apply_command command up ≡ Ok obeyed → (o : Option (List (List ℕ))) → IfSome o (λ texts. LeadTo opening texts up)
-    → IfSome (option_map (λ list. list ++ text ∷ []) o) (λ texts. LeadTo opening texts obeyed.up)
-lead_further opening text command up obeyed spelled accepts None holds = tt
-lead_further opening text command up obeyed spelled accepts (Some texts) holds = lead_more texts text opening up command obeyed spelled accepts holds
+results_further : (opening : UpstreamState) (text : List ℕ) (command : Command) (up : UpstreamState) (obeyed : AppliedCommand) → command_in text ≡ Ok command
+    → apply_command command up ≡ Ok obeyed → (o : Option (List (List ℕ))) → IfSome o (λ texts. ResultIn opening texts up)
+    → IfSome (option_map (λ list. list ++ text ∷ []) o) (λ texts. ResultIn opening texts obeyed.up)
+results_further opening text command up obeyed spelled accepts None holds = tt
+results_further opening text command up obeyed spelled accepts (Some texts) holds = results_more texts text opening up command obeyed spelled accepts holds
 
 commands_more : (text : List ℕ) (command : Command) → command_in text ≡ Ok command → (o : Option (List (List ℕ)))
     → option_map commands_in (option_map (λ list. list ++ text ∷ []) o) ≡ option_map (λ commands. commands ++ command ∷ []) (option_map commands_in o)
@@ -309,19 +246,19 @@ none_left (Some list) up failed = tt
 
 carries_written : (command : Command) (before : KeptState) (number : ℕ) (after : KeptState) → HasKept before.keeper → Acknowledges command before number after
     → Carries (record { command = command; result = Ok number } ∷ []) before after
-carries_written command before number after has told =
+carries_written command before number after has done =
     let text : List ℕ = command_text command in
     let obeyed : AppliedCommand = record { up = after.up; number = number } in
-    let accepts : apply_command command before.up ≡ Ok obeyed = accepted_kept command before obeyed told.obeyed in
+    let accepts : apply_command command before.up ≡ Ok obeyed = accepted_kept command before obeyed done.obeyed in
     let rows : kept_rows after.keeper ≡ option_map (λ list. list ++ text ∷ []) (kept_rows before.keeper) =
-    rows_written text before.keeper after.keeper has told.row in record {
-      represents = λ opening holds. subst (λ (o : Option (List (List ℕ))). IfSome o (λ texts. LeadTo opening texts after.up)) (sym rows)
-          (lead_further opening text command before.up obeyed told.spelled accepts (kept_rows before.keeper) holds);
-      moves = moves_written command before number after told;
-      appended = ap (option_map commands_in) rows ∙ commands_more text command told.spelled (kept_rows before.keeper);
-      left = λ failed left. subst (λ (o : Option (List (List ℕ))). IfSome o (AreLeft after.up [])) (sym (past_written text before.keeper after.keeper has told.row))
+    rows_written text before.keeper after.keeper has done.row in record {
+      represents = λ opening holds. subst (λ (o : Option (List (List ℕ))). IfSome o (λ texts. ResultIn opening texts after.up)) (sym rows)
+          (results_further opening text command before.up obeyed done.spelled accepts (kept_rows before.keeper) holds);
+      moves = moves_written command before number after done;
+      appended = ap (option_map commands_in) rows ∙ commands_more text command done.spelled (kept_rows before.keeper);
+      left = λ failed left. subst (λ (o : Option (List (List ℕ))). IfSome o (AreLeft after.up [])) (sym (past_written text before.keeper after.keeper has done.row))
           (none_left before.keeper.rows after.up []);
-      faults = let still = told.row.still in omega (arith, still);
+      faults = let still = done.row.still in omega (arith, still);
     }
 
 one_more : (up : UpstreamState) (command : Command) (failed : List Command) (texts : List (List ℕ)) → AreLeft up failed texts → AreLeft up (command ∷ failed) texts
@@ -347,30 +284,30 @@ could_be command before is = decided (apply_command command before.up) is
 
 carries_failed : (command : Command) (before after : KeptState) → HasKept before.keeper → FailsToKeep command before after
     → Carries (record { command = command; result = Err KeeperFault } ∷ []) before after
-carries_failed command before after has told =
+carries_failed command before after has fails =
     let text : List ℕ = command_text command in
-    let rows : kept_rows after.keeper ≡ kept_rows before.keeper = rows_failed text before.keeper after.keeper has told.row in record {
-      represents = λ opening holds. subst (λ (o : Option (List (List ℕ))). IfSome o (λ texts. LeadTo opening texts after.up)) (sym rows)
-          (subst (λ (u : UpstreamState). IfSome (kept_rows before.keeper) (λ texts. LeadTo opening texts u)) (sym told.up) holds);
-      moves = moves_failed command before after told;
+    let rows : kept_rows after.keeper ≡ kept_rows before.keeper = rows_failed text before.keeper after.keeper has fails.row in record {
+      represents = λ opening holds. subst (λ (o : Option (List (List ℕ))). IfSome o (λ texts. ResultIn opening texts after.up)) (sym rows)
+          (subst (λ (u : UpstreamState). IfSome (kept_rows before.keeper) (λ texts. ResultIn opening texts u)) (sym fails.up) holds);
+      moves = moves_failed command before after fails;
       appended = ap (option_map commands_in) rows ∙ sym (append_none (kept_commands before.keeper));
-      left = λ failed left. subst (λ (u : UpstreamState). IfSome (past_rows after.keeper) (AreLeft u (command ∷ failed))) (sym told.up) (by_rows failed left told.row.rows);
-      faults = omega (arith, told.row.rose);
+      left = λ failed left. subst (λ (u : UpstreamState). IfSome (past_rows after.keeper) (AreLeft u (command ∷ failed))) (sym fails.up) (by_rows failed left fails.row.rows);
+      faults = omega (arith, fails.row.rose);
     }
   where
     by_rows : (failed : List Command) → LeavesOne before failed
         → (after.keeper.rows ≡ before.keeper.rows) ⊎ (after.keeper.rows ≡ with_row before.keeper.count (command_text command) before.keeper.rows)
         → IfSome (past_rows after.keeper) (AreLeft before.up (command ∷ failed))
     by_rows failed left (inl same) =
-        let past : past_rows after.keeper ≡ past_rows before.keeper = λ i. option_map (λ list. drop (told.row.counted i) list) (same i) in
+        let past : past_rows after.keeper ≡ past_rows before.keeper = λ i. option_map (λ list. drop (fails.row.counted i) list) (same i) in
         subst (λ (o : Option (List (List ℕ))). IfSome o (AreLeft before.up (command ∷ failed))) (sym past)
         (more_failed before.up command failed (past_rows before.keeper) left)
     by_rows failed left (inr wrote) =
-        let past : past_rows after.keeper ≡ option_map (λ list. command_text command ∷ []) before.keeper.rows =
-        (λ i. option_map (λ list. drop (told.row.counted i) list) (wrote i)) ∙ past_is before.keeper.count (command_text command) before.keeper.rows has in
+        let past : past_rows after.keeper ≡ option_map (λ _. command_text command ∷ []) before.keeper.rows =
+        past_failed (command_text command) before.keeper after.keeper has fails.row wrote in
         subst (λ (o : Option (List (List ℕ))). IfSome o (AreLeft before.up (command ∷ failed))) (sym past)
         (this_left before.up (command ∷ failed) (command_text command) before.keeper.rows
-        (record { command = command; spelled = told.spelled; accepts = could_be command before told.obeyed; one = inl refl }))
+        (record { command = command; spelled = fails.spelled; accepts = could_be command before fails.obeyed; one = inl refl }))
 
 -- what one attempt to keep a command preserves and changes
 pub carries_one : (command : Command) (before : KeptState) (result : Result ℕ KeepCommandRefusal) (after : KeptState) → HasKept before.keeper

@@ -6,7 +6,7 @@ use Rattle.unl_upstream.specs.declared.command.Command.{Command}
 use Rattle.unl_upstream.specs.Command.{environment_of}
 use Rattle.unl_upstream.specs.Reopening.{rows_after}
 use Rattle.unl_upstream.specs.Upstream.{AppliedCommand, UpstreamState, apply_command, prepared, version_after}
-use Rattle.unl_upstream.proofs.Leading.{Begins, IsTaken, begins, taken, takes}
+use Rattle.unl_upstream.proofs.Leading.{Begins, IsApplied, begins, row_applied, row_applies}
 use Rattle.unl_upstream.proofs.VersionLemmas.{IsObeyed, obeyed_by, obeyed_with, ready_with}
 
 -- the command is accepted there too, and results in the same slots
@@ -21,14 +21,14 @@ unfolding apply_command prepared
 obeys command up other obeyed same accepts =
     let o : IsObeyed command up obeyed = obeyed_by command up obeyed accepts in
     let found : place_in (environment_of command) other.board.slots ≡ Some o.slot = ap (place_in (environment_of command)) same ∙ o.at in
-    let stood : snapshot_in (environment_of command) other.board.slots ≡ Some o.version = ap (snapshot_in (environment_of command)) same ∙ o.stood in record {
+    let there : snapshot_in (environment_of command) other.board.slots ≡ Some o.version = ap (snapshot_in (environment_of command)) same ∙ o.version_is in record {
       obeyed = obeyed_with (ready_with o.slot o.version o.event other.board.slots) other;
-      accepts = rw (found, stood, o.told) refl;
+      accepts = rw (found, there, o.event_is) refl;
       same = ap (taking o.slot (version_after o.version o.event)) same ∙ sym (ap (λ (u : UpstreamState). u.board.slots) o.is);
     }
 
 -- the rows can be applied there too, and result in the same slots
-pub record Leads (rows : List (List ℕ)) (after other : UpstreamState) : Type 0 where
+pub record ResultsThere (rows : List (List ℕ)) (after other : UpstreamState) : Type 0 where
   pub last : UpstreamState
   pub leads : rows_after rows other ≡ Some last
   pub same : last.board.slots ≡ after.board.slots
@@ -37,20 +37,20 @@ slots_in : Option UpstreamState → List Slot
 slots_in (Some up) = up.board.slots
 slots_in None = []
 
-pub rows_lead_there : (rows : List (List ℕ)) (up after other : UpstreamState) → other.board.slots ≡ up.board.slots → rows_after rows up ≡ Some after → Leads rows after other
+pub rows_result_there : (rows : List (List ℕ)) (up after other : UpstreamState) → other.board.slots ≡ up.board.slots → rows_after rows up ≡ Some after → ResultsThere rows after other
 unfolding slots_in
-rows_lead_there [] up after other same is = record {
+rows_result_there [] up after other same is = record {
   last = other;
   leads = refl;
   same = same ∙ ap slots_in is;
 }
-rows_lead_there (row ∷ rows) up after other same is =
+rows_result_there (row ∷ rows) up after other same is =
     let b : Begins row rows up after = begins row rows up after is in
-    let t : IsTaken row up b.middle = taken row up b.middle b.first in
+    let t : IsApplied row up b.middle = row_applied row up b.middle b.first in
     let o : Obeys t.command up t.obeyed.up other = obeys t.command up other t.obeyed same t.accepts in
     let middle_same : o.obeyed.up.board.slots ≡ b.middle.board.slots = o.same ∙ ap (λ (u : UpstreamState). u.board.slots) t.is in
-    let others : Leads rows after o.obeyed.up = rows_lead_there rows b.middle after o.obeyed.up middle_same b.others in record {
+    let others : ResultsThere rows after o.obeyed.up = rows_result_there rows b.middle after o.obeyed.up middle_same b.others in record {
       last = others.last;
-      leads = ap (option_and_then (rows_after rows)) (takes row other t.command o.obeyed t.spelled o.accepts) ∙ others.leads;
+      leads = ap (option_and_then (rows_after rows)) (row_applies row other t.command o.obeyed t.spelled o.accepts) ∙ others.leads;
       same = others.same;
     }

@@ -26,7 +26,7 @@ use Rattle.unl_upstream.specs.History.{IsHistoryOf, event_at, events_from, histo
 -- ---- one event
 
 -- the event of an accepted command at a version
-pub record ComesTo (v : EnvVersion) (command : Command) (event : Event) : Type 0 where
+pub record IsEventOf (v : EnvVersion) (command : Command) (event : Event) : Type 0 where
   pub is : event ≡ event_at (v.number + 1) v.state command
   pub change : is_change event ≡ true
   pub number : number_of event ≡ v.number + 1
@@ -38,51 +38,51 @@ numbered n event e is = decided (n == last_number) is
   where
     decided : (t : Bool) → ((cond t (Err (TooMany n)) (Ok (n + 1))) >>= λ (m : ℕ). Ok (event m)) ≡ Ok e → e ≡ event (n + 1)
     decided true refused = absurd cc
-    decided false told = cc
+    decided false is_event = cc
 
 -- the result after a test that passed
 after_test : (t : Bool) (refusal : CommandRefusal) (rest : CommandResult Event) (e : Event) → (cond t (Ok tt) (Err refusal) >>= λ (u : Unit {0}). rest) ≡ Ok e → rest ≡ Ok e
 after_test true refusal rest e is = is
 after_test false refusal rest e is = absurd cc
 
-put_feature_comes : (environment : List ℕ) (feature : Feature) (v : EnvVersion) (e : Event) → feature_put feature v ≡ Ok e → ComesTo v (PutFeature environment feature) e
+put_feature_event : (environment : List ℕ) (feature : Feature) (v : EnvVersion) (e : Event) → feature_put feature v ≡ Ok e → IsEventOf v (PutFeature environment feature) e
 unfolding feature_put
-put_feature_comes environment feature v e is =
-    let told : e ≡ FeatureUpdated (v.number + 1) feature =
+put_feature_event environment feature v e is =
+    let is_event : e ≡ FeatureUpdated (v.number + 1) feature =
     numbered v.number (λ n. FeatureUpdated n feature) e (after_test (has_feature feature.name v.state.features || nat_lt (length v.state.features) most_features) (TooMany (length v.state.features)) _ e is) in
-    subst (ComesTo v (PutFeature environment feature)) (sym told) (record { is = refl; change = refl; number = refl; is_true = tt })
+    subst (IsEventOf v (PutFeature environment feature)) (sym is_event) (record { is = refl; change = refl; number = refl; is_true = tt })
 
-put_segment_comes : (environment : List ℕ) (segment : Segment) (v : EnvVersion) (e : Event) → segment_put segment v ≡ Ok e → ComesTo v (PutSegment environment segment) e
+put_segment_event : (environment : List ℕ) (segment : Segment) (v : EnvVersion) (e : Event) → segment_put segment v ≡ Ok e → IsEventOf v (PutSegment environment segment) e
 unfolding segment_put
-put_segment_comes environment segment v e is =
-    let told : e ≡ SegmentUpdated (v.number + 1) segment =
+put_segment_event environment segment v e is =
+    let is_event : e ≡ SegmentUpdated (v.number + 1) segment =
     numbered v.number (λ n. SegmentUpdated n segment) e (after_test (has_segment segment.id v.state.segments || nat_lt (length v.state.segments) most_segments) (TooMany (length v.state.segments)) _ e is) in
-    subst (ComesTo v (PutSegment environment segment)) (sym told) (record { is = refl; change = refl; number = refl; is_true = tt })
+    subst (IsEventOf v (PutSegment environment segment)) (sym is_event) (record { is = refl; change = refl; number = refl; is_true = tt })
 
-remove_segment_comes : (environment : List ℕ) (id : ℕ) (v : EnvVersion) (e : Event) → segment_removed id v ≡ Ok e → ComesTo v (RemoveSegment environment id) e
+remove_segment_event : (environment : List ℕ) (id : ℕ) (v : EnvVersion) (e : Event) → segment_removed id v ≡ Ok e → IsEventOf v (RemoveSegment environment id) e
 unfolding segment_removed
-remove_segment_comes environment id v e is =
-    let told : e ≡ SegmentRemoved (v.number + 1) id =
+remove_segment_event environment id v e is =
+    let is_event : e ≡ SegmentRemoved (v.number + 1) id =
     numbered v.number (λ n. SegmentRemoved n id) e (after_test (has_segment id v.state.segments) NoSuchSegment _ e is) in
-    subst (ComesTo v (RemoveSegment environment id)) (sym told) (record { is = refl; change = refl; number = refl; is_true = tt })
+    subst (IsEventOf v (RemoveSegment environment id)) (sym is_event) (record { is = refl; change = refl; number = refl; is_true = tt })
 
-remove_feature_comes : (environment name : List ℕ) (v : EnvVersion) (e : Event) → feature_removed name v ≡ Ok e → ComesTo v (RemoveFeature environment name) e
+remove_feature_event : (environment name : List ℕ) (v : EnvVersion) (e : Event) → feature_removed name v ≡ Ok e → IsEventOf v (RemoveFeature environment name) e
 unfolding feature_removed
-remove_feature_comes environment name v e is = decided (project_of name v.state.features) refl is
+remove_feature_event environment name v e is = decided (project_of name v.state.features) refl is
   where
     decided : (o : Option (List ℕ)) → project_of name v.state.features ≡ o
         → (ok_or o NoSuchFeature >>= λ (project : List ℕ). number_after v.number >>= λ (n : ℕ). Ok (FeatureRemoved n name project)) ≡ Ok e
-        → ComesTo v (RemoveFeature environment name) e
+        → IsEventOf v (RemoveFeature environment name) e
     decided None none refused = absurd cc
     decided (Some project) represents more =
-        let told : e ≡ FeatureRemoved (v.number + 1) name project = numbered v.number (λ n. FeatureRemoved n name project) e more in
-        subst (ComesTo v (RemoveFeature environment name)) (sym told) (record { is = rw represents refl; change = refl; number = refl; is_true = represents })
+        let is_event : e ≡ FeatureRemoved (v.number + 1) name project = numbered v.number (λ n. FeatureRemoved n name project) e more in
+        subst (IsEventOf v (RemoveFeature environment name)) (sym is_event) (record { is = rw represents refl; change = refl; number = refl; is_true = represents })
 
-pub comes_to : (command : Command) (v : EnvVersion) (e : Event) → event_of command v ≡ Ok e → ComesTo v command e
-comes_to (PutFeature environment feature) v e is = put_feature_comes environment feature v e is
-comes_to (RemoveFeature environment name) v e is = remove_feature_comes environment name v e is
-comes_to (PutSegment environment segment) v e is = put_segment_comes environment segment v e is
-comes_to (RemoveSegment environment id) v e is = remove_segment_comes environment id v e is
+pub event_is_of : (command : Command) (v : EnvVersion) (e : Event) → event_of command v ≡ Ok e → IsEventOf v command e
+event_is_of (PutFeature environment feature) v e is = put_feature_event environment feature v e is
+event_is_of (RemoveFeature environment name) v e is = remove_feature_event environment name v e is
+event_is_of (PutSegment environment segment) v e is = put_segment_event environment segment v e is
+event_is_of (RemoveSegment environment id) v e is = remove_segment_event environment id v e is
 
 -- ---- histories
 
@@ -132,9 +132,9 @@ one_more n s (d ∷ ds) c =
 
 -- ---- a version that represents the history of accepted commands
 
-pub nothing_stands : (epoch : ℕ) → IsHistoryOf epoch [] (empty_at epoch)
+pub empty_is_history : (epoch : ℕ) → IsHistoryOf epoch [] (empty_at epoch)
 unfolding later up_to
-nothing_stands epoch = record { era = refl; represents = record { moment = inl refl; state = refl; base = omega arith; entries = refl }; number = refl }
+empty_is_history epoch = record { era = refl; represents = record { moment = inl refl; state = refl; base = omega arith; entries = refl }; number = refl }
 
 -- no event of its history has a higher number
 none_later : (epoch : ℕ) (commands : List Command) (v : EnvVersion) → IsHistoryOf epoch commands v → Every (λ x. number_of x ≤ v.number) (history_of commands)
@@ -153,17 +153,17 @@ state_is epoch commands v is =
     ∙ ap (λ (fs : List Feature). record { features = fs; segments = whole.segments }) (all_seen whole.features)
     ∙ ap (λ (es : List Event). fold_events es empty_state) (up_to_all number_of v.number (history_of commands) (none_later epoch commands v is))
 
-goes_on : (v : EnvVersion) (e : Event) → is_change e ≡ true → version_after v e ≡ go_on v (e ∷ [])
-goes_on v (Hydration n state) change = absurd cc
-goes_on v (FeatureUpdated n feature) change = refl
-goes_on v (FeatureRemoved n name project) change = refl
-goes_on v (SegmentUpdated n segment) change = refl
-goes_on v (SegmentRemoved n id) change = refl
+version_after_change : (v : EnvVersion) (e : Event) → is_change e ≡ true → version_after v e ≡ go_on v (e ∷ [])
+version_after_change v (Hydration n state) change = absurd cc
+version_after_change v (FeatureUpdated n feature) change = refl
+version_after_change v (FeatureRemoved n name project) change = refl
+version_after_change v (SegmentUpdated n segment) change = refl
+version_after_change v (SegmentRemoved n id) change = refl
 
-pub one_stands : (epoch : ℕ) (commands : List Command) (c : Command) (v : EnvVersion) (e : Event) → IsHistoryOf epoch commands v → event_of c v ≡ Ok e
+pub one_more_is_history : (epoch : ℕ) (commands : List Command) (c : Command) (v : EnvVersion) (e : Event) → IsHistoryOf epoch commands v → event_of c v ≡ Ok e
     → IsHistoryOf epoch (commands ++ c ∷ []) (version_after v e)
-one_stands epoch commands c v e is told =
-    let comes : ComesTo v c e = comes_to c v e told in
+one_more_is_history epoch commands c v e is is_event =
+    let comes : IsEventOf v c e = event_is_of c v e is_event in
     let count : v.number ≡ length commands = is.number in
     let grown : history_of (commands ++ c ∷ []) ≡ history_of commands ++ e ∷ [] =
     one_more 0 empty_state commands c ∙ ap (λ (x : Event). history_of commands ++ x ∷ []) (
@@ -173,7 +173,7 @@ one_stands epoch commands c v e is told =
     let whole : IsHistory (history_of commands ++ e ∷ []) = subst IsHistory grown (is_history (commands ++ c ∷ [])) in
     let represents : Represents (history_of commands ++ e ∷ []) everything (go_on v (e ∷ [])) =
     stands_after_one (history_of commands) v e whole is.represents (none_later epoch commands v is) news comes.is_true in
-    subst (IsHistoryOf epoch (commands ++ c ∷ [])) (sym (goes_on v e comes.change)) (record {
+    subst (IsHistoryOf epoch (commands ++ c ∷ [])) (sym (version_after_change v e comes.change)) (record {
       era = is.era;
       represents = subst (λ (h : List Event). Represents h everything (go_on v (e ∷ []))) (sym grown) represents;
       number = comes.number ∙ omega (arith, length-append commands (c ∷ []));

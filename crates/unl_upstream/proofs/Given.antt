@@ -10,7 +10,7 @@ use Rattle.unl_http_api.specs.Route.{is_post, route_of}
 use Rattle.unl_upstream.specs.declared.command.Command.{Command}
 use Rattle.unl_upstream.specs.declared.command_or_reply.CommandOrReply.{CommandOrReply}
 use Rattle.unl_upstream.specs.declared.command_or_reply.CommandOrReply.TheVariants.{Execute, Reply}
-use Rattle.unl_upstream.specs.Answer.{done, is_commands_route, order_at, order_in, order_of, order_with, told, upstream_answer}
+use Rattle.unl_upstream.specs.Answer.{done, is_commands_route, order_at, order_in, order_of, order_with, replied, upstream_answer}
 use Rattle.unl_upstream.specs.Command.{command_in}
 use Rattle.unl_upstream.specs.History.{after_commands, up_after}
 use Rattle.unl_upstream.specs.Requests.{command_given, if_read, shown_with}
@@ -53,15 +53,15 @@ order_has up q draw = decided (is_commands_route (route_of q.target)) (command_h
     decided true has = has
     decided false has = refl
 
-told_leads : (up : UpstreamState) (obeying : CommandResult AppliedCommand) → (told up obeying).up ≡ up_after up obeying
-told_leads up (Ok obeyed) = refl
-told_leads up (Err cause) = refl
+replied_up : (up : UpstreamState) (result : CommandResult AppliedCommand) → (replied up result).up ≡ up_after up result
+replied_up up (Ok applied) = refl
+replied_up up (Err cause) = refl
 
-done_leads : (up : UpstreamState) (order : CommandOrReply) → (done up order).up ≡ after_commands (option_to_list (ordered order)) up
-done_leads up (Execute command) = told_leads up (apply_command command up)
-done_leads up (Reply reply) = refl
+done_up : (up : UpstreamState) (order : CommandOrReply) → (done up order).up ≡ after_commands (option_to_list (ordered order)) up
+done_up up (Execute command) = replied_up up (apply_command command up)
+done_up up (Reply reply) = refl
 
-pub answer_leads : (up : UpstreamState) (q : Request) (draw : Draw) → (upstream_answer up q draw).up ≡ after_commands (option_to_list (command_given up.secret q)) up
+pub answer_results : (up : UpstreamState) (q : Request) (draw : Draw) → (upstream_answer up q draw).up ≡ after_commands (option_to_list (command_given up.secret q)) up
 unfolding upstream_answer
-answer_leads up q draw =
-    done_leads up (order_of up q draw) ∙ ap (λ (given : Option Command). after_commands (option_to_list given) up) (order_has up q draw)
+answer_results up q draw =
+    done_up up (order_of up q draw) ∙ ap (λ (given : Option Command). after_commands (option_to_list given) up) (order_has up q draw)

@@ -11,21 +11,20 @@ use Rattle.unl_http_api.specs.declared.reply.Reply.{Reply}
 use Rattle.unl_http_api.specs.declared.request.Request.{Request}
 use Rattle.http.specs.StatusCode.{IsStatusCode}
 use Rattle.unl_keeper.specs.declared.refusal.KeepRefusal.TheVariants as fault
-use Rattle.unl_documents.specs.declared.memory.Memory.{Memory as Wanting}
+use Rattle.unl_documents.specs.declared.memory.Memory.{Memory as Failure}
 use Rattle.unl_upstream.specs.declared.command.Command.{Command}
 use Rattle.unl_upstream.specs.declared.command_or_reply.CommandOrReply.TheVariants as order
 use Rattle.unl_upstream.specs.declared.refusal.KeepCommandRefusal.{KeepCommandRefusal}
 use Rattle.unl_upstream.specs.declared.refusal.KeepCommandRefusal.TheVariants.{KeeperFault, Memory}
 use Rattle.unl_upstream.specs.Answer.{done, numbered, order_of, refused, upstream_answer}
-use Rattle.unl_upstream.specs.Command.{command_in}
-use Rattle.unl_upstream.specs.Kept.{HasKept, AttemptsInOrder, KeptState, Puts, KeepAttempt, faults_among, keepable, with_room}
-use Rattle.unl_upstream.specs.KeptServing.{CarriesAnswer, Gives, GivesUp, ServesKept, KeptServing, RunsOutAtRequest, NoKeeperFault, RepliesTo, Step, Tells, tried_in, tried_of}
+use Rattle.unl_keeper.specs.State.{HasKept}
+use Rattle.unl_upstream.specs.Kept.{AttemptsInOrder, IsPending, KeptState, Puts, KeepAttempt, faults_among, keepable}
+use Rattle.unl_upstream.specs.KeptServing.{CarriesAnswer, Gives, GivesUp, ServesKept, KeptServing, RunsOutAtRequest, NoKeeperFault, RepliesTo, Step, RepliesByCommand, tried_in, tried_of}
 use Rattle.unl_upstream.specs.Requests.{command_given}
-use Rattle.unl_upstream.specs.Upstream.{Prepared, prepared}
-use Rattle.unl_upstream.specs.Writing.{command_text}
+use Rattle.unl_upstream.specs.Upstream.{Prepared}
 use Rattle.unl_upstream.proofs.Given.{order_has, ordered}
-use Rattle.unl_upstream.proofs.Carrying.{carries_all, faults_both, kept_so, refuses_so}
-use Rattle.unl_upstream.proofs.Statuses.{answered_calmly, answered_status, kept_calmly, kept_status}
+use Rattle.unl_upstream.proofs.Carrying.{carries_all, faults_both, keeps_by_put, refuses}
+use Rattle.unl_upstream.proofs.Statuses.{answered_without_fault, answered_status, kept_without_fault, kept_status}
 
 -- ---- from the handler's parts to its model
 
@@ -34,8 +33,8 @@ abbrev pub Over : {S : Type 0} → (S → KeptState) → HandlerState S → Requ
 Over seen = Answers (λ state request draw reply after. Gives (seen state) request draw reply (seen after))
 
 -- memory ran out at a request, for such a handler
-abbrev pub Lacking : {S : Type 0} → (S → KeptState) → HandlerState S → Request → HandlerState S → Type 0
-Lacking seen = RunsOutOfMemory (λ state request draw after. GivesUp (seen state) request draw (seen after))
+abbrev pub RunsOutOver : {S : Type 0} → (S → KeptState) → HandlerState S → Request → HandlerState S → Type 0
+RunsOutOver seen = RunsOutOfMemory (λ state request draw after. GivesUp (seen state) request draw (seen after))
 
 -- the model of such a handler: an upstream with its keeper
 abbrev pub seen_of : {S : Type 0} → (S → KeptState) → HandlerState S → KeptServing
@@ -51,27 +50,27 @@ chain_seen seen count before after [] text answered = (answered.0, ap (seen_of s
 chain_seen seen count before after (q ∷ qs) text (reply, middle, more, step, split, rest) =
     (reply, seen_of seen middle, more, one_seen seen before middle q reply step, split, chain_seen seen (count + 1) middle after qs more rest)
 
-lack_seen : {S : Type 0} (seen : S → KeptState) (state after : HandlerState S) (q : Request) → Lacking seen state q after
+runs_out_seen : {S : Type 0} (seen : S → KeptState) (state after : HandlerState S) (q : Request) → RunsOutOver seen state q after
     → RunsOutAtRequest (seen_of seen state) q (seen_of seen after)
-lack_seen seen state after q lacks = record { draw = lacks.draw; taken = lacks.taken; given_up = lacks.given_up; counted = lacks.counted }
+runs_out_seen seen state after q lacks = record { draw = lacks.draw; taken = lacks.taken; given_up = lacks.given_up; counted = lacks.counted }
 
-last_seen : {S : Type 0} (seen : S → KeptState) (state after : HandlerState S) (q : Request) → Unreplied (Over seen) (Lacking seen) state q after
+last_seen : {S : Type 0} (seen : S → KeptState) (state after : HandlerState S) (q : Request) → Unreplied (Over seen) (RunsOutOver seen) state q after
     → Unreplied Step RunsOutAtRequest (seen_of seen state) q (seen_of seen after)
-last_seen seen state after q (inl lacks) = inl (lack_seen seen state after q lacks)
+last_seen seen state after q (inl lacks) = inl (runs_out_seen seen state after q lacks)
 last_seen seen state after q (inr (reply, step)) = inr (reply, one_seen seen state after q reply step)
 
-pub shows : {S : Type 0} (seen : S → KeptState) (before after : HandlerState S) → Shows (Over seen) (Lacking seen) Step RunsOutAtRequest (seen_of seen) before after
+pub shows : {S : Type 0} (seen : S → KeptState) (before after : HandlerState S) → Shows (Over seen) (RunsOutOver seen) Step RunsOutAtRequest (seen_of seen) before after
 shows seen before after = record {
   chain = λ state qs text near answered. chain_seen seen 0 before state qs text answered;
   last = λ state q unreplied. last_seen seen state after q unreplied;
-  lack = λ state q lacks. lack_seen seen state after q lacks;
+  runs_out = λ state q lacks. runs_out_seen seen state after q lacks;
 }
 
 -- ---- what is kept
 
 -- the attempts of one request come before those of the others
 keeps_first : (given : Option Command) (before middle after : KeptState) (q : Request) (draw : Draw) (reply : Reply) (others : List KeepAttempt)
-    → (tells : Tells given before q draw reply middle) → AttemptsInOrder others middle after
+    → (tells : RepliesByCommand given before q draw reply middle) → AttemptsInOrder others middle after
     → AttemptsInOrder (tried_of given before q draw reply middle tells ++ others) before after
 keeps_first None before middle after q draw reply others tells more = subst (λ (s : KeptState). AttemptsInOrder others s after) tells.0 more
 keeps_first (Some command) before middle after q draw reply others tells more = (middle, tells.keeps, more)
@@ -84,22 +83,22 @@ keeps_in count (q ∷ qs) text before after (reply, middle, more, step, split, r
     step.given (keeps_in (count + 1) qs more middle after rest)
 
 -- a reply is 503 `KeeperFault` only if the keeper failed at the command of its request
-tells_calm : (given : Option Command) (before after : KeptState) (q : Request) (draw : Draw) (reply : Reply) (tells : Tells given before q draw reply after)
+tells_without_fault : (given : Option Command) (before after : KeptState) (q : Request) (draw : Draw) (reply : Reply) (tells : RepliesByCommand given before q draw reply after)
     → faults_among (tried_of given before q draw reply after tells) ≡ 0 → reply ≢ refused KeeperFault
-tells_calm None before after q draw reply tells none = answered_calmly reply before.up before.up q draw tells.1
-tells_calm (Some command) before after q draw reply tells none = λ is. kept_calmly tells.result (omega (arith, none)) (sym tells.is ∙ is)
+tells_without_fault None before after q draw reply tells none = answered_without_fault reply before.up before.up q draw tells.1
+tells_without_fault (Some command) before after q draw reply tells none = λ is. kept_without_fault tells.result (omega (arith, none)) (sym tells.is ∙ is)
 
 -- so no reply is, if the keeper failed at none of them
-pub calm_in : (count : ℕ) (qs : List Request) (text : List ℕ) (before after : KeptServing) (answered : AnsweredAll Step count before qs text after)
+pub without_fault_in : (count : ℕ) (qs : List Request) (text : List ℕ) (before after : KeptServing) (answered : AnsweredAll Step count before qs text after)
     → faults_among (tried_in count before qs text after answered) ≡ 0 → NoKeeperFault count before qs text after answered
-calm_in count [] text before after answered none = tt
-calm_in count (q ∷ qs) text before after (reply, middle, more, step, split, rest) none =
+without_fault_in count [] text before after answered none = tt
+without_fault_in count (q ∷ qs) text before after (reply, middle, more, step, split, rest) none =
     let given : Option Command = command_given before.state.up.secret q in
     let first : List KeepAttempt = tried_of given before.state q step.draw reply middle.state step.given in
     let others : List KeepAttempt = tried_in (count + 1) middle qs more after rest in
     let both : faults_among (first ++ others) ≡ faults_among first + faults_among others = faults_both first others in (
-      tells_calm given before.state middle.state q step.draw reply step.given (omega (arith, none, both)),
-      calm_in (count + 1) qs more middle after rest (omega (arith, none, both)),
+      tells_without_fault given before.state middle.state q step.draw reply step.given (omega (arith, none, both)),
+      without_fault_in (count + 1) qs more middle after rest (omega (arith, none, both)),
     )
 
 -- `count` requests were answered, and attempts to keep their commands are all that changed the upstream and its keeper
@@ -114,7 +113,7 @@ keeps_on before after end count has reaches =
       are = refl;
       keeps = keeps;
       carries = carries_all tried before.state after.state has keeps;
-      calm = calm_in 0 reaches.requests reaches.text before reaches.reached reaches.answered;
+      no_faults = without_fault_in 0 reaches.requests reaches.text before reaches.reached reaches.answered;
     }
   where
     by_next : (after ≡ reaches.reached) ⊎ ((end ≡ ends.Memory) × (request : Request) × RunsOutAtRequest reaches.reached request after) → after.state ≡ reaches.reached.state
@@ -123,43 +122,37 @@ keeps_on before after end count has reaches =
 
 -- ---- one reply
 
--- a command is ready to be stored: it is accepted, there is room for it, and its text is read back as it
-pub record IsAwaiting (command : Command) (before : KeptState) (ready : Prepared) (text : List ℕ) : Type 0 where
-  pub awaits : with_room before.keeper.count (prepared command before.up) ≡ Ok ready
-  pub text_is : text ≡ command_text command
-  pub spelled : command_in (command_text command) ≡ Ok command
-
 -- the reply if its text was stored
-pub replies_kept : (command : Command) (before after : KeptState) (ready : Prepared) (text : List ℕ) (number made : ℕ) (told : Reply)
-    → IsAwaiting command before ready text → made ≡ ready.number → told ≡ numbered made → Puts ready text before (Ok number) after
-    → RepliesTo command before told after
-replies_kept command before after ready text number made told awaiting counted is puts = record {
+pub replies_kept : (command : Command) (before after : KeptState) (ready : Prepared) (text : List ℕ) (number made : ℕ) (reply : Reply)
+    → IsPending command before ready text → made ≡ ready.number → reply ≡ numbered made → Puts ready text before (Ok number) after
+    → RepliesTo command before reply after
+replies_kept command before after ready text number made reply pending counted is puts = record {
   result = Ok number;
-  keeps = kept_so command before after ready text (Ok number) awaiting.awaits awaiting.text_is awaiting.spelled puts;
-  found = λ wanting. cc;
+  keeps = keeps_by_put command before after ready text (Ok number) pending puts;
+  found = λ failure. cc;
   is = is ∙ ap numbered (counted ∙ sym puts.is);
 }
 
 -- the reply if the keeper failed
-pub replies_failed : (command : Command) (before after : KeptState) (ready : Prepared) (text : List ℕ) (failed : Reply)
-    → IsAwaiting command before ready text → failed ≡ refused KeeperFault → Puts ready text before (Err fault.Fault) after
-    → RepliesTo command before failed after
-replies_failed command before after ready text failed awaiting is puts = record {
+pub replies_failed : (command : Command) (before after : KeptState) (ready : Prepared) (text : List ℕ) (reply : Reply)
+    → IsPending command before ready text → reply ≡ refused KeeperFault → Puts ready text before (Err fault.Fault) after
+    → RepliesTo command before reply after
+replies_failed command before after ready text reply pending is puts = record {
   result = Err KeeperFault;
-  keeps = kept_so command before after ready text (Err fault.Fault) awaiting.awaits awaiting.text_is awaiting.spelled puts;
-  found = λ wanting. cc;
+  keeps = keeps_by_put command before after ready text (Err fault.Fault) pending puts;
+  found = λ failure. cc;
   is = is;
 }
 
 -- the reply if the command was refused
-pub replies_refused : (command : Command) (state : KeptState) (refusal : KeepCommandRefusal) (r : Result Reply Wanting)
+pub replies_refused : (command : Command) (state : KeptState) (refusal : KeepCommandRefusal) (r : Result Reply Failure)
     → IfOk r (λ reply. reply ≡ refused refusal) → refusal ≢ Memory → (refusal ≢ Memory → keepable command state ≡ Err refusal)
     → IfOk r (λ reply. RepliesTo command state reply state)
-replies_refused command state refusal (Err wanting) is other told = tt
-replies_refused command state refusal (Ok reply) is other told = record {
+replies_refused command state refusal (Err failure) is other because = tt
+replies_refused command state refusal (Ok reply) is other because = record {
   result = Err refusal;
-  keeps = refuses_so command state refusal told;
-  found = λ wanting. other cc;
+  keeps = refuses command state refusal because;
+  found = λ failure. other cc;
   is = is;
 }
 
@@ -171,20 +164,20 @@ same_still (Err e) x = refl
 -- ---- one answer
 
 -- a request that gives no command is answered with the reply of its order
-pub tells_none : (before : KeptState) (q : Request) (draw : Draw) (reply : Reply) → order_of before.up q draw ≡ order.Reply reply → Gives before q draw reply before
+pub replies_without_command : (before : KeptState) (q : Request) (draw : Draw) (reply : Reply) → order_of before.up q draw ≡ order.Reply reply → Gives before q draw reply before
 unfolding upstream_answer
-tells_none before q draw reply is =
+replies_without_command before q draw reply is =
     let given : None ≡ command_given before.up.secret q = sym (ap ordered is) ∙ order_has before.up q draw in
-    subst (λ (o : Option Command). Tells o before q draw reply before) given (refl, ap (done before.up) is)
+    subst (λ (o : Option Command). RepliesByCommand o before q draw reply before) given (refl, ap (done before.up) is)
 
-pub tells_some : (before after : KeptState) (q : Request) (draw : Draw) (reply : Reply) (command : Command) → order_of before.up q draw ≡ order.Execute command
+pub replies_with_command : (before after : KeptState) (q : Request) (draw : Draw) (reply : Reply) (command : Command) → order_of before.up q draw ≡ order.Execute command
     → RepliesTo command before reply after → Gives before q draw reply after
-tells_some before after q draw reply command is replies =
+replies_with_command before after q draw reply command is replies =
     let given : Some command ≡ command_given before.up.secret q = sym (ap ordered is) ∙ order_has before.up q draw in
-    subst (λ (o : Option Command). Tells o before q draw reply after) given replies
+    subst (λ (o : Option Command). RepliesByCommand o before q draw reply after) given replies
 
 -- the attempts of one answered request lead from its state before to that after
-keeps_given : (given : Option Command) (before after : KeptState) (q : Request) (draw : Draw) (reply : Reply) → (tells : Tells given before q draw reply after)
+keeps_given : (given : Option Command) (before after : KeptState) (q : Request) (draw : Draw) (reply : Reply) → (tells : RepliesByCommand given before q draw reply after)
     → AttemptsInOrder (tried_of given before q draw reply after tells) before after
 keeps_given None before after q draw reply tells = tells.0
 keeps_given (Some command) before after q draw reply tells = (after, tells.keeps, refl)
@@ -198,14 +191,14 @@ carries_answer before after q draw reply has gives =
       tried = tried;
       are = refl;
       carries = carries_all tried before after has (keeps_given given before after q draw reply gives);
-      calm = tells_calm given before after q draw reply gives;
+      no_faults = tells_without_fault given before after q draw reply gives;
     }
 
-tells_status : (given : Option Command) (before after : KeptState) (q : Request) (draw : Draw) (reply : Reply) → Tells given before q draw reply after
+replies_status : (given : Option Command) (before after : KeptState) (q : Request) (draw : Draw) (reply : Reply) → RepliesByCommand given before q draw reply after
     → IsStatusCode reply.status
-tells_status None before after q draw reply tells = answered_status reply before.up before.up q draw tells.1
-tells_status (Some command) before after q draw reply tells =
+replies_status None before after q draw reply tells = answered_status reply before.up before.up q draw tells.1
+replies_status (Some command) before after q draw reply tells =
     subst (λ (r : Reply). IsStatusCode r.status) (sym tells.is) (kept_status tells.result)
 
 pub gives_status : (before after : KeptState) (q : Request) (draw : Draw) (reply : Reply) → Gives before q draw reply after → IsStatusCode reply.status
-gives_status before after q draw reply gives = tells_status (command_given before.up.secret q) before after q draw reply gives
+gives_status before after q draw reply gives = replies_status (command_given before.up.secret q) before after q draw reply gives

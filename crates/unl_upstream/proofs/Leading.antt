@@ -6,7 +6,7 @@ use Rattle.unl_documents.specs.Reading.{Reading}
 use Rattle.unl_upstream.specs.declared.command.Command.{Command}
 use Rattle.unl_upstream.specs.Command.{command_in}
 use Rattle.unl_upstream.specs.History.{accepted, after_commands, if_accepted, up_after}
-use Rattle.unl_upstream.specs.Kept.{LeadTo, commands_in}
+use Rattle.unl_upstream.specs.Kept.{ResultIn, commands_in}
 use Rattle.unl_upstream.specs.Requests.{if_read}
 use Rattle.unl_upstream.specs.Reopening.{after_reading, if_obeyed, row_after, rows_after}
 use Rattle.unl_upstream.specs.Upstream.{AppliedCommand, CommandResult, UpstreamState, apply_command}
@@ -14,7 +14,7 @@ use Rattle.unl_upstream.specs.Upstream.{AppliedCommand, CommandResult, UpstreamS
 -- ---- one row
 
 -- a row that is applied spells a command that is accepted
-pub record IsTaken (text : List ℕ) (up after : UpstreamState) : Type 0 where
+pub record IsApplied (text : List ℕ) (up after : UpstreamState) : Type 0 where
   pub command : Command
   pub obeyed : AppliedCommand
   pub spelled : command_in text ≡ Ok command
@@ -24,22 +24,22 @@ pub record IsTaken (text : List ℕ) (up after : UpstreamState) : Type 0 where
 same_some : {A : Type 0} (x y : A) → ◌≡◌ {A = Option A} (Some x) (Some y) → x ≡ y
 same_some x y is = cc
 
-pub taken : (text : List ℕ) (up after : UpstreamState) → row_after text up ≡ Some after → IsTaken text up after
+pub row_applied : (text : List ℕ) (up after : UpstreamState) → row_after text up ≡ Some after → IsApplied text up after
 unfolding row_after
-taken text up after is = decided (command_in text) refl is
+row_applied text up after is = decided (command_in text) refl is
   where
-    obeys : (command : Command) (o : CommandResult AppliedCommand) → command_in text ≡ Ok command → apply_command command up ≡ o → if_obeyed o ≡ Some after → IsTaken text up after
+    obeys : (command : Command) (o : CommandResult AppliedCommand) → command_in text ≡ Ok command → apply_command command up ≡ o → if_obeyed o ≡ Some after → IsApplied text up after
     obeys command (Ok obeyed) spelled accepts is = record { command = command; obeyed = obeyed; spelled = spelled; accepts = accepts; is = same_some obeyed.up after is }
     obeys command (Err refusal) spelled accepts is = absurd cc
 
-    decided : (r : Reading Command) → command_in text ≡ r → after_reading up r ≡ Some after → IsTaken text up after
+    decided : (r : Reading Command) → command_in text ≡ r → after_reading up r ≡ Some after → IsApplied text up after
     decided (Ok command) spelled is = obeys command (apply_command command up) spelled refl is
     decided (Err fault) spelled is = absurd cc
 
-pub takes : (text : List ℕ) (up : UpstreamState) (command : Command) (obeyed : AppliedCommand) → command_in text ≡ Ok command → apply_command command up ≡ Ok obeyed
+pub row_applies : (text : List ℕ) (up : UpstreamState) (command : Command) (obeyed : AppliedCommand) → command_in text ≡ Ok command → apply_command command up ≡ Ok obeyed
     → row_after text up ≡ Some obeyed.up
 unfolding row_after
-takes text up command obeyed spelled accepts = ap (after_reading up) spelled ∙ ap if_obeyed accepts
+row_applies text up command obeyed spelled accepts = ap (after_reading up) spelled ∙ ap if_obeyed accepts
 
 -- ---- rows, one after another
 
@@ -84,9 +84,9 @@ others_of [] = []
 others_of (x ∷ xs) = xs
 
 -- one accepted command before others that are spelled and accepted
-lead_first : (text : List ℕ) (texts : List (List ℕ)) (opening after : UpstreamState) (command : Command) (obeyed : AppliedCommand) → command_in text ≡ Ok command
-    → apply_command command opening ≡ Ok obeyed → LeadTo obeyed.up texts after → LeadTo opening (text ∷ texts) after
-lead_first text texts opening after command obeyed spelled accepts others =
+results_first : (text : List ℕ) (texts : List (List ℕ)) (opening after : UpstreamState) (command : Command) (obeyed : AppliedCommand) → command_in text ≡ Ok command
+    → apply_command command opening ≡ Ok obeyed → ResultIn obeyed.up texts after → ResultIn opening (text ∷ texts) after
+results_first text texts opening after command obeyed spelled accepts others =
     let commands : commands_in (text ∷ texts) ≡ command ∷ commands_in texts =
     ap (λ (r : Reading Command). cons_option (if_read r) (commands_in texts)) spelled in record {
       spelled = (λ i. spelled i ∷ others.spelled i) ∙ ap all_ok (sym commands);
@@ -98,13 +98,13 @@ lead_first text texts opening after command obeyed spelled accepts others =
           ∙ sym (ap (λ (cs : List Command). after_commands cs opening) commands);
     }
 
-pub rows_lead : (texts : List (List ℕ)) (opening after : UpstreamState) → rows_after texts opening ≡ Some after → LeadTo opening texts after
-rows_lead [] opening after is = record { spelled = refl; all_accepted = refl; leads = sym (same_some opening after is) }
-rows_lead (text ∷ texts) opening after is =
+pub rows_result : (texts : List (List ℕ)) (opening after : UpstreamState) → rows_after texts opening ≡ Some after → ResultIn opening texts after
+rows_result [] opening after is = record { spelled = refl; all_accepted = refl; leads = sym (same_some opening after is) }
+rows_result (text ∷ texts) opening after is =
     let b : Begins text texts opening after = begins text texts opening after is in
-    let t : IsTaken text opening b.middle = taken text opening b.middle b.first in
-    lead_first text texts opening after t.command t.obeyed t.spelled t.accepts
-    (subst (λ (u : UpstreamState). LeadTo u texts after) (sym t.is) (rows_lead texts b.middle after b.others))
+    let t : IsApplied text opening b.middle = row_applied text opening b.middle b.first in
+    results_first text texts opening after t.command t.obeyed t.spelled t.accepts
+    (subst (λ (u : UpstreamState). ResultIn u texts after) (sym t.is) (rows_result texts b.middle after b.others))
 
 -- a list of successful readings begins with no fault
 no_fault : (commands : List Command) (fault : BadDocument) (others : List (Reading Command)) → Err fault ∷ others ≡ map Ok commands → ⊥
@@ -121,21 +121,21 @@ accepted_few (command ∷ commands) up = decided (apply_command command up) (acc
     decided (Ok obeyed) few = omega (arith, few obeyed.up)
     decided (Err refusal) few = omega (arith, few up)
 
-pub lead_rows : (texts : List (List ℕ)) (opening after : UpstreamState) → LeadTo opening texts after → rows_after texts opening ≡ Some after
+pub results_rows : (texts : List (List ℕ)) (opening after : UpstreamState) → ResultIn opening texts after → rows_after texts opening ≡ Some after
 unfolding others_of
-lead_rows [] opening after lead = ap Some (sym lead.leads)
-lead_rows (text ∷ texts) opening after lead =
-    decided (command_in text) refl lead.spelled lead.all_accepted lead.leads (λ middle others. lead_rows texts middle after others)
+results_rows [] opening after lead = ap Some (sym lead.leads)
+results_rows (text ∷ texts) opening after lead =
+    decided (command_in text) refl lead.spelled lead.all_accepted lead.leads (λ middle others. results_rows texts middle after others)
   where
     Others : Type 0
-    Others = (middle : UpstreamState) → LeadTo middle texts after → rows_after texts middle ≡ Some after
+    Others = (middle : UpstreamState) → ResultIn middle texts after → rows_after texts middle ≡ Some after
 
     obeys : (command : Command) (o : CommandResult AppliedCommand) → command_in text ≡ Ok command → apply_command command opening ≡ o
         → map command_in texts ≡ map Ok (commands_in texts)
         → if_accepted command o (accepted (commands_in texts) (up_after opening o)) ≡ command ∷ commands_in texts
         → after ≡ after_commands (commands_in texts) (up_after opening o) → Others → rows_after (text ∷ texts) opening ≡ Some after
     obeys command (Ok obeyed) spelled accepts tail all leads others =
-        ap (option_and_then (rows_after texts)) (takes text opening command obeyed spelled accepts)
+        ap (option_and_then (rows_after texts)) (row_applies text opening command obeyed spelled accepts)
         ∙ others obeyed.up (record { spelled = tail; all_accepted = ap others_of all; leads = leads })
     obeys command (Err refusal) spelled accepts tail all leads others =
         let few : length (accepted (commands_in texts) opening) ≤ length (commands_in texts) = accepted_few (commands_in texts) opening in
@@ -149,11 +149,11 @@ lead_rows (text ∷ texts) opening after lead =
     decided (Err fault) spelled tail all leads others = absurd (no_fault (commands_in texts) fault (map command_in texts) tail)
 
 -- one more row, of an accepted command, after those that lead to `up`
-pub lead_more : (texts : List (List ℕ)) (text : List ℕ) (opening up : UpstreamState) (command : Command) (obeyed : AppliedCommand) → command_in text ≡ Ok command
-    → apply_command command up ≡ Ok obeyed → LeadTo opening texts up → LeadTo opening (texts ++ text ∷ []) obeyed.up
-lead_more texts text opening up command obeyed spelled accepts lead =
-    rows_lead (texts ++ text ∷ []) opening obeyed.up
-    (rows_more texts text opening up obeyed.up (lead_rows texts opening up lead) (takes text up command obeyed spelled accepts))
+pub results_more : (texts : List (List ℕ)) (text : List ℕ) (opening up : UpstreamState) (command : Command) (obeyed : AppliedCommand) → command_in text ≡ Ok command
+    → apply_command command up ≡ Ok obeyed → ResultIn opening texts up → ResultIn opening (texts ++ text ∷ []) obeyed.up
+results_more texts text opening up command obeyed spelled accepts lead =
+    rows_result (texts ++ text ∷ []) opening obeyed.up
+    (rows_more texts text opening up obeyed.up (results_rows texts opening up lead) (row_applies text up command obeyed spelled accepts))
 
 -- the commands of two lists of rows
 pub commands_both : (first second : List (List ℕ)) → commands_in (first ++ second) ≡ commands_in first ++ commands_in second

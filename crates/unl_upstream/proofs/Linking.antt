@@ -1,32 +1,28 @@
 -- Served links, on a door whose links are observable.
 use Rattle.std.proofs.Common.{ℕ, zero, suc, List, [], Option, Some, Result, Ok, Err, refl, ap, subst}
 use Rattle.unl_base.specs.declared.Failed.{Failed}
-use Rattle.unl_server.specs.Handling.{HandlerState, Coming, answerer}
+use Rattle.unl_server.specs.Handling.{Coming, handler_state}
 use Rattle.unl_server.specs.Conversation.{Concludes, GivesUp}
-use Rattle.unl_server.specs.ServingDoor.{Hosting as Served, ServesDoorLinks as HostsServed, ServesDoor as HostsAllServed, ServesDoorLink, hosting}
+use Rattle.unl_server.specs.ServingDoor.{ServerAndDoor, ServesDoor, ServesDoorLink, ServesDoorLinks, server_and_door}
 use Rattle.unl_server.specs.Linked.{HandsBack, linking}
 use Rattle.unl_server.specs.Links.{LinkState}
-use Rattle.unl_server.proofs.HostingLemmas.{Tells, hands_back, sent_told}
-use Rattle.unl_http_api.specs.declared.end.End.{End}
-use Rattle.unl_http_api.specs.declared.reply.Reply.{Reply}
-use Rattle.unl_http_api.specs.declared.request.Request.{Request}
-use Rattle.unl_upstream.specs.Served.{HostsAllBy, LinkServedBy, ServesLinkBy}
+use Rattle.unl_server.proofs.DoorLemmas.{Observable, hands_back, sent_observable}
+use Rattle.unl_upstream.specs.Served.{Changing, HostsAllBy, LinkServedBy, RunsOut, ServesLinkBy, Steps}
 
 -- serving a link, seen from the door: the bytes given, the bytes sent, and the faults
-tells : {S : Type 0} (Step : HandlerState S → Request → Reply → HandlerState S → Type 0) (RunsOutAtRequest : HandlerState S → Request → HandlerState S → Type 0)
-    (Changes : HandlerState S → End → ℕ → HandlerState S → Type 0) → Tells (ServesLinkBy Step RunsOutAtRequest Changes) (LinkServedBy Step RunsOutAtRequest Changes)
-tells Step RunsOutAtRequest Changes before coming bytes link_after after coming_after served =
-    let told = sent_told bytes link_after served.conversation in record {
-      text = told.0;
-      sent = told.1;
+link_observable : {S : Type 0} (Step : Steps S) (RunsOutAtRequest : RunsOut S) (Changes : Changing S) → Observable (ServesLinkBy Step RunsOutAtRequest Changes) (LinkServedBy Step RunsOutAtRequest Changes)
+link_observable Step RunsOutAtRequest Changes before coming bytes link_after after coming_after served =
+    let sent = sent_observable bytes link_after served.conversation in record {
+      text = sent.0;
+      sent = sent.1;
       served = record {
         count = served.count;
         end = served.end;
         left_after = link_after.left;
-        conversation = subst (λ (sent : Option (List ℕ)). Concludes Step bytes (Some []) (answerer before 0 coming) served.end
-            (answerer after served.count coming_after) link_after.left sent) told.1 (served.conversation.session bytes refl);
-        memory = λ is. subst (λ (sent : Option (List ℕ)). GivesUp Step RunsOutAtRequest bytes (Some []) 0 (answerer before 0 coming)
-            (answerer after served.count coming_after) sent link_after.faults) told.1 (served.conversation.memory bytes refl is);
+        conversation = subst (λ (text : Option (List ℕ)). Concludes Step bytes (Some []) (handler_state before 0 coming) served.end
+            (handler_state after served.count coming_after) link_after.left text) sent.1 (served.conversation.session bytes refl);
+        memory = λ is. subst (λ (text : Option (List ℕ)). GivesUp Step RunsOutAtRequest bytes (Some []) 0 (handler_state before 0 coming)
+            (handler_state after served.count coming_after) text link_after.faults) sent.1 (served.conversation.memory bytes refl is);
         changes = served.changes;
         read_cause = served.conversation.read_cause;
         write_cause = served.conversation.write_cause;
@@ -39,10 +35,10 @@ tells Step RunsOutAtRequest Changes before coming bytes link_after after coming_
 abbrev pub Over : {S T : Type 0} → (T → Coming → LinkState → LinkState → T → Coming → Type 0) → (S → T) → S → Coming → LinkState → LinkState → S → Coming → Type 0
 Over Serves seen server coming link link_after after coming_after = Serves (seen server) coming link link_after (seen after) coming_after
 
-abbrev pub seen_of : {S T : Type 0} → (S → T) → Served S → Served T
-seen_of seen h = hosting (seen h.server) h.coming h.door
+abbrev pub seen_of : {S T : Type 0} → (S → T) → ServerAndDoor S → ServerAndDoor T
+seen_of seen h = server_and_door (seen h.server) h.coming h.door
 
-link_seen : {S T : Type 0} (Serves : T → Coming → LinkState → LinkState → T → Coming → Type 0) (seen : S → T) (before after : Served S)
+link_seen : {S T : Type 0} (Serves : T → Coming → LinkState → LinkState → T → Coming → Type 0) (seen : S → T) (before after : ServerAndDoor S)
     → ServesDoorLink (Over Serves seen) before after → ServesDoorLink Serves (seen_of seen before) (seen_of seen after)
 link_seen Serves seen before after one = record {
   link = one.link;
@@ -54,26 +50,25 @@ link_seen Serves seen before after one = record {
   door = one.door;
 }
 
-hosts_seen : {S T : Type 0} (Serves : T → Coming → LinkState → LinkState → T → Coming → Type 0) (seen : S → T) (n : ℕ) (before after : Served S)
-    → HostsServed (Over Serves seen) n before after → HostsServed Serves n (seen_of seen before) (seen_of seen after)
-hosts_seen Serves seen zero before after hosts = ap (seen_of seen) hosts
-hosts_seen Serves seen (suc n) before after hosts =
-    (seen_of seen hosts.0, hosts_seen Serves seen n before hosts.0 hosts.1, link_seen Serves seen hosts.0 after hosts.2)
+door_links_seen : {S T : Type 0} (Serves : T → Coming → LinkState → LinkState → T → Coming → Type 0) (seen : S → T) (n : ℕ) (before after : ServerAndDoor S)
+    → ServesDoorLinks (Over Serves seen) n before after → ServesDoorLinks Serves n (seen_of seen before) (seen_of seen after)
+door_links_seen Serves seen zero before after links = ap (seen_of seen) links
+door_links_seen Serves seen (suc n) before after links =
+    (seen_of seen links.0, door_links_seen Serves seen n before links.0 links.1, link_seen Serves seen links.0 after links.2)
 
 -- the links of a door were served; what this says depends on what is observable of it
-pub hosts_told : {S T : Type 0} (Step : HandlerState T → Request → Reply → HandlerState T → Type 0) (RunsOutAtRequest : HandlerState T → Request → HandlerState T → Type 0)
-    (Changes : HandlerState T → End → ℕ → HandlerState T → Type 0) (seen : S → T) (result : Result ℕ Failed) (before after : Served S)
-    → HostsAllServed (Over (ServesLinkBy Step RunsOutAtRequest Changes) seen) result before after
+pub door_links_served : {S T : Type 0} (Step : Steps T) (RunsOutAtRequest : RunsOut T) (Changes : Changing T) (seen : S → T) (result : Result ℕ Failed) (before after : ServerAndDoor S)
+    → ServesDoor (Over (ServesLinkBy Step RunsOutAtRequest Changes) seen) result before after
     → HostsAllBy (LinkServedBy Step RunsOutAtRequest Changes) result (linking (seen before.server) before.coming before.door) (linking (seen after.server) after.coming after.door)
-hosts_told {S} {T} Step RunsOutAtRequest Changes seen result before after = by_result result
+door_links_served {S} {T} Step RunsOutAtRequest Changes seen result before after = by_result result
   where
-    so_many : (n : ℕ) → HostsServed (Over (ServesLinkBy Step RunsOutAtRequest Changes) seen) n before after
+    served_many : (n : ℕ) → ServesDoorLinks (Over (ServesLinkBy Step RunsOutAtRequest Changes) seen) n before after
         → HandsBack (LinkServedBy Step RunsOutAtRequest Changes) (linking (seen before.server) before.coming before.door) (linking (seen after.server) after.coming after.door) n
-    so_many n hosts =
-        hands_back (ServesLinkBy Step RunsOutAtRequest Changes) (LinkServedBy Step RunsOutAtRequest Changes) (tells Step RunsOutAtRequest Changes) n (seen_of seen before) (seen_of seen after)
-        (hosts_seen (ServesLinkBy Step RunsOutAtRequest Changes) seen n before after hosts)
+    served_many n links =
+        hands_back (ServesLinkBy Step RunsOutAtRequest Changes) (LinkServedBy Step RunsOutAtRequest Changes) (link_observable Step RunsOutAtRequest Changes) n (seen_of seen before) (seen_of seen after)
+        (door_links_seen (ServesLinkBy Step RunsOutAtRequest Changes) seen n before after links)
 
-    by_result : (result : Result ℕ Failed) → HostsAllServed (Over (ServesLinkBy Step RunsOutAtRequest Changes) seen) result before after
+    by_result : (result : Result ℕ Failed) → ServesDoor (Over (ServesLinkBy Step RunsOutAtRequest Changes) seen) result before after
         → HostsAllBy (LinkServedBy Step RunsOutAtRequest Changes) result (linking (seen before.server) before.coming before.door) (linking (seen after.server) after.coming after.door)
-    by_result (Ok served) hosts = so_many served hosts
-    by_result (Err failed) hosts = (hosts.0, so_many hosts.0 hosts.1)
+    by_result (Ok served) links = served_many served links
+    by_result (Err failed) links = (links.0, served_many links.0 links.1)

@@ -20,8 +20,8 @@ use Rattle.unl_upstream.specs.Upstream.{IsNext, batch_of, is_named, place_with}
 -- ---- its batch
 
 -- a batch in the version's epoch, from its number up to a higher one, is to be applied
-goes_on : (v : EnvVersion) (n : ℕ) → v.number < n → changes_verdict (Some v) false v.epoch (Some v.number) n ≡ Apply
-goes_on v n above = let same : ltb v.epoch v.epoch ≡ false = grind arith in let past : leb n v.number ≡ false = grind arith in let reached : leb v.number v.number ≡ true = le-leb v.number v.number (omega arith) in rw (same, past, reached) refl
+later_applies : (v : EnvVersion) (n : ℕ) → v.number < n → changes_verdict (Some v) false v.epoch (Some v.number) n ≡ Apply
+later_applies v n above = let same : ltb v.epoch v.epoch ≡ false = grind arith in let past : leb n v.number ≡ false = grind arith in let reached : leb v.number v.number ≡ true = le-leb v.number v.number (omega arith) in rw (same, past, reached) refl
 
 -- the batch of the next event is to be applied
 pub next_applies : (v : EnvVersion) (event : Event) → IsNext v event → verdict_of (place_with v) (batch_of v event) ≡ Apply
@@ -29,10 +29,10 @@ next_applies v (Hydration n state) next = absurd (no_change next.change)
   where
     no_change : false ≡ true → ⊥
     no_change is = cc
-next_applies v (FeatureUpdated n feature) next = goes_on v n (omega (arith, next.number))
-next_applies v (FeatureRemoved n name project) next = goes_on v n (omega (arith, next.number))
-next_applies v (SegmentUpdated n segment) next = goes_on v n (omega (arith, next.number))
-next_applies v (SegmentRemoved n id) next = goes_on v n (omega (arith, next.number))
+next_applies v (FeatureUpdated n feature) next = later_applies v n (omega (arith, next.number))
+next_applies v (FeatureRemoved n name project) next = later_applies v n (omega (arith, next.number))
+next_applies v (SegmentUpdated n segment) next = later_applies v n (omega (arith, next.number))
+next_applies v (SegmentRemoved n id) next = later_applies v n (omega (arith, next.number))
 
 -- and is a valid batch
 pub next_is_batch : (v : EnvVersion) (event : Event) → IsNext v event → IsValidBatch (batch_of v event)

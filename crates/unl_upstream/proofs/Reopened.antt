@@ -2,15 +2,16 @@
 use Rattle.std.proofs.Common.{◌≡◌, ◌≢◌, ◌+◌, ℕ, zero, suc, List, [], ◌∷◌, ◌++◌, take, drop, length, length-append, slice_get, Option, Some, None, Result, Ok, Err, IsOk, true, option_map, IfSome, refl, sym, ap, ◌∙◌, subst, arith, append-nil, take-append-drop}
 use Rattle.std.proofs.lemmas.List.{take_all, drop_all}
 use Rattle.unl_keeper.specs.Rows.{kept}
+use Rattle.unl_keeper.specs.State.{KeeperState, kept_rows}
 use Rattle.unl_upstream.specs.declared.command.Command.{Command}
 use Rattle.unl_upstream.specs.declared.refusal.CommandRefusal.{CommandRefusal}
 use Rattle.unl_upstream.specs.declared.reopening.ReopenFault.{ReopenFault}
 use Rattle.unl_upstream.specs.declared.reopening.ReopenFault.TheVariants.{BadRow, NoRow, Fault, Memory}
-use Rattle.unl_upstream.specs.Kept.{AreLeft, KeeperState, KeptState, LeadTo, commands_in, kept_rows, kept_state}
+use Rattle.unl_upstream.specs.Kept.{AreLeft, KeptState, ResultIn, commands_in, kept_state}
 use Rattle.unl_upstream.specs.Reopening.{Applies, GivesBack, IsAtMostOne, Reopened, ReopeningGivesBack, Reopens, TakesRow, rows_after}
 use Rattle.unl_upstream.specs.Upstream.{AppliedCommand, UpstreamState, apply_command}
-use Rattle.unl_upstream.proofs.Elsewhere.{Leads, Obeys, obeys, rows_lead_there}
-use Rattle.unl_upstream.proofs.Leading.{command_one, commands_both, lead_rows, no_stop, rows_lead, rows_more, takes}
+use Rattle.unl_upstream.proofs.Elsewhere.{ResultsThere, Obeys, obeys, rows_result_there}
+use Rattle.unl_upstream.proofs.Leading.{command_one, commands_both, results_rows, no_stop, rows_result, rows_more, row_applies}
 
 -- ---- one row more
 
@@ -47,10 +48,10 @@ applies_more opening rows count up after applies takes =
 
 -- if all rows were applied, the upstream is the initial one after the kept commands
 all_kept : (opening up : UpstreamState) (count : ℕ) (rows : Option (List (List ℕ))) → Applies opening rows count up → IfSome rows (λ list. count ≡ length list)
-    → IfSome (kept count rows) (λ texts. LeadTo opening texts up)
+    → IfSome (kept count rows) (λ texts. ResultIn opening texts up)
 all_kept opening up count None applies whole = tt
 all_kept opening up count (Some list) applies whole =
-    subst (λ (texts : List (List ℕ)). LeadTo opening texts up) applies.first (rows_lead applies.texts opening up applies.leads)
+    subst (λ (texts : List (List ℕ)). ResultIn opening texts up) applies.first (rows_result applies.texts opening up applies.leads)
 
 none_past : (up : UpstreamState) (count : ℕ) (rows : Option (List (List ℕ))) → IfSome rows (λ list. count ≡ length list)
     → IfSome (option_map (λ list. drop count list) rows) (AreLeft up [])
@@ -64,7 +65,7 @@ reopened before after count opened counted whole applies = record {
   counted = counted;
   whole = whole;
   applied = applies;
-  represents = subst (λ (n : ℕ). IfSome (kept n after.keeper.rows) (λ texts. LeadTo before.up texts after.up)) counted
+  represents = subst (λ (n : ℕ). IfSome (kept n after.keeper.rows) (λ texts. ResultIn before.up texts after.up)) counted
       (all_kept before.up after.up count after.keeper.rows applies whole);
   left = subst (λ (n : ℕ). IfSome (option_map (λ list. drop n list) after.keeper.rows) (AreLeft after.up [])) counted
       (none_past after.up count after.keeper.rows whole);
@@ -81,9 +82,9 @@ record Whole (fresh : UpstreamState) (front rows : List (List ℕ)) (failed : Li
   commands : commands_in rows ≡ commands_in front ++ more
 
 whole_of : (opening fresh up : UpstreamState) (front past : List (List ℕ)) (failed : List Command) → fresh.board.slots ≡ opening.board.slots
-    → LeadTo opening front up → AreLeft up failed past → Whole fresh front (front ++ past) failed
+    → ResultIn opening front up → AreLeft up failed past → Whole fresh front (front ++ past) failed
 whole_of opening fresh up front [] failed same lead left =
-    let there : Leads front up fresh = rows_lead_there front opening up fresh same (lead_rows front opening up lead) in record {
+    let there : ResultsThere front up fresh = rows_result_there front opening up fresh same (results_rows front opening up lead) in record {
       last = there.last;
       leads = ap (λ (list : List (List ℕ)). rows_after list fresh) (append-nil front) ∙ there.leads;
       more = [];
@@ -91,15 +92,15 @@ whole_of opening fresh up front [] failed same lead left =
       commands = ap commands_in (append-nil front) ∙ sym (append-nil (commands_in front));
     }
 whole_of opening fresh up front (text ∷ []) failed same lead left =
-    let there : Leads front up fresh = rows_lead_there front opening up fresh same (lead_rows front opening up lead) in
+    let there : ResultsThere front up fresh = rows_result_there front opening up fresh same (results_rows front opening up lead) in
     by_obeyed there (apply_command left.command up) refl left.accepts
   where
-    by_obeyed : Leads front up fresh → (r : Result AppliedCommand CommandRefusal) → apply_command left.command up ≡ r → IsOk r → Whole fresh front (front ++ text ∷ []) failed
+    by_obeyed : ResultsThere front up fresh → (r : Result AppliedCommand CommandRefusal) → apply_command left.command up ≡ r → IsOk r → Whole fresh front (front ++ text ∷ []) failed
     by_obeyed there (Err refusal) is accepts = absurd cc
     by_obeyed there (Ok obeyed) is accepts =
         let o : Obeys left.command up obeyed.up there.last = obeys left.command up there.last obeyed there.same is in record {
           last = o.obeyed.up;
-          leads = rows_more front text fresh there.last o.obeyed.up there.leads (takes text there.last left.command o.obeyed left.spelled o.accepts);
+          leads = rows_more front text fresh there.last o.obeyed.up there.leads (row_applies text there.last left.command o.obeyed left.spelled o.accepts);
           more = left.command ∷ [];
           few = left.one;
           commands = commands_both front (text ∷ []) ∙ ap (λ (cs : List Command). commands_in front ++ cs) (command_one text left.command left.spelled);
@@ -135,14 +136,14 @@ gives_back_of fresh before reopened keeper failed rows (Err Fault) whole were ar
 gives_back_of fresh before reopened keeper failed rows (Err Memory) whole were are opens fault memory = absurd (memory refl)
 
 pub gives_back : ReopeningGivesBack
-gives_back opening fresh before reopened keeper failed rows result same told holds left as_before still opens fault memory =
+gives_back opening fresh before reopened keeper failed rows result same were holds left as_before still opens fault memory =
     let front : List (List ℕ) = take before.keeper.count rows in
     let past : List (List ℕ) = drop before.keeper.count rows in
-    let lead : LeadTo opening front before.up =
-    subst (λ (o : Option (List (List ℕ))). IfSome (kept before.keeper.count o) (λ texts. LeadTo opening texts before.up)) told holds in
+    let lead : ResultIn opening front before.up =
+    subst (λ (o : Option (List (List ℕ))). IfSome (kept before.keeper.count o) (λ texts. ResultIn opening texts before.up)) were holds in
     let one : AreLeft before.up failed past =
-    subst (λ (o : Option (List (List ℕ))). IfSome (option_map (λ list. drop before.keeper.count list) o) (AreLeft before.up failed)) told left in
+    subst (λ (o : Option (List (List ℕ))). IfSome (option_map (λ list. drop before.keeper.count list) o) (AreLeft before.up failed)) were left in
     let whole : Whole fresh front rows failed =
     subst (λ (list : List (List ℕ)). Whole fresh front list failed) (take-append-drop before.keeper.count rows)
     (whole_of opening fresh before.up front past failed same lead one) in
-    gives_back_of fresh before reopened keeper failed rows result whole told (still ∙ as_before ∙ told) opens fault memory
+    gives_back_of fresh before reopened keeper failed rows result whole were (still ∙ as_before ∙ were) opens fault memory

@@ -13,14 +13,14 @@ use Rattle.unl_upstream.specs.History.{AreAdded, accepted, after_command, after_
 use Rattle.unl_upstream.specs.Requests.{command_given}
 use Rattle.unl_upstream.specs.Serving.{RunsOutAtRequest, Obeys, Serving, Step, commands_given}
 use Rattle.unl_upstream.specs.Upstream.{UpstreamState}
-use Rattle.unl_upstream.proofs.Given.{answer_leads}
+use Rattle.unl_upstream.proofs.Given.{answer_results}
 use Rattle.unl_upstream.proofs.VersionLemmas.{secret_stays, some_added}
 
 -- the command of a request is added to the histories, if it is accepted
 pub answer_adds : (up after : UpstreamState) (q : Request) (draw : Draw) (reply : Reply) → upstream_answer up q draw ≡ record { reply = reply; up = after }
     → AreAdded (accepted (option_to_list (command_given up.secret q)) up) up after
 answer_adds up after q draw reply is =
-    some_added (option_to_list (command_given up.secret q)) up after (sym (ap (λ (a : Answered). a.up) is) ∙ answer_leads up q draw)
+    some_added (option_to_list (command_given up.secret q)) up after (sym (ap (λ (a : Answered). a.up) is) ∙ answer_results up q draw)
 
 -- no command changes the secret
 commands_secret : (commands : List Command) (up : UpstreamState) → (after_commands commands up).secret ≡ up.secret
@@ -40,7 +40,7 @@ requests_up count (q ∷ qs) text before after answered =
     let middle : Serving = answered.1 in
     let step : Step before q answered.0 middle = answered.3 in
     let first : middle.state ≡ after_commands (option_to_list (command_given before.state.secret q)) before.state =
-    ap (λ (a : Answered). a.up) (sym step.given) ∙ answer_leads before.state q step.draw in
+    ap (λ (a : Answered). a.up) (sym step.given) ∙ answer_results before.state q step.draw in
     let secret : middle.state.secret ≡ before.state.secret =
     ap (λ (u : UpstreamState). u.secret) first ∙ commands_secret (option_to_list (command_given before.state.secret q)) before.state in
     requests_up (count + 1) qs answered.2 middle after answered.5

@@ -69,16 +69,16 @@ not_before test n j (x ∷ xs) is = decided (test x) is (not_before test (n + 1)
     decided false more others = let above : n + 1 ≤ j = others more in omega arith
 
 -- the environment has the new version
-pub taken_here : (environment : List ℕ) (n k : ℕ) (slots : List Slot) (v : EnvVersion) → position_from (is_named environment) n slots ≡ Some (k + n)
+pub slot_replaced : (environment : List ℕ) (n k : ℕ) (slots : List Slot) (v : EnvVersion) → position_from (is_named environment) n slots ≡ Some (k + n)
     → snapshot_in environment (taking k v slots) ≡ Some v
-taken_here environment n k [] v is = absurd cc
-taken_here environment n zero (x ∷ xs) v is = decided (is_named environment x) is
+slot_replaced environment n k [] v is = absurd cc
+slot_replaced environment n zero (x ∷ xs) v is = decided (is_named environment x) is
   where
     decided : (t : Bool) → cond t (Some n) (position_from (is_named environment) (n + 1) xs) ≡ Some (zero + n)
         → version_of (cond t (Some (with_version x v)) (find (is_named environment) xs)) ≡ Some v
     decided true found = refl
     decided false more = let above : n + 1 ≤ zero + n = not_before (is_named environment) (n + 1) (zero + n) xs more in absurd (omega arith)
-taken_here environment n (suc k) (x ∷ xs) v is = decided (is_named environment x) is (taken_here environment (n + 1) k xs v)
+slot_replaced environment n (suc k) (x ∷ xs) v is = decided (is_named environment x) is (slot_replaced environment (n + 1) k xs v)
   where
     decided : (t : Bool) → cond t (Some n) (position_from (is_named environment) (n + 1) xs) ≡ Some (suc k + n)
         → (position_from (is_named environment) (n + 1) xs ≡ Some (k + (n + 1)) → snapshot_in environment (taking k v xs) ≡ Some v)
@@ -91,16 +91,16 @@ not_both : (name environment other : List ℕ) → same_text name environment �
 not_both name environment other here apart = ap (λ (text : List ℕ). same_text text other) (text_same name environment here) ∙ apart
 
 -- every other environment keeps its version
-pub taken_elsewhere : (environment other : List ℕ) (n k : ℕ) (slots : List Slot) (v : EnvVersion) → position_from (is_named environment) n slots ≡ Some (k + n)
+pub other_slot_same : (environment other : List ℕ) (n k : ℕ) (slots : List Slot) (v : EnvVersion) → position_from (is_named environment) n slots ≡ Some (k + n)
     → same_text environment other ≡ false → snapshot_in other (taking k v slots) ≡ snapshot_in other slots
-taken_elsewhere environment other n k [] v is apart = absurd cc
-taken_elsewhere environment other n zero (x ∷ xs) v is apart = decided (is_named environment x) refl is
+other_slot_same environment other n k [] v is apart = absurd cc
+other_slot_same environment other n zero (x ∷ xs) v is apart = decided (is_named environment x) refl is
   where
     decided : (t : Bool) → is_named environment x ≡ t → cond t (Some n) (position_from (is_named environment) (n + 1) xs) ≡ Some (zero + n)
         → snapshot_in other (taking zero v (x ∷ xs)) ≡ snapshot_in other (x ∷ xs)
     decided true here found = rw (not_both x.environment environment other here apart) refl
     decided false here more = let above : n + 1 ≤ zero + n = not_before (is_named environment) (n + 1) (zero + n) xs more in absurd (omega arith)
-taken_elsewhere environment other n (suc k) (x ∷ xs) v is apart = decided (is_named environment x) is (λ more. taken_elsewhere environment other (n + 1) k xs v more apart)
+other_slot_same environment other n (suc k) (x ∷ xs) v is apart = decided (is_named environment x) is (λ more. other_slot_same environment other (n + 1) k xs v more apart)
   where
     more_kept : (t : Bool) → snapshot_in other (taking k v xs) ≡ snapshot_in other xs
         → version_of (cond t (Some x) (find (is_named other) (taking k v xs))) ≡ version_of (cond t (Some x) (find (is_named other) xs))

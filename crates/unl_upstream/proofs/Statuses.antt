@@ -38,7 +38,7 @@ use Rattle.unl_upstream.specs.declared.refusal.CommandRefusal.{CommandRefusal}
 use Rattle.unl_upstream.specs.declared.refusal.CommandRefusal.TheVariants as plainly
 use Rattle.unl_upstream.specs.declared.refusal.KeepCommandRefusal.{KeepCommandRefusal}
 use Rattle.unl_upstream.specs.declared.refusal.KeepCommandRefusal.TheVariants.{NoSuchEnvironment, NoSuchFeature, NoSuchSegment, TooMany, KeeperFull, KeeperFault, Memory}
-use Rattle.unl_upstream.specs.Answer.{Answered, done, is_commands_route, order_in, order_of, order_with, refused, told, upstream_answer}
+use Rattle.unl_upstream.specs.Answer.{Answered, done, is_commands_route, order_in, order_of, order_with, refused, replied, upstream_answer}
 use Rattle.unl_upstream.specs.Command.{command_in}
 use Rattle.unl_upstream.specs.Kept.{fault_of}
 use Rattle.unl_upstream.specs.KeptServing.{kept_reply}
@@ -70,149 +70,149 @@ either : (b : Bool) (x y : AReply) → IsPlain x → IsPlain y → IsPlain (cond
 either true x y p q = p
 either false x y p q = q
 
-unseen : (why : TokenRefusal) → IsPlain (token_refusal_reply why)
-unseen NoToken = inl (omega arith)
-unseen UnknownToken = inl (omega arith)
-unseen WrongKind = inl (omega arith)
-unseen NotReady = inr (inl refl)
+token_refusal_plain : (why : TokenRefusal) → IsPlain (token_refusal_reply why)
+token_refusal_plain NoToken = inl (omega arith)
+token_refusal_plain UnknownToken = inl (omega arith)
+token_refusal_plain WrongKind = inl (omega arith)
+token_refusal_plain NotReady = inr (inl refl)
 
-tokens_told : (board : Board) (asked : Result (List (List ℕ)) BadRequest) → IsPlain (validated board asked)
-tokens_told board (Err fault) = inl (omega arith)
-tokens_told board (Ok texts) = inl (omega arith)
+validate_plain : (board : Board) (asked : Result (List (List ℕ)) BadRequest) → IsPlain (validated board asked)
+validate_plain board (Err fault) = inl (omega arith)
+validate_plain board (Ok texts) = inl (omega arith)
 
-object_taken : (found : Option Data) → IsPlain (accepted_if found)
-object_taken None = inl (omega arith)
-object_taken (Some value) = inl (omega arith)
+accepted_plain : (found : Option Data) → IsPlain (accepted_if found)
+accepted_plain None = inl (omega arith)
+accepted_plain (Some value) = inl (omega arith)
 
-client_taken : (q : Request) (shown : Result Shown TokenRefusal) → IsPlain (registered q shown)
-client_taken q (Err why) = unseen why
-client_taken q (Ok shown) = object_taken (object_in q.body)
+register_plain : (q : Request) (shown : Result Shown TokenRefusal) → IsPlain (registered q shown)
+register_plain q (Err why) = token_refusal_plain why
+register_plain q (Ok shown) = accepted_plain (object_in q.body)
 
-in_context : (board : Board) (draw : Draw) (all : Bool) (ready : Ready) (context : ArgumentOf (toggles_for board draw all ready)) → IsPlain (toggles_for board draw all ready context)
-in_context board draw all ready (Err fault) = inl (omega arith)
-in_context board draw all ready (Ok context) = inl (omega arith)
+context_plain : (board : Board) (draw : Draw) (all : Bool) (ready : Ready) (context : ArgumentOf (toggles_for board draw all ready)) → IsPlain (toggles_for board draw all ready context)
+context_plain board draw all ready (Err fault) = inl (omega arith)
+context_plain board draw all ready (Ok context) = inl (omega arith)
 
-toggles_told : (board : Board) (q : Request) (draw : Draw) (all : Bool) (ready : Result Ready TokenRefusal) → IsPlain (toggles_reply board q draw all ready)
-toggles_told board q draw all (Err why) = unseen why
-toggles_told board q draw all (Ok ready) = in_context board draw all ready (asked_context q)
+toggles_plain : (board : Board) (q : Request) (draw : Draw) (all : Bool) (ready : Result Ready TokenRefusal) → IsPlain (toggles_reply board q draw all ready)
+toggles_plain board q draw all (Err why) = token_refusal_plain why
+toggles_plain board q draw all (Ok ready) = context_plain board draw all ready (asked_context q)
 
-document_told : (found : Option Feature) → IsPlain (document_reply found)
-document_told None = inl (omega arith)
-document_told (Some feature) = inl (omega arith)
+document_plain : (found : Option Feature) → IsPlain (document_reply found)
+document_plain None = inl (omega arith)
+document_plain (Some feature) = inl (omega arith)
 
-feature_told : (name : Option (List ℕ)) (ready : Result Ready TokenRefusal) → IsPlain (feature_reply name ready)
-feature_told name (Err why) = unseen why
-feature_told name (Ok ready) = document_told _
+feature_plain : (name : Option (List ℕ)) (ready : Result Ready TokenRefusal) → IsPlain (feature_reply name ready)
+feature_plain name (Err why) = token_refusal_plain why
+feature_plain name (Ok ready) = document_plain _
 
-inlined_told : (ready : Ready) (tag : List ℕ) (state : Result State InlineRefusal) → IsPlain (feed_with ready tag state)
-inlined_told ready tag (Err fault) = inr (inr refl)
-inlined_told ready tag (Ok state) = inl (omega arith)
+inlined_plain : (ready : Ready) (tag : List ℕ) (state : Result State InlineRefusal) → IsPlain (feed_with ready tag state)
+inlined_plain ready tag (Err fault) = inr (inr refl)
+inlined_plain ready tag (Ok state) = inl (omega arith)
 
-feed_told : (board : Board) (q : Request) (ready : Result Ready TokenRefusal) → IsPlain (feed_reply board q ready)
-feed_told board q (Err why) = unseen why
-feed_told board q (Ok ready) =
+feed_plain : (board : Board) (q : Request) (ready : Result Ready TokenRefusal) → IsPlain (feed_reply board q ready)
+feed_plain board q (Err why) = token_refusal_plain why
+feed_plain board q (Ok ready) =
     let inlined : Bool = knows_no_segments q in
     either (has_tag (feed_tag board inlined ready) q.tag) _ _ (inl (omega arith))
-    (inlined_told ready (feed_tag board inlined ready) (feed_state inlined (seen ready)))
+    (inlined_plain ready (feed_tag board inlined ready) (feed_state inlined (seen ready)))
 
-still_told : (board : Board) (ready : Ready) (since : Option ℕ) → IsPlain (not_modified_at board ready since)
-still_told board ready None = inl (omega arith)
-still_told board ready (Some n) = inl (omega arith)
+not_modified_plain : (board : Board) (ready : Ready) (since : Option ℕ) → IsPlain (not_modified_at board ready since)
+not_modified_plain board ready None = inl (omega arith)
+not_modified_plain board ready (Some n) = inl (omega arith)
 
-news_told : (board : Board) (ready : Ready) (since : Option ℕ) (answer : DeltaAnswer) → IsPlain (news board ready since answer)
-news_told board ready since Same = still_told board ready since
-news_told board ready since (Sent batch) = inl (omega arith)
+news_plain : (board : Board) (ready : Ready) (since : Option ℕ) (answer : DeltaAnswer) → IsPlain (news board ready since answer)
+news_plain board ready since Same = not_modified_plain board ready since
+news_plain board ready since (Sent batch) = inl (omega arith)
 
-delta_told : (board : Board) (q : Request) (ready : Result Ready TokenRefusal) → IsPlain (delta_reply board q ready)
-delta_told board q (Err why) = unseen why
-delta_told board q (Ok ready) =
+delta_plain : (board : Board) (q : Request) (ready : Result Ready TokenRefusal) → IsPlain (delta_reply board q ready)
+delta_plain board q (Err why) = token_refusal_plain why
+delta_plain board q (Ok ready) =
     let since : Option ℕ = since_of board ready.place ready.version.epoch q.tag in
-    news_told board ready since (delta_answer ready.version since (sees ready.token.projects))
+    news_plain board ready since (delta_answer ready.version since (sees ready.token.projects))
 
-report_taken : (shown : Result Shown TokenRefusal) (reading : ArgumentOf (reported shown)) → IsPlain (reported shown reading).reply
-report_taken (Err why) reading = unseen why
-report_taken (Ok shown) (Err fault) = inl (omega arith)
-report_taken (Ok shown) (Ok report) = inl (omega arith)
+report_plain : (shown : Result Shown TokenRefusal) (reading : ArgumentOf (reported shown)) → IsPlain (reported shown reading).reply
+report_plain (Err why) reading = token_refusal_plain why
+report_plain (Ok shown) (Err fault) = inl (omega arith)
+report_plain (Ok shown) (Ok report) = inl (omega arith)
 
-route_told : (board : Board) (q : Request) (draw : Draw) (r : Route) → IsPlain (at_route board q draw r).reply
-route_told board q draw route.Health = inl (omega arith)
-route_told board q draw route.Validate = tokens_told board (asked_in q.body)
-route_told board q draw route.Features = feed_told board q (ready_by board q Client)
-route_told board q draw (route.Feature name) = feature_told name (ready_by board q Client)
-route_told board q draw route.Delta = delta_told board q (ready_by board q Client)
-route_told board q draw route.Enabled = toggles_told board q draw false (ready_by board q Frontend)
-route_told board q draw route.All = toggles_told board q draw true (ready_by board q Frontend)
-route_told board q draw route.Register = client_taken q (shown_by board q Client)
-route_told board q draw route.FrontRegister = client_taken q (shown_by board q Frontend)
-route_told board q draw route.Metrics = report_taken (shown_by board q Client) _
-route_told board q draw route.FrontMetrics = report_taken (shown_by board q Frontend) _
-route_told board q draw route.Bulk = report_taken (shown_by board q Client) _
-route_told board q draw route.Commands = inl (omega arith)
+route_plain : (board : Board) (q : Request) (draw : Draw) (r : Route) → IsPlain (at_route board q draw r).reply
+route_plain board q draw route.Health = inl (omega arith)
+route_plain board q draw route.Validate = validate_plain board (asked_in q.body)
+route_plain board q draw route.Features = feed_plain board q (ready_by board q Client)
+route_plain board q draw (route.Feature name) = feature_plain name (ready_by board q Client)
+route_plain board q draw route.Delta = delta_plain board q (ready_by board q Client)
+route_plain board q draw route.Enabled = toggles_plain board q draw false (ready_by board q Frontend)
+route_plain board q draw route.All = toggles_plain board q draw true (ready_by board q Frontend)
+route_plain board q draw route.Register = register_plain q (shown_by board q Client)
+route_plain board q draw route.FrontRegister = register_plain q (shown_by board q Frontend)
+route_plain board q draw route.Metrics = report_plain (shown_by board q Client) _
+route_plain board q draw route.FrontMetrics = report_plain (shown_by board q Frontend) _
+route_plain board q draw route.Bulk = report_plain (shown_by board q Client) _
+route_plain board q draw route.Commands = inl (omega arith)
 
 allowed : (b : Bool) (x : DeskAnswer) (y : AReply) → IsPlain x.reply → IsPlain y → IsPlain (cond b x (plain y)).reply
 allowed true x y p q = p
 allowed false x y p q = q
 
-board_told : (board : Board) (q : Request) (draw : Draw) → IsPlain (answer_of board q draw).reply
+board_plain : (board : Board) (q : Request) (draw : Draw) → IsPlain (answer_of board q draw).reply
 unfolding answer_of
-board_told board q draw = by_known (route_of q.target)
+board_plain board q draw = by_known (route_of q.target)
   where
     by_known : (o : Option Route) → IsPlain (by_route board q draw o).reply
     by_known None = inl (omega arith)
-    by_known (Some route) = allowed (is_commands route || allows (methods_of route) q.method) _ _ (route_told board q draw route) (inl (omega arith))
+    by_known (Some route) = allowed (is_commands route || allows (methods_of route) q.method) _ _ (route_plain board q draw route) (inl (omega arith))
 
 -- ---- replies of an upstream
 
-refused_plainly : (cause : CommandRefusal) → IsPlain (refused (refused_as cause))
-refused_plainly plainly.NoSuchEnvironment = inl (omega arith)
-refused_plainly plainly.NoSuchFeature = inl (omega arith)
-refused_plainly plainly.NoSuchSegment = inl (omega arith)
-refused_plainly (plainly.TooMany n) = inl (omega arith)
-refused_plainly plainly.Memory = inl (omega arith)
+refused_plain : (cause : CommandRefusal) → IsPlain (refused (refused_as cause))
+refused_plain plainly.NoSuchEnvironment = inl (omega arith)
+refused_plain plainly.NoSuchFeature = inl (omega arith)
+refused_plain plainly.NoSuchSegment = inl (omega arith)
+refused_plain (plainly.TooMany n) = inl (omega arith)
+refused_plain plainly.Memory = inl (omega arith)
 
-command_told : (up : UpstreamState) (obeying : CommandResult AppliedCommand) → IsPlain (told up obeying).reply
-command_told up (Ok obeyed) = inl (omega arith)
-command_told up (Err cause) = refused_plainly cause
+command_plain : (up : UpstreamState) (result : CommandResult AppliedCommand) → IsPlain (replied up result).reply
+command_plain up (Ok applied) = inl (omega arith)
+command_plain up (Err cause) = refused_plain cause
 
 either_order : (up : UpstreamState) (b : Bool) (x y : CommandOrReply) → IsPlain (done up x).reply → IsPlain (done up y).reply → IsPlain (done up (cond b x y)).reply
 either_order up true x y p q = p
 either_order up false x y p q = q
 
-body_told : (up : UpstreamState) (reading : Reading Command) → IsPlain (done up (order_in reading)).reply
-body_told up (Ok command) = command_told up (apply_command command up)
-body_told up (Err fault) = inl (omega arith)
+body_plain : (up : UpstreamState) (reading : Reading Command) → IsPlain (done up (order_in reading)).reply
+body_plain up (Ok command) = command_plain up (apply_command command up)
+body_plain up (Err fault) = inl (omega arith)
 
-token_told : (up : UpstreamState) (q : Request) (token : Option (List ℕ)) → IsPlain (done up (order_with up q token)).reply
-token_told up q None = inl (omega arith)
-token_told up q (Some token) = either_order up (bytes_eq token up.secret) _ _ (body_told up (command_in q.body)) (inl (omega arith))
+token_plain : (up : UpstreamState) (q : Request) (token : Option (List ℕ)) → IsPlain (done up (order_with up q token)).reply
+token_plain up q None = inl (omega arith)
+token_plain up q (Some token) = either_order up (bytes_eq token up.secret) _ _ (body_plain up (command_in q.body)) (inl (omega arith))
 
-answered_plainly : (up : UpstreamState) (q : Request) (draw : Draw) → IsPlain (upstream_answer up q draw).reply
+answered_plain : (up : UpstreamState) (q : Request) (draw : Draw) → IsPlain (upstream_answer up q draw).reply
 unfolding upstream_answer order_of
-answered_plainly up q draw =
-    either_order up (is_commands_route (route_of q.target)) _ _ (either_order up (is_post q.method) _ _ (token_told up q q.token) (inl (omega arith)))
-    (board_told up.board q draw)
+answered_plain up q draw =
+    either_order up (is_commands_route (route_of q.target)) _ _ (either_order up (is_post q.method) _ _ (token_plain up q q.token) (inl (omega arith)))
+    (board_plain up.board q draw)
 
 -- so every reply has an HTTP status
 pub answered_status : (r : AReply) (up after : UpstreamState) (q : Request) (draw : Draw) → upstream_answer up q draw ≡ record { reply = r; up = after } → IsStatusCode r.status
 answered_status r up after q draw is =
-    subst (λ (a : Answered). IsStatusCode a.reply.status) is (plain_status (upstream_answer up q draw).reply (answered_plainly up q draw))
+    subst (λ (a : Answered). IsStatusCode a.reply.status) is (plain_status (upstream_answer up q draw).reply (answered_plain up q draw))
 
 -- and without a keeper is never 503 `KeeperFault`
-pub answered_calmly : (r : AReply) (up after : UpstreamState) (q : Request) (draw : Draw) → upstream_answer up q draw ≡ record { reply = r; up = after } → r ≢ refused KeeperFault
-answered_calmly r up after q draw is =
-    subst (λ (a : Answered). a.reply ≢ refused KeeperFault) is (plain_differs (upstream_answer up q draw).reply (answered_plainly up q draw))
+pub answered_without_fault : (r : AReply) (up after : UpstreamState) (q : Request) (draw : Draw) → upstream_answer up q draw ≡ record { reply = r; up = after } → r ≢ refused KeeperFault
+answered_without_fault r up after q draw is =
+    subst (λ (a : Answered). a.reply ≢ refused KeeperFault) is (plain_differs (upstream_answer up q draw).reply (answered_plain up q draw))
 
 -- ---- replies to commands that were to be kept
 
-kept_plainly : (result : Result ℕ KeepCommandRefusal) → fault_of result ≡ 0 → IsPlain (kept_reply result)
-kept_plainly (Ok number) none = inl (omega arith)
-kept_plainly (Err NoSuchEnvironment) none = inl (omega arith)
-kept_plainly (Err NoSuchFeature) none = inl (omega arith)
-kept_plainly (Err NoSuchSegment) none = inl (omega arith)
-kept_plainly (Err (TooMany n)) none = inl (omega arith)
-kept_plainly (Err (KeeperFull n)) none = inl (omega arith)
-kept_plainly (Err KeeperFault) none = absurd (omega (arith, none))
-kept_plainly (Err Memory) none = inl (omega arith)
+kept_plain : (result : Result ℕ KeepCommandRefusal) → fault_of result ≡ 0 → IsPlain (kept_reply result)
+kept_plain (Ok number) none = inl (omega arith)
+kept_plain (Err NoSuchEnvironment) none = inl (omega arith)
+kept_plain (Err NoSuchFeature) none = inl (omega arith)
+kept_plain (Err NoSuchSegment) none = inl (omega arith)
+kept_plain (Err (TooMany n)) none = inl (omega arith)
+kept_plain (Err (KeeperFull n)) none = inl (omega arith)
+kept_plain (Err KeeperFault) none = absurd (omega (arith, none))
+kept_plain (Err Memory) none = inl (omega arith)
 
 pub kept_status : (result : Result ℕ KeepCommandRefusal) → IsStatusCode (kept_reply result).status
 kept_status (Ok number) = omega arith
@@ -225,5 +225,5 @@ kept_status (Err KeeperFault) = omega arith
 kept_status (Err Memory) = omega arith
 
 -- such a reply is 503 `KeeperFault` only if the keeper failed
-pub kept_calmly : (result : Result ℕ KeepCommandRefusal) → fault_of result ≡ 0 → kept_reply result ≢ refused KeeperFault
-kept_calmly result none = plain_differs (kept_reply result) (kept_plainly result none)
+pub kept_without_fault : (result : Result ℕ KeepCommandRefusal) → fault_of result ≡ 0 → kept_reply result ≢ refused KeeperFault
+kept_without_fault result none = plain_differs (kept_reply result) (kept_plain result none)

@@ -20,8 +20,8 @@ use Rattle.unl_upstream.specs.Command.{environment_of}
 use Rattle.unl_upstream.specs.Upstream.{AppliedCommand, CommandResult, Prepared, UpstreamState, apply_command, committed, event_of, opening, prepared, version_after}
 use Rattle.unl_upstream.specs.History.{AreAdded, AreHistories, IsHistoryOf, accepted, after_command, after_commands, for_environment, history_of, if_accepted, up_after}
 use Rattle.unl_upstream.specs.Laws.{EnvironmentsStay, VersionsMatchHistory, VersionsBelongToLines, line_of}
-use Rattle.unl_upstream.proofs.Events.{is_history, nothing_stands, one_stands}
-use Rattle.unl_upstream.proofs.Slots.{opened_empty, opened_names, taken_elsewhere, taken_here}
+use Rattle.unl_upstream.proofs.Events.{is_history, empty_is_history, one_more_is_history}
+use Rattle.unl_upstream.proofs.Slots.{opened_empty, opened_names, other_slot_same, slot_replaced}
 
 -- ---- one accepted command
 
@@ -37,8 +37,8 @@ pub record IsObeyed (command : Command) (up : UpstreamState) (obeyed : AppliedCo
   pub version : EnvVersion
   pub event : Event
   pub at : place_in (environment_of command) up.board.slots ≡ Some slot
-  pub stood : snapshot_in (environment_of command) up.board.slots ≡ Some version
-  pub told : event_of command version ≡ Ok event
+  pub version_is : snapshot_in (environment_of command) up.board.slots ≡ Some version
+  pub event_is : event_of command version ≡ Ok event
   pub is : obeyed.up ≡ committed (ready_with slot version event up.board.slots) up
 
 pub obeyed_by : (command : Command) (up : UpstreamState) (obeyed : AppliedCommand) → apply_command command up ≡ Ok obeyed → IsObeyed command up obeyed
@@ -49,18 +49,18 @@ obeyed_by command up obeyed is = at_slot (place_in (environment_of command) up.b
         → snapshot_in (environment_of command) up.board.slots ≡ Some version → event_of command version ≡ r
         → ((r >>= λ (event : Event). Ok (ready_with slot version event up.board.slots)) >>= λ (ready : Prepared). Ok (obeyed_with ready up)) ≡ Ok obeyed
         → IsObeyed command up obeyed
-    at_event slot version (Err refusal) at stood told none = absurd cc
-    at_event slot version (Ok event) at stood told all =
+    at_event slot version (Err refusal) at version_is event_is none = absurd cc
+    at_event slot version (Ok event) at version_is event_is all =
         let same : obeyed_with (ready_with slot version event up.board.slots) up ≡ obeyed = cc in
-        record { slot = slot; version = version; event = event; at = at; stood = stood; told = told; is = sym (ap (λ (o : AppliedCommand). o.up) same) }
+        record { slot = slot; version = version; event = event; at = at; version_is = version_is; event_is = event_is; is = sym (ap (λ (o : AppliedCommand). o.up) same) }
 
     at_slot : (o : Option ℕ) (w : Option EnvVersion) → place_in (environment_of command) up.board.slots ≡ o → snapshot_in (environment_of command) up.board.slots ≡ w
         → ((ok_or o NoSuchEnvironment >>= λ (slot : ℕ). ok_or w NoSuchEnvironment >>= λ (version : EnvVersion).
         event_of command version >>= λ (event : Event). Ok (ready_with slot version event up.board.slots)) >>= λ (ready : Prepared). Ok (obeyed_with ready up)) ≡ Ok obeyed
         → IsObeyed command up obeyed
-    at_slot None w at stood none = absurd cc
-    at_slot (Some slot) None at stood none = absurd cc
-    at_slot (Some slot) (Some version) at stood all = at_event slot version (event_of command version) at stood refl all
+    at_slot None w at version_is none = absurd cc
+    at_slot (Some slot) None at version_is none = absurd cc
+    at_slot (Some slot) (Some version) at version_is all = at_event slot version (event_of command version) at version_is refl all
 
 -- the command's environment has the new version
 new_here : (command : Command) (up : UpstreamState) (obeyed : AppliedCommand) (o : IsObeyed command up obeyed) (environment : List ℕ) → environment_of command ≡ environment
@@ -68,14 +68,14 @@ new_here : (command : Command) (up : UpstreamState) (obeyed : AppliedCommand) (o
 new_here command up obeyed o environment here =
     subst (λ (name : List ℕ). snapshot_in name obeyed.up.board.slots ≡ Some (version_after o.version o.event)) here (
     ap (λ (u : UpstreamState). snapshot_in (environment_of command) u.board.slots) o.is
-    ∙ taken_here (environment_of command) 0 o.slot up.board.slots (version_after o.version o.event) (o.at ∙ ap Some (omega arith)))
+    ∙ slot_replaced (environment_of command) 0 o.slot up.board.slots (version_after o.version o.event) (o.at ∙ ap Some (omega arith)))
 
 -- every other environment keeps its version
 same_elsewhere : (command : Command) (up : UpstreamState) (obeyed : AppliedCommand) → IsObeyed command up obeyed → (environment : List ℕ) → same_text (environment_of command) environment ≡ false
     → snapshot_in environment obeyed.up.board.slots ≡ snapshot_in environment up.board.slots
 same_elsewhere command up obeyed o environment apart =
     ap (λ (u : UpstreamState). snapshot_in environment u.board.slots) o.is
-    ∙ taken_elsewhere (environment_of command) environment 0 o.slot up.board.slots (version_after o.version o.event) (o.at ∙ ap Some (omega arith)) apart
+    ∙ other_slot_same (environment_of command) environment 0 o.slot up.board.slots (version_after o.version o.event) (o.at ∙ ap Some (omega arith)) apart
 
 -- no command changes the secret
 pub secret_stays : (command : Command) (up : UpstreamState) → (after_command command up).secret ≡ up.secret
@@ -96,10 +96,10 @@ holds_here : (epoch : ℕ) (environment : List ℕ) (before : List Command) (com
     → environment_of command ≡ environment → Holds epoch environment before up → Holds epoch environment (before ++ command ∷ []) obeyed.up
 unfolding Holds
 holds_here epoch environment before command up obeyed o here holds v is =
-    let stood : snapshot_in environment up.board.slots ≡ Some o.version = subst (λ (name : List ℕ). snapshot_in name up.board.slots ≡ Some o.version) here o.stood in
+    let version_is : snapshot_in environment up.board.slots ≡ Some o.version = subst (λ (name : List ℕ). snapshot_in name up.board.slots ≡ Some o.version) here o.version_is in
     let same : Some (version_after o.version o.event) ≡ Some v = sym (new_here command up obeyed o environment here) ∙ is in
     let this : version_after o.version o.event ≡ v = cc in
-    subst (IsHistoryOf epoch (before ++ command ∷ [])) this (one_stands epoch before command o.version o.event (holds o.version stood) o.told)
+    subst (IsHistoryOf epoch (before ++ command ∷ [])) this (one_more_is_history epoch before command o.version o.event (holds o.version version_is) o.event_is)
 
 -- a command for another environment does not
 holds_elsewhere : (epoch : ℕ) (environment : List ℕ) (before : List Command) (command : Command) (up : UpstreamState) (obeyed : AppliedCommand) → IsObeyed command up obeyed
@@ -154,7 +154,7 @@ one_added command up after number is =
 none_added : (boot : ℕ) (secret : List ℕ) (environments : List (List ℕ)) (book : List Token) (epoch : ℕ)
     → AreHistories epoch [] (opening boot secret environments book epoch)
 none_added boot secret environments book epoch environment v is =
-    subst (IsHistoryOf epoch []) (sym (opened_empty epoch environment environments v is)) (nothing_stands epoch)
+    subst (IsHistoryOf epoch []) (sym (opened_empty epoch environment environments v is)) (empty_is_history epoch)
 
 pub opens_without : (up : UpstreamState) (boot : ℕ) (secret : List ℕ) (environments : List (List ℕ)) (book : List Token) (epoch : ℕ)
     → up ≡ opening boot secret environments book epoch → AreHistories epoch [] up
@@ -181,8 +181,8 @@ some_after_one command up environment (Ok obeyed) is = decided (same_text (envir
         → is_some (snapshot_in environment obeyed.up.board.slots) ≡ is_some (snapshot_in environment up.board.slots)
     decided true here o =
         let name : environment_of command ≡ environment = text_same (environment_of command) environment here in
-        let stood : snapshot_in environment up.board.slots ≡ Some o.version = subst (λ (text : List ℕ). snapshot_in text up.board.slots ≡ Some o.version) name o.stood in
-        ap is_some (new_here command up obeyed o environment name) ∙ sym (ap is_some stood)
+        let version_is : snapshot_in environment up.board.slots ≡ Some o.version = subst (λ (text : List ℕ). snapshot_in text up.board.slots ≡ Some o.version) name o.version_is in
+        ap is_some (new_here command up obeyed o environment name) ∙ sym (ap is_some version_is)
     decided false apart o = ap is_some (same_elsewhere command up obeyed o environment apart)
 
 some_after_all : (commands : List Command) (up : UpstreamState) (environment : List ℕ)
@@ -204,9 +204,9 @@ refused_is_nothing command up refusal is = ap (up_after up) is
 after_is : (command : Command) (up : UpstreamState) (obeyed : AppliedCommand) → apply_command command up ≡ Ok obeyed → after_command command up ≡ obeyed.up
 after_is command up obeyed is = ap (up_after up) is
 
-pub others_lead_there : (commands : List Command) (up : UpstreamState) → after_commands (accepted commands up) up ≡ after_commands commands up
-others_lead_there [] up = refl
-others_lead_there (command ∷ commands) up = decided (apply_command command up) refl (others_lead_there commands)
+pub others_result_there : (commands : List Command) (up : UpstreamState) → after_commands (accepted commands up) up ≡ after_commands commands up
+others_result_there [] up = refl
+others_result_there (command ∷ commands) up = decided (apply_command command up) refl (others_result_there commands)
   where
     decided : (r : CommandResult AppliedCommand) → apply_command command up ≡ r → ((now : UpstreamState) → after_commands (accepted commands now) now ≡ after_commands commands now)
         → after_commands (if_accepted command r (accepted commands (up_after up r))) up ≡ after_commands commands (up_after up r)

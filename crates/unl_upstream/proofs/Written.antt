@@ -1,39 +1,21 @@
 -- A written command is read back as the same command.
-use Rattle.std.proofs.Common.{◌≡◌, ◌≤◌, ℕ, List, true, false, Some, Ok, IsUtf8, refl, sym, subst, ap, ◌∙◌, arith}
+use Rattle.std.proofs.Common.{◌≡◌, ◌≤◌, ℕ, List, false, Some, Ok, IsUtf8, refl, sym, subst, ap, ◌∙◌, arith}
 use Rattle.std.specs.Prelude.{codes}
-use Rattle.serde_json.specs.Data.{Data, array, boolean, depth, null, number, object, string}
+use Rattle.serde_json.specs.Data.{Data, depth, string}
 use Rattle.serde_json.specs.Read.{max_depth, read}
 use Rattle.serde_json.specs.Written.{compact_text, has_float}
 use Rattle.unl_delta.proofs.NoFloats.{no_float_feature, no_float_segment}
-use Rattle.unl_documents.specs.declared.field.Field.{Field}
+use Rattle.unl_delta.proofs.WrittenBack.{one_back}
 use Rattle.unl_documents.specs.declared.field.Field.TheVariants as field
-use Rattle.unl_documents.specs.Reading.{Reading}
-use Rattle.unl_documents.specs.Kinds.{any_text, any_whole, at, document, is_object, name, object_of, present, required}
+use Rattle.unl_documents.specs.Kinds.{any_text, any_whole, at, document, name}
 use Rattle.unl_documents.specs.Writing.{count}
 use Rattle.unl_documents.proofs.RoundTrip.{any_text_back, any_whole_back, features, name_back, required_back, segments}
-use Rattle.unl_documents.proofs.RoundTrip.{ComesBack}
 use Rattle.unl_documents.proofs.Spelled.{spelled}
 use Rattle.unl_upstream.specs.declared.command.Command.{Command}
 use Rattle.unl_upstream.specs.declared.command.Command.TheVariants.{PutFeature, RemoveFeature, PutSegment, RemoveSegment}
 use Rattle.unl_upstream.specs.Command.{IsValidCommand, command_by, command_in, command_of, put_feature_of, put_segment_of, remove_feature_of, remove_segment_of}
 use Rattle.unl_upstream.specs.Writing.{HasNames, command_data, command_text}
 use Rattle.unl_upstream.proofs.Depths.{command_deep}
-
-present_one : (d : Data) → is_object d ≡ true → present d ≡ Some d
-present_one null is = absurd cc
-present_one (boolean b) is = absurd cc
-present_one (number n) is = absurd cc
-present_one (string bytes) is = absurd cc
-present_one (array values) is = absurd cc
-present_one (object inside) is = refl
-
--- an object written under a key is read back
-one_back : {T : Type 0} {reads : Data → Reading T} {written : T → Data} {P : T → Type 0} → ComesBack reads written P → (f : Field) (value : Data)
-    (x : T) → P x → at f value ≡ present (written x) → required (object_of reads) f value ≡ Ok x
-unfolding object_of
-one_back {T} {reads} {written} comes f value x valid here =
-    let there : at f value ≡ Some (written x) = here ∙ present_one (written x) (comes.is_one x) in
-    required_back (object_of reads) f value (written x) x there (rw (comes.is_one x) (comes.back x valid))
 
 word_back : (value : Data) (word : List ℕ) → at field.Command value ≡ Some (string word) → command_of value ≡ command_by word value
 unfolding command_of

@@ -47,9 +47,9 @@ refused KeeperFault = refusal 503 (codes "KeeperFault")
 refused Memory = status_only 500
 
 -- the reply to a command with this result, and the upstream after it
-abbrev pub told : UpstreamState → CommandResult AppliedCommand → Answered
-told up (Ok obeyed) = record { reply = numbered obeyed.number; up = obeyed.up }
-told up (Err cause) = unchanged up (refused (refused_as cause))
+abbrev pub replied : UpstreamState → CommandResult AppliedCommand → Answered
+replied up (Ok applied) = record { reply = numbered applied.number; up = applied.up }
+replied up (Err cause) = unchanged up (refused (refused_as cause))
 
 -- ---- all requests
 
@@ -85,7 +85,7 @@ IsValidOrder (Reply reply) = Unit {0}
 
 -- the reply to what a request asks for, and the upstream after it
 abbrev pub done : UpstreamState → CommandOrReply → Answered
-done up (Execute command) = told up (apply_command command up)
+done up (Execute command) = replied up (apply_command command up)
 done up (Reply reply) = unchanged up reply
 
 -- the reply to a request, and the upstream after it

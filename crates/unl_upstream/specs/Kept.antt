@@ -1,11 +1,9 @@
 -- The commands kept by an upstream's keeper, and the effect of keeping one more.
-use Rattle.std.specs.Prelude.{◌≡◌, ◌≤◌, ◌⊎◌, ℕ, ◌+◌, ◌-◌, ◌^◌, min, nat_lt, Bool, true, List, [], ◌∷◌, ◌++◌}
+use Rattle.std.specs.Prelude.{◌≡◌, ◌≤◌, ◌⊎◌, ℕ, ◌+◌, ◌-◌, ◌^◌, min, nat_lt, List, [], ◌∷◌, ◌++◌}
 use Rattle.std.specs.Prelude.{drop, filter_map, length, map}
 use Rattle.std.specs.Prelude.{if◌then◌else◌, Option, option_map, Result, Ok, Err, IsOk, IfSome, ⊤}
 use Rattle.unl_keeper.specs.declared.refusal.KeepRefusal.{KeepRefusal}
-use Rattle.unl_keeper.specs.declared.refusal.KeepRefusal.TheVariants as put_refusal
-use Rattle.unl_keeper.specs.Faults.{Rose}
-use Rattle.unl_keeper.specs.Rows.{kept, with_row}
+use Rattle.unl_keeper.specs.State.{HasKept, IsFailed, IsWritten, KeeperState, PutsRow, kept_rows}
 use Rattle.unl_upstream.specs.declared.command.Command.{Command}
 use Rattle.unl_upstream.specs.declared.refusal.KeepCommandRefusal.{KeepCommandRefusal}
 use Rattle.unl_upstream.specs.declared.refusal.KeepCommandRefusal.TheVariants.{NoSuchEnvironment, NoSuchFeature}
@@ -13,22 +11,10 @@ use Rattle.unl_upstream.specs.declared.refusal.KeepCommandRefusal.TheVariants.{N
 use Rattle.unl_upstream.specs.Command.{command_in}
 use Rattle.unl_upstream.specs.History.{AreAdded, accepted, after_commands}
 use Rattle.unl_upstream.specs.Requests.{if_read}
-use Rattle.unl_upstream.specs.Upstream.{AppliedCommand, CommandResult, Prepared, UpstreamState, apply_command, committed, refused_as}
+use Rattle.unl_upstream.specs.Upstream.{AppliedCommand, CommandResult, Prepared, UpstreamState, apply_command, committed, prepared, refused_as}
 use Rattle.unl_upstream.specs.Writing.{command_text}
 
 -- ---- an upstream and its keeper
-
--- the state of a keeper: whether it is open, its fault count, the number of kept rows, and its rows if observable
-pub record KeeperState : Type 0 where
-  pub opened : Bool
-  pub faults : ℕ
-  pub count : ℕ
-  pub rows : Option (List (List ℕ))
-
--- the state of a keeper, given the ghost functions of its type
-abbrev pub keeper_by : {K : Type 0} → (K → Bool) → (K → ℕ) → (K → ℕ) → (K → Option (List (List ℕ))) → K → KeeperState
-keeper_by opened faults count rows keeper =
-    record { opened = opened keeper; faults = faults keeper; count = count keeper; rows = rows keeper }
 
 -- an upstream, and the keeper of its commands
 pub record KeptState : Type 0 where
@@ -45,23 +31,19 @@ kept_state up keeper = record { up = up; keeper = keeper }
 abbrev pub commands_in : List (List ℕ) → List Command
 commands_in texts = filter_map (λ text. if_read (command_in text)) texts
 
--- the kept rows, if observable
-abbrev pub kept_rows : KeeperState → Option (List (List ℕ))
-kept_rows keeper = kept keeper.count keeper.rows
-
 -- the kept commands, if the rows are observable
 abbrev pub kept_commands : KeeperState → Option (List Command)
 kept_commands keeper = option_map commands_in (kept_rows keeper)
 
 -- Each text is read as a command. These are all accepted when applied in order to `opening`, which results in `up`.
-pub record LeadTo (opening : UpstreamState) (texts : List (List ℕ)) (up : UpstreamState) : Type 0 where
+pub record ResultIn (opening : UpstreamState) (texts : List (List ℕ)) (up : UpstreamState) : Type 0 where
   pub spelled : map command_in texts ≡ map Ok (commands_in texts)
   pub all_accepted : accepted (commands_in texts) opening ≡ commands_in texts
   pub leads : up ≡ after_commands (commands_in texts) opening
 
 -- the upstream is `opening` after the kept commands in order, if these are observable
 abbrev pub IsAfterKept : UpstreamState → KeptState → Type 0
-IsAfterKept opening state = IfSome (kept_rows state.keeper) (λ texts. LeadTo opening texts state.up)
+IsAfterKept opening state = IfSome (kept_rows state.keeper) (λ texts. ResultIn opening texts state.up)
 
 -- ---- keeping one more
 
@@ -78,20 +60,11 @@ with_room count (Err cause) = Err (refused_as cause)
 abbrev pub keepable : Command → KeptState → Result AppliedCommand KeepCommandRefusal
 keepable command state = with_room state.keeper.count (apply_command command state.up)
 
--- a put succeeded: the text is the last kept row, and no row follows it
-pub record IsWritten (text : List ℕ) (before after : KeeperState) : Type 0 where
-  pub opened : after.opened ≡ true
-  pub counted : after.count ≡ before.count + 1
-  pub rows : after.rows ≡ with_row before.count text before.rows
-  pub still : after.faults ≡ before.faults
-
--- a put failed: the kept rows are unchanged; what follows them is unchanged too, or is the text
-pub record IsFailed (text : List ℕ) (before after : KeeperState) : Type 0 where
-  pub opened : after.opened ≡ true
-  pub counted : after.count ≡ before.count
-  pub rows : (after.rows ≡ before.rows) ⊎ (after.rows ≡ with_row before.count text before.rows)
-  pub later : before.faults ≤ after.faults
-  pub rose : Rose before.faults after.faults
+-- a command is ready to be put: it is accepted, there is room for it, and its text is read back as it
+pub record IsPending (command : Command) (before : KeptState) (ready : Prepared) (text : List ℕ) : Type 0 where
+  pub accepts : with_room before.keeper.count (prepared command before.up) ≡ Ok ready
+  pub text_is : text ≡ command_text command
+  pub spelled : command_in (command_text command) ≡ Ok command
 
 -- the prepared command's text was stored, and the command published
 pub record Publishes (ready : Prepared) (text : List ℕ) (before : KeptState) (number : ℕ) (after : KeptState) : Type 0 where
@@ -99,16 +72,15 @@ pub record Publishes (ready : Prepared) (text : List ℕ) (before : KeptState) (
   pub up : after.up ≡ committed ready before.up
   pub row : IsWritten text before.keeper after.keeper
 
--- the put of a text failed, and nothing was published
-pub record FailsToPut (text : List ℕ) (before after : KeptState) : Type 0 where
+-- the put of a text was refused, and nothing was published
+pub record FailsToPut (text : List ℕ) (before : KeptState) (refusal : KeepRefusal) (after : KeptState) : Type 0 where
   pub up : after.up ≡ before.up
-  pub row : IsFailed text before.keeper after.keeper
+  pub row : PutsRow text before.keeper (Err refusal) after.keeper
 
 -- the result of storing a text and publishing its command
 abbrev pub Puts : Prepared → List ℕ → KeptState → Result ℕ KeepRefusal → KeptState → Type 0
 Puts ready text before (Ok number) after = Publishes ready text before number after
-Puts ready text before (Err put_refusal.Fault) after = FailsToPut text before after
-Puts ready text before (Err put_refusal.Memory) after = after ≡ before
+Puts ready text before (Err refusal) after = FailsToPut text before refusal after
 
 -- the command was accepted, and its text is the last kept row
 pub record Acknowledges (command : Command) (before : KeptState) (number : ℕ) (after : KeptState) : Type 0 where
@@ -259,16 +231,14 @@ pub record AttemptsPreserve (before after : KeptState) : Type 0 where
   pub some : SomeAttempts before after
   pub carries : Carries some.tried before after
 
--- there are at least as many rows as are kept
-abbrev pub HasKept : KeeperState → Type 0
-HasKept keeper = IfSome keeper.rows (λ list. keeper.count ≤ length list)
-
 -- any attempts to keep commands, with any faults, preserve what held for an upstream and its keeper
 abbrev pub KeepingCarries : Type 0
 KeepingCarries =
-    (tried : List KeepAttempt) (before after : KeptState) → HasKept before.keeper → AttemptsInOrder tried before after → Carries tried before after
+    (tried : List KeepAttempt) (before after : KeptState) → HasKept before.keeper → AttemptsInOrder tried before after
+    → Carries tried before after
 
 -- attempts after other attempts are attempts too
 abbrev pub KeepingContinues : Type 0
-KeepingContinues = (first second : List KeepAttempt) (before middle after : KeptState) → AttemptsInOrder first before middle → AttemptsInOrder second middle after
-    → AttemptsInOrder (first ++ second) before after
+KeepingContinues =
+    (first second : List KeepAttempt) (before middle after : KeptState) → AttemptsInOrder first before middle
+    → AttemptsInOrder second middle after → AttemptsInOrder (first ++ second) before after

@@ -67,52 +67,52 @@ pub record LinkEffect
   pub gives : commands ≡ acknowledged (tried_in 0 (serving before 0 coming) requests text reached answered)
   pub takes : (taken ≡ served.count) ⊎ ((served.end ≡ Memory) × (taken ≡ served.count + 1))
 
--- Links were served one after another. The first began after `commands` from `start`, with `gone` draws taken; the last ended
--- after `commands_after`, with `gone_after` draws taken. Each link adds its commands and its draws to these.
+-- Links were served one after another. The first began after `commands` from `start`, with `drawn` draws taken; the last ended
+-- after `commands_after`, with `drawn_after` draws taken. Each link adds its commands and its draws to these.
 abbrev pub LinkedByNames :
     UpstreamState → ℕ → Coming → List Command → ℕ → KeptState → List (List ℕ) → List (List ℕ × ℕ) → List Command → ℕ → KeptState → Type 0
-LinkedByNames start reopened coming commands gone state [] [] commands_after gone_after after =
-    (commands_after ≡ commands) × (gone_after ≡ gone) × (after ≡ state)
-LinkedByNames start reopened coming commands gone state [] (back ∷ backs) commands_after gone_after after = ⊥
-LinkedByNames start reopened coming commands gone state (bytes ∷ links) [] commands_after gone_after after = ⊥
-LinkedByNames start reopened coming commands gone state (bytes ∷ links) (back ∷ backs) commands_after gone_after after =
+LinkedByNames start reopened coming commands drawn state [] [] commands_after drawn_after after =
+    (commands_after ≡ commands) × (drawn_after ≡ drawn) × (after ≡ state)
+LinkedByNames start reopened coming commands drawn state [] (back ∷ backs) commands_after drawn_after after = ⊥
+LinkedByNames start reopened coming commands drawn state (bytes ∷ links) [] commands_after drawn_after after = ⊥
+LinkedByNames start reopened coming commands drawn state (bytes ∷ links) (back ∷ backs) commands_after drawn_after after =
     (more : List Command) × (taken : ℕ) × (middle : KeptState)
-    × LinkEffect state (draws_after gone coming) bytes back more taken middle (draws_after (gone + taken) coming)
+    × LinkEffect state (draws_after drawn coming) bytes back more taken middle (draws_after (drawn + taken) coming)
     × IsNamed start reopened (commands ++ more) middle
-    × LinkedByNames start reopened coming (commands ++ more) (gone + taken) middle links backs commands_after gone_after after
+    × LinkedByNames start reopened coming (commands ++ more) (drawn + taken) middle links backs commands_after drawn_after after
 
 -- no reply on these links is 503 `KeeperFault`
-abbrev pub NoKeeperFaults : (start : UpstreamState) (reopened : ℕ) (coming : Coming) (commands : List Command) (gone : ℕ)
-    (state : KeptState) (links : List (List ℕ)) (backs : List (List ℕ × ℕ)) (commands_after : List Command) (gone_after : ℕ)
-    (after : KeptState) → LinkedByNames start reopened coming commands gone state links backs commands_after gone_after after → Type 0
-NoKeeperFaults start reopened coming commands gone state [] [] commands_after gone_after after linked = ⊤
-NoKeeperFaults start reopened coming commands gone state [] (back ∷ backs) commands_after gone_after after linked = ⊤
-NoKeeperFaults start reopened coming commands gone state (bytes ∷ links) [] commands_after gone_after after linked = ⊤
-NoKeeperFaults start reopened coming commands gone state (bytes ∷ links) (back ∷ backs) commands_after gone_after after
+abbrev pub NoKeeperFaults : (start : UpstreamState) (reopened : ℕ) (coming : Coming) (commands : List Command) (drawn : ℕ)
+    (state : KeptState) (links : List (List ℕ)) (backs : List (List ℕ × ℕ)) (commands_after : List Command) (drawn_after : ℕ)
+    (after : KeptState) → LinkedByNames start reopened coming commands drawn state links backs commands_after drawn_after after → Type 0
+NoKeeperFaults start reopened coming commands drawn state [] [] commands_after drawn_after after linked = ⊤
+NoKeeperFaults start reopened coming commands drawn state [] (back ∷ backs) commands_after drawn_after after linked = ⊤
+NoKeeperFaults start reopened coming commands drawn state (bytes ∷ links) [] commands_after drawn_after after linked = ⊤
+NoKeeperFaults start reopened coming commands drawn state (bytes ∷ links) (back ∷ backs) commands_after drawn_after after
     (more, taken, middle, names, named, others) =
-    NoKeeperFault 0 (serving state 0 (draws_after gone coming)) names.requests names.text names.reached names.answered
-    × NoKeeperFaults start reopened coming (commands ++ more) (gone + taken) middle links backs commands_after gone_after after others
+    NoKeeperFault 0 (serving state 0 (draws_after drawn coming)) names.requests names.text names.reached names.answered
+    × NoKeeperFaults start reopened coming (commands ++ more) (drawn + taken) middle links backs commands_after drawn_after after others
 
 -- Links were served, and the state after them is described by commands and draws from `start` on. Attempts to keep the
 -- commands of all their requests, in order, are all that changed the upstream and its keeper. If the keeper failed at none of
 -- them, no reply is 503 `KeeperFault`.
 pub record AllLinksEffect
-    (start : UpstreamState) (reopened : ℕ) (coming : Coming) (commands : List Command) (gone : ℕ) (state : KeptState)
+    (start : UpstreamState) (reopened : ℕ) (coming : Coming) (commands : List Command) (drawn : ℕ) (state : KeptState)
     (links : List (List ℕ)) (backs : List (List ℕ × ℕ)) (after : KeptState) (coming_after : Coming) : Type 0 where
   pub commands_after : List Command
-  pub gone_after : ℕ
-  pub linked : LinkedByNames start reopened coming commands gone state links backs commands_after gone_after after
+  pub drawn_after : ℕ
+  pub linked : LinkedByNames start reopened coming commands drawn state links backs commands_after drawn_after after
   pub named : IsNamed start reopened commands_after after
-  pub draws : coming_after ≡ draws_after gone_after coming
+  pub draws : coming_after ≡ draws_after drawn_after coming
   pub tried : List KeepAttempt
   pub keeps : AttemptsInOrder tried state after
   pub adds : commands_after ≡ commands ++ acknowledged tried
-  pub calm : faults_among tried ≡ 0
-      → NoKeeperFaults start reopened coming commands gone state links backs commands_after gone_after after linked
+  pub no_faults : faults_among tried ≡ 0
+      → NoKeeperFaults start reopened coming commands drawn state links backs commands_after drawn_after after linked
 
 -- the state after served links is always described in this way
 abbrev pub KeptLinksNameCommands : Type 0
-KeptLinksNameCommands = (start : UpstreamState) (reopened : ℕ) (coming : Coming) (commands : List Command) (gone : ℕ) (state : KeptState)
+KeptLinksNameCommands = (start : UpstreamState) (reopened : ℕ) (coming : Coming) (commands : List Command) (drawn : ℕ) (state : KeptState)
     (links : List (List ℕ)) (backs : List (List ℕ × ℕ)) (after : KeptState) (coming_after : Coming)
-    → IsNamed start reopened commands state → Linked state (draws_after gone coming) links backs after coming_after
-    → AllLinksEffect start reopened coming commands gone state links backs after coming_after
+    → IsNamed start reopened commands state → Linked state (draws_after drawn coming) links backs after coming_after
+    → AllLinksEffect start reopened coming commands drawn state links backs after coming_after

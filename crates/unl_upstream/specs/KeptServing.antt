@@ -1,19 +1,27 @@
 -- An upstream that keeps its commands, on a connection.
 use Rattle.std.specs.Prelude.{◌≡◌, ◌≢◌, ℕ, ◌+◌, List, [], ◌∷◌, ◌++◌, Option, Some, None, Result, Ok, Err, ⊤}
 use Rattle.unl_base.specs.declared.draws.Draw.{Draw}
-use Rattle.unl_server.specs.Handling.{HandlerState, Answers, Coming, RunsOutOfMemory, answerer}
+use Rattle.unl_server.specs.Handling.{HandlerState, Answers, Coming, RunsOutOfMemory, handler_state}
 use Rattle.unl_server.specs.Conversation.{Answered, Reaches}
 use Rattle.unl_server.specs.Links.{LinkState}
 use Rattle.unl_http_api.specs.declared.end.End.{End}
 use Rattle.unl_http_api.specs.declared.reply.Reply.{Reply}
 use Rattle.unl_http_api.specs.declared.request.Request.{Request}
+use Rattle.unl_keeper.specs.State.{KeeperState}
 use Rattle.unl_upstream.specs.declared.command.Command.{Command}
+use Rattle.unl_upstream.specs.declared.keeping_server.DurableUpstream.{DurableUpstream}
 use Rattle.unl_upstream.specs.declared.refusal.KeepCommandRefusal.{KeepCommandRefusal}
 use Rattle.unl_upstream.specs.declared.refusal.KeepCommandRefusal.TheVariants.{KeeperFault, Memory}
 use Rattle.unl_upstream.specs.Answer.{numbered, refused, unchanged, upstream_answer}
-use Rattle.unl_upstream.specs.Kept.{Carries, Keeps, AttemptsInOrder, KeptState, KeepAttempt, faults_among}
+use Rattle.unl_upstream.specs.Kept.{Carries, Keeps, AttemptsInOrder, KeptState, KeepAttempt, faults_among, kept_state}
 use Rattle.unl_upstream.specs.Requests.{command_given}
 use Rattle.unl_upstream.specs.Served.{ServesLinkBy}
+
+-- ---- an upstream and its keeper, behind references
+
+-- their state, given the ghost function that reads a keeper's state
+abbrev pub kept_in : {K : Type 0} → (K → KeeperState) → DurableUpstream K → KeptState
+kept_in state server = kept_state server.up.now (state server.keeper.now)
 
 -- ---- one request
 
@@ -30,13 +38,13 @@ pub record RepliesTo (command : Command) (before : KeptState) (reply : Reply) (a
   pub is : reply ≡ kept_reply result
 
 -- the reply to a request that gives this command, or none
-abbrev pub Tells : Option Command → KeptState → Request → Draw → Reply → KeptState → Type 0
-Tells None before q draw reply after = (after ≡ before) × (upstream_answer before.up q draw ≡ unchanged before.up reply)
-Tells (Some command) before q draw reply after = RepliesTo command before reply after
+abbrev pub RepliesByCommand : Option Command → KeptState → Request → Draw → Reply → KeptState → Type 0
+RepliesByCommand None before q draw reply after = (after ≡ before) × (upstream_answer before.up q draw ≡ unchanged before.up reply)
+RepliesByCommand (Some command) before q draw reply after = RepliesTo command before reply after
 
 -- a request is answered: its command, if it gives one, is kept, and any other request is answered as without a keeper
 abbrev pub Gives : KeptState → Request → Draw → Reply → KeptState → Type 0
-Gives before q draw reply after = Tells (command_given before.up.secret q) before q draw reply after
+Gives before q draw reply after = RepliesByCommand (command_given before.up.secret q) before q draw reply after
 
 -- running out of memory changes nothing
 abbrev pub GivesUp : KeptState → Request → Draw → KeptState → Type 0
@@ -44,7 +52,7 @@ GivesUp before q draw after = after ≡ before
 
 -- the attempt to keep the command of one request, if it gives one
 abbrev pub tried_of : (given : Option Command) (before : KeptState) (q : Request) (draw : Draw) (reply : Reply) (after : KeptState)
-    → Tells given before q draw reply after → List KeepAttempt
+    → RepliesByCommand given before q draw reply after → List KeepAttempt
 tried_of None before q draw reply after tells = []
 tried_of (Some command) before q draw reply after tells = record { command = command; result = tells.result } ∷ []
 
@@ -55,7 +63,7 @@ pub record CarriesAnswer (before : KeptState) (q : Request) (draw : Draw) (reply
   pub tried : List KeepAttempt
   pub are : tried ≡ tried_of (command_given before.up.secret q) before q draw reply after gives
   pub carries : Carries tried before after
-  pub calm : faults_among tried ≡ 0 → reply ≢ refused KeeperFault
+  pub no_faults : faults_among tried ≡ 0 → reply ≢ refused KeeperFault
 
 -- ---- a connection
 
@@ -65,7 +73,7 @@ KeptServing = HandlerState KeptState
 
 -- these three as one record
 abbrev pub serving : KeptState → ℕ → Coming → KeptServing
-serving state count coming = answerer state count coming
+serving state count coming = handler_state state count coming
 
 -- one request is answered, with the next draw
 abbrev pub Step : KeptServing → Request → Reply → KeptServing → Type 0
@@ -98,7 +106,7 @@ pub record ServesKept (before : KeptServing) (end : End) (count : ℕ) (after : 
   pub are : tried ≡ tried_in 0 before reaches.requests reaches.text reaches.reached reaches.answered
   pub keeps : AttemptsInOrder tried before.state after.state
   pub carries : Carries tried before.state after.state
-  pub calm : faults_among tried ≡ 0 → NoKeeperFault 0 before reaches.requests reaches.text reaches.reached reaches.answered
+  pub no_faults : faults_among tried ≡ 0 → NoKeeperFault 0 before reaches.requests reaches.text reaches.reached reaches.answered
 
 -- a link was served
 abbrev pub ServesLink : KeptState → Coming → LinkState → LinkState → KeptState → Coming → Type 0

@@ -6,7 +6,7 @@ use Rattle.unl_delta.specs.declared.version.EnvVersion.{EnvVersion}
 use Rattle.unl_delta.specs.History.{Era, IsLine, RepresentsLine, everything}
 use Rattle.unl_tokens.specs.declared.token.Token.{Token}
 use Rattle.unl_upstream.specs.declared.command.Command.{Command}
-use Rattle.unl_upstream.specs.Upstream.{UpstreamState, opening}
+use Rattle.unl_upstream.specs.Upstream.{opening}
 use Rattle.unl_upstream.specs.History.{AreHistories, IsHistoryOf, accepted, after_commands, history_of}
 
 -- the line of histories of an upstream that began in this epoch: the one history that these commands make

@@ -4,13 +4,14 @@ use Rattle.std.specs.Prelude.{option_and_then, option_map, Result, Ok, Err, IfSo
 use Rattle.unl_keeper.specs.declared.refusal.KeepRefusal.{KeepRefusal}
 use Rattle.unl_keeper.specs.declared.refusal.KeepRefusal.TheVariants as put_refusal
 use Rattle.unl_keeper.specs.Faults.{Rose}
+use Rattle.unl_keeper.specs.State.{KeeperState}
 use Rattle.unl_documents.specs.Reading.{Reading}
 use Rattle.unl_tokens.specs.declared.token.Token.{Token}
 use Rattle.unl_upstream.specs.declared.command.Command.{Command}
 use Rattle.unl_upstream.specs.declared.reopening.ReopenFault.{ReopenFault}
 use Rattle.unl_upstream.specs.declared.reopening.ReopenFault.TheVariants.{BadRow, NoRow, Fault, Memory}
 use Rattle.unl_upstream.specs.Command.{command_in}
-use Rattle.unl_upstream.specs.Kept.{IsAfterKept, IsOneOf, KeeperState, KeptState, LeavesOne, kept_commands, kept_state}
+use Rattle.unl_upstream.specs.Kept.{IsAfterKept, IsOneOf, KeptState, LeavesOne, kept_commands, kept_state}
 use Rattle.unl_upstream.specs.Upstream.{AppliedCommand, CommandResult, UpstreamState, apply_command, opening}
 
 -- it is an initial upstream, which has applied no command
@@ -45,13 +46,13 @@ pub record TakesRow (before : ℕ) (rows : Option (List (List ℕ))) (up after :
   pub there : IfSome rows (λ list. slice_get list before ≡ Some text)
   pub leads : row_after text up ≡ Some after
 
--- why the row after the first `before` ones was not applied
-abbrev pub WhyRowFails : ℕ → Option (List (List ℕ)) → ℕ → ℕ → UpstreamState → ReopenFault → Type 0
-WhyRowFails before rows faults faults_after up (BadRow place text) = (place ≡ before + 1) × (row_after text up ≡ None)
-    × IfSome rows (λ list. slice_get list before ≡ Some text)
-WhyRowFails before rows faults faults_after up (NoRow place) = (place ≡ before + 1) × (rows ≡ None)
-WhyRowFails before rows faults faults_after up Fault = Rose faults faults_after
-WhyRowFails before rows faults faults_after up Memory = ⊤
+-- why the row after the first `before` ones was not applied, by the keeper's state before and after it was read
+abbrev pub WhyRowFails : ℕ → KeeperState → KeeperState → UpstreamState → ReopenFault → Type 0
+WhyRowFails before keeper keeper_after up (BadRow place text) = (place ≡ before + 1) × (row_after text up ≡ None)
+    × IfSome keeper.rows (λ list. slice_get list before ≡ Some text)
+WhyRowFails before keeper keeper_after up (NoRow place) = (place ≡ before + 1) × (keeper.rows ≡ None)
+WhyRowFails before keeper keeper_after up Fault = Rose keeper.faults keeper_after.faults
+WhyRowFails before keeper keeper_after up Memory = ⊤
 
 -- the fault that a refusal of the keeper becomes on reopening
 abbrev pub fault_of : KeepRefusal → ReopenFault

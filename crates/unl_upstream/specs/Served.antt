@@ -1,8 +1,8 @@
--- Served links, for any request handler. `Changes before end count after` is what `count` answers changed.
+-- Served links, for any request handler.
 use Rattle.std.specs.Prelude.{◌≡◌, ℕ, List, [], Option, Some, Result, Ok, Err, drop, option_map}
 use Rattle.unl_base.specs.Faults.{Rose}
 use Rattle.unl_base.specs.declared.Failed.{Failed}
-use Rattle.unl_server.specs.Handling.{HandlerState, Coming, answerer}
+use Rattle.unl_server.specs.Handling.{HandlerState, Coming, handler_state}
 use Rattle.unl_server.specs.Conversation.{Concludes, Converses, GivesUp}
 use Rattle.unl_server.specs.Linked.{HandsBack, Linking}
 use Rattle.unl_server.specs.Links.{LinkState}
@@ -11,34 +11,45 @@ use Rattle.unl_http_api.specs.declared.end.End.TheVariants.{ReadFault, WriteFaul
 use Rattle.unl_http_api.specs.declared.reply.Reply.{Reply}
 use Rattle.unl_http_api.specs.declared.request.Request.{Request}
 
--- the draws to come after `gone` of them were taken; where the draws are not observable, neither are these
+-- the draws to come after `drawn` of them were taken; where the draws are not observable, neither are these
 abbrev pub draws_after : ℕ → Coming → Coming
-draws_after gone coming = option_map (λ told. (drop gone told.0, told.1)) coming
+draws_after drawn coming = option_map (λ draws. (drop drawn draws.0, draws.1)) coming
+
+-- what relates a request handler before a request, the request, its reply, and the handler after it
+abbrev pub Steps : Type 0 → Type 1
+Steps S = HandlerState S → Request → Reply → HandlerState S → Type 0
+
+-- what relates a request handler before and after a request at which memory ran out
+abbrev pub RunsOut : Type 0 → Type 1
+RunsOut S = HandlerState S → Request → HandlerState S → Type 0
+
+-- what relates a request handler before and after a number of answers, by how the connection ended
+abbrev pub Changing : Type 0 → Type 1
+Changing S = HandlerState S → End → ℕ → HandlerState S → Type 0
 
 -- a link was served: `count` of its requests were answered, with these changes
 pub record ServesLinkBy
-    {S : Type 0} (Step : HandlerState S → Request → Reply → HandlerState S → Type 0) (RunsOutAtRequest : HandlerState S → Request → HandlerState S → Type 0)
-    (Changes : HandlerState S → End → ℕ → HandlerState S → Type 0) (before : S) (coming : Coming) (link link_after : LinkState) (after : S)
-    (coming_after : Coming) : Type 0 where
+    {S : Type 0} (Step : Steps S) (RunsOutAtRequest : RunsOut S) (Changes : Changing S) (before : S) (coming : Coming)
+    (link link_after : LinkState) (after : S) (coming_after : Coming) : Type 0 where
   pub count : ℕ
   pub end : End
-  pub conversation : Converses Step RunsOutAtRequest link (answerer before 0 coming) end (answerer after count coming_after) count link_after
-  pub changes : Changes (answerer before 0 coming) end count (answerer after count coming_after)
+  pub conversation : Converses Step RunsOutAtRequest link (handler_state before 0 coming) end (handler_state after count coming_after) count
+      link_after
+  pub changes : Changes (handler_state before 0 coming) end count (handler_state after count coming_after)
 
 -- A link that gave these bytes was served; `back` is what it had sent, and its fault count. `count` of its requests were
 -- answered, each with the next draw, with these changes.
 pub record LinkServedBy
-    {S : Type 0} (Step : HandlerState S → Request → Reply → HandlerState S → Type 0) (RunsOutAtRequest : HandlerState S → Request → HandlerState S → Type 0)
-    (Changes : HandlerState S → End → ℕ → HandlerState S → Type 0) (before : S) (coming : Coming) (bytes : List ℕ) (back : List ℕ × ℕ)
-    (after : S) (coming_after : Coming) : Type 0 where
+    {S : Type 0} (Step : Steps S) (RunsOutAtRequest : RunsOut S) (Changes : Changing S) (before : S) (coming : Coming)
+    (bytes : List ℕ) (back : List ℕ × ℕ) (after : S) (coming_after : Coming) : Type 0 where
   pub count : ℕ
   pub end : End
   pub left_after : Option (List ℕ)
-  pub conversation : Concludes Step bytes (Some []) (answerer before 0 coming) end (answerer after count coming_after) left_after
+  pub conversation : Concludes Step bytes (Some []) (handler_state before 0 coming) end (handler_state after count coming_after) left_after
       (Some back.0)
   pub memory : end ≡ Memory
-      → GivesUp Step RunsOutAtRequest bytes (Some []) 0 (answerer before 0 coming) (answerer after count coming_after) (Some back.0) back.1
-  pub changes : Changes (answerer before 0 coming) end count (answerer after count coming_after)
+      → GivesUp Step RunsOutAtRequest bytes (Some []) 0 (handler_state before 0 coming) (handler_state after count coming_after) (Some back.0) back.1
+  pub changes : Changes (handler_state before 0 coming) end count (handler_state after count coming_after)
   pub read_cause : end ≡ ReadFault → Rose 0 back.1
   pub write_cause : end ≡ WriteFault → Rose 0 back.1
 

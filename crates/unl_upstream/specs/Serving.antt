@@ -1,7 +1,7 @@
 -- An upstream on a connection: each request is answered, and its command, if it gives one, is applied, in order.
 use Rattle.std.specs.Prelude.{◌≡◌, ℕ, List, [], ◌∷◌, ◌++◌, length, option_to_list}
 use Rattle.unl_base.specs.declared.draws.Draw.{Draw}
-use Rattle.unl_server.specs.Handling.{HandlerState, Answers, Coming, RunsOutOfMemory, answerer}
+use Rattle.unl_server.specs.Handling.{HandlerState, Answers, Coming, RunsOutOfMemory, handler_state}
 use Rattle.unl_http_api.specs.declared.reply.Reply.{Reply}
 use Rattle.unl_http_api.specs.declared.request.Request.{Request}
 use Rattle.unl_upstream.specs.declared.command.Command.{Command}
@@ -26,7 +26,7 @@ Serving = HandlerState UpstreamState
 
 -- these three as one record
 abbrev pub serving : UpstreamState → ℕ → Coming → Serving
-serving up count coming = answerer up count coming
+serving up count coming = handler_state up count coming
 
 -- one request is answered, with the next draw
 abbrev pub Step : Serving → Request → Reply → Serving → Type 0

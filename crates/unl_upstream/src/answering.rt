@@ -7,7 +7,7 @@ ghost use Rattle.unl_documents.specs.declared.field.Field.TheVariants as field;
 ghost use Rattle.unl_documents.specs.Writing.{count, with};
 ghost use Rattle.unl_http_api.specs.Route.{route_of};
 ghost use Rattle.unl_upstream.specs.Answer.{IsValidOrder, is_commands_route, numbered, order_at, order_in, order_of};
-ghost use Rattle.unl_upstream.specs.Answer.{refused, told, upstream_answer};
+ghost use Rattle.unl_upstream.specs.Answer.{refused, replied, upstream_answer};
 ghost use Rattle.unl_upstream.specs.Command.{IsValidCommand, command_in};
 ghost use Rattle.unl_upstream.specs.History.{AreAdded, accepted};
 ghost use Rattle.unl_upstream.specs.Requests.{command_given};
@@ -52,7 +52,7 @@ impl Upstream {
         ensures same { OnErr result (self.new ≡ self.old) }
     {
         match self.order_of(alloc, request, draw)? {
-            CommandOrReply::Execute(command) => self.obey(alloc, &command),
+            CommandOrReply::Execute(command) => self.apply_and_reply(alloc, &command),
             CommandOrReply::Reply(reply) => Ok(reply),
         }
     }
@@ -94,9 +94,10 @@ impl Upstream {
 
     /// Applies a command. The reply is built before the command is committed, so that running out of memory changes nothing.
     #[tactic(auto, unfolding(crate::specs::Upstream::apply_command))]
-    fn obey(&mut self, alloc: Global, command: &Command) -> Result<Reply, Memory>
+    fn apply_and_reply(&mut self, alloc: Global, command: &Command) -> Result<Reply, Memory>
         requires { IsValidCommand command.now }
-        ensures answer { IfOk result (λ reply. told self.old (apply_command command.now self.old) ≡ record { reply = reply; up = self.new }) }
+        ensures answer { IfOk result (λ reply. replied self.old (apply_command command.now self.old)
+            ≡ record { reply = reply; up = self.new }) }
         ensures same { OnErr result (self.new ≡ self.old) }
     {
         match self.prepare(alloc, command) {

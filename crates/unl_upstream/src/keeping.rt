@@ -1,10 +1,9 @@
 //! Keeps a command: its text is stored before it is published.
-ghost use Rattle.std.specs.Prelude.{◌≡◌, ◌≢◌, ◌<◌, true, [], ◌∷◌, Ok, Err, IfOk, IfErr, OnOk};
-ghost use Rattle.unl_upstream.specs.Command.{IsValidCommand, command_in};
-ghost use Rattle.unl_upstream.specs.Kept.{Carries, Keeps, Puts, kept_state, keeper_by, with_room};
-ghost use Rattle.unl_upstream.specs.Upstream.{apply_command, prepared};
-ghost use Rattle.unl_upstream.specs.Writing.{command_text};
-ghost use Rattle.unl_upstream.specs.declared.refusal.KeepCommandRefusal.TheVariants.{Memory as want};
+ghost use Rattle.std.specs.Prelude.{◌≡◌, ◌≢◌, ◌<◌, true, [], ◌∷◌, Err, IfOk, IfErr, OnOk};
+ghost use Rattle.unl_upstream.specs.Command.{IsValidCommand};
+ghost use Rattle.unl_upstream.specs.Kept.{Carries, IsPending, Keeps, Puts, kept_state, with_room};
+ghost use Rattle.unl_upstream.specs.Upstream.{apply_command};
+ghost use Rattle.unl_upstream.specs.declared.refusal.KeepCommandRefusal.TheVariants.{Memory as memory};
 
 use crate::command::Command;
 use crate::ready::Ready;
@@ -39,19 +38,17 @@ pub fn keep<K: Keeper>(
     command: &Command,
 ) -> Result<u64, KeepCommandRefusal>
     requires valid { IsValidCommand command.now }
-    requires opened { K.opened keeper.old ≡ true }
-    ensures stays { K.opened keeper.new ≡ true }
-    ensures keeps { Keeps command.now (kept_state up.old (keeper_by K.opened K.faults K.count K.rows keeper.old)) result
-        (kept_state up.new (keeper_by K.opened K.faults K.count K.rows keeper.new)) }
+    requires opened { (K.state keeper.old).opened ≡ true }
+    ensures stays { (K.state keeper.new).opened ≡ true }
+    ensures keeps { Keeps command.now (kept_state up.old (K.state keeper.old)) result (kept_state up.new (K.state keeper.new)) }
     ensures carries { Carries (record { command = command.now; result = result } ∷ [])
-        (kept_state up.old (keeper_by K.opened K.faults K.count K.rows keeper.old))
-        (kept_state up.new (keeper_by K.opened K.faults K.count K.rows keeper.new)) }
+        (kept_state up.old (K.state keeper.old)) (kept_state up.new (K.state keeper.new)) }
 {
     keep_one(alloc, up, keeper, command)
 }
 
 /// Keeps a command.
-#[tactic(auto, using(crate::proofs::Carrying::refuses_so))]
+#[tactic(auto, using(crate::proofs::Carrying::refuses))]
 fn keep_one<K: Keeper>(
     alloc: Global,
     up: &mut Upstream,
@@ -59,13 +56,12 @@ fn keep_one<K: Keeper>(
     command: &Command,
 ) -> Result<u64, KeepCommandRefusal>
     requires valid { IsValidCommand command.now }
-    requires opened { K.opened keeper.old ≡ true }
-    ensures stays { K.opened keeper.new ≡ true }
-    ensures keeps { Keeps command.now (kept_state up.old (keeper_by K.opened K.faults K.count K.rows keeper.old)) result
-        (kept_state up.new (keeper_by K.opened K.faults K.count K.rows keeper.new)) }
+    requires opened { (K.state keeper.old).opened ≡ true }
+    ensures stays { (K.state keeper.new).opened ≡ true }
+    ensures keeps { Keeps command.now (kept_state up.old (K.state keeper.old)) result (kept_state up.new (K.state keeper.new)) }
 {
-    let awaiting = await_put(alloc, up, keeper, command)?;
-    match put(alloc, up, keeper, awaiting) {
+    let pending = prepare_put(alloc, up, keeper, command)?;
+    match put(alloc, up, keeper, pending) {
         Ok(number) => Ok(number),
         Err(KeepRefusal::Fault) => Err(KeepCommandRefusal::KeeperFault),
         Err(KeepRefusal::Memory) => Err(KeepCommandRefusal::Memory),
@@ -76,20 +72,18 @@ fn keep_one<K: Keeper>(
 ///
 /// # Errors
 /// As for [`keep`], without the failures of the keeper.
-#[tactic(auto, using(crate::proofs::Carrying::awaited, crate::proofs::Carrying::full, crate::proofs::Carrying::refused_so))]
-pub(crate) fn await_put<K: Keeper>(
+#[tactic(auto, using(crate::proofs::Carrying::room_left, crate::proofs::Carrying::full, crate::proofs::Carrying::refused_for))]
+pub(crate) fn prepare_put<K: Keeper>(
     alloc: Global,
     up: &Upstream,
     keeper: &K,
     command: &Command,
 ) -> Result<PendingPut, KeepCommandRefusal>
     requires { IsValidCommand command.now }
-    ensures awaits { IfOk result (λ awaiting. with_room (K.count keeper.now) (prepared command.now up.now) ≡ Ok awaiting.ready) }
-    ensures from { IfOk result (λ awaiting. awaiting.ready.from ≡ up.now.board.slots) }
-    ensures text { IfOk result (λ awaiting. awaiting.text ≡ command_text command.now) }
-    ensures spelled { OnOk result (command_in (command_text command.now) ≡ Ok command.now) }
-    ensures room { OnOk result (K.count keeper.now < 10000000) }
-    ensures refused { IfErr result (λ e. e ≢ want → with_room (K.count keeper.now) (apply_command command.now up.now) ≡ Err e) }
+    ensures pending { IfOk result (λ pending. IsPending command.now (kept_state up.now (K.state keeper.now)) pending.ready pending.text) }
+    ensures from { IfOk result (λ pending. pending.ready.from ≡ up.now.board.slots) }
+    ensures room { OnOk result ((K.state keeper.now).count < 10000000) }
+    ensures refused { IfErr result (λ e. e ≢ memory → with_room (K.state keeper.now).count (apply_command command.now up.now) ≡ Err e) }
 {
     let ready = up.prepare(alloc, command)?;
     let text = command_text(alloc, command)?;
@@ -108,14 +102,13 @@ pub(crate) fn put<K: Keeper>(
     alloc: Global,
     up: &mut Upstream,
     keeper: &mut K,
-    awaiting: PendingPut,
+    pending: PendingPut,
 ) -> Result<u64, KeepRefusal>
-    requires opened { K.opened keeper.old ≡ true }
-    requires room { K.count keeper.old < 10000000 }
-    requires from { awaiting.ready.from ≡ up.old.board.slots }
-    ensures puts { Puts awaiting.ready awaiting.text (kept_state up.old (keeper_by K.opened K.faults K.count K.rows keeper.old)) result
-        (kept_state up.new (keeper_by K.opened K.faults K.count K.rows keeper.new)) }
+    requires opened { (K.state keeper.old).opened ≡ true }
+    requires room { (K.state keeper.old).count < 10000000 }
+    requires from { pending.ready.from ≡ up.old.board.slots }
+    ensures { Puts pending.ready pending.text (kept_state up.old (K.state keeper.old)) result (kept_state up.new (K.state keeper.new)) }
 {
-    keeper.put(alloc, &awaiting.text)?;
-    Ok(up.commit(awaiting.ready))
+    keeper.put(alloc, &pending.text)?;
+    Ok(up.commit(pending.ready))
 }

@@ -3,13 +3,13 @@ ghost use Rattle.unl_server.specs.Conversation.{Converses};
 ghost use Rattle.unl_server.specs.Links.{link_state};
 ghost use Rattle.std.specs.Prelude.{◌≡◌, true, IfOk, OnErr};
 ghost use Rattle.unl_upstream.specs.Command.{IsValidCommand};
-ghost use Rattle.unl_upstream.specs.Kept.{keeper_by, kept_state};
+ghost use Rattle.unl_upstream.specs.Kept.{kept_state};
 ghost use Rattle.unl_upstream.specs.KeptServing.{CarriesAnswer, Gives, ServesKept, RunsOutAtRequest, RepliesTo, Step, serving};
 
 use crate::answering::{numbered, refused};
 use crate::command::Command;
 use crate::command_or_reply::CommandOrReply;
-use crate::keeping::{await_put, put};
+use crate::keeping::{prepare_put, put};
 use crate::refusal::KeepCommandRefusal;
 use crate::upstream::Upstream;
 use std::alloc::Global;
@@ -31,12 +31,11 @@ pub fn answer_kept<K: Keeper>(
     request: &Request,
     draw: &Draw,
 ) -> Result<Reply, Memory>
-    requires { K.opened keeper.old ≡ true }
-    ensures stays { K.opened keeper.new ≡ true }
-    ensures answers { IfOk result (λ reply. CarriesAnswer (kept_state up.old (keeper_by K.opened K.faults K.count K.rows keeper.old))
-        request.now draw.entry.now reply (kept_state up.new (keeper_by K.opened K.faults K.count K.rows keeper.new))) }
-    ensures same { OnErr result (kept_state up.new (keeper_by K.opened K.faults K.count K.rows keeper.new)
-        ≡ kept_state up.old (keeper_by K.opened K.faults K.count K.rows keeper.old)) }
+    requires { (K.state keeper.old).opened ≡ true }
+    ensures stays { (K.state keeper.new).opened ≡ true }
+    ensures answers { IfOk result (λ reply. CarriesAnswer (kept_state up.old (K.state keeper.old)) request.now draw.entry.now reply
+        (kept_state up.new (K.state keeper.new))) }
+    ensures same { OnErr result (kept_state up.new (K.state keeper.new) ≡ kept_state up.old (K.state keeper.old)) }
 {
     answer_one(alloc, up, keeper, request, draw)
 }
@@ -49,42 +48,39 @@ fn answer_one<K: Keeper>(
     request: &Request,
     draw: &Draw,
 ) -> Result<Reply, Memory>
-    requires { K.opened keeper.old ≡ true }
-    ensures stays { K.opened keeper.new ≡ true }
-    ensures gives { IfOk result (λ reply. Gives (kept_state up.old (keeper_by K.opened K.faults K.count K.rows keeper.old))
-        request.now draw.entry.now reply (kept_state up.new (keeper_by K.opened K.faults K.count K.rows keeper.new))) }
-    ensures same { OnErr result (kept_state up.new (keeper_by K.opened K.faults K.count K.rows keeper.new)
-        ≡ kept_state up.old (keeper_by K.opened K.faults K.count K.rows keeper.old)) }
+    requires { (K.state keeper.old).opened ≡ true }
+    ensures stays { (K.state keeper.new).opened ≡ true }
+    ensures gives { IfOk result (λ reply. Gives (kept_state up.old (K.state keeper.old)) request.now draw.entry.now reply
+        (kept_state up.new (K.state keeper.new))) }
+    ensures same { OnErr result (kept_state up.new (K.state keeper.new) ≡ kept_state up.old (K.state keeper.old)) }
 {
     match up.order_of(alloc, request, draw)? {
-        CommandOrReply::Execute(command) => obey_kept(alloc, up, keeper, &command),
+        CommandOrReply::Execute(command) => keep_and_reply(alloc, up, keeper, &command),
         CommandOrReply::Reply(reply) => Ok(reply),
     }
 }
 
 /// Keeps a command. Both possible replies, for success and for a fault of the keeper, are built before the put, so that
 /// nothing after it can run out of memory.
-fn obey_kept<K: Keeper>(
+fn keep_and_reply<K: Keeper>(
     alloc: Global,
     up: &mut Upstream,
     keeper: &mut K,
     command: &Command,
 ) -> Result<Reply, Memory>
     requires valid { IsValidCommand command.now }
-    requires opened { K.opened keeper.old ≡ true }
-    ensures stays { K.opened keeper.new ≡ true }
-    ensures replies { IfOk result (λ reply. RepliesTo command.now
-        (kept_state up.old (keeper_by K.opened K.faults K.count K.rows keeper.old)) reply
-        (kept_state up.new (keeper_by K.opened K.faults K.count K.rows keeper.new))) }
-    ensures same { OnErr result (kept_state up.new (keeper_by K.opened K.faults K.count K.rows keeper.new)
-        ≡ kept_state up.old (keeper_by K.opened K.faults K.count K.rows keeper.old)) }
+    requires opened { (K.state keeper.old).opened ≡ true }
+    ensures stays { (K.state keeper.new).opened ≡ true }
+    ensures replies { IfOk result (λ reply. RepliesTo command.now (kept_state up.old (K.state keeper.old)) reply
+        (kept_state up.new (K.state keeper.new))) }
+    ensures same { OnErr result (kept_state up.new (K.state keeper.new) ≡ kept_state up.old (K.state keeper.old)) }
 {
-    match await_put(alloc, up, keeper, command) {
-        Ok(awaiting) => {
-            let told = numbered(alloc, awaiting.ready.number())?;
+    match prepare_put(alloc, up, keeper, command) {
+        Ok(pending) => {
+            let kept = numbered(alloc, pending.ready.number())?;
             let failed = refused(alloc, KeepCommandRefusal::KeeperFault)?;
-            match put(alloc, up, keeper, awaiting) {
-                Ok(_) => Ok(told),
+            match put(alloc, up, keeper, pending) {
+                Ok(_) => Ok(kept),
                 Err(KeepRefusal::Fault) => Ok(failed),
                 Err(KeepRefusal::Memory) => Err(Memory),
             }
@@ -109,22 +105,17 @@ pub(crate) struct ByKept<'a, K>(PhantomData<&'a K>);
 impl<'a, K: Keeper> RequestHandler for ByKept<'a, K> {
     ghost use Rattle.std.specs.Prelude.{◌≡◌, true};
     ghost use Rattle.std.proofs.Common.{rules};
-    ghost use Rattle.unl_upstream.specs.Kept.{keeper_by, kept_state};
-    ghost use Rattle.unl_upstream.specs.KeptServing.{Gives, GivesUp};
+    ghost use Rattle.unl_upstream.specs.KeptServing.{Gives, GivesUp, kept_in};
 
     type State = DurableUpstream<'a, K>;
 
-    ghost fits = { λ count state. K.opened state.keeper.now ≡ true };
+    ghost fits = { λ count state. (K.state state.keeper.now).opened ≡ true };
 
     ghost keeps = { λ state after. (after.up.ghost_name ≡ state.up.ghost_name) × (after.keeper.ghost_name ≡ state.keeper.ghost_name) };
 
-    ghost gives = { λ state request draw reply after. Gives
-        (kept_state state.up.now (keeper_by K.opened K.faults K.count K.rows state.keeper.now)) request draw reply
-        (kept_state after.up.now (keeper_by K.opened K.faults K.count K.rows after.keeper.now)) };
+    ghost gives = { λ state request draw reply after. Gives (kept_in K.state state) request draw reply (kept_in K.state after) };
 
-    ghost gives_up = { λ state request draw after. GivesUp
-        (kept_state state.up.now (keeper_by K.opened K.faults K.count K.rows state.keeper.now)) request draw
-        (kept_state after.up.now (keeper_by K.opened K.faults K.count K.rows after.keeper.now)) };
+    ghost gives_up = { λ state request draw after. GivesUp (kept_in K.state state) request draw (kept_in K.state after) };
 
     fn answer(
         alloc: Global,
@@ -150,21 +141,21 @@ pub fn serve_kept<K: Keeper, L: Link, R: Draws>(
     link: &mut L,
     draws: &mut R,
 ) -> (usize, End)
-    requires { K.opened keeper.old ≡ true }
-    ensures stays { K.opened keeper.new ≡ true }
+    requires { (K.state keeper.old).opened ≡ true }
+    ensures stays { (K.state keeper.new).opened ≡ true }
 
     // The whole conversation: its session, its replies, how it ended, how many requests were answered (each with the next
     // draw), and the cause of each failure.
     ensures converses { Converses Step RunsOutAtRequest
         (link_state (L.left link.old) (L.sent link.old) (L.Source.faults link.old))
-        (serving (kept_state up.old (keeper_by K.opened K.faults K.count K.rows keeper.old)) 0 (R.coming draws.old)) result.1
-        (serving (kept_state up.new (keeper_by K.opened K.faults K.count K.rows keeper.new)) result.0 (R.coming draws.new)) result.0
+        (serving (kept_state up.old (K.state keeper.old)) 0 (R.coming draws.old)) result.1
+        (serving (kept_state up.new (K.state keeper.new)) result.0 (R.coming draws.new)) result.0
         (link_state (L.left link.new) (L.sent link.new) (L.Source.faults link.new)) }
 
     // In every case, attempts to keep the commands of the answered requests are all that changed the upstream and its keeper.
     ensures keeps { ServesKept
-        (serving (kept_state up.old (keeper_by K.opened K.faults K.count K.rows keeper.old)) 0 (R.coming draws.old)) result.1 result.0
-        (serving (kept_state up.new (keeper_by K.opened K.faults K.count K.rows keeper.new)) result.0 (R.coming draws.new)) }
+        (serving (kept_state up.old (K.state keeper.old)) 0 (R.coming draws.old)) result.1 result.0
+        (serving (kept_state up.new (K.state keeper.new)) result.0 (R.coming draws.new)) }
 {
     let mut kept = DurableUpstream { up, keeper };
     let conversed = serve_requests::<ByKept<K>, L, R>(alloc, &mut kept, link, draws);

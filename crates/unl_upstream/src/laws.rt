@@ -48,7 +48,7 @@ pub fn requests_give_commands()
 /// acknowledged commands are all that were added to these, and at most one row follows the kept ones, left by a failed put.
 pub fn keeping_carries()
     ensures carries { KeepingCarries }
-    ensures goes_on { KeepingContinues }
+    ensures continues { KeepingContinues }
 {}
 
 /// Reopening a keeper, with an initial upstream of the same environments and epoch, restores the kept commands, or these and

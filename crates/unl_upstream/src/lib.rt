@@ -6,7 +6,7 @@ mod command;
 mod command_or_reply;
 mod event;
 mod keeping;
-mod keeping_host;
+mod keeping_door;
 mod keeping_server;
 pub mod laws;
 mod reading;
@@ -19,7 +19,7 @@ mod writing;
 
 pub use command::Command;
 pub use keeping::keep;
-pub use keeping_host::host_kept;
+pub use keeping_door::serve_kept_door;
 pub use keeping_server::{answer_kept, serve_kept};
 pub use reading::read_command;
 pub use ready::Ready;

@@ -1,6 +1,6 @@
 //! Reopens an upstream: applies the rows of its keeper in order.
 ghost use Rattle.std.specs.Prelude.{◌≡◌, ◌≤◌, ◌<◌, ◌+◌, ◌^◌, true, false, Some, None, IfOk, IfErr, OnOk, OnErr};
-ghost use Rattle.unl_upstream.specs.Kept.{keeper_by, kept_state};
+ghost use Rattle.unl_upstream.specs.Kept.{kept_state};
 ghost use Rattle.unl_upstream.specs.Reopening.{WhyRowFails, IsOpening, IsSameKeeper, Reopens, TakesRow, row_after};
 
 use crate::reading::read_command_bytes;
@@ -54,19 +54,17 @@ pub fn reopen<K: Keeper>(
     keeper: &mut K,
 ) -> Result<u64, ReopenFault>
     requires { IsOpening up.old }
-    ensures opened { OnOk result (K.opened keeper.new ≡ true) }
-    ensures still { OnOk result (K.faults keeper.new ≡ K.faults keeper.old) }
-    ensures keeper { IsSameKeeper (keeper_by K.opened K.faults K.count K.rows keeper.old)
-        (keeper_by K.opened K.faults K.count K.rows keeper.new) }
-    ensures reopens { Reopens (kept_state up.old (keeper_by K.opened K.faults K.count K.rows keeper.old)) result
-        (kept_state up.new (keeper_by K.opened K.faults K.count K.rows keeper.new)) }
+    ensures opened { OnOk result ((K.state keeper.new).opened ≡ true) }
+    ensures still { OnOk result ((K.state keeper.new).faults ≡ (K.state keeper.old).faults) }
+    ensures keeper { IsSameKeeper (K.state keeper.old) (K.state keeper.new) }
+    ensures reopens { Reopens (kept_state up.old (K.state keeper.old)) result (kept_state up.new (K.state keeper.new)) }
 {
     let count = match keeper.open(alloc) {
         Ok(count) => count,
         Err(refusal) => return Err(ReopenFault::from(refusal)),
     };
     'rows: for place in 0..count {
-        match take_row(alloc, up, keeper, place) {
+        match apply_next_row(alloc, up, keeper, place) {
             Ok(()) => {}
             Err(fault) => return Err(fault),
         }
@@ -78,25 +76,25 @@ pub fn reopen<K: Keeper>(
 ///
 /// # Errors
 /// As for [`reopen`]. The upstream is then unchanged.
-fn take_row<K: Keeper>(
+fn apply_next_row<K: Keeper>(
     alloc: Global,
     up: &mut Upstream,
     keeper: &mut K,
     before: u64,
 ) -> Result<(), ReopenFault>
-    requires opened { K.opened keeper.old ≡ true }
-    requires there { before < K.count keeper.old }
+    requires opened { (K.state keeper.old).opened ≡ true }
+    requires there { before < (K.state keeper.old).count }
     requires fits { before + 1 < 2 ^ 64 }
-    ensures stays { K.opened keeper.new ≡ true }
-    ensures same { (K.count keeper.new ≡ K.count keeper.old) × (K.rows keeper.new ≡ K.rows keeper.old) }
-    ensures faults { (K.faults keeper.old ≤ K.faults keeper.new) × OnOk result (K.faults keeper.new ≡ K.faults keeper.old) }
-    ensures taken { OnOk result (TakesRow before (K.rows keeper.old) up.old up.new) }
-    ensures barred { IfErr result (λ e. (up.new ≡ up.old)
-        × WhyRowFails before (K.rows keeper.old) (K.faults keeper.old) (K.faults keeper.new) up.old e) }
+    ensures stays { (K.state keeper.new).opened ≡ true }
+    ensures same { ((K.state keeper.new).count ≡ (K.state keeper.old).count) × ((K.state keeper.new).rows ≡ (K.state keeper.old).rows) }
+    ensures later { (K.state keeper.old).faults ≤ (K.state keeper.new).faults }
+    ensures still { OnOk result ((K.state keeper.new).faults ≡ (K.state keeper.old).faults) }
+    ensures applied { OnOk result (TakesRow before (K.state keeper.old).rows up.old up.new) }
+    ensures refused { IfErr result (λ e. (up.new ≡ up.old) × WhyRowFails before (K.state keeper.old) (K.state keeper.new) up.old e) }
 {
     match keeper.read(alloc, before + 1)? {
         None => Err(ReopenFault::NoRow(before + 1)),
-        Some(row) => match obey_row(alloc, up, &row) {
+        Some(row) => match apply_row(alloc, up, &row) {
             Ok(true) => Ok(()),
             Ok(false) => Err(ReopenFault::BadRow(before + 1, row)),
             Err(Memory) => Err(ReopenFault::Memory),
@@ -106,8 +104,8 @@ fn take_row<K: Keeper>(
 
 /// Applies the command of a row. Returns whether the row is a command and is accepted.
 #[tactic(auto, unfolding(crate::specs::Reopening::row_after))]
-fn obey_row(alloc: Global, up: &mut Upstream, row: &Text) -> Result<bool, Memory>
-    ensures obeyed { IfOk result (λ is. is ≡ true → row_after row.now up.old ≡ Some up.new) }
+fn apply_row(alloc: Global, up: &mut Upstream, row: &Text) -> Result<bool, Memory>
+    ensures applied { IfOk result (λ is. is ≡ true → row_after row.now up.old ≡ Some up.new) }
     ensures refused { IfOk result (λ is. is ≡ false → (row_after row.now up.old ≡ None) × (up.new ≡ up.old)) }
     ensures same { OnErr result (up.new ≡ up.old) }
 {

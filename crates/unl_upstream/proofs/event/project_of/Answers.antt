@@ -1,6 +1,5 @@
-use Rattle.std.proofs.Common.{◌≡◌, Option, None, Some, ap, ◌∙◌}
+use Rattle.std.proofs.Common.{◌≡◌, None, Some, ap, ◌∙◌}
 use Rattle.std.specs.Prelude.{find}
-use Rattle.unl_documents.specs.declared.feature.Feature.{Feature}
 use Rattle.unl_upstream.specs.Upstream.{is_named}
 use Rattle.unl_upstream.proofs.Next.{found_project, project_found}
 use Rattle.unl_upstream.proofs.event.project_of.Goals as goal

@@ -4,5 +4,5 @@ use Rattle.unl_upstream.proofs.laws.keeping_carries.Goals as goal
 pub returns-clause-carries : goal.returns-clause-carries
 returns-clause-carries c = carries_all
 
-pub returns-clause-goes_on : goal.returns-clause-goes_on
-returns-clause-goes_on c = keeps_both
+pub returns-clause-continues : goal.returns-clause-continues
+returns-clause-continues c = keeps_both

@@ -3,7 +3,7 @@ ghost use Rattle.std.specs.Prelude.{◌≡◌, true, OnOk};
 ghost use Rattle.unl_base.specs.Doors.{IsClosed, IsListening};
 ghost use Rattle.unl_base.specs.Faults.{HasCause};
 ghost use Rattle.unl_server.specs.Linked.{linking};
-ghost use Rattle.unl_upstream.specs.Kept.{AttemptsPreserve, keeper_by, kept_state};
+ghost use Rattle.unl_upstream.specs.Kept.{AttemptsPreserve, kept_state};
 ghost use Rattle.unl_upstream.specs.KeptHosting.{HostsAll};
 
 use crate::keeping_server::{DurableUpstream, serve_kept};
@@ -12,36 +12,33 @@ use std::alloc::Global;
 use std::sync::Wait;
 use unl_base::{Door, Draws, Failed, Link};
 use unl_keeper::Keeper;
-use unl_server::{Server, host};
+use unl_server::{Server, serve_door};
 
 impl<'a, K: Keeper> Server for DurableUpstream<'a, K> {
     ghost use Rattle.std.specs.Prelude.{◌≡◌, true};
     ghost use Rattle.std.proofs.Common.{◌∙◌, refl};
-    ghost use Rattle.unl_upstream.specs.Kept.{keeper_by, kept_state};
     ghost use Rattle.unl_upstream.specs.KeptHosting.{ExtendsAttempts};
-    ghost use Rattle.unl_upstream.specs.KeptServing.{ServesLink};
+    ghost use Rattle.unl_upstream.specs.KeptServing.{ServesLink, kept_in};
 
-    ghost fits = { λ server. K.opened server.keeper.now ≡ true };
+    ghost fits = { λ server. (K.state server.keeper.now).opened ≡ true };
 
     ghost keeps = { λ server after. (after.up.ghost_name ≡ server.up.ghost_name)
         × (after.keeper.ghost_name ≡ server.keeper.ghost_name)
-        × ExtendsAttempts (kept_state server.up.now (keeper_by K.opened K.faults K.count K.rows server.keeper.now))
-        (kept_state after.up.now (keeper_by K.opened K.faults K.count K.rows after.keeper.now)) };
+        × ExtendsAttempts (kept_in K.state server) (kept_in K.state after) };
 
-    ghost serves = { λ server coming link link_after after coming_after. ServesLink
-        (kept_state server.up.now (keeper_by K.opened K.faults K.count K.rows server.keeper.now)) coming link link_after
-        (kept_state after.up.now (keeper_by K.opened K.faults K.count K.rows after.keeper.now)) coming_after };
+    ghost serves = { λ server coming link link_after after coming_after.
+        ServesLink (kept_in K.state server) coming link link_after (kept_in K.state after) coming_after };
 
     fn serve_link<L: Link, R: Draws>(&mut self, alloc: Global, link: &mut L, draws: &mut R) {
         serve_kept(alloc, self.up, self.keeper, link, draws);
     }
 
-    ghost keeps_itself = { λ server. (refl, refl, λ start led. led) };
+    ghost keeps_itself = { λ server. (refl, refl, λ start reached. reached) };
 
     ghost keeps_on = { λ first next last one two. (
       two.0 ∙ one.0,
       two.1 ∙ one.1,
-      λ start led. two.2 start (one.2 start led),
+      λ start reached. two.2 start (one.2 start reached),
     ) };
 }
 
@@ -51,7 +48,7 @@ impl<'a, K: Keeper> Server for DurableUpstream<'a, K> {
 ///
 /// # Errors
 /// `Failed`: the door could not hand out a link, and incremented its fault count.
-pub fn host_kept<K: Keeper, D: Door, R: Draws, W: Wait>(
+pub fn serve_kept_door<K: Keeper, D: Door, R: Draws, W: Wait>(
     rt: &W,
     alloc: Global,
     up: &mut Upstream,
@@ -60,21 +57,20 @@ pub fn host_kept<K: Keeper, D: Door, R: Draws, W: Wait>(
     draws: &mut R,
 ) -> Result<u64, Failed>
     requires listening { IsListening (D.state door.old) }
-    requires opened { K.opened keeper.old ≡ true }
-    ensures stays { K.opened keeper.new ≡ true }
+    requires opened { (K.state keeper.old).opened ≡ true }
+    ensures stays { (K.state keeper.new).opened ≡ true }
     ensures hosts { HostsAll result
-        (linking (kept_state up.old (keeper_by K.opened K.faults K.count K.rows keeper.old)) (R.coming draws.old) (D.state door.old))
-        (linking (kept_state up.new (keeper_by K.opened K.faults K.count K.rows keeper.new)) (R.coming draws.new) (D.state door.new)) }
+        (linking (kept_state up.old (K.state keeper.old)) (R.coming draws.old) (D.state door.old))
+        (linking (kept_state up.new (K.state keeper.new)) (R.coming draws.new) (D.state door.new)) }
 
     // Even if the door's links are not observable: attempts to keep the commands of the links are all that changed the
     // upstream and its keeper.
-    ensures carries { AttemptsPreserve (kept_state up.old (keeper_by K.opened K.faults K.count K.rows keeper.old))
-        (kept_state up.new (keeper_by K.opened K.faults K.count K.rows keeper.new)) }
+    ensures carries { AttemptsPreserve (kept_state up.old (K.state keeper.old)) (kept_state up.new (K.state keeper.new)) }
     ensures closed { OnOk result (IsClosed (D.state door.new)) }
-    ensures port { (D.state door.new).port ≡ (D.state door.old).port }
+    ensures ports { (D.state door.new).ports ≡ (D.state door.old).ports }
     ensures cause { HasCause (D.faults door.old) (D.faults door.new) result }
 {
     let mut kept = DurableUpstream { up, keeper };
-    let hosted = host(rt, alloc, &mut kept, door, draws);
-    hosted
+    let served = serve_door(rt, alloc, &mut kept, door, draws);
+    served
 }

@@ -1,8 +1,0 @@
-use Rattle.std.proofs.Common.{refl}
-use Rattle.unl_upstream.proofs.Carrying.{keeps_more}
-use Rattle.unl_upstream.proofs.keeping_host.DurableUpstreamServer.serve_link.Goals as goal
-
-pub returns-clause-keeps : goal.returns-clause-keeps
-returns-clause-keeps g c =
-    let on = c.serve_kept.ensures.keeps in
-    (refl, refl, λ start led. keeps_more start _ _ on.tried led on.keeps)
