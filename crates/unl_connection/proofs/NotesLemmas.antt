@@ -25,8 +25,8 @@ abbrev pub Over : {S : Type 0} → (S → Seen) → HandlerState S → Request �
 Over seen = Answers (λ state request draw reply after. AnswersFromBoard (seen state) request draw reply (seen after))
 
 -- the effect of running out of memory at an answer
-abbrev pub Lacking : {S : Type 0} → (S → Seen) → HandlerState S → Request → HandlerState S → Type 0
-Lacking seen = RunsOutOfMemory (λ state request draw after. AnswersNothing (seen state) (seen after))
+abbrev pub RunsOutOver : {S : Type 0} → (S → Seen) → HandlerState S → Request → HandlerState S → Type 0
+RunsOutOver seen = RunsOutOfMemory (λ state request draw after. AnswersNothing (seen state) (seen after))
 
 -- the notes, and the book
 abbrev pub noted_of : {S : Type 0} → (S → Seen) → HandlerState S → Noted
@@ -131,38 +131,38 @@ answered_over seen board_at count before after (q ∷ qs) text keeps (reply, mid
 
 -- the boards known in the last state but one are known in the last
 near_keeps : {S : Type 0} (seen : S → Seen) (state after : HandlerState S)
-    → IsNear (Over seen) (Lacking seen) state after → Keeps (seen state.state).desk.board_at (seen after.state).desk.board_at
+    → IsNear (Over seen) (RunsOutOver seen) state after → Keeps (seen state.state).desk.board_at (seen after.state).desk.board_at
 near_keeps {S} seen state after (inl same) =
     subst (λ (s : HandlerState S). Keeps (seen state.state).desk.board_at (seen s.state).desk.board_at) (sym same)
     (λ k board there. there)
 near_keeps seen state after (inr (q, inl lacks)) = lacks.given_up.keeps
 near_keeps seen state after (inr (q, inr (reply, step))) = step.given.keeps
 
-lacking_noted : {S : Type 0} (seen : S → Seen) (state after : HandlerState S) (q : Request) → Lacking seen state q after
+runs_out_noted : {S : Type 0} (seen : S → Seen) (state after : HandlerState S) (q : Request) → RunsOutOver seen state q after
     → NotesNothing (noted_of seen state) q (noted_of seen after)
-lacking_noted seen state after q lacks i = noted (lacks.given_up.same i) (lacks.given_up.same_book i)
+runs_out_noted seen state after q lacks i = noted (lacks.given_up.same i) (lacks.given_up.same_book i)
 
 last_noted : {S : Type 0} (seen : S → Seen) (state after : HandlerState S) (q : Request)
-    → Unreplied (Over seen) (Lacking seen) state q after
+    → Unreplied (Over seen) (RunsOutOver seen) state q after
     → Unreplied (Notes (seen after.state).desk.board_at) NotesNothing (noted_of seen state) q (noted_of seen after)
-last_noted seen state after q (inl lacks) = inl (lacking_noted seen state after q lacks)
+last_noted seen state after q (inl lacks) = inl (runs_out_noted seen state after q lacks)
 last_noted seen state after q (inr (reply, step)) =
     inr (reply, noted_over seen (seen after.state).desk.board_at state after q reply (λ k board there. there) step)
 
 -- the notes reflect the conversation
 pub shows : {S : Type 0} (seen : S → Seen) (before after : HandlerState S)
-    → Shows (Over seen) (Lacking seen) (Notes (seen after.state).desk.board_at) NotesNothing (noted_of seen) before after
+    → Shows (Over seen) (RunsOutOver seen) (Notes (seen after.state).desk.board_at) NotesNothing (noted_of seen) before after
 shows seen before after = record {
   chain = λ state qs text near answered.
       answered_over seen (seen after.state).desk.board_at 0 before state qs text (near_keeps seen state after near) answered;
   last = λ state q unreplied. last_noted seen state after q unreplied;
-  lack = λ state q lacks. lacking_noted seen state after q lacks;
+  runs_out = λ state q lacks. runs_out_noted seen state after q lacks;
 }
 
 -- ---- what holds in every case
 
 -- what the notes say, whether or not the bytes are observable
-pub record Tells
+pub record ReflectsNotes
     (before : Known) (coming : Option (List Draw × Draw)) (end : End) (after : Known)
     (coming_after : Option (List Draw × Draw)) (ones : List ServedOne) : Type 0 where
   pub fronts : Rise before.front ones after.front
@@ -171,9 +171,9 @@ pub record Tells
   pub keeps : Keeps before.board_at after.board_at
 
 -- no further draw was taken
-tells_same : (before after : Known) (coming coming_after : Option (List Draw × Draw)) (end : End) (ones : List ServedOne)
-    → Sums before after coming coming_after ones → Tells before coming end after coming_after ones
-tells_same before after coming coming_after end ones sums = record {
+reflects_same : (before after : Known) (coming coming_after : Option (List Draw × Draw)) (end : End) (ones : List ServedOne)
+    → Sums before after coming coming_after ones → ReflectsNotes before coming end after coming_after ones
+reflects_same before after coming coming_after end ones sums = record {
   fronts = sums.rise;
   looks = inl sums.looks;
   drawn = (coming_after, sums.drawn, inl refl);
@@ -188,37 +188,37 @@ looked_more fronts middle after ones end is looks (inr (front, once)) =
     inr (is, front, Sends_more fronts middle after (fronts_of ones) (front ∷ []) looks once)
 
 -- one further draw was taken
-tells_more : (before : Known) (middle after : Seen) (coming next coming_after : Option (List Draw × Draw)) (end : End)
+reflects_more : (before : Known) (middle after : Seen) (coming next coming_after : Option (List Draw × Draw)) (end : End)
     (ones : List ServedOne) (draw : Draw) → end ≡ Memory → Sums before middle.desk coming next ones
-    → TakesDraw next draw coming_after → AnswersNothing middle after → Tells before coming end after.desk coming_after ones
-tells_more before middle after coming next coming_after end ones draw is sums taken nothing = record {
+    → TakesDraw next draw coming_after → AnswersNothing middle after → ReflectsNotes before coming end after.desk coming_after ones
+reflects_more before middle after coming next coming_after end ones draw is sums taken nothing = record {
   fronts = Rise_to before.front middle.desk.front after.desk.front ones sums.rise nothing.rises;
   looks = looked_more before.fronts middle.desk.fronts after.desk.fronts ones end is sums.looks nothing.entered;
   drawn = (next, sums.drawn, inr (draw, taken));
   keeps = λ k board there. nothing.keeps k board (sums.keeps k board there);
 }
 
-tells_next : {S : Type 0} (seen : S → Seen) (before middle after : HandlerState S) (end : End)
+reflects_next : {S : Type 0} (seen : S → Seen) (before middle after : HandlerState S) (end : End)
     (ones : List ServedOne) → (noted_of seen middle).ones ≡ ones
     → Sums (seen before.state).desk (seen middle.state).desk before.coming middle.coming ones
-    → (after ≡ middle) ⊎ ((end ≡ Memory) × (request : Request) × Lacking seen middle request after)
-    → Tells (seen before.state).desk before.coming end (seen after.state).desk after.coming (noted_of seen after).ones
-tells_next {S} seen before middle after end ones are sums (inl same) =
-    subst (λ (s : HandlerState S). Tells (seen before.state).desk before.coming end (seen s.state).desk s.coming (noted_of seen s).ones)
+    → (after ≡ middle) ⊎ ((end ≡ Memory) × (request : Request) × RunsOutOver seen middle request after)
+    → ReflectsNotes (seen before.state).desk before.coming end (seen after.state).desk after.coming (noted_of seen after).ones
+reflects_next {S} seen before middle after end ones are sums (inl same) =
+    subst (λ (s : HandlerState S). ReflectsNotes (seen before.state).desk before.coming end (seen s.state).desk s.coming (noted_of seen s).ones)
     (sym same)
-    (subst (λ (o : List ServedOne). Tells (seen before.state).desk before.coming end (seen middle.state).desk middle.coming o) (sym are)
-    (tells_same (seen before.state).desk (seen middle.state).desk before.coming middle.coming end ones sums))
-tells_next seen before middle after end ones are sums (inr (is, request, lacks)) =
-    subst (λ (o : List ServedOne). Tells (seen before.state).desk before.coming end (seen after.state).desk after.coming o)
+    (subst (λ (o : List ServedOne). ReflectsNotes (seen before.state).desk before.coming end (seen middle.state).desk middle.coming o) (sym are)
+    (reflects_same (seen before.state).desk (seen middle.state).desk before.coming middle.coming end ones sums))
+reflects_next seen before middle after end ones are sums (inr (is, request, lacks)) =
+    subst (λ (o : List ServedOne). ReflectsNotes (seen before.state).desk before.coming end (seen after.state).desk after.coming o)
     (sym (lacks.given_up.same ∙ are))
-    (tells_more (seen before.state).desk (seen middle.state) (seen after.state) before.coming middle.coming after.coming end ones
+    (reflects_more (seen before.state).desk (seen middle.state) (seen after.state) before.coming middle.coming after.coming end ones
     lacks.draw is sums lacks.taken lacks.given_up)
 
 -- what holds for a conversation that begins without notes
-pub tells : {S : Type 0} (seen : S → Seen) (before after : HandlerState S) (end : End) (count : ℕ)
-    → (noted_of seen before).ones ≡ [] → Reaches (Over seen) (Lacking seen) before end after count
-    → Tells (seen before.state).desk before.coming end (seen after.state).desk after.coming (noted_of seen after).ones
-tells seen before after end count none reached =
+pub reflects : {S : Type 0} (seen : S → Seen) (before after : HandlerState S) (end : End) (count : ℕ)
+    → (noted_of seen before).ones ≡ [] → Reaches (Over seen) (RunsOutOver seen) before end after count
+    → ReflectsNotes (seen before.state).desk before.coming end (seen after.state).desk after.coming (noted_of seen after).ones
+reflects seen before after end count none reached =
     let sums = summed seen 0 before reached.reached reached.requests reached.text reached.answered in
-    tells_next seen before reached.reached after end sums.0
+    reflects_next seen before reached.reached after end sums.0
     (sums.1 ∙ ap (λ (o : List ServedOne). o ++ sums.0) none) sums.2 reached.next

@@ -42,7 +42,7 @@ pub fn serve_connection<D: Desk, L: Link, R: Draws>(
     ensures drawn { DrawsAtLeast (R.coming draws.old) served.new (R.coming draws.new) }
     ensures keeps { Keeps (D.board_at desk.old) (D.board_at desk.new) }
 {
-    let mut attended = DeskHandler { desk, book, served };
-    let conversed = serve_requests::<ByDesk<D>, L, R>(alloc, &mut attended, link, draws);
+    let mut handler = DeskHandler { desk, book, served };
+    let conversed = serve_requests::<ByDesk<D>, L, R>(alloc, &mut handler, link, draws);
     conversed.1
 }

@@ -4,4 +4,4 @@ pub mod Ordered
 pub mod Looks
 pub mod Writings
 pub mod Sent
-pub mod Stood
+pub mod Represented

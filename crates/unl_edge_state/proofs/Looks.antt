@@ -16,7 +16,7 @@ use Rattle.unl_edge_state.proofs.Ordered.{below_from, ordered_known, reader_allo
 use Rattle.unl_publication.specs.declared.knowledge.Knowledge.{Knowledge}
 use Rattle.unl_publication.specs.declared.reader.Reader.{Reader}
 use Rattle.unl_publication.specs.declared.value.Counted as counted
-use Rattle.unl_publication.specs.Looking.{SameOrigin, StaysOrTakes, Takes, goes_on, remembers}
+use Rattle.unl_publication.specs.Looking.{SameOrigin, StaysOrTakes, Takes, continues_from, remembers}
 use Rattle.unl_publication.specs.Meaning.{before_of, known, values}
 use Rattle.unl_publication.specs.Rule.{knows_nothing, knows_opening}
 use Rattle.unl_publication.specs.Seen.{next, past, seen}
@@ -63,7 +63,7 @@ learned false (Some list) now after past_after orderly no_installs nothing same 
 
 -- A reader that learned, by what it had not done before.
 pub learns : (reader after : EdgeReader) (front : ℕ) (list : Option (Knowledge BoardAt Install)) → IsNewReader reader → SameOrigin (next_of after) (next_of reader)
-    → next_of after ≡ goes_on front list (next_of reader) → past_of after ≡ remembers front list (past_of reader) (next_of reader) → IsSteady after
+    → next_of after ≡ continues_from front list (next_of reader) → past_of after ≡ remembers front list (past_of reader) (next_of reader) → IsSteady after
 learns reader after front list new origin next_is past_is =
     learned (leb front (length (next_of reader).installs)) list (next_of reader) (next_of after) (past_of after) new.orderly new.installs new.before origin.1 next_is
     (past_is ∙ ap (λ (p : Option (Knowledge BoardAt Install)). remembers front list p (next_of reader)) new.past)

@@ -7,8 +7,8 @@ use Rattle.unl_core.specs.declared.board.Board.{Board}
 use Rattle.unl_core.specs.declared.board.Install.{Install}
 use Rattle.unl_core.specs.declared.board.Install.TheVariants.{Tokens, Env}
 use Rattle.unl_core.specs.Board.{AreSlots, with_tokens}
-use Rattle.unl_core.specs.DeskStates.{IsStanding, place_at, snapshot_at}
-use Rattle.unl_core.proofs.DeskStateLemmas.{standing_begun, standing_held, standing_taking}
+use Rattle.unl_core.specs.DeskStates.{PlacesMatch, place_at, snapshot_at}
+use Rattle.unl_core.proofs.DeskStateLemmas.{places_match_begun, places_match_held, places_match_taking}
 use Rattle.unl_delta.specs.declared.batch.Batch.{Batch}
 use Rattle.unl_delta.specs.declared.batch.Verdict.TheVariants.{Apply}
 use Rattle.unl_delta.specs.declared.version.EnvVersion.{EnvVersion}
@@ -24,15 +24,15 @@ use Rattle.unl_publication.specs.declared.knowledge.Knowledge.{Knowledge}
 use Rattle.unl_publication.specs.Rule.{knows_opening, with_installs}
 use Rattle.unl_tokens.specs.declared.token.Token.{Token}
 
-tokens_stand : (board : Board) (places : List Place) (book : List Token) → IsStanding board places → IsStanding (with_tokens book board) places
-tokens_stand board places book s = record { slots = s.slots; versions = s.versions; valid = s.valid }
+places_match_tokens : (board : Board) (places : List Place) (book : List Token) → PlacesMatch board places → PlacesMatch (with_tokens book board) places
+places_match_tokens board places book s = record { slots = s.slots; versions = s.versions; valid = s.valid }
 
 -- An opening board, and the places of its slots.
 pub writing_begun : (orderly : Bool) (board : Board) (known : Knowledge BoardAt Install) (table : ℕ) (places : List Place) → AreSlots board.slots → known ≡ knows_opening table (opening_of orderly board)
     → places ≡ map place_at board.slots → All IsValidPlace places → IsWriting known places
 writing_begun orderly board known table places slots is made valid = subst (λ (k : Knowledge BoardAt Install). IsWriting k places) (sym is) (record {
   begun = refl;
-  represents = standing_begun board places slots made valid;
+  represents = places_match_begun board places slots made valid;
 })
 
 -- A book was published.
@@ -40,7 +40,7 @@ pub writing_tokens : (known new : Knowledge BoardAt Install) (places : List Plac
     → new ≡ with_installs (Tokens book ∷ []) known → IsWriting new places
 writing_tokens known new places book w is = subst (λ (k : Knowledge BoardAt Install). IsWriting k places) (sym is) (record {
   begun = w.begun;
-  represents = subst (λ (b : Board). IsStanding b places) (sym (known_more known (Tokens book) w.begun)) (tokens_stand (board_known known) places book w.represents);
+  represents = subst (λ (b : Board). PlacesMatch b places) (sym (known_more known (Tokens book) w.begun)) (places_match_tokens (board_known known) places book w.represents);
 })
 
 -- A version was published, and is at its place.
@@ -50,8 +50,8 @@ writing_version known new places slot v kept held w is kept_is valid =
     subst (λ (k : Knowledge BoardAt Install). IsWriting k (set places slot (record { version = Some kept; held = held }))) (sym is) (record {
       begun = w.begun;
       represents =
-          subst (λ (b : Board). IsStanding b (set places slot (record { version = Some kept; held = held }))) (sym (known_more known (Env slot v) w.begun))
-          (standing_taking (board_known known) places slot v (record { version = Some kept; held = held }) w.represents (ap Some kept_is) valid);
+          subst (λ (b : Board). PlacesMatch b (set places slot (record { version = Some kept; held = held }))) (sym (known_more known (Env slot v) w.begun))
+          (places_match_taking (board_known known) places slot v (record { version = Some kept; held = held }) w.represents (ap Some kept_is) valid);
     })
 
 -- A place is held or released, and keeps its version.
@@ -59,7 +59,7 @@ pub writing_held : (known : Knowledge BoardAt Install) (places : List Place) (sl
     → place.version ≡ (get_or places slot d).version → IsWriting known (set places slot place)
 writing_held known places slot place d w low same = record {
   begun = w.begun;
-  represents = standing_held (board_known known) places slot place d w.represents low same;
+  represents = places_match_held (board_known known) places slot place d w.represents low same;
 }
 
 -- The place at an index.
@@ -110,10 +110,10 @@ book_installed w new tokens begun is =
     ap installed_by is ∙ (λ i. record { places = w.places; front = front i; book = book i })
 
 -- A batch was published, or nothing was.
-pub batch_told : {E : Type 0} (r : Result ℕ E) (w new : Writing) (slot : ℕ) (batch : Batch) → is_some w.known.opening ≡ true
+pub batch_result_installed : {E : Type 0} (r : Result ℕ E) (w new : Writing) (slot : ℕ) (batch : Batch) → is_some w.known.opening ≡ true
     → OnOk r (new ≡ record (after_batch slot batch w) { closed = new.closed }) → OnOk r (installed_by new ≡ after_install slot batch (installed_by w))
-batch_told (Err e) w new slot batch begun published = tt
-batch_told (Ok front) w new slot batch begun published = batch_installed w new slot batch begun published
+batch_result_installed (Err e) w new slot batch begun published = tt
+batch_result_installed (Ok front) w new slot batch begun published = batch_installed w new slot batch begun published
 
 -- ---- orderly lists
 
@@ -132,5 +132,5 @@ pub book_orderly : (w new : Writing) (tokens : List Token) → new ≡ record (w
 book_orderly w new tokens published orderly = subst (λ (x : Writing). KnowsOrderly x.known) (sym published) (knows_more w.known (Tokens tokens) orderly tt)
 
 -- A writer after a book.
-abbrev pub book_told : Writing → List Token → Bool → Writing
-book_told w tokens closed = record (with_install (Tokens tokens) w) { closed = closed }
+abbrev pub with_published_book : Writing → List Token → Bool → Writing
+with_published_book w tokens closed = record (with_install (Tokens tokens) w) { closed = closed }

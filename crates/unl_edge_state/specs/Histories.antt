@@ -14,11 +14,11 @@ abbrev pub SlotRepresented : List Era → Sees → ℕ → Board → Type 0
 SlotRepresented line sees slot board = IfSome (snapshot_at board.slots slot) (RepresentsLine line sees)
 
 -- This holds on the board, and on each board that the installs lead to.
-abbrev pub HasStoodFrom : List Era → Sees → ℕ → Board → List Install → Type 0
-HasStoodFrom line sees slot board [] = SlotRepresented line sees slot board
-HasStoodFrom line sees slot board (what ∷ more) =
-    SlotRepresented line sees slot board × HasStoodFrom line sees slot (installed what board) more
+abbrev pub AlwaysRepresentedFrom : List Era → Sees → ℕ → Board → List Install → Type 0
+AlwaysRepresentedFrom line sees slot board [] = SlotRepresented line sees slot board
+AlwaysRepresentedFrom line sees slot board (what ∷ more) =
+    SlotRepresented line sees slot board × AlwaysRepresentedFrom line sees slot (installed what board) more
 
 -- This holds for everything known to be published, from the opening board on.
-abbrev pub HasStood : List Era → Sees → ℕ → Knowledge BoardAt Install → Type 0
-HasStood line sees slot known = IfSome known.opening (λ opening. HasStoodFrom line sees slot opening.board known.installs)
+abbrev pub AlwaysRepresented : List Era → Sees → ℕ → Knowledge BoardAt Install → Type 0
+AlwaysRepresented line sees slot known = IfSome known.opening (λ opening. AlwaysRepresentedFrom line sees slot opening.board known.installs)

@@ -10,7 +10,7 @@ use Rattle.unl_edge_state.specs.Orderly.{KnowsOrderly, is_orderly}
 use Rattle.unl_publication.specs.declared.knowledge.Knowledge.{Knowledge}
 use Rattle.unl_publication.specs.Meaning.{before_of, known, value_at}
 use Rattle.unl_publication.specs.Rule.{knows_nothing}
-use Rattle.unl_publication.specs.Seen.{next, past, seen, told_of}
+use Rattle.unl_publication.specs.Seen.{next, past, seen, learned_front}
 
 -- What the reader knew when it last looked.
 abbrev pub seen_by : EdgeReader → Knowledge BoardAt Install
@@ -25,8 +25,8 @@ abbrev pub past_of : EdgeReader → Option (Knowledge BoardAt Install)
 past_of reader = option_and_then past reader.seat
 
 -- The largest number of publications that the reader has learned of. Each later front is at least this.
-abbrev pub told_to : EdgeReader → ℕ
-told_to reader = unwrap_or (option_map told_of reader.seat) 0
+abbrev pub learned_front_of : EdgeReader → ℕ
+learned_front_of reader = unwrap_or (option_map learned_front reader.seat) 0
 
 -- The board after the first `k` installs, if that many were seen.
 abbrev pub board_of : Knowledge BoardAt Install → ℕ → Option Board
@@ -46,7 +46,7 @@ IsOfList opening known front = ContinuedFromOpening opening known ⊎ (length kn
 pub record HasBegun (known : Knowledge BoardAt Install) (reader : EdgeReader) : Type 0 where
   pub seen : seen_by reader ≡ known
   pub next : next_of reader ≡ known
-  pub told : told_to reader ≡ 0
+  pub learned_none : learned_front_of reader ≡ 0
   pub past : past_of reader ≡ None
 
 -- ---- readers of an orderly publication

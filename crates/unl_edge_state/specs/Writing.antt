@@ -3,7 +3,7 @@ use Rattle.std.specs.Prelude.{◌≡◌, ℕ, ◌<◌, [], ◌∷◌, List, leng
 use Rattle.unl_core.specs.declared.board.Board.{Board}
 use Rattle.unl_core.specs.declared.board.Install.{Install}
 use Rattle.unl_core.specs.declared.board.Install.TheVariants.{Tokens, Env}
-use Rattle.unl_core.specs.DeskStates.{IsStanding, place_at}
+use Rattle.unl_core.specs.DeskStates.{PlacesMatch, place_at}
 use Rattle.unl_delta.specs.declared.batch.Batch.{Batch}
 use Rattle.unl_delta.specs.declared.version.EnvVersion.{EnvVersion}
 use Rattle.unl_delta.specs.declared.version.Place.{Place}
@@ -23,7 +23,7 @@ pub record Writing : Type 0 where
 -- It began with a board, and each place has the version of its slot on the published board.
 pub record IsWriting (known : Knowledge BoardAt Install) (places : List Place) : Type 0 where
   pub begun : is_some known.opening ≡ true
-  pub represents : IsStanding (board_known known) places
+  pub represents : PlacesMatch (board_known known) places
 
 -- The writer as an installer: the places, the number of publications, and the board's token book.
 abbrev pub installed_by : Writing → Installed

@@ -5,7 +5,7 @@ ghost use Rattle.unl_core.specs.Board.{AreSlots};
 ghost use Rattle.unl_core.specs.DeskStates.{place_at};
 ghost use Rattle.unl_edge_state.specs.Editions.{opening_at, opening_of, orderly_opening};
 ghost use Rattle.unl_edge_state.specs.Reading.{HasBegun, IsNewReader};
-ghost use Rattle.unl_publication.specs.Rule.{knows_opening, told_by};
+ghost use Rattle.unl_publication.specs.Rule.{knows_opening, shared_knowledge};
 ghost use Rattle.unl_publication.specs.Seen.{is_closed, written};
 
 use crate::edition::Edition;
@@ -118,7 +118,7 @@ fn readers_at(
     ensures same { written writer.new ≡ written writer.old }
     ensures closed { is_closed writer.new ≡ is_closed writer.old }
     ensures count { IfOk result (λ readers. length readers.items ≡ count) }
-    ensures readers { IfOk result (λ readers. All (HasBegun (told_by (written writer.old))) readers.items) }
+    ensures readers { IfOk result (λ readers. All (HasBegun (shared_knowledge (written writer.old))) readers.items) }
 {
     let mut readers = Vec::new(alloc);
     'made: while readers.len() < count {
@@ -132,7 +132,7 @@ fn reader_at(writer: &mut Writer<Edition, Install, Ruled<Install>>) -> Result<Ed
     requires { is_some (written writer.old).opening ≡ true }
     ensures same { written writer.new ≡ written writer.old }
     ensures closed { is_closed writer.new ≡ is_closed writer.old }
-    ensures reader { IfOk result (HasBegun (told_by (written writer.old))) }
+    ensures reader { IfOk result (HasBegun (shared_knowledge (written writer.old))) }
 {
     let seat = new_reader(writer)?;
     Ok(EdgeReader::new(seat))

@@ -7,7 +7,7 @@ ghost use Rattle.unl_core.specs.DeskStates.{snapshot_at};
 ghost use Rattle.unl_delta.specs.History.{Era, IsNotBelow};
 ghost use Rattle.unl_delta.specs.View.{Sees};
 ghost use Rattle.unl_edge_state.specs.Editions.{BoardAt};
-ghost use Rattle.unl_edge_state.specs.Histories.{HasStood, SlotRepresented};
+ghost use Rattle.unl_edge_state.specs.Histories.{AlwaysRepresented, SlotRepresented};
 ghost use Rattle.unl_edge_state.specs.Orderly.{IsOrderly, is_orderly};
 ghost use Rattle.unl_edge_state.specs.Reading.{ContinuedFromOpening, IsOfList, IsSteady, SeesInOrder, board_of, seen_by};
 ghost use Rattle.unl_edge_state.specs.declared.reader.EdgeReader.{EdgeReader};
@@ -47,6 +47,6 @@ pub fn steady_readers_see_in_order()
 /// learned, or did so only from the opening board.
 pub fn boards_represent_lines()
     ensures { (line : List Era) (sees : Sees) (slot : ℕ) (known : Knowledge BoardAt Install) (opening : BoardAt) (k : ℕ)
-        → known.opening ≡ Some opening → ContinuedFromOpening opening known → k ≤ length known.installs → HasStood line sees slot known
+        → known.opening ≡ Some opening → ContinuedFromOpening opening known → k ≤ length known.installs → AlwaysRepresented line sees slot known
         → IfSome (board_of known k) (SlotRepresented line sees slot) }
 {}

@@ -1,8 +1,8 @@
 //! A desk that answers over the board published when it looks.
 ghost use Rattle.std.specs.Prelude.{max, ◌≡◌, ◌≤◌, true, is_some, unwrap_or, option_map, IfSome};
-ghost use Rattle.unl_publication.specs.Looking.{SameOrigin, goes_on, remembers};
+ghost use Rattle.unl_publication.specs.Looking.{SameOrigin, continues_from, remembers};
 ghost use Rattle.unl_publication.specs.Rule.{knows_nothing};
-ghost use Rattle.unl_publication.specs.Seen.{next, told_front, told_list};
+ghost use Rattle.unl_publication.specs.Seen.{next, reported_front, reported_list};
 
 use crate::edition::Edition;
 use std::alloc::Global;
@@ -19,11 +19,11 @@ pub type Told = unl_publication::Told<Edition, Install, Ruled<Install>>;
 #[derive(Drop)]
 pub struct EdgeReader {
     pub(crate) seat: Option<Reader<Edition, Install, Ruled<Install>>>,
-    ghost there: { is_some (unwrap_or (option_map next seat) knows_nothing).opening ≡ true },
+    ghost has_opening: { is_some (unwrap_or (option_map next seat) knows_nothing).opening ≡ true },
 }
 
 impl EdgeReader {
-    ghost use Rattle.unl_edge_state.specs.Reading.{HasBegun, next_of, past_of, seen_by, told_to};
+    ghost use Rattle.unl_edge_state.specs.Reading.{HasBegun, next_of, past_of, seen_by, learned_front_of};
 
     /// A desk over a reader that knows the opening board.
     pub(crate) fn new(seat: Reader<Edition, Install, Ruled<Install>>) -> EdgeReader
@@ -37,12 +37,12 @@ impl EdgeReader {
     /// stays known. If `told` has more installs than the reader knows, and has their list, the list that the reader takes
     /// next starts with that one. Doesn't allocate.
     pub fn learn(&mut self, told: Told)
-        requires origin { IfSome (told_list told) (λ list. SameOrigin list (next_of self.old)) }
+        requires origin { IfSome (reported_list told) (λ list. SameOrigin list (next_of self.old)) }
         ensures origin { SameOrigin (next_of self.new) (next_of self.old) }
-        ensures least { told_to self.new ≡ max (told_to self.old) (told_front told) }
+        ensures least { learned_front_of self.new ≡ max (learned_front_of self.old) (reported_front told) }
         ensures seen { seen_by self.new ≡ seen_by self.old }
-        ensures next { next_of self.new ≡ goes_on (told_front told) (told_list told) (next_of self.old) }
-        ensures past { past_of self.new ≡ remembers (told_front told) (told_list told) (past_of self.old) (next_of self.old) }
+        ensures next { next_of self.new ≡ continues_from (reported_front told) (reported_list told) (next_of self.old) }
+        ensures past { past_of self.new ≡ remembers (reported_front told) (reported_list told) (past_of self.old) (next_of self.old) }
     {
         let Some(mut seat) = self.seat.take() else {
             unreachable!()
@@ -59,7 +59,7 @@ impl Desk for EdgeReader {
     ghost use Rattle.unl_core.specs.Desk.{Keeps, Enters, EntersAtMostOnce};
     ghost use Rattle.unl_edge_state.specs.Editions.{board_known, edited};
     ghost use Rattle.unl_edge_state.specs.Orderly.{KeepsOrder};
-    ghost use Rattle.unl_edge_state.specs.Reading.{board_of, next_of, past_of, seen_by, told_to};
+    ghost use Rattle.unl_edge_state.specs.Reading.{board_of, next_of, past_of, seen_by, learned_front_of};
     ghost use Rattle.unl_metrics.specs.Reports.{IsReport};
     ghost use Rattle.unl_publication.specs.Looking.{LooksBelow, SameOrigin, StaysOrTakes};
     ghost use Rattle.unl_publication.specs.Meaning.{front_seen};
@@ -100,13 +100,13 @@ impl Desk for EdgeReader {
 
         // The list that it took starts with the one it continues from, and has no fewer installs than it has learned of.
         ensures list { IfOk result (λ _. StartsWith (seen_by self.new).installs (next_of self.old).installs) }
-        ensures told { IfOk result (λ a. told_to self.old ≤ a.0) }
+        ensures at_least_learned { IfOk result (λ a. learned_front_of self.old ≤ a.0) }
         ensures next { IfOk result (λ _. next_of self.new ≡ seen_by self.new) }
         ensures origin { SameOrigin (next_of self.new) (next_of self.old) }
-        ensures still_told { told_to self.new ≡ told_to self.old }
+        ensures same_learned_front { learned_front_of self.new ≡ learned_front_of self.old }
 
         // Whether it answered or not, it is as it was, or it took a list.
-        ensures took { StaysOrTakes edited (past_of self.old) (next_of self.old) (past_of self.new) (next_of self.new) }
+        ensures stays_or_takes { StaysOrTakes edited (past_of self.old) (next_of self.old) (past_of self.new) (next_of self.new) }
     {
         let Some(seat) = self.seat.take() else {
             return Err(Memory);

@@ -10,12 +10,12 @@ ghost use Rattle.unl_delta.specs.Valid.{IsValidBatch, IsValidPlace};
 ghost use Rattle.unl_delta.specs.View.{Sees};
 ghost use Rattle.unl_core.specs.Board.{AreSlots};
 ghost use Rattle.unl_edge_state.specs.Editions.{board_known};
-ghost use Rattle.unl_edge_state.specs.Histories.{HasStood};
+ghost use Rattle.unl_edge_state.specs.Histories.{AlwaysRepresented};
 ghost use Rattle.unl_edge_state.specs.Orderly.{KeepsOrder, KnowsOrderly, MayInstall};
 ghost use Rattle.unl_edge_state.specs.Writing as writing;
 ghost use Rattle.unl_edge_state.specs.Writing.{after_publish, installed_by, with_install, with_version, IsWithin, IsWriting, Stays};
-ghost use Rattle.unl_publication.specs.Rule.{told_by};
-ghost use Rattle.unl_publication.specs.Seen.{is_closed, told_front, told_list, written};
+ghost use Rattle.unl_publication.specs.Rule.{shared_knowledge};
+ghost use Rattle.unl_publication.specs.Seen.{is_closed, reported_front, reported_list, written};
 
 use crate::edition::Edition;
 use crate::reader::Told;
@@ -104,8 +104,8 @@ impl<'a, W: Wait> EdgeWriter<'a, W> {
     /// What the writer knows now, for one reader to learn. Changes nothing, and doesn't allocate.
     pub fn tell(&mut self) -> Told
         ensures same { self.new ≡ self.old }
-        ensures front { told_front result ≡ length self.old.known.installs }
-        ensures list { IfSome (told_list result) (λ list. list ≡ told_by self.old.known) }
+        ensures front { reported_front result ≡ length self.old.known.installs }
+        ensures list { IfSome (reported_list result) (λ list. list ≡ shared_knowledge self.old.known) }
     {
         self.publisher.tell()
     }
@@ -192,8 +192,8 @@ impl<W: Wait> Installer for EdgeWriter<'_, W> {
         ensures same { OnErr result (Stays self.old self.new) }
         ensures orderly { KnowsOrderly self.old.known → KnowsOrderly self.new.known }
         ensures ordered { OnOk result (KeepsOrder self.new.known) }
-        ensures stood { (line : List Era) (sees : Sees) → IsLine line → HasStood line sees slot self.old.known → IsSent line sees batch.now
-            → HasStood line sees slot self.new.known }
+        ensures always_represented { (line : List Era) (sees : Sees) → IsLine line → AlwaysRepresented line sees slot self.old.known → IsSent line sees batch.now
+            → AlwaysRepresented line sees slot self.new.known }
     {
         let slots = &self.publisher.value().board().slots;
         let snapshot = snapshot_after(alloc, slots, slot, &self.places[slot], batch)?;

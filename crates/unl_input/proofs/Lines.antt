@@ -52,21 +52,21 @@ pub sends_trans : (r s t : Option (List ℕ)) (xs ys : List ℕ) → Sends r xs 
 sends_trans r s t xs ys one two = two ∙ ap (option_map (λ sent. sent ++ ys)) one ∙ sent_then xs ys r
 
 -- a whole text, and then a prefix of another
-pub sends_then_front : (r s t : Option (List ℕ)) (xs ys : List ℕ) → Sends r xs s → SendsFront s ys t → SendsFront r (xs ++ ys) t
-sends_then_front r s t xs ys one front = record {
-  part = xs ++ front.part;
-  after = front.after;
-  split = ap (λ zs. xs ++ zs) front.split ∙ sym (append_assoc xs front.part front.after);
-  sends = sends_trans r s t xs front.part one front.sends;
+pub sends_then_prefix : (r s t : Option (List ℕ)) (xs ys : List ℕ) → Sends r xs s → SendsFront s ys t → SendsFront r (xs ++ ys) t
+sends_then_prefix r s t xs ys one prefix = record {
+  part = xs ++ prefix.part;
+  after = prefix.after;
+  split = ap (λ zs. xs ++ zs) prefix.split ∙ sym (append_assoc xs prefix.part prefix.after);
+  sends = sends_trans r s t xs prefix.part one prefix.sends;
 }
 
 -- a prefix of a text is a prefix of a longer text
-pub front_of_longer : (s t : Option (List ℕ)) (xs ys whole : List ℕ) → SendsFront s xs t → whole ≡ xs ++ ys → SendsFront s whole t
-front_of_longer s t xs ys whole front longer = record {
-  part = front.part;
-  after = front.after ++ ys;
-  split = longer ∙ ap (λ zs. zs ++ ys) front.split ∙ append_assoc front.part front.after ys;
-  sends = front.sends;
+pub prefix_of_longer : (s t : Option (List ℕ)) (xs ys whole : List ℕ) → SendsFront s xs t → whole ≡ xs ++ ys → SendsFront s whole t
+prefix_of_longer s t xs ys whole prefix longer = record {
+  part = prefix.part;
+  after = prefix.after ++ ys;
+  split = longer ∙ ap (λ zs. zs ++ ys) prefix.split ∙ append_assoc prefix.part prefix.after ys;
+  sends = prefix.sends;
 }
 
 -- ---- lines
@@ -93,7 +93,7 @@ right_false false b none = none
 right_false true b none = absurd (let other : ◌≡◌ {A = Bool} true false = none in cc)
 
 -- bytes without a line feed begin the first line
-unbroken : (front rest : List ℕ) → has_end front ≡ false → lines (front ++ rest) ≡ begun front (lines rest)
+unbroken : (prefix rest : List ℕ) → has_end prefix ≡ false → lines (prefix ++ rest) ≡ begun prefix (lines rest)
 unbroken [] rest none = refl
 unbroken (b ∷ bs) rest none =
     ap (λ t. cond t ([] ∷ lines (bs ++ rest)) (begun_with b (lines (bs ++ rest)))) (left_false (is_end b) (has_end bs) none)
@@ -112,16 +112,16 @@ last_line (b ∷ bs) none some = ap lines (sym (append-nil (b ∷ bs))) ∙ unbr
 abbrev pub LongFirst : List ℕ → Type 0
 LongFirst bytes = (line : List ℕ) × (more : List (List ℕ)) × (lines bytes ≡ line ∷ more) × (longest_line < length line)
 
-long_begun : (front : List ℕ) (ls : List (List ℕ)) → longest_line < length front
-    → (line : List ℕ) × (more : List (List ℕ)) × (begun front ls ≡ line ∷ more) × (longest_line < length line)
+long_begun : (prefix : List ℕ) (ls : List (List ℕ)) → longest_line < length prefix
+    → (line : List ℕ) × (more : List (List ℕ)) × (begun prefix ls ≡ line ∷ more) × (longest_line < length line)
 long_begun [] ls long = absurd (omega (arith, long))
 long_begun (x ∷ xs) [] long = (x ∷ xs, [], begun-none x xs, long)
 long_begun (x ∷ xs) (l ∷ ls) long = ((x ∷ xs) ++ l, ls, begun-line (x ∷ xs) l ls, omega (arith, long, length-append (x ∷ xs) l))
 
-pub long_first : (front rest : List ℕ) → has_end front ≡ false → longest_line < length front → LongFirst (front ++ rest)
-long_first front rest none long =
-    let first = long_begun front (lines rest) long in
-    (first.0, first.1, unbroken front rest none ∙ first.2, first.3)
+pub long_first : (prefix rest : List ℕ) → has_end prefix ≡ false → longest_line < length prefix → LongFirst (prefix ++ rest)
+long_first prefix rest none long =
+    let first = long_begun prefix (lines rest) long in
+    (first.0, first.1, unbroken prefix rest none ∙ first.2, first.3)
 
 -- a byte begins some line
 pub some_first : (b : ℕ) (rest : List ℕ) → (line : List ℕ) × (more : List (List ℕ)) × (lines (b ∷ rest) ≡ line ∷ more)
@@ -159,27 +159,27 @@ take_of_first xs most k within =
 
 -- the held bytes were searched up to the limit of the line, and those before the first line feed were appended to the line
 abbrev pub Looks : List ℕ → List ℕ → ℕ → List ℕ → ℕ → List ℕ → Type 0
-Looks line held most front k after = (front ≡ take most held) × (k ≡ position_or_len is_end front) × (after ≡ line ++ take k front)
+Looks line held most prefix k after = (prefix ≡ take most held) × (k ≡ position_or_len is_end prefix) × (after ≡ line ++ take k prefix)
 
-looks_within : (line held : List ℕ) (most : ℕ) (front : List ℕ) (k : ℕ) (after : List ℕ)
-    → Looks line held most front k after → k ≤ length front
-looks_within line held most front k after looks = omega (arith, looks.1, prefix_len-le-length (λ b. not (is_end b)) front)
+looks_within : (line held : List ℕ) (most : ℕ) (prefix : List ℕ) (k : ℕ) (after : List ℕ)
+    → Looks line held most prefix k after → k ≤ length prefix
+looks_within line held most prefix k after looks = omega (arith, looks.1, prefix_len-le-length (λ b. not (is_end b)) prefix)
 
-looks_unbroken : (line held : List ℕ) (most : ℕ) (front : List ℕ) (k : ℕ) (after : List ℕ)
-    → Looks line held most front k after → has_end (take k front) ≡ false
-looks_unbroken line held most front k after looks = ap (λ n. has_end (take n front)) looks.1 ∙ before_first_end front
+looks_unbroken : (line held : List ℕ) (most : ℕ) (prefix : List ℕ) (k : ℕ) (after : List ℕ)
+    → Looks line held most prefix k after → has_end (take k prefix) ≡ false
+looks_unbroken line held most prefix k after looks = ap (λ n. has_end (take n prefix)) looks.1 ∙ before_first_end prefix
 
-looks_front : (line held : List ℕ) (most : ℕ) (front : List ℕ) (k : ℕ) (after : List ℕ)
-    → Looks line held most front k after → take k front ≡ take k held
-looks_front line held most front k after looks =
+looks_prefix : (line held : List ℕ) (most : ℕ) (prefix : List ℕ) (k : ℕ) (after : List ℕ)
+    → Looks line held most prefix k after → take k prefix ≡ take k held
+looks_prefix line held most prefix k after looks =
     ap (take k) looks.0
-    ∙ take_of_first held most k (subst (λ xs. k ≤ length xs) looks.0 (looks_within line held most front k after looks))
+    ∙ take_of_first held most k (subst (λ xs. k ≤ length xs) looks.0 (looks_within line held most prefix k after looks))
 
-looks_len : (line held : List ℕ) (most : ℕ) (front : List ℕ) (k : ℕ) (after : List ℕ)
-    → Looks line held most front k after → length after ≡ length line + k
-looks_len line held most front k after looks =
-    ap length looks.2 ∙ length-append line (take k front)
-    ∙ ap (λ n. length line + n) (length-take-le k front (looks_within line held most front k after looks))
+looks_len : (line held : List ℕ) (most : ℕ) (prefix : List ℕ) (k : ℕ) (after : List ℕ)
+    → Looks line held most prefix k after → length after ≡ length line + k
+looks_len line held most prefix k after looks =
+    ap length looks.2 ∙ length-append line (take k prefix)
+    ∙ ap (λ n. length line + n) (length-take-le k prefix (looks_within line held most prefix k after looks))
 
 -- the byte at the position of the first line feed is a line feed
 end_at : (xs : List ℕ) (k : ℕ) → k ≡ position_or_len is_end xs → k < length xs → get_or xs k 0 ≡ 10
@@ -188,41 +188,41 @@ end_at xs k is within =
     ∙ eqb-true (get_or xs (position_or_len is_end xs) 0) 10 (passes_at_first is_end xs 0 (subst (λ n. n < length xs) is within))
 
 -- the line feed was found
-pub piece_ends : (line held : List ℕ) (most : ℕ) (front : List ℕ) (k : ℕ) (after rest : List ℕ)
-    → Looks line held most front k after → length line + most ≡ longest_line + 1 → k < length front
+pub piece_ends : (line held : List ℕ) (most : ℕ) (prefix : List ℕ) (k : ℕ) (after rest : List ℕ)
+    → Looks line held most prefix k after → length line + most ≡ longest_line + 1 → k < length prefix
     → rest ≡ drop (k + 1) held → EndsLine line held after rest
-piece_ends line held most front k after rest looks whole found is =
-    let most_front : length front ≡ min most (length held) = ap length looks.0 ∙ length-take most held in
+piece_ends line held most prefix k after rest looks whole found is =
+    let prefix_length : length prefix ≡ min most (length held) = ap length looks.0 ∙ length-take most held in
     let at : get_or held k 0 ≡ 10 =
-    sym (get_or-take most held k 0 (omega (arith, found, most_front))) ∙ ap (λ xs. get_or xs k 0) (sym looks.0)
-    ∙ end_at front k looks.1 found in
+    sym (get_or-take most held k 0 (omega (arith, found, prefix_length))) ∙ ap (λ xs. get_or xs k 0) (sym looks.0)
+    ∙ end_at prefix k looks.1 found in
     let split : drop k held ≡ 10 ∷ rest =
-    drop-cons held k 0 (omega (arith, found, most_front)) ∙ ap (λ b. b ∷ drop (suc k) held) at
+    drop-cons held k 0 (omega (arith, found, prefix_length)) ∙ ap (λ b. b ∷ drop (suc k) held) at
     ∙ ap (λ n. 10 ∷ drop n held) (more_one k) ∙ ap (λ xs. 10 ∷ xs) (sym is) in
     record {
-      piece = take k front;
-      unbroken = looks_unbroken line held most front k after looks;
+      piece = take k prefix;
+      unbroken = looks_unbroken line held most prefix k after looks;
       grown = looks.2;
-      short = omega (arith, whole, found, most_front, looks_len line held most front k after looks);
+      short = omega (arith, whole, found, prefix_length, looks_len line held most prefix k after looks);
       split =
-          sym (take-append-drop k held) ∙ ap (λ xs. xs ++ drop k held) (sym (looks_front line held most front k after looks))
-          ∙ ap (λ xs. take k front ++ xs) split;
+          sym (take-append-drop k held) ∙ ap (λ xs. xs ++ drop k held) (sym (looks_prefix line held most prefix k after looks))
+          ∙ ap (λ xs. take k prefix ++ xs) split;
     }
 
 -- no line feed was found
-pub piece_grows : (line held : List ℕ) (most : ℕ) (front : List ℕ) (k : ℕ) (after rest : List ℕ)
-    → Looks line held most front k after → 0 < most → 0 < length held → length front ≤ k
+pub piece_grows : (line held : List ℕ) (most : ℕ) (prefix : List ℕ) (k : ℕ) (after rest : List ℕ)
+    → Looks line held most prefix k after → 0 < most → 0 < length held → length prefix ≤ k
     → rest ≡ drop k held → GrowsLine line held after rest
-piece_grows line held most front k after rest looks room some all is =
-    let most_front : length front ≡ min most (length held) = ap length looks.0 ∙ length-take most held in
+piece_grows line held most prefix k after rest looks room some all is =
+    let prefix_length : length prefix ≡ min most (length held) = ap length looks.0 ∙ length-take most held in
     record {
-      piece = take k front;
-      unbroken = looks_unbroken line held most front k after looks;
+      piece = take k prefix;
+      unbroken = looks_unbroken line held most prefix k after looks;
       grown = looks.2;
-      some = omega (arith, room, some, all, most_front, looks_len line held most front k after looks);
+      some = omega (arith, room, some, all, prefix_length, looks_len line held most prefix k after looks);
       split =
-          sym (take-append-drop k held) ∙ ap (λ xs. xs ++ drop k held) (sym (looks_front line held most front k after looks))
-          ∙ ap (λ xs. take k front ++ xs) (sym is);
+          sym (take-append-drop k held) ∙ ap (λ xs. xs ++ drop k held) (sym (looks_prefix line held most prefix k after looks))
+          ∙ ap (λ xs. take k prefix ++ xs) (sym is);
     }
 
 -- ---- complete lines
@@ -273,12 +273,12 @@ first_whole bytes rest whole =
     ∙ take_all (length (lines bytes)) (lines bytes) (omega arith)
 
 -- part of a line after complete lines adds no complete line
-pub ended_whole : (bytes front : List ℕ) → IsWhole bytes → has_end front ≡ false → ended_lines (bytes ++ front) ≡ lines bytes
-ended_whole bytes front whole none =
-    ap (λ n. take n (lines (bytes ++ front))) (count-append bytes front ∙ ap (λ n. count_by is_end bytes + n) (no_ends front none))
-    ∙ ap (λ n. take (n + 0) (lines (bytes ++ front))) whole.ends
-    ∙ ap (take (length (lines bytes) + 0)) (whole.first front)
-    ∙ take-append-le (length (lines bytes) + 0) (lines bytes) (lines front) (omega arith)
+pub ended_whole : (bytes prefix : List ℕ) → IsWhole bytes → has_end prefix ≡ false → ended_lines (bytes ++ prefix) ≡ lines bytes
+ended_whole bytes prefix whole none =
+    ap (λ n. take n (lines (bytes ++ prefix))) (count-append bytes prefix ∙ ap (λ n. count_by is_end bytes + n) (no_ends prefix none))
+    ∙ ap (λ n. take (n + 0) (lines (bytes ++ prefix))) whole.ends
+    ∙ ap (take (length (lines bytes) + 0)) (whole.first prefix)
+    ∙ take-append-le (length (lines bytes) + 0) (lines bytes) (lines prefix) (omega arith)
     ∙ take_all (length (lines bytes) + 0) (lines bytes) (omega arith)
 
 -- ---- what a reader consumed
@@ -290,15 +290,15 @@ unbroken_both xs ys one two = list_any-append is_end xs ys ∙ ap (λ t. t || ha
 pub stops_in_line : (h i j k : List ℕ) (l m n : Option (List ℕ)) (line : List ℕ) → has_end line ≡ false → Gets h l line i m → Gets i m [] j n → k ≡ j
     → Begins h l k n
 stops_in_line h i j k l m n line none got filled same = record {
-  front = line;
+  prefix = line;
   unbroken = none;
   got = subst (λ held. Gets h l line held n) (sym same)
       (subst (λ xs. Gets h l xs j n) (append-nil line) (gets_trans h i j l m n line [] got filled));
 }
 
 -- bytes that were held
-gets_front : (h i : List ℕ) (l : Option (List ℕ)) (out : List ℕ) → h ≡ out ++ i → Gets h l out i l
-gets_front h i l out front = record { read = []; took = takes_nothing l; split = append-nil h ∙ front }
+gets_prefix : (h i : List ℕ) (l : Option (List ℕ)) (out : List ℕ) → h ≡ out ++ i → Gets h l out i l
+gets_prefix h i l out prefix = record { read = []; took = takes_nothing l; split = append-nil h ∙ prefix }
 
 -- the line feed was found
 pub line_ends : (h i j k : List ℕ) (l m n : Option (List ℕ)) (line ended : List ℕ) → has_end line ≡ false
@@ -309,7 +309,7 @@ line_ends h i j k l m n line ended none got filled ends =
     let whole : ended ++ 10 ∷ [] ≡ line ++ rest = ap (λ xs. xs ++ 10 ∷ []) ends.grown ∙ append_assoc line ends.piece (10 ∷ []) in (
       record { unbroken = ap has_end ends.grown ∙ unbroken_both line ends.piece none ends.unbroken; short = ends.short },
       subst (λ xs. Gets h l xs k n) (sym whole)
-          (gets_trans h i k l m n line rest got (gets_trans i j k m n n [] rest filled (gets_front j k n rest split))),
+          (gets_trans h i k l m n line rest got (gets_trans i j k m n n [] rest filled (gets_prefix j k n rest split))),
     )
 
 -- more bytes were read, which don't end the line
@@ -318,10 +318,10 @@ pub line_grows : (h i j k : List ℕ) (l m n : Option (List ℕ)) (line grown : 
 line_grows h i j k l m n line grown none got filled grows = (
   subst (λ xs. Gets h l xs k n) (sym grows.grown)
       (gets_trans h i k l m n line grows.piece got
-      (gets_trans i j k m n n [] grows.piece filled (gets_front j k n grows.piece grows.split))),
+      (gets_trans i j k m n n [] grows.piece filled (gets_prefix j k n grows.piece grows.split))),
   ap has_end grows.grown ∙ unbroken_both line grows.piece none grows.unbroken,
 )
 
 -- more bytes were read than a line may have
 pub line_is_long : (h i : List ℕ) (l m : Option (List ℕ)) (line : List ℕ) → has_end line ≡ false → longest_line < length line → Gets h l line i m → BeginsLong h l i m
-line_is_long h i l m line none long got = record { begun = record { front = line; unbroken = none; got = got }; long = long }
+line_is_long h i l m line none long got = record { begun = record { prefix = line; unbroken = none; got = got }; long = long }

@@ -9,7 +9,7 @@ use Rattle.unl_documents.specs.Reading.{Reading}
 use Rattle.unl_input.specs.declared.answering.AnswerFault.TheVariants.{Refused, WriteFault}
 use Rattle.unl_input.specs.declared.reading.InputFault.TheVariants as input
 use Rattle.unl_input.specs.declared.refusal.InputRefusal.TheVariants.{BadInput, TooLarge}
-use Rattle.unl_input.specs.Answer.{Answers, ComesTo, IsRead, Outcome, or_bad_input, outcome_of, said}
+use Rattle.unl_input.specs.Answer.{Answers, HasOutcome, IsRead, Outcome, or_bad_input, outcome_of, said}
 use Rattle.unl_input.specs.Input.{HasRead, longest}
 
 not_longer : (n : ℕ) → n ≤ longest → ltb 16777216 n ≡ false
@@ -55,7 +55,7 @@ pub ends_broken : {T : Type 0} (answer : T) (reads : List ℕ → Reading T) (sa
     → HasRead (Ok bytes) left left_after → reads bytes ≡ Ok answer → SendsFront old (says answer) new → Answers reads says (Err WriteFault) left left_after old new
 ends_broken answer reads says left left_after old new bytes read is sent = record {
   answer = answer;
-  front = record { comes = record { bytes = bytes; read = read.0; is = within reads bytes (Ok answer) read.1 is }; sent = sent };
+  prefix = record { comes = record { bytes = bytes; read = read.0; is = within reads bytes (Ok answer) read.1 is }; sent = sent };
 }
 
 -- ---- all remaining bytes determine the outcome
@@ -80,7 +80,7 @@ past_end reads all bytes (Some more) took long =
     refused_as_too_large reads all longer
 
 -- The bytes that remained before the read determine the outcome.
-pub decides : {T : Type 0} (reads : List ℕ → Reading T) (outcome : Outcome T) (left left_after : Option (List ℕ)) → ComesTo reads outcome left left_after
+pub decides : {T : Type 0} (reads : List ℕ → Reading T) (outcome : Outcome T) (left left_after : Option (List ℕ)) → HasOutcome reads outcome left left_after
     → IfSome left (λ all. outcome_of reads all ≡ outcome)
 decides reads outcome None left_after comes = tt
 decides reads (Ok answer) (Some all) left_after comes = at_end reads (Ok answer) all comes.bytes left_after comes.is comes.read.took comes.read.end

@@ -8,7 +8,7 @@ use Rattle.unl_input.specs.Lines.{lines, has_end}
 use Rattle.unl_input.specs.Reading.{Begins, BeginsLong, IsAtEnd, IsLine, longest_line}
 use Rattle.unl_input.specs.Taken.{LineResult, Outcome, Taking, done, followed, take_from, most_lines}
 use Rattle.unl_input.specs.Whole.{TakesLines}
-use Rattle.unl_input.specs.Turns.{Scene, Takes, Prints, Refuses, ComesToEnd, RunsOut, StopsReading, Turns}
+use Rattle.unl_input.specs.Turns.{Scene, Takes, Prints, Refuses, ReachesEnd, RunsOut, StopsReading, Turns}
 use Rattle.unl_input.proofs.Lines.{line_first, last_line, long_first, some_first, sends_nothing}
 use Rattle.unl_input.proofs.Whole.{Heads, Sofar, ends_at, errs, within_limits, past_limit, past_last}
 
@@ -58,7 +58,7 @@ last_errs taking fault k before after line few next prints =
 
 pub last_answered : {D : Type 0} (taking : Taking D) (k : ℕ) (before after : Scene D) (line : List ℕ) (u : Unit {0}) → k ≤ most_lines
     → TakesLast line before after
-    → Prints (Ok u) k (taking k before.desk line) after.desk before.sent after.sent → ComesToEnd taking k before after
+    → Prints (Ok u) k (taking k before.desk line) after.desk before.sent after.sent → ReachesEnd taking k before after
 last_answered {D = D} taking k before after line u few next prints = record {
   out = line;
   text = prints.0;
@@ -73,7 +73,7 @@ last_answered {D = D} taking k before after line u few next prints = record {
 -- ---- no line
 
 pub none_left : {D : Type 0} (taking : Taking D) (k : ℕ) (before after : Scene D) → Takes before [] after × IsAtEnd after.held after.left
-    → before.desk ≡ after.desk → before.sent ≡ after.sent → ComesToEnd taking k before after
+    → before.desk ≡ after.desk → before.sent ≡ after.sent → ReachesEnd taking k before after
 none_left {D = D} taking k before after next kept same = record {
   out = [];
   text = [];
@@ -85,20 +85,20 @@ none_left {D = D} taking k before after next kept same = record {
 
 -- ---- a line that is too long, and one past the limit
 
-heads_long : {D : Type 0} (taking : Taking D) (k : ℕ) (d : D) (front : List ℕ) (after : Scene D) → k ≤ most_lines → has_end front ≡ false
-    → longest_line < length front → Heads taking k d front after (Err (codes "LineTooLong"))
+heads_long : {D : Type 0} (taking : Taking D) (k : ℕ) (d : D) (prefix : List ℕ) (after : Scene D) → k ≤ most_lines → has_end prefix ≡ false
+    → longest_line < length prefix → Heads taking k d prefix after (Err (codes "LineTooLong"))
 unfolding Heads
-heads_long taking k d front after few unbroken long = λ rest may.
-    let first = long_first front rest unbroken long in
+heads_long taking k d prefix after few unbroken long = λ rest may.
+    let first = long_first prefix rest unbroken long in
     (first.0, first.1, first.2, past_limit taking k d first.0 few first.3)
 
 pub long_errs : {D : Type 0} (taking : Taking D) (fault : LinesFault) (k : ℕ) (before after : Scene D) → k ≤ most_lines
     → BeginsLong before.held before.left after.held after.left → Refuses fault k (codes "LineTooLong") before.sent after.sent
     → Turns taking (Err fault) k before after
 long_errs taking fault k before after few next refuses =
-    errs taking fault k before after next.begun.front (Err (codes "LineTooLong")) after.desk
+    errs taking fault k before after next.begun.prefix (Err (codes "LineTooLong")) after.desk
     (prints_cause fault k (codes "LineTooLong") (Err (codes "LineTooLong")) after.desk before.sent after.sent refl refuses) next.begun.got
-    (heads_long taking k before.desk next.begun.front after few next.begun.unbroken next.long)
+    (heads_long taking k before.desk next.begun.prefix after few next.begun.unbroken next.long)
 
 heads_past : {D : Type 0} (taking : Taking D) (k : ℕ) (d : D) (b : ℕ) (after : Scene D) → most_lines < k
     → Heads taking k d (b ∷ []) after (Err (codes "TooManyLines"))
@@ -117,7 +117,7 @@ past_errs taking fault k before after b past got refuses =
 -- no line was begun
 pub stops : {D : Type 0} (before after : Scene D) → Takes before [] after × (after.held ≡ []) → after.sent ≡ before.sent → StopsReading before after
 stops before after broken same = record {
-  begun = record { front = []; unbroken = refl; got = broken.0 };
+  begun = record { prefix = []; unbroken = refl; got = broken.0 };
   none = broken.1;
   sent = same;
 }
@@ -125,7 +125,7 @@ stops before after broken same = record {
 -- memory ran out in a line
 pub runs_out : {D : Type 0} (before after : Scene D) → Begins before.held before.left after.held after.left → after.sent ≡ before.sent
     → RunsOut before after
-runs_out before after begun same = record { out = begun.front; got = begun.got; sent = same }
+runs_out before after begun same = record { out = begun.prefix; got = begun.got; sent = same }
 
 -- the first line past the limit was begun
 pub ends_past : {D : Type 0} (taking : Taking D) (first : D) (fault : LinesFault) (start sent : Option (List ℕ)) (k : ℕ) (before after : Scene D) (b : ℕ)

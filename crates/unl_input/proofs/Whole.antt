@@ -10,9 +10,9 @@ use Rattle.unl_input.specs.declared.taking.LinesFault.TheVariants.{Bad, ReadFaul
 use Rattle.unl_input.specs.Lines.{lines, ended_lines}
 use Rattle.unl_input.specs.Reading.{Gets, longest_line}
 use Rattle.unl_input.specs.Taken.{LineResult, Outcome, Taking, done, refused, IsRefused, ending_text, whole_text, printed, refused_text, begun_by, followed, take_line, take_from, outcome_of, outcome_of_ended, outcome_of_first, most_lines}
-use Rattle.unl_input.specs.Turns.{Scene, Takes, MayFollow, Prints, GoesOn, ComesToEnd, IsRefusedAt, BreaksOff, BeginsWith, RunsOut, StopsReading, Turns}
+use Rattle.unl_input.specs.Turns.{Scene, Takes, MayFollow, Prints, ProcessesLine, ReachesEnd, IsRefusedAt, BreaksOff, BeginsWith, RunsOut, StopsReading, Turns}
 use Rattle.unl_input.specs.Whole.{IsRefusing, AnswersAll, AnswersFirst, AnswersInput, AnswersRead, HoldsOfRead, TakesLines}
-use Rattle.unl_input.proofs.Lines.{gets_trans, takes_nothing, sends_nothing, sends_trans, sends_then_front, front_of_longer, IsWhole, whole_more, ended_whole, first_whole, line_first}
+use Rattle.unl_input.proofs.Lines.{gets_trans, takes_nothing, sends_nothing, sends_trans, sends_then_prefix, prefix_of_longer, IsWhole, whole_more, ended_whole, first_whole, line_first}
 
 -- ---- one line
 
@@ -97,9 +97,9 @@ begun_twice {D = D} text more outcome =
     ap (λ t. let x : Outcome D = record { text = t; ending = outcome.ending; desk = outcome.desk } in x) (sym (append_assoc text more outcome.text))
 
 -- one more line was processed
-pub goes_on : {D : Type 0} (taking : Taking D) (first : D) (start sent : Option (List ℕ)) (k : ℕ) (before after : Scene D)
-    → Sofar taking first start sent k before → GoesOn taking k before after → Sofar taking first start sent (k + 1) after
-goes_on taking first start sent k before after sofar now =
+pub processes_line : {D : Type 0} (taking : Taking D) (first : D) (start sent : Option (List ℕ)) (k : ℕ) (before after : Scene D)
+    → Sofar taking first start sent k before → ProcessesLine taking k before after → Sofar taking first start sent (k + 1) after
+processes_line taking first start sent k before after sofar now =
     let out : List ℕ = now.line ++ 10 ∷ [] in record {
       taken = sofar.taken ++ out;
       text = sofar.text ++ now.text;
@@ -118,7 +118,7 @@ goes_on taking first start sent k before after sofar now =
 
 -- all of the input was processed, whether or not it is observable
 pub ends_all : {D : Type 0} (taking : Taking D) (first : D) (start sent : Option (List ℕ)) (k : ℕ) (before after : Scene D)
-    → Sofar taking first start sent k before → ComesToEnd taking k before after
+    → Sofar taking first start sent k before → ReachesEnd taking k before after
     → AnswersAll taking first after.desk start after.left sent after.sent
 ends_all {D = D} taking first start sent k before after sofar now =
     let all = gets_trans [] before.held after.held start before.left after.left sofar.taken now.out sofar.got now.got in
@@ -185,7 +185,7 @@ pub ends_broken : {D : Type 0} (taking : Taking D) (first : D) (start sent : Opt
     → HoldsOfRead start after.left (λ bytes. SendsFront sent (whole_text (outcome_of taking first bytes)) after.sent)
 ends_broken taking first start sent k before after sofar now =
     let all = gets_trans [] before.held after.held start before.left after.left sofar.taken now.out sofar.got now.got in
-    let front = sends_then_front sent before.sent after.sent sofar.text now.text sofar.sends now.sent in
+    let prefix = sends_then_prefix sent before.sent after.sent sofar.text now.text sofar.sends now.sent in
     let tail : (rest : List ℕ) → (HasEnded after.left → rest ≡ [])
     → BeginsWith now.text (take_from taking k before.desk (lines (now.out ++ (after.held ++ rest)))) =
     λ rest may. now.is (after.held ++ rest) (may_follow after rest may) in
@@ -198,8 +198,8 @@ ends_broken taking first start sent k before after sofar now =
     record {
       read = all.read;
       took = all.took;
-      holds = λ rest may. front_of_longer sent after.sent (sofar.text ++ now.text) (tail rest may).0
-          (whole_text (outcome_of taking first (all.read ++ rest))) front (text rest may);
+      holds = λ rest may. prefix_of_longer sent after.sent (sofar.text ++ now.text) (tail rest may).0
+          (whole_text (outcome_of taking first (all.read ++ rest))) prefix (text rest may);
     }
 
 -- what holds whatever follows holds for an observable input
@@ -221,12 +221,12 @@ whole_read (Some bytes) (Some rest) read took end =
 pub ends_unread : {D : Type 0} (taking : Taking D) (first : D) (start sent : Option (List ℕ)) (k : ℕ) (before after : Scene D)
     → Sofar taking first start sent k before → StopsReading before after → AnswersRead taking first start after.left sent after.sent
 ends_unread {D = D} taking first start sent k before after sofar now =
-    let all = gets_trans [] before.held after.held start before.left after.left sofar.taken now.begun.front sofar.got now.begun.got in
-    let read : all.read ≡ sofar.taken ++ now.begun.front = all.split ∙ ap (λ h. (sofar.taken ++ now.begun.front) ++ h) now.none ∙ append-nil (sofar.taken ++ now.begun.front) in
+    let all = gets_trans [] before.held after.held start before.left after.left sofar.taken now.begun.prefix sofar.got now.begun.got in
+    let read : all.read ≡ sofar.taken ++ now.begun.prefix = all.split ∙ ap (λ h. (sofar.taken ++ now.begun.prefix) ++ h) now.none ∙ append-nil (sofar.taken ++ now.begun.prefix) in
     let whole : Outcome D = record { text = sofar.text ++ []; ending = done; desk = before.desk } in
     let is : outcome_of_ended taking first all.read ≡ whole =
     ap (λ bytes. take_from taking 1 first (ended_lines bytes)) read
-    ∙ ap (take_from taking 1 first) (ended_whole sofar.taken now.begun.front sofar.whole now.begun.unbroken ∙ ap lines (sym (append-nil sofar.taken)))
+    ∙ ap (take_from taking 1 first) (ended_whole sofar.taken now.begun.prefix sofar.whole now.begun.unbroken ∙ ap lines (sym (append-nil sofar.taken)))
     ∙ sofar.leads [] in
     record {
       read = all.read;
@@ -257,7 +257,7 @@ first_of {D = D} taking first start sent after k before bytes rest sofar same pa
         ending = ap (λ r. r.ending) is;
         sent = subst (λ t. Sends sent t after) (sym (ap (λ r. r.text) is ∙ append-nil sofar.text)) sends;
       };
-      front = record {
+      prefix = record {
         part = sofar.text;
         after = whole_text more;
         split = ap (λ xs. whole_text (outcome_of taking first xs)) parts ∙ ap whole_text (sofar.leads rest)
@@ -288,7 +288,7 @@ ends_at_once taking first start sent = record {
   holds = λ rest may. record {
     count = 0;
     answered = record { ending = refl; sent = sends_nothing sent };
-    front = record { part = []; after = whole_text (outcome_of taking first rest); split = refl; sends = sends_nothing sent };
+    prefix = record { part = []; after = whole_text (outcome_of taking first rest); split = refl; sends = sends_nothing sent };
   };
 }
 

@@ -34,7 +34,7 @@ IsRead (Err (BadInput fault)) left bytes left_after = IsWhole left bytes left_af
 IsRead (Err TooLarge) left bytes left_after = IsTooLong left bytes left_after
 
 -- An input with this outcome was read.
-pub record ComesTo {T : Type 0} (reads : List ℕ → Reading T) (outcome : Outcome T) (left left_after : Option (List ℕ)) : Type 0 where
+pub record HasOutcome {T : Type 0} (reads : List ℕ → Reading T) (outcome : Outcome T) (left left_after : Option (List ℕ)) : Type 0 where
   pub bytes : List ℕ
   pub read : IsRead outcome left bytes left_after
   pub is : outcome_of reads bytes ≡ outcome
@@ -42,26 +42,26 @@ pub record ComesTo {T : Type 0} (reads : List ℕ → Reading T) (outcome : Outc
 -- An input with this outcome was read, and the whole text for it was sent.
 pub record Says {T : Type 0} (reads : List ℕ → Reading T) (says : T → List ℕ) (outcome : Outcome T)
     (left left_after old new : Option (List ℕ)) : Type 0 where
-  pub comes : ComesTo reads outcome left left_after
+  pub comes : HasOutcome reads outcome left left_after
   pub sent : Sends old (said says outcome) new
 
 -- An input with this outcome was read, and a prefix of the text for it was sent.
-pub record SaysFront {T : Type 0} (reads : List ℕ → Reading T) (says : T → List ℕ) (outcome : Outcome T)
+pub record SaysPrefix {T : Type 0} (reads : List ℕ → Reading T) (says : T → List ℕ) (outcome : Outcome T)
     (left left_after old new : Option (List ℕ)) : Type 0 where
-  pub comes : ComesTo reads outcome left left_after
+  pub comes : HasOutcome reads outcome left left_after
   pub sent : SendsFront old (said says outcome) new
 
 -- An input was read that is refused for this reason, and nothing was sent.
 pub record IsRefused {T : Type 0} (reads : List ℕ → Reading T) (refusal : InputRefusal)
     (left left_after old new : Option (List ℕ)) : Type 0 where
-  pub comes : ComesTo reads (Err refusal) left left_after
+  pub comes : HasOutcome reads (Err refusal) left left_after
   pub silent : new ≡ old
 
 -- The input has an answer, and a prefix of its text was sent.
 pub record BreaksOff {T : Type 0} (reads : List ℕ → Reading T) (says : T → List ℕ)
     (left left_after old new : Option (List ℕ)) : Type 0 where
   pub answer : T
-  pub front : SaysFront reads says (Ok answer) left left_after old new
+  pub prefix : SaysPrefix reads says (Ok answer) left left_after old new
 
 -- How answering an input ends, in terms of the source's remaining bytes and the sink's sent bytes, before and after.
 abbrev pub Answers : {T : Type 0} → (List ℕ → Reading T) → (T → List ℕ) → Result T AnswerFault

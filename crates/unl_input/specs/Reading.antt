@@ -62,14 +62,14 @@ TakesNext End held left held_after left_after = Gets held left [] held_after lef
 
 -- part of a line was consumed
 pub record Begins (held : List ℕ) (left : Option (List ℕ)) (held_after : List ℕ) (left_after : Option (List ℕ)) : Type 0 where
-  pub front : List ℕ
-  pub unbroken : has_end front ≡ false
-  pub got : Gets held left front held_after left_after
+  pub prefix : List ℕ
+  pub unbroken : has_end prefix ≡ false
+  pub got : Gets held left prefix held_after left_after
 
 -- part of a line was consumed, and the line is already too long
 pub record BeginsLong (held : List ℕ) (left : Option (List ℕ)) (held_after : List ℕ) (left_after : Option (List ℕ)) : Type 0 where
   pub begun : Begins held left held_after left_after
-  pub long : longest_line < length begun.front
+  pub long : longest_line < length begun.prefix
 
 -- what was consumed when no line could be read
 abbrev pub Breaks : ReadFault → List ℕ → Option (List ℕ) → List ℕ → Option (List ℕ) → Type 0

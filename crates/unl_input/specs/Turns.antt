@@ -45,7 +45,7 @@ abbrev pub MayFollow : {D : Type 0} → Scene D → List ℕ → Type 0
 MayFollow after rest = IsAtEnd after.held after.left → rest ≡ []
 
 -- line `k` was processed, and its line feed was consumed
-pub record GoesOn {D : Type 0} (taking : Taking D) (k : ℕ) (before after : Scene D) : Type 0 where
+pub record ProcessesLine {D : Type 0} (taking : Taking D) (k : ℕ) (before after : Scene D) : Type 0 where
   pub line : List ℕ
   pub unbroken : has_end line ≡ false
   pub text : List ℕ
@@ -54,7 +54,7 @@ pub record GoesOn {D : Type 0} (taking : Taking D) (k : ℕ) (before after : Sce
   pub sent : Sends before.sent text after.sent
 
 -- the input was read to its end, and all of it was processed
-pub record ComesToEnd {D : Type 0} (taking : Taking D) (k : ℕ) (before after : Scene D) : Type 0 where
+pub record ReachesEnd {D : Type 0} (taking : Taking D) (k : ℕ) (before after : Scene D) : Type 0 where
   pub out : List ℕ
   pub text : List ℕ
   pub got : Takes before out after
@@ -97,8 +97,8 @@ pub record RunsOut {D : Type 0} (before after : Scene D) : Type 0 where
 
 -- the effect of one turn: a line is processed, the input has ended, or it failed, or memory ran out
 abbrev pub Turns : {D : Type 0} → Taking D → Result Progress LinesFault → ℕ → Scene D → Scene D → Type 0
-Turns taking (Ok Line) k before after = GoesOn taking k before after
-Turns taking (Ok Over) k before after = ComesToEnd taking k before after
+Turns taking (Ok Line) k before after = ProcessesLine taking k before after
+Turns taking (Ok Over) k before after = ReachesEnd taking k before after
 Turns taking (Err Bad) k before after = IsRefusedAt taking k before after
 Turns taking (Err ReadFault) k before after = StopsReading before after
 Turns taking (Err WriteFault) k before after = BreaksOff taking k before after

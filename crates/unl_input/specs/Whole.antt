@@ -31,7 +31,7 @@ pub record HoldsOfRead (left left_after : Option (List ℕ)) (P : List ℕ → T
 pub record AnswersFirst {D : Type 0} (taking : Taking D) (desk : D) (bytes : List ℕ) (old new : Option (List ℕ)) : Type 0 where
   pub count : ℕ
   pub answered : IsAnswered (outcome_of_first taking desk count bytes) old new
-  pub front : SendsFront old (whole_text (outcome_of taking desk bytes)) new
+  pub prefix : SendsFront old (whole_text (outcome_of taking desk bytes)) new
 
 -- the input was read to its end, every line was processed, and all output was sent
 pub record AnswersInput {D : Type 0} (taking : Taking D) (desk : D) (left left_after old new : Option (List ℕ)) : Type 0 where

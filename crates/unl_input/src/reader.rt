@@ -160,7 +160,7 @@ impl LineReader {
     }
 
     /// The held bytes, at most the first `most`.
-    fn front(&self, most: usize) -> &[u8]
+    fn prefix(&self, most: usize) -> &[u8]
         ensures { result.now ≡ take most self.now }
     {
         let held = &self.room[self.from..self.to];
@@ -184,10 +184,10 @@ impl LineReader {
         ensures piece { IfOk result (λ ended. TakesPiece ended line.old.items self.old line.new.items self.new) }
         ensures unchanged { OnErr result (self.new ≡ self.old) }
     {
-        let front = self.front(LONGEST_LINE + 1 - line.len());
-        let len = unbroken_len(front);
-        line.extend_from_slice(&front[..len])?;
-        if len < front.len() {
+        let prefix = self.prefix(LONGEST_LINE + 1 - line.len());
+        let len = unbroken_len(prefix);
+        line.extend_from_slice(&prefix[..len])?;
+        if len < prefix.len() {
             self.skip(len + 1);
             return Ok(true);
         }

@@ -81,7 +81,7 @@ fn read_to_end<S: Source>(
     'reads: while bytes.len() <= LONGEST {
         match source.read(room) {
             Ok(0) => return Ok(List::from_vec(bytes)),
-            Ok(count) => take_front(&mut bytes, room, count)?,
+            Ok(count) => take_prefix(&mut bytes, room, count)?,
             Err(_) => return Err(InputFault::ReadFault),
         }
     }
@@ -96,7 +96,7 @@ fn new_room(alloc: Global) -> Result<Vec<u8>, AllocError>
 }
 
 /// Appends the first `count` bytes of the read buffer.
-fn take_front(bytes: &mut Vec<u8>, room: &[u8], count: usize) -> Result<(), Memory>
+fn take_prefix(bytes: &mut Vec<u8>, room: &[u8], count: usize) -> Result<(), Memory>
     requires { count ≤ length room.now }
     ensures { OnOk result (bytes.new.items ≡ bytes.old.items ++ take count room.now) }
 {

@@ -5,7 +5,7 @@ use mathlib.Core.Option.{some, some-injective, some-ne-none}
 use lib.ListN.{get_elem?}
 use Rattle.atomic_table.proofs.Lists.{at_set, at_snoc}
 use Rattle.unl_publication.specs.declared.knowledge.Knowledge.{Knowledge}
-use Rattle.unl_publication.specs.Rule.{Rise, StartsWith, knows_nothing, AreAllowed, KnowsAllowed, Fits, IsKept, Opens, Publishes, Enters, told_by, with_installs}
+use Rattle.unl_publication.specs.Rule.{Rise, StartsWith, knows_nothing, AreAllowed, KnowsAllowed, Fits, IsKept, Opens, Publishes, Enters, shared_knowledge, with_installs}
 
 -- ---- numbers that never fall
 
@@ -71,7 +71,7 @@ module _ {S I : Type 0} where
     fronts = zero-le;
   }
 
-  Fits-note : (opening : S) (list : List I) (v : Knowledge S I) → Fits opening list v → Fits opening list (told_by v)
+  Fits-note : (opening : S) (list : List I) (v : Knowledge S I) → Fits opening list v → Fits opening list (shared_knowledge v)
   Fits-note opening list v h = record { opened = h.opened; seen = h.seen; fronts = zero-le }
 
   -- ---- the knowledge of all
@@ -108,18 +108,18 @@ module _ {S I : Type 0} where
     admits value views k = IsKept-views value views (views ++ knows_nothing ∷ []) k (AllFit-snoc k.opening k.list views knows_nothing k.fits (Fits-knows_nothing k.opening k.list))
 
     pub forks : (seat : ℕ) (v : Knowledge S I) (value : S) (views : List (Knowledge S I)) → IsKept installed front_of allows value views → get_elem? views seat ≡ some v
-        → IsKept installed front_of allows value (set views seat v ++ told_by v ∷ [])
+        → IsKept installed front_of allows value (set views seat v ++ shared_knowledge v ∷ [])
     forks seat v value views k at = let f = k.fits seat v at in
-        IsKept-views value views (set views seat v ++ told_by v ∷ []) k
-        (AllFit-snoc k.opening k.list (set views seat v) (told_by v) (AllFit-set k.opening k.list views seat v k.fits f) (Fits-note k.opening k.list v f))
+        IsKept-views value views (set views seat v ++ shared_knowledge v ∷ []) k
+        (AllFit-snoc k.opening k.list (set views seat v) (shared_knowledge v) (AllFit-set k.opening k.list views seat v k.fits f) (Fits-note k.opening k.list v f))
 
     pub greets : (seat : ℕ) (v : Knowledge S I) (other : ℕ) (w : Knowledge S I) (value : S) (views : List (Knowledge S I)) → IsKept installed front_of allows value views
-        → get_elem? views seat ≡ some v → ¬ (other ≡ seat) → get_elem? (set views seat (told_by w)) other ≡ some w
-        → IsKept installed front_of allows value (set (set views seat (told_by w)) other knows_nothing)
+        → get_elem? views seat ≡ some v → ¬ (other ≡ seat) → get_elem? (set views seat (shared_knowledge w)) other ≡ some w
+        → IsKept installed front_of allows value (set (set views seat (shared_knowledge w)) other knows_nothing)
     greets seat v other w value views k at apart there =
-        let f = Fits-note k.opening k.list w (k.fits other w (other_there views seat other (told_by w) w apart there)) in
-        IsKept-views value views (set (set views seat (told_by w)) other knows_nothing) k
-        (AllFit-set k.opening k.list (set views seat (told_by w)) other knows_nothing (AllFit-set k.opening k.list views seat (told_by w) k.fits f) (Fits-knows_nothing k.opening k.list))
+        let f = Fits-note k.opening k.list w (k.fits other w (other_there views seat other (shared_knowledge w) w apart there)) in
+        IsKept-views value views (set (set views seat (shared_knowledge w)) other knows_nothing) k
+        (AllFit-set k.opening k.list (set views seat (shared_knowledge w)) other knows_nothing (AllFit-set k.opening k.list views seat (shared_knowledge w) k.fits f) (Fits-knows_nothing k.opening k.list))
 
     pub enters : (before : List (Option S)) (fronts : List ℕ) (seat : ℕ) (v : Knowledge S I) (value : S) → Rise 0 fronts (length v.installs)
         → (views : List (Knowledge S I)) → IsKept installed front_of allows value views → get_elem? views seat ≡ some v

@@ -7,7 +7,7 @@ use Rattle.std.specs.declared.option.Option.{Option}
 use Rattle.std.specs.declared.option.Option.TheVariants.{None}
 use Rattle.std.proofs.lemmas.List.Sums.{fold-append}
 use Rattle.unl_publication.specs.declared.knowledge.Knowledge.{Knowledge}
-use Rattle.unl_publication.specs.Rule.{AreAllowed, KnowsAllowed, MayPublish, Opens, Rise, Enters, knows_nothing, knows_opening, told_by, with_installs}
+use Rattle.unl_publication.specs.Rule.{AreAllowed, KnowsAllowed, MayPublish, Opens, Rise, Enters, knows_nothing, knows_opening, shared_knowledge, with_installs}
 use Rattle.unl_publication.specs.Meaning.{known, before_of, value_at}
 use Rattle.unl_publication.specs.Looking.{AreBothAllowed, Shows, AreFronts, IsAhead, IsBetweenLooks, IsLooking, Takes}
 use Rattle.unl_publication.proofs.Meant.{length-first_of}
@@ -40,8 +40,8 @@ module _ {S I : Type 0} where
   IsBetweenLooks-rises past now h = Rise-higher 0 (known past now).fronts (length (known past now).installs) (length now.installs) h.fronts (known_ahead past now h.ahead)
 
   -- The reader continues from a learned list.
-  pub IsBetweenLooks-told : (past : Option (Knowledge S I)) (now told kept : Knowledge S I) → IsBetweenLooks past now → kept ≡ known past now → length now.installs < length told.installs → IsBetweenLooks (Some kept) told
-  IsBetweenLooks-told past now told kept h is more = record {
+  pub IsBetweenLooks-learned : (past : Option (Knowledge S I)) (now told kept : Knowledge S I) → IsBetweenLooks past now → kept ≡ known past now → length now.installs < length told.installs → IsBetweenLooks (Some kept) told
+  IsBetweenLooks-learned past now told kept h is more = record {
     fronts = subst AreFronts (sym is) h.fronts;
     ahead = omega (arith, known_ahead past now h.ahead, more, ap (λ (k : Knowledge S I). length k.installs) is);
   }
@@ -102,8 +102,8 @@ module _ {S I : Type 0} (installed : S → I → S) (allows : S → I → Type 0
   KnowsAllowed-same v w same h = subst (λ (k : Knowledge S I). ∥ KnowsAllowed installed allows k ∥₁) (sym same) h
 
   -- One that was told the list.
-  pub KnowsAllowed-told : (v w : Knowledge S I) → w ≡ told_by v → ∥ KnowsAllowed installed allows v ∥₁ → ∥ KnowsAllowed installed allows w ∥₁
-  KnowsAllowed-told v w same h = KnowsAllowed-same (told_by v) w same h
+  pub KnowsAllowed-shared : (v w : Knowledge S I) → w ≡ shared_knowledge v → ∥ KnowsAllowed installed allows v ∥₁ → ∥ KnowsAllowed installed allows w ∥₁
+  KnowsAllowed-shared v w same h = KnowsAllowed-same (shared_knowledge v) w same h
 
   -- A writer that knows the opening value alone.
   pub KnowsAllowed-opened : (table : ℕ) (value : S) (v w : Knowledge S I) → v ≡ knows_nothing → Opens table value v w → ∥ KnowsAllowed installed allows w ∥₁
@@ -120,9 +120,9 @@ module _ {S I : Type 0} (installed : S → I → S) (allows : S → I → Type 0
       both x = record { seen = x; next = x }
 
   -- A reader that continues from a learned list.
-  pub AreBothAllowed-told : (past : Option (Knowledge S I)) (now told kept : Knowledge S I) → kept ≡ known past now → ∥ AreBothAllowed installed allows past now ∥₁
+  pub AreBothAllowed-learned : (past : Option (Knowledge S I)) (now told kept : Knowledge S I) → kept ≡ known past now → ∥ AreBothAllowed installed allows past now ∥₁
       → ∥ KnowsAllowed installed allows told ∥₁ → ∥ AreBothAllowed installed allows (Some kept) told ∥₁
-  AreBothAllowed-told past now told kept is h more = ∥∥₁_map₂ h more both
+  AreBothAllowed-learned past now told kept is h more = ∥∥₁_map₂ h more both
     where
       both : AreBothAllowed installed allows past now → KnowsAllowed installed allows told → AreBothAllowed installed allows (Some kept) told
       both x y = record { seen = subst (λ (k : Knowledge S I). KnowsAllowed installed allows k) (sym is) x.seen; next = y }

@@ -67,8 +67,8 @@ module _ {S I : Type 0} where
 
   -- What a reader continues from after it learned a front: if the front is above its own, the list that came with it, if there
   -- is one; otherwise its own.
-  abbrev pub goes_on : ℕ → Option (Knowledge S I) → Knowledge S I → Knowledge S I
-  goes_on front told own = if leb front (front_seen own) then own else unwrap_or told own
+  abbrev pub continues_from : ℕ → Option (Knowledge S I) → Knowledge S I → Knowledge S I
+  continues_from front told own = if leb front (front_seen own) then own else unwrap_or told own
 
   -- What a reader remembers of its last look after it learned a front: if it continues from the list that came with it, what it
   -- knew at that look; otherwise what it remembered.

@@ -34,8 +34,8 @@ module _ {S I : Type 0} where
   }
 
   -- What is passed on from one's knowledge: the table, the opening value and the list.
-  abbrev pub told_by : Knowledge S I → Knowledge S I
-  told_by v = record { table = v.table; opening = v.opening; installs = v.installs; before = []; fronts = [] }
+  abbrev pub shared_knowledge : Knowledge S I → Knowledge S I
+  shared_knowledge v = record { table = v.table; opening = v.opening; installs = v.installs; before = []; fronts = [] }
 
   -- ---- which installs may come next
 

@@ -34,30 +34,30 @@ module _ {T I P S : Type 0} {c : counted.Ghosts T I S} {a : absorb.Ghosts T I S}
   past reader = option_map (λ s. view s.value.place) reader.past
 
   -- The largest number of installs that a reader has learned of.
-  abbrev pub told_of : Reader T I P S c a → ℕ
-  told_of reader = reader.least
+  abbrev pub learned_front : Reader T I P S c a → ℕ
+  learned_front reader = reader.least
 
   -- A reader that knows exactly this, and has learned nothing else.
   pub record IsFresh (knowledge : Knowledge S I) (reader : Reader T I P S c a) : Type 0 where
     pub knows : next reader ≡ knowledge
     pub alone : past reader ≡ None
-    pub untold : told_of reader ≡ 0
+    pub learned_none : learned_front reader ≡ 0
 
   -- What a reader that is looking knows.
   abbrev pub taken : Guard T I P S c a → Knowledge S I
   taken guard = view guard.reading.place
 
   -- The largest number of installs that a reader had learned of when it looked.
-  abbrev pub was_told_of : Guard T I P S c a → ℕ
-  was_told_of guard = guard.least
+  abbrev pub learned_front_at_look : Guard T I P S c a → ℕ
+  learned_front_at_look guard = guard.least
 
   -- The number of installs in what the writer reports.
-  abbrev pub told_front : Told T I P S c a → ℕ
-  told_front told = told.front
+  abbrev pub reported_front : Told T I P S c a → ℕ
+  reported_front told = told.front
 
   -- The list in what the writer reports, if it has one.
-  abbrev pub told_list : Told T I P S c a → Option (Knowledge S I)
-  told_list told = option_map (λ seat. view seat.place) told.seat
+  abbrev pub reported_list : Told T I P S c a → Option (Knowledge S I)
+  reported_list told = option_map (λ seat. view seat.place) told.seat
 
 module _ {W T I P S : Type 0} {c : counted.Ghosts T I S} {a : absorb.Ghosts T I S} where
   -- What a publisher has published: the opening value and the whole list.

@@ -1,6 +1,6 @@
 //! Creates a writer and its readers.
 ghost use Rattle.std.specs.Prelude.{◌≡◌, ℕ, ◌^◌, ◌<◌, ◌≤◌, false, All, IfOk, None, length};
-ghost use Rattle.unl_publication.specs.Rule.{knows_opening, told_by};
+ghost use Rattle.unl_publication.specs.Rule.{knows_opening, shared_knowledge};
 ghost use Rattle.unl_publication.specs.Seen.{IsFresh, is_closed, written};
 
 use crate::reader::Reader;
@@ -11,7 +11,7 @@ use std::alloc::{AllocError, Global};
 use std::sync::Wait;
 
 /// Creates a writer over two copies with equal meaning, and `readers` readers that know only the opening value. There is
-/// room for `tells` more readers, so that many lists returned by `tell` can wait to be learned at a time.
+/// room for `spare_readers` more readers, so that many lists returned by `tell` can wait to be learned at a time.
 ///
 /// # Errors
 ///
@@ -22,16 +22,16 @@ pub fn begin<T: Counted<I> + Drop, I: Drop, P: Rules<T, I>, W: Wait>(
     first: T,
     second: T,
     readers: usize,
-    tells: usize,
+    spare_readers: usize,
 ) -> Result<(Writer<T, I, P>, Vec<Reader<T, I, P>>), AllocError>
-    requires readers { (0 < readers) × (readers ≤ 16) × (tells ≤ 16) }
+    requires readers { (0 < readers) × (readers ≤ 16) × (spare_readers ≤ 16) }
     requires alike { T.state first ≡ T.state second }
     requires begins { T.front_of (T.state first) ≡ 0 }
     ensures writer { IfOk result (λ r. (table : ℕ) × (written r.0 ≡ knows_opening table (T.state first)) × (is_closed r.0 ≡ false)) }
     ensures count { IfOk result (λ r. length r.1.items ≡ readers) }
     ensures readers { IfOk result (λ r. All (IsFresh (written r.0)) r.1.items) }
 {
-    let mut writer = Writer::new(rt, alloc, first, second, readers + tells)?;
+    let mut writer = Writer::new(rt, alloc, first, second, readers + spare_readers)?;
     match new_readers(alloc, &mut writer, readers) {
         Ok(all) => Ok((writer, all)),
         Err(e) => {
@@ -49,7 +49,7 @@ fn new_readers<T: Counted<I> + Drop, I: Drop, P: Rules<T, I>>(
     ensures same { written writer.new ≡ written writer.old }
     ensures closed { is_closed writer.new ≡ is_closed writer.old }
     ensures count { IfOk result (λ all. length all.items ≡ count) }
-    ensures readers { IfOk result (λ all. All (IsFresh (told_by (written writer.old))) all.items) }
+    ensures readers { IfOk result (λ all. All (IsFresh (shared_knowledge (written writer.old))) all.items) }
 {
     let mut all = Vec::new(alloc);
     'made: while all.len() < count {
@@ -68,7 +68,7 @@ pub fn new_reader<T: Counted<I> + Drop, I: Drop, P: Rules<T, I>>(
 ) -> Result<Reader<T, I, P>, AllocError>
     ensures same { written writer.new ≡ written writer.old }
     ensures closed { is_closed writer.new ≡ is_closed writer.old }
-    ensures reader { IfOk result (IsFresh (told_by (written writer.old))) }
+    ensures reader { IfOk result (IsFresh (shared_knowledge (written writer.old))) }
 {
     let front = writer.sides.published().front();
     let seat = fresh_seat(&mut writer.sides)?;

@@ -2,7 +2,7 @@
 ghost use Rattle.std.specs.Prelude.{◌≡◌, true, false, [], ◌∷◌, length, fold, Some, is_some, unwrap_or, option_map};
 ghost use Rattle.std.specs.Prelude.{IfSome, IsErr, MatchResult, OnOk};
 ghost use Rattle.unl_publication.specs.Meaning.{front_seen};
-ghost use Rattle.unl_publication.specs.Rule.{KnowsAllowed, MayPublish, knows_nothing, told_by, with_installs};
+ghost use Rattle.unl_publication.specs.Rule.{KnowsAllowed, MayPublish, knows_nothing, shared_knowledge, with_installs};
 
 use crate::rule::Rules;
 use crate::value::Counted;
@@ -15,11 +15,11 @@ use std::sync::Wait;
 pub struct Publisher<'a, W: Wait, T: Counted<I> + Drop, I: Drop, P: Rules<T, I>> {
     rt: &'a W,
     pub(crate) writer: Option<Writer<T, I, P>>,
-    ghost there: { is_some writer ≡ true },
+    ghost has_writer: { is_some writer ≡ true },
 }
 
 impl<'a, W: Wait, T: Counted<I> + Drop, I: Drop, P: Rules<T, I>> Publisher<'a, W, T, I, P> {
-    ghost use Rattle.unl_publication.specs.Seen.{is_closed, stays_closed, published, told_front, told_list, written};
+    ghost use Rattle.unl_publication.specs.Seen.{is_closed, stays_closed, published, reported_front, reported_list, written};
 
     /// A publisher over a writer. It waits by `rt`.
     pub fn new(rt: &'a W, writer: Writer<T, I, P>) -> Publisher<'a, W, T, I, P>
@@ -75,8 +75,8 @@ impl<'a, W: Wait, T: Counted<I> + Drop, I: Drop, P: Rules<T, I>> Publisher<'a, W
     pub fn tell(&mut self) -> Told<T, I, P>
         ensures same { published self.new ≡ published self.old }
         ensures closed { stays_closed self.new ≡ stays_closed self.old }
-        ensures front { told_front result ≡ front_seen (published self.old) }
-        ensures list { IfSome (told_list result) (λ list. list ≡ told_by (published self.old)) }
+        ensures front { reported_front result ≡ front_seen (published self.old) }
+        ensures list { IfSome (reported_list result) (λ list. list ≡ shared_knowledge (published self.old)) }
     {
         let Some(mut writer) = self.writer.take() else {
             unreachable!()

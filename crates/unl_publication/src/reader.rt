@@ -5,7 +5,7 @@ ghost use Rattle.left_right.specs.Sides.{view};
 ghost use Rattle.unl_publication.specs.Rule.{KnowsAllowed, Rise, Enters};
 ghost use Rattle.unl_publication.specs.Meaning.{known, before_of, front_seen, value_at};
 ghost use Rattle.unl_publication.specs.Looking.{AreBothAllowed, IsBetweenLooks, IsLooking, SameOrigin, Shows, Takes};
-ghost use Rattle.unl_publication.specs.Looking.{Follows, LooksBelow, StaysOrTakes, goes_on, remembers};
+ghost use Rattle.unl_publication.specs.Looking.{Follows, LooksBelow, StaysOrTakes, continues_from, remembers};
 
 use crate::knowledge::Knowledge;
 use crate::rule::{Enter, Past, Rules};
@@ -26,7 +26,7 @@ pub struct Reader<T: Counted<I> + Drop, I: Drop, P: Rules<T, I>> {
     /// The largest number of installs that it has learned of. It returns no value with fewer.
     pub(crate) least: u64,
     ghost counted: { front ≡ length (view seat.place).installs },
-    ghost stands: { ∥ IsBetweenLooks (option_map (λ s. view s.value.place) past) (view seat.place) ∥₁ },
+    ghost between_looks: { ∥ IsBetweenLooks (option_map (λ s. view s.value.place) past) (view seat.place) ∥₁ },
     ghost allowed: { ∥ AreBothAllowed T.applied T.allows (option_map (λ s. view s.value.place) past) (view seat.place) ∥₁ },
 }
 
@@ -37,23 +37,23 @@ pub struct Guard<T: Counted<I> + Drop, I: Drop, P: Rules<T, I>> {
     pub(crate) least: u64,
     ghost counted: { front ≡ length (view reading.place).installs },
     ghost shows: { ∥ Shows T.applied T.front_of (T.state reading.part.value) (view reading.place) ∥₁ },
-    ghost sits: { ∥ IsLooking (view reading.place) ∥₁ },
+    ghost is_looking: { ∥ IsLooking (view reading.place) ∥₁ },
     ghost allowed: { ∥ KnowsAllowed T.applied T.allows (view reading.place) ∥₁ },
 }
 
 impl<T: Counted<I> + Drop, I: Drop, P: Rules<T, I>> Reader<T, I, P> {
-    ghost use Rattle.unl_publication.specs.Seen.{next, past, seen, taken, told_front, told_list, told_of, was_told_of};
+    ghost use Rattle.unl_publication.specs.Seen.{next, past, seen, taken, reported_front, reported_list, learned_front, learned_front_at_look};
 
     /// Learns what the writer knew when it made `told`. From then on the reader returns no value with fewer installs, and
     /// what it knew stays known. If `told` has more installs than the reader knows, and has their list, the list that the
     /// reader takes next starts with that one.
     pub fn learn(&mut self, told: Told<T, I, P>)
-        requires origin { IfSome (told_list told) (λ list. SameOrigin list (next self.old)) }
+        requires origin { IfSome (reported_list told) (λ list. SameOrigin list (next self.old)) }
         ensures origin { SameOrigin (next self.new) (next self.old) }
-        ensures least { told_of self.new ≡ max (told_of self.old) (told_front told) }
+        ensures least { learned_front self.new ≡ max (learned_front self.old) (reported_front told) }
         ensures seen { seen self.new ≡ seen self.old }
-        ensures next { next self.new ≡ goes_on (told_front told) (told_list told) (next self.old) }
-        ensures past { past self.new ≡ remembers (told_front told) (told_list told) (past self.old) (next self.old) }
+        ensures next { next self.new ≡ continues_from (reported_front told) (reported_list told) (next self.old) }
+        ensures past { past self.new ≡ remembers (reported_front told) (reported_list told) (past self.old) (next self.old) }
     {
         let Told { seat, front } = told;
         self.least = self.least.max(front);
@@ -61,7 +61,7 @@ impl<T: Counted<I> + Drop, I: Drop, P: Rules<T, I>> Reader<T, I, P> {
             return;
         }
         if let Some(seat) = seat {
-            let past = go_on(self.past.take(), &self.seat);
+            let past = last_look(self.past.take(), &self.seat);
             self.past = Some(past);
             self.seat = seat;
             self.front = front;
@@ -76,8 +76,8 @@ impl<T: Counted<I> + Drop, I: Drop, P: Rules<T, I>> Reader<T, I, P> {
     /// reader had learned.
     pub fn enter(self) -> Result<Guard<T, I, P>, Reader<T, I, P>>
         ensures least { MatchResult result
-            (λ guard. (told_of self ≤ front_seen (taken guard)) × (was_told_of guard ≡ told_of self))
-            (λ reader. told_of reader ≡ told_of self) }
+            (λ guard. (learned_front self ≤ front_seen (taken guard)) × (learned_front_at_look guard ≡ learned_front self))
+            (λ reader. learned_front reader ≡ learned_front self) }
         ensures origin { MatchResult result
             (λ guard. SameOrigin (taken guard) (next self))
             (λ reader. SameOrigin (next reader) (next self)) }
@@ -86,7 +86,7 @@ impl<T: Counted<I> + Drop, I: Drop, P: Rules<T, I>> Reader<T, I, P> {
         ensures follows { MatchResult result
             (λ guard. Follows T.applied (seen self) (taken guard))
             (λ reader. Follows T.applied (seen self) (seen reader)) }
-        ensures refused { IfErr result (λ reader. LooksBelow (told_of self) (seen self) (seen reader)) }
+        ensures refused { IfErr result (λ reader. LooksBelow (learned_front self) (seen self) (seen reader)) }
         ensures kept { IfErr result (λ reader. StaysOrTakes T.applied (past self) (next self) (past reader) (next reader)) }
     {
         let Reader {
@@ -119,7 +119,7 @@ impl<T: Counted<I> + Drop, I: Drop, P: Rules<T, I>> Reader<T, I, P> {
 }
 
 // The reader as it was when it last looked.
-fn go_on<T: Counted<I> + Drop, I: Drop, P: Rules<T, I>>(
+fn last_look<T: Counted<I> + Drop, I: Drop, P: Rules<T, I>>(
     past: Option<Snapshot<Seat<T, Knowledge<T::State, I>, P>>>,
     seat: &Seat<T, Knowledge<T::State, I>, P>,
 ) -> Snapshot<Seat<T, Knowledge<T::State, I>, P>>
@@ -149,7 +149,7 @@ fn enter_past<T: Counted<I> + Drop, I: Drop, P: Rules<T, I>, K: Past<T::State>>(
 }
 
 impl<T: Counted<I> + Drop, I: Drop, P: Rules<T, I>> Guard<T, I, P> {
-    ghost use Rattle.unl_publication.specs.Seen.{next, past, taken, told_of, was_told_of};
+    ghost use Rattle.unl_publication.specs.Seen.{next, past, taken, learned_front, learned_front_at_look};
 
     /// The number of installs that the value has absorbed.
     pub fn front(&self) -> u64
@@ -171,7 +171,7 @@ impl<T: Counted<I> + Drop, I: Drop, P: Rules<T, I>> Guard<T, I, P> {
     /// Ends the look. What was seen stays known.
     pub fn leave(self) -> Reader<T, I, P>
         ensures past { past result ≡ None }
-        ensures least { told_of result ≡ was_told_of self }
+        ensures least { learned_front result ≡ learned_front_at_look self }
         ensures same { next result ≡ taken self }
     {
         let Guard {

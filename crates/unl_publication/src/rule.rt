@@ -121,19 +121,19 @@ impl<T: Counted<I>, I: Drop, K: Past<T::State>> Outcome<T, Knowledge<T::State, I
 pub(crate) struct Tell;
 
 impl<S, I> Split<Knowledge<S, I>> for Tell {
-    ghost use Rattle.unl_publication.specs.Rule.{told_by};
+    ghost use Rattle.unl_publication.specs.Rule.{shared_knowledge};
 
     ghost left = { λ v. v };
 
-    ghost right = { told_by };
+    ghost right = { shared_knowledge };
 }
 
 pub(crate) struct Learn;
 
 impl<S, I> Join<Knowledge<S, I>> for Learn {
-    ghost use Rattle.unl_publication.specs.Rule.{told_by, knows_nothing};
+    ghost use Rattle.unl_publication.specs.Rule.{shared_knowledge, knows_nothing};
 
-    ghost both = { λ _ w. told_by w };
+    ghost both = { λ _ w. shared_knowledge w };
 
     ghost spent = { knows_nothing };
 }

@@ -3,7 +3,7 @@ ghost use Rattle.std.specs.Prelude.{◌≡◌, ◌^◌, ◌<◌, ◌≤◌, fals
 ghost use Rattle.std.specs.Prelude.{IfOk, IfSome, IsErr, MatchResult, OnOk};
 ghost use Rattle.std.specs.Prelude.{true, Some, is_some};
 ghost use Rattle.left_right.specs.Sides.{view};
-ghost use Rattle.unl_publication.specs.Rule.{AreAllowed, KnowsAllowed, MayPublish, Opens, Publishes, knows_opening, told_by, with_installs};
+ghost use Rattle.unl_publication.specs.Rule.{AreAllowed, KnowsAllowed, MayPublish, Opens, Publishes, knows_opening, shared_knowledge, with_installs};
 ghost use Rattle.unl_publication.specs.Looking.{Shows};
 ghost use Rattle.unl_publication.specs.Meaning.{front_seen};
 
@@ -39,11 +39,11 @@ pub struct Told<T: Counted<I> + Drop, I: Drop, P: Rules<T, I>> {
 }
 
 impl<T: Counted<I> + Drop, I: Drop, P: Rules<T, I>> Told<T, I, P> {
-    ghost use Rattle.unl_publication.specs.Seen.{told_list};
+    ghost use Rattle.unl_publication.specs.Seen.{reported_list};
 
     /// Whether the list is in it.
     pub fn has_list(&self) -> bool
-        ensures { result ≡ is_some (told_list self.now) }
+        ensures { result ≡ is_some (reported_list self.now) }
     {
         match &self.seat {
             Some(_) => true,
@@ -53,7 +53,7 @@ impl<T: Counted<I> + Drop, I: Drop, P: Rules<T, I>> Told<T, I, P> {
 }
 
 impl<T: Counted<I> + Drop, I: Drop, P: Rules<T, I>> Writer<T, I, P> {
-    ghost use Rattle.unl_publication.specs.Seen.{is_closed, told_front, told_list, written};
+    ghost use Rattle.unl_publication.specs.Seen.{is_closed, reported_front, reported_list, written};
 
     /// Creates a writer that knows the opening value, over two copies with equal meaning, with room for `readers` readers.
     ///
@@ -101,8 +101,8 @@ impl<T: Counted<I> + Drop, I: Drop, P: Rules<T, I>> Writer<T, I, P> {
     pub fn tell(&mut self) -> Told<T, I, P>
         ensures same { written self.new ≡ written self.old }
         ensures closed { is_closed self.new ≡ is_closed self.old }
-        ensures front { told_front result ≡ front_seen (written self.old) }
-        ensures list { IfSome (told_list result) (λ list. list ≡ told_by (written self.old)) }
+        ensures front { reported_front result ≡ front_seen (written self.old) }
+        ensures list { IfSome (reported_list result) (λ list. list ≡ shared_knowledge (written self.old)) }
     {
         let front = self.sides.published().front();
         let Ok(seat) = fresh_seat(&mut self.sides) else {
@@ -173,7 +173,7 @@ pub(crate) fn fresh_seat<T: Counted<I> + Drop, I: Drop, P: Rules<T, I>>(
     ensures same { view sides.new.desk.place ≡ view sides.old.desk.place }
     ensures shown { sides.new.desk.shown ≡ sides.old.desk.shown }
     ensures log { (sides.new.log ≡ sides.old.log) × (sides.new.behind ≡ sides.old.behind) }
-    ensures seat { IfOk result (λ r. view r.place ≡ told_by (view sides.old.desk.place)) }
+    ensures seat { IfOk result (λ r. view r.place ≡ shared_knowledge (view sides.old.desk.place)) }
 {
     let mut seat = sides.factory().reader()?;
     seat.learn::<Learn>(sides.tell::<Tell>());

@@ -21,7 +21,7 @@ use Rattle.unl_input.specs.declared.taking.LinesFault.TheVariants.{Bad, ReadFaul
 use Rattle.unl_input.proofs.Lines.{take_of_first}
 use Rattle.unl_input.proofs.Silent.{within_limits_of}
 use Rattle.unl_replay.specs.declared.ask.Ask.{Ask}
-use Rattle.unl_replay.specs.declared.bench.ReplayState.{ReplayState}
+use Rattle.unl_replay.specs.declared.replay_state.ReplayState.{ReplayState}
 use Rattle.unl_replay.specs.declared.refusal.Refusal.TheVariants.{Document}
 use Rattle.unl_replay.specs.Delivery.{AllSent, AnswersFromHistories, AsksFromHistories, DeliversRevisions, IsSentFromHistory, asked, asked_by, brought, by_op}
 use Rattle.unl_replay.specs.Forms.{ask_of}
@@ -76,7 +76,7 @@ if_both : {A E : Type 0} (r : Result A E) (O P Q : A → Type 0) → ((x : A) �
 if_both (Ok x) O P Q step one two = step x one two
 if_both (Err e) O P Q step one two = tt
 
--- a line that brings what was sent from histories leaves each slot with its history
+-- after a line with a batch that was sent from histories, each slot represents its history
 leads_on : (histories : Histories) (b : ReplayState) → AreLines histories → DeskRepresents histories b.desk
     → Leads b.desk (IsSentFromHistory histories) (DeskRepresents histories)
 leads_on histories b are all = record {
@@ -87,26 +87,26 @@ leads_on histories b are all = record {
       (desk_named (RepresentedAt histories) environment b.desk all tt) named sent is;
 }
 
-from_histories : (told : Histories) (k : ℕ) (b : ReplayState) (line : List ℕ) → DeskRepresents told b.desk → IfOk (asked line) (AnswersFromHistories told k b line)
-from_histories told k b line all =
-    if_ok (asked line) (λ (ask : Ask). answer_read k b line ≡ Ok (put_ask k b ask)) (AnswersFromHistories told k b line)
+from_histories : (histories : Histories) (k : ℕ) (b : ReplayState) (line : List ℕ) → DeskRepresents histories b.desk → IfOk (asked line) (AnswersFromHistories histories k b line)
+from_histories histories k b line all =
+    if_ok (asked line) (λ (ask : Ask). answer_read k b line ≡ Ok (put_ask k b ask)) (AnswersFromHistories histories k b line)
     (λ ask is. record {
       answers = is;
-      stand = all_represented told b.desk.board.slots b.desk.places all;
-      shows = λ q kind ready shown. shows_revision told b.desk.board q kind ready (all_represented told b.desk.board.slots b.desk.places all) shown;
+      represented = all_represented histories b.desk.board.slots b.desk.places all;
+      shows = λ q kind ready shown. shows_revision histories b.desk.board q kind ready (all_represented histories b.desk.board.slots b.desk.places all) shown;
     }) (answered k b line)
 
-pub asks_from : (told : Histories) (k : ℕ) (b : ReplayState) (lines : List (List ℕ)) → AreLines told → DeskRepresents told b.desk → AllSent told k b lines → AsksFromHistories told k b lines
-asks_from told k b [] are all sent = tt
-asks_from told k b (line ∷ more) are all sent = (
-  from_histories told k b line all,
-  if_both (take_line line_answer k b line) (λ (taken : Taken ReplayState). DeskRepresents told taken.desk.desk) (λ (taken : Taken ReplayState). AllSent told (k + 1) taken.desk more)
-      (λ (taken : Taken ReplayState). AsksFromHistories told (k + 1) taken.desk more) (λ taken here next. asks_from told (k + 1) taken.desk more are here next)
-      (line_leaves (IsSentFromHistory told) (DeskRepresents told) k b line (leads_on told b are all) sent.0) sent.1,
+pub asks_from : (histories : Histories) (k : ℕ) (b : ReplayState) (lines : List (List ℕ)) → AreLines histories → DeskRepresents histories b.desk → AllSent histories k b lines → AsksFromHistories histories k b lines
+asks_from histories k b [] are all sent = tt
+asks_from histories k b (line ∷ more) are all sent = (
+  from_histories histories k b line all,
+  if_both (take_line line_answer k b line) (λ (taken : Taken ReplayState). DeskRepresents histories taken.desk.desk) (λ (taken : Taken ReplayState). AllSent histories (k + 1) taken.desk more)
+      (λ (taken : Taken ReplayState). AsksFromHistories histories (k + 1) taken.desk more) (λ taken here next. asks_from histories (k + 1) taken.desk more are here next)
+      (line_leaves (IsSentFromHistory histories) (DeskRepresents histories) k b line (leads_on histories b are all) sent.0) sent.1,
 )
 
 pub delivered : (bytes : List ℕ) → DeliversRevisions bytes
-delivered bytes told are sent = asks_from told 1 opening (lines bytes) are tt sent
+delivered bytes histories are sent = asks_from histories 1 opening (lines bytes) are tt sent
 
 -- ---- answered lines
 

@@ -12,13 +12,13 @@ use Rattle.unl_replay.specs.Replay.{Answered, after_verdict, judged, judged_as, 
 use Rattle.unl_replay.specs.Steps.{Steps}
 use Rattle.unl_replay.specs.declared.refusal.Refusal.{Refusal}
 
-stands_after : (v : Verdict) (slot : ℕ) (batch : Batch) (d after : DeskState)
+desk_after_verdict : (v : Verdict) (slot : ℕ) (batch : Batch) (d after : DeskState)
     → ByVerdict v (after ≡ with_batch slot batch d) (after ≡ with_hold slot d) (after ≡ d) → after ≡ after_verdict v slot batch d
-stands_after Apply slot batch d after is = is
-stands_after Gap slot batch d after is = is
-stands_after Repeat slot batch d after is = is
-stands_after Old slot batch d after is = is
-stands_after Held slot batch d after is = is
+desk_after_verdict Apply slot batch d after is = is
+desk_after_verdict Gap slot batch d after is = is
+desk_after_verdict Repeat slot batch d after is = is
+desk_after_verdict Old slot batch d after is = is
+desk_after_verdict Held slot batch d after is = is
 
 -- the line of a verdict is printed over the desk after the batch
 pub judged_so : (said : Result (Vec ℕ Global) Refusal) (k slot : ℕ) (batch : Batch) (d after : DeskState) (v : Verdict)
@@ -27,4 +27,4 @@ pub judged_so : (said : Result (Vec ℕ Global) Refusal) (k slot : ℕ) (batch :
     → Steps said after (Ok (judged_as k (word_of v) slot after))
     → Steps said after (Ok (judged k slot batch d (verdict_of (place_of (installed_by d) slot) batch)))
 judged_so said k slot batch d after v is by steps =
-    subst (λ (a : Answered). Steps said after (Ok a)) (ap (judged_as k (word_of v) slot) (stands_after v slot batch d after by) ∙ ap (judged k slot batch d) is) steps
+    subst (λ (a : Answered). Steps said after (Ok a)) (ap (judged_as k (word_of v) slot) (desk_after_verdict v slot batch d after by) ∙ ap (judged k slot batch d) is) steps

@@ -19,14 +19,14 @@ use Rattle.unl_input.specs.Taken.{Taken, most_lines, take_line}
 use Rattle.unl_metrics.specs.Book.{Book}
 use Rattle.unl_tokens.specs.declared.token.Token.{Token}
 use Rattle.unl_tokens.specs.Books.{book_of}
-use Rattle.unl_replay.specs.declared.bench.ReplayState.{ReplayState}
+use Rattle.unl_replay.specs.declared.replay_state.ReplayState.{ReplayState}
 use Rattle.unl_replay.specs.declared.refusal.Refusal.TheVariants.{Document}
 use Rattle.unl_replay.specs.Delivery.{Delivery, batch_brought, brought, brought_by, by_op, feed_brought, for_environment}
 use Rattle.unl_replay.specs.Forms.{ask_of, batch_in, feed_in}
 use Rattle.unl_replay.specs.Refusals.{LineReading, and_then, documented, refusing, refusal_for_book, refusal_text}
 use Rattle.unl_replay.specs.Replay.{Answered, LineEffect, after_verdict, answer_object, answer_op, answer_read, arrive, ask_of_line, at_desk, batch_of_line, environment_in, feed_of_line, leaving_book, line_answer, metrics_of_line, number_in, put_ask, put_batch, put_metrics, put_tokens, same_line, tokens_line, tokens_of_line}
 
--- What a line may do to a desk `d`, if what it brings is as `Brings` says: nothing, publish a book, or name an environment and take
+-- What a line may do to a desk `d`, if its batch is as `Brings` says: nothing, publish a book, or name an environment and take
 -- a batch at its slot. `Holds` holds after each of these.
 pub record Leads (d : DeskState) (Brings : Delivery → Type 0) (Holds : DeskState → Type 0) : Type 0 where
   pub same : Holds d

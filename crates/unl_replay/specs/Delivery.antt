@@ -13,7 +13,7 @@ use Rattle.unl_documents.specs.Results.{object_in}
 use Rattle.unl_input.specs.Lines.{lines}
 use Rattle.unl_input.specs.Taken.{take_line}
 use Rattle.unl_replay.specs.declared.ask.Ask.{Ask}
-use Rattle.unl_replay.specs.declared.bench.ReplayState.{ReplayState}
+use Rattle.unl_replay.specs.declared.replay_state.ReplayState.{ReplayState}
 use Rattle.unl_replay.specs.declared.refusal.Refusal.TheVariants.{Document}
 use Rattle.unl_replay.specs.Forms.{ask_of, batch_in, feed_in}
 use Rattle.unl_replay.specs.Refusals.{LineReading, and_then, documented}
@@ -74,30 +74,30 @@ asked bytes = by_object asked_by bytes
 
 -- The batch was sent from the line of histories of its environment.
 abbrev pub IsSentFromHistory : Histories → Delivery → Type 0
-IsSentFromHistory told delivery = IsSent (told.line delivery.environment) (told.sees delivery.environment) delivery.batch
+IsSentFromHistory histories delivery = IsSent (histories.line delivery.environment) (histories.sees delivery.environment) delivery.batch
 
 -- The same for everything that the lines bring, from line `k` on, up to one that is refused.
 abbrev pub AllSent : Histories → ℕ → ReplayState → List (List ℕ) → Type 0
-AllSent told k b [] = ⊤
-AllSent told k b (line ∷ more) =
-    IfOk (brought b line) (IsSentFromHistory told) × IfOk (take_line line_answer k b line) (λ taken. AllSent told (k + 1) taken.desk more)
+AllSent histories k b [] = ⊤
+AllSent histories k b (line ∷ more) =
+    IfOk (brought b line) (IsSentFromHistory histories) × IfOk (take_line line_answer k b line) (λ taken. AllSent histories (k + 1) taken.desk more)
 
 -- The ask is answered over a board whose slots each represent the line of histories of their environment, and what a token is
 -- shown of it is one revision.
-pub record AnswersFromHistories (told : Histories) (k : ℕ) (b : ReplayState) (line : List ℕ) (ask : Ask) : Type 0 where
+pub record AnswersFromHistories (histories : Histories) (k : ℕ) (b : ReplayState) (line : List ℕ) (ask : Ask) : Type 0 where
   pub answers : answer_read k b line ≡ Ok (put_ask k b ask)
-  pub stand : AllRepresented told b.desk.board.slots
-  pub shows : ShowsRevisions told b.desk.board
+  pub represented : AllRepresented histories b.desk.board.slots
+  pub shows : ShowsRevisions histories b.desk.board
 
 -- The same for each ask of the lines, from line `k` on, up to one that is refused.
 abbrev pub AsksFromHistories : Histories → ℕ → ReplayState → List (List ℕ) → Type 0
-AsksFromHistories told k b [] = ⊤
-AsksFromHistories told k b (line ∷ more) =
-    IfOk (asked line) (AnswersFromHistories told k b line)
-    × IfOk (take_line line_answer k b line) (λ taken. AsksFromHistories told (k + 1) taken.desk more)
+AsksFromHistories histories k b [] = ⊤
+AsksFromHistories histories k b (line ∷ more) =
+    IfOk (asked line) (AnswersFromHistories histories k b line)
+    × IfOk (take_line line_answer k b line) (λ taken. AsksFromHistories histories (k + 1) taken.desk more)
 
 -- Batches may be lost, duplicated or out of order: if everything that these lines bring was sent from one line of histories for
 -- each environment, each ask among them is answered from these histories.
 abbrev pub DeliversRevisions : List ℕ → Type 0
 DeliversRevisions bytes =
-    (told : Histories) → AreLines told → AllSent told 1 opening (lines bytes) → AsksFromHistories told 1 opening (lines bytes)
+    (histories : Histories) → AreLines histories → AllSent histories 1 opening (lines bytes) → AsksFromHistories histories 1 opening (lines bytes)

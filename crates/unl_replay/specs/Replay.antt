@@ -28,7 +28,7 @@ use Rattle.unl_metrics.specs.Bulk.{bulk}
 use Rattle.unl_tokens.specs.declared.token.Token.{Token}
 use Rattle.unl_tokens.specs.Books.{book_of}
 use Rattle.unl_replay.specs.declared.ask.Ask.{Ask}
-use Rattle.unl_replay.specs.declared.bench.ReplayState.{ReplayState}
+use Rattle.unl_replay.specs.declared.replay_state.ReplayState.{ReplayState}
 use Rattle.unl_replay.specs.declared.refusal.Refusal.TheVariants.{Document, TooManyEnvironments}
 use Rattle.unl_replay.specs.Forms.{batch_in, feed_in, ask_of}
 use Rattle.unl_replay.specs.Refusals.{LineReading, and_then, documented, refusing, refusal_for_book, refusal_text}

@@ -14,7 +14,7 @@ use Rattle.unl_input.specs.declared.taking.LinesFault.TheVariants.{Bad, ReadFaul
 use Rattle.unl_replay.specs.Delivery.{IsSentFromHistory, asked, brought}
 use Rattle.unl_replay.specs.Replay.{line_answer, opening, put_ask}
 use Rattle.unl_replay.specs.declared.ask.Ask.{Ask}
-use Rattle.unl_replay.specs.declared.bench.ReplayState.{ReplayState}
+use Rattle.unl_replay.specs.declared.replay_state.ReplayState.{ReplayState}
 
 -- ---- answered lines
 

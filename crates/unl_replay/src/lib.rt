@@ -3,9 +3,9 @@
 
 mod ask;
 mod batch;
-mod bench;
 pub mod laws;
 mod refusal;
+mod replay_state;
 mod replaying;
 mod step;
 

@@ -6,8 +6,8 @@ ghost use Rattle.unl_replay.specs.Refusals.{Causes};
 ghost use Rattle.unl_replay.specs.Replay.{line_answer, opening};
 ghost use Rattle.unl_replay.specs.Replayed.{Replays};
 
-use crate::bench::{ReplayState, answer_line};
 use crate::refusal::Refusal;
+use crate::replay_state::{ReplayState, answer_line};
 use std::alloc::Global;
 use unl_base::{Sink, Source};
 use unl_core::{Board, OneDesk};
@@ -24,7 +24,7 @@ impl LineProcessor for Answers {
     ghost line_result = { line_answer };
 
     // Each earlier line made at most one publication.
-    ghost fits = { λ k bench. bench.desk.front < k };
+    ghost fits = { λ k replay_state. replay_state.desk.front < k };
 
     #[tactic(auto, using(crate::proofs::RefusalLemmas::refused_line))]
     fn take(

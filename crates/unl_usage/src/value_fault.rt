@@ -6,7 +6,7 @@ use std::alloc::{AllocError, Global};
 use thiserror::Error;
 use unl_words::{WordsRefusal, read_words};
 
-/// Why the value of an option is refused. Its text goes on from the name of the option.
+/// Why the value of an option is refused. Its text follows the name of the option.
 #[derive(Clone, Copy, Debug, Error)]
 pub(crate) enum ValueFault {
     /// It is not a number.

@@ -4,7 +4,7 @@ use Rattle.unl_server.specs.Links.{link_state}
 use Rattle.unl_server.proofs.ShowsLemmas.{Converses_seen}
 use Rattle.unl_connection.specs.declared.by_desk.DeskHandler.{DeskHandler}
 use Rattle.unl_connection.specs.Notes.{DrawsAtLeast, LooksFor, Notes, NotesNothing, Rise, known_by, noted, seen}
-use Rattle.unl_connection.proofs.NotesLemmas.{Tells, shows, tells}
+use Rattle.unl_connection.proofs.NotesLemmas.{ReflectsNotes, shows, reflects}
 use Rattle.unl_connection.proofs.serve.serve_connection.Goals as goal
 
 -- Each fact is about the values behind the references after the conversation, which are the references that were passed.
@@ -25,10 +25,10 @@ returns-clause-converses g c =
 pub returns-clause-fronts : goal.returns-clause-fronts
 returns-clause-fronts g c =
     let after = c.serve_requests-conversed.new.state in
-    let told : Tells (known_by g.D.Desk.front g.D.Desk.board_at g.D.Desk.fronts c.args.desk.now) (g.R.Draws.coming c.args.draws.now)
+    let told : ReflectsNotes (known_by g.D.Desk.front g.D.Desk.board_at g.D.Desk.fronts c.args.desk.now) (g.R.Draws.coming c.args.draws.now)
     c.serve_requests-conversed.result.1 (known_by g.D.Desk.front g.D.Desk.board_at g.D.Desk.fronts after.desk.now)
     (g.R.Draws.coming c.serve_requests-conversed.new.draws) after.served.now =
-    tells (λ (s : DeskHandler g.row.D.Denot). seen (known_by g.D.Desk.front g.D.Desk.board_at g.D.Desk.fronts s.desk.now) s.served.now s.book.now)
+    reflects (λ (s : DeskHandler g.row.D.Denot). seen (known_by g.D.Desk.front g.D.Desk.board_at g.D.Desk.fronts s.desk.now) s.served.now s.book.now)
     _ _ c.serve_requests-conversed.result.1 c.serve_requests-conversed.result.0 c.requires c.serve_requests-conversed.ensures.converses.answered in
     let fact : Rise (g.D.Desk.front c.args.desk.now) after.served.now (g.D.Desk.front after.desk.now) = told.fronts in
     search rules
@@ -36,10 +36,10 @@ returns-clause-fronts g c =
 pub returns-clause-looks : goal.returns-clause-looks
 returns-clause-looks g c =
     let after = c.serve_requests-conversed.new.state in
-    let told : Tells (known_by g.D.Desk.front g.D.Desk.board_at g.D.Desk.fronts c.args.desk.now) (g.R.Draws.coming c.args.draws.now)
+    let told : ReflectsNotes (known_by g.D.Desk.front g.D.Desk.board_at g.D.Desk.fronts c.args.desk.now) (g.R.Draws.coming c.args.draws.now)
     c.serve_requests-conversed.result.1 (known_by g.D.Desk.front g.D.Desk.board_at g.D.Desk.fronts after.desk.now)
     (g.R.Draws.coming c.serve_requests-conversed.new.draws) after.served.now =
-    tells (λ (s : DeskHandler g.row.D.Denot). seen (known_by g.D.Desk.front g.D.Desk.board_at g.D.Desk.fronts s.desk.now) s.served.now s.book.now)
+    reflects (λ (s : DeskHandler g.row.D.Denot). seen (known_by g.D.Desk.front g.D.Desk.board_at g.D.Desk.fronts s.desk.now) s.served.now s.book.now)
     _ _ c.serve_requests-conversed.result.1 c.serve_requests-conversed.result.0 c.requires c.serve_requests-conversed.ensures.converses.answered in
     let fact : LooksFor (g.D.Desk.fronts c.args.desk.now) after.served.now c.serve_requests-conversed.result.1 (g.D.Desk.fronts after.desk.now) = told.looks in
     search rules
@@ -47,10 +47,10 @@ returns-clause-looks g c =
 pub returns-clause-drawn : goal.returns-clause-drawn
 returns-clause-drawn g c =
     let after = c.serve_requests-conversed.new.state in
-    let told : Tells (known_by g.D.Desk.front g.D.Desk.board_at g.D.Desk.fronts c.args.desk.now) (g.R.Draws.coming c.args.draws.now)
+    let told : ReflectsNotes (known_by g.D.Desk.front g.D.Desk.board_at g.D.Desk.fronts c.args.desk.now) (g.R.Draws.coming c.args.draws.now)
     c.serve_requests-conversed.result.1 (known_by g.D.Desk.front g.D.Desk.board_at g.D.Desk.fronts after.desk.now)
     (g.R.Draws.coming c.serve_requests-conversed.new.draws) after.served.now =
-    tells (λ (s : DeskHandler g.row.D.Denot). seen (known_by g.D.Desk.front g.D.Desk.board_at g.D.Desk.fronts s.desk.now) s.served.now s.book.now)
+    reflects (λ (s : DeskHandler g.row.D.Denot). seen (known_by g.D.Desk.front g.D.Desk.board_at g.D.Desk.fronts s.desk.now) s.served.now s.book.now)
     _ _ c.serve_requests-conversed.result.1 c.serve_requests-conversed.result.0 c.requires c.serve_requests-conversed.ensures.converses.answered in
     let fact : DrawsAtLeast (g.R.Draws.coming c.args.draws.now) after.served.now (g.R.Draws.coming c.serve_requests-conversed.new.draws) = told.drawn in
     search rules
@@ -58,10 +58,10 @@ returns-clause-drawn g c =
 pub returns-clause-keeps : goal.returns-clause-keeps
 returns-clause-keeps g c k board there =
     let after = c.serve_requests-conversed.new.state in
-    let told : Tells (known_by g.D.Desk.front g.D.Desk.board_at g.D.Desk.fronts c.args.desk.now) (g.R.Draws.coming c.args.draws.now)
+    let told : ReflectsNotes (known_by g.D.Desk.front g.D.Desk.board_at g.D.Desk.fronts c.args.desk.now) (g.R.Draws.coming c.args.draws.now)
     c.serve_requests-conversed.result.1 (known_by g.D.Desk.front g.D.Desk.board_at g.D.Desk.fronts after.desk.now)
     (g.R.Draws.coming c.serve_requests-conversed.new.draws) after.served.now =
-    tells (λ (s : DeskHandler g.row.D.Denot). seen (known_by g.D.Desk.front g.D.Desk.board_at g.D.Desk.fronts s.desk.now) s.served.now s.book.now)
+    reflects (λ (s : DeskHandler g.row.D.Denot). seen (known_by g.D.Desk.front g.D.Desk.board_at g.D.Desk.fronts s.desk.now) s.served.now s.book.now)
     _ _ c.serve_requests-conversed.result.1 c.serve_requests-conversed.result.0 c.requires c.serve_requests-conversed.ensures.converses.answered in
     let fact : g.D.Desk.board_at after.desk.now k ≡ Some board = told.keeps k board there in
     search rules

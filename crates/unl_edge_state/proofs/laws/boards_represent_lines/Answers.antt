@@ -1,4 +1,4 @@
-use Rattle.unl_edge_state.proofs.Stood.{boards_represent}
+use Rattle.unl_edge_state.proofs.Represented.{boards_represent}
 use Rattle.unl_edge_state.proofs.laws.boards_represent_lines.Goals as goal
 
 pub returns : goal.returns

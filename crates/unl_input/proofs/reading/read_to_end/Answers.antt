@@ -12,7 +12,7 @@ reads-init g c = record {
 
 pub reads-preserved : goal.reads-preserved
 reads-preserved g c = record {
-  took = rw c.in_ok-take_front-in-Ok.ensures (takes_more _ _ _ _ _ c.reads.invariant.took c.in-Ok.ensures.taken);
+  took = rw c.in_ok-take_prefix-in-Ok.ensures (takes_more _ _ _ _ _ c.reads.invariant.took c.in-Ok.ensures.taken);
   later = omega (arith, c.reads.invariant.later, c.read.ensures.cause.later);
   still = c.in-Ok.ensures.cause.still ∙ c.reads.invariant.still;
   room = omega (arith, c.in-Ok.ensures.fits, c.in-Ok.count-test);

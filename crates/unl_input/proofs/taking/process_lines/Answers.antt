@@ -1,7 +1,7 @@
 use Rattle.std.proofs.Common.{arith, ◌≡◌, refl, rules}
 use Rattle.std.proofs.lemmas.Result.{err_from_is_err_and}
 use Rattle.unl_input.proofs.Turns.{ends_past, none_left, stops}
-use Rattle.unl_input.proofs.Whole.{answers_input, ends_all, ends_at, ends_at_once, ends_unread, goes_on}
+use Rattle.unl_input.proofs.Whole.{answers_input, ends_all, ends_at, ends_at_once, ends_unread, processes_line}
 use Rattle.unl_input.proofs.taking.process_lines.Goals as goal
 
 pub returns-in-Err-clause-lines : goal.returns-in-Err-clause-lines
@@ -10,7 +10,7 @@ returns-in-Err-clause-lines g c =
 
 pub loop-number-preserved : goal.loop-number-preserved
 loop-number-preserved g c = record {
-  sofar = goes_on g.A.LineProcessor.line_result _ _ _ c.loop-number.number _ _ c.loop-number.invariant.sofar (rw (c.in-Ok-Answered.field-0-is) at c.in-Ok-Answered.ensures.turns);
+  sofar = processes_line g.A.LineProcessor.line_result _ _ _ c.loop-number.number _ _ c.loop-number.invariant.sofar (rw (c.in-Ok-Answered.field-0-is) at c.in-Ok-Answered.ensures.turns);
   room = rw (c.in-Ok-Answered.field-0-is) at c.in-Ok-Answered.ensures.room;
   source_later = omega (arith, c.in-Ok-Answered.ensures.source_later, c.loop-number.invariant.source_later);
   sink_later = omega (arith, c.in-Ok-Answered.ensures.sink_later, c.loop-number.invariant.sink_later);

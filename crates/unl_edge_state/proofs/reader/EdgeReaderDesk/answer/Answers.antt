@@ -26,7 +26,7 @@ returns-in_ok-given-in-Ok-clause-keeps c =
 pub returns-in_ok-given-in-Ok-clause-over : goal.returns-in_ok-given-in-Ok-clause-over
 returns-in_ok-given-in-Ok-clause-over c =
     let there : is_some (taken c.in-Ok.guard).opening ≡ true = ap (λ o. is_some o) c.in-Ok.ensures.origin.1
-    ∙ (ap (λ o. is_some (unwrap_or (option_map next o) knows_nothing).opening) c.in-Some.ensures.value ∙ c.args.self.now.there) in
+    ∙ (ap (λ o. is_some (unwrap_or (option_map next o) knows_nothing).opening) c.in-Some.ensures.value ∙ c.args.self.now.has_opening) in
     c.in_ok-given-in-Ok.ensures.answer ∙ ap (λ (b : Board). answer_of b c.args.request.now c.args.draw.now)
     (c.board.ensures.board ∙ shown_known (taken c.in-Ok.guard) c.value.result.now there c.value.ensures.list
     ∙ ap board_known (sym (seen_left (past c.leave.result) (next c.leave.result) (taken c.in-Ok.guard) c.leave.ensures.past c.leave.ensures.same)))
@@ -36,20 +36,20 @@ returns-in_ok-given-in-Ok-clause-orderly c =
     keeps_order (taken c.in-Ok.guard) (seen c.leave.result)
     (seen_left (past c.leave.result) (next c.leave.result) (taken c.in-Ok.guard) c.leave.ensures.past c.leave.ensures.same) c.in-Ok.ensures.allowed
 
-pub returns-in_err-given-in-Ok-clause-took : goal.returns-in_err-given-in-Ok-clause-took
-returns-in_err-given-in-Ok-clause-took c =
+pub returns-in_err-given-in-Ok-clause-stays_or_takes : goal.returns-in_err-given-in-Ok-clause-stays_or_takes
+returns-in_err-given-in-Ok-clause-stays_or_takes c =
     took_left (past_of c.args.self.now) (past c.in-Some.seat) (past c.leave.result) (next_of c.args.self.now) (next c.in-Some.seat) (next c.leave.result) (taken c.in-Ok.guard)
     (ap (λ o. option_and_then past o) (sym c.in-Some.ensures.value)) (ap (λ o. unwrap_or (option_map next o) knows_nothing) (sym c.in-Some.ensures.value))
     c.leave.ensures.past c.leave.ensures.same c.in-Ok.ensures.takes
 
-pub returns-in_ok-given-in-Ok-clause-took : goal.returns-in_ok-given-in-Ok-clause-took
-returns-in_ok-given-in-Ok-clause-took c =
+pub returns-in_ok-given-in-Ok-clause-stays_or_takes : goal.returns-in_ok-given-in-Ok-clause-stays_or_takes
+returns-in_ok-given-in-Ok-clause-stays_or_takes c =
     took_left (past_of c.args.self.now) (past c.in-Some.seat) (past c.leave.result) (next_of c.args.self.now) (next c.in-Some.seat) (next c.leave.result) (taken c.in-Ok.guard)
     (ap (λ o. option_and_then past o) (sym c.in-Some.ensures.value)) (ap (λ o. unwrap_or (option_map next o) knows_nothing) (sym c.in-Some.ensures.value))
     c.leave.ensures.past c.leave.ensures.same c.in-Ok.ensures.takes
 
-pub returns-in-Err-clause-took : goal.returns-in-Err-clause-took
-returns-in-Err-clause-took c =
+pub returns-in-Err-clause-stays_or_takes : goal.returns-in-Err-clause-stays_or_takes
+returns-in-Err-clause-stays_or_takes c =
     took_back (past_of c.args.self.now) (past c.in-Some.seat) (past c.in-Err.seat) (next_of c.args.self.now) (next c.in-Some.seat) (next c.in-Err.seat)
     (ap (λ o. option_and_then past o) (sym c.in-Some.ensures.value)) (ap (λ o. unwrap_or (option_map next o) knows_nothing) (sym c.in-Some.ensures.value))
     c.in-Err.ensures.kept

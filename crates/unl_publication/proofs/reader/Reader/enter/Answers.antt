@@ -4,13 +4,13 @@ use Rattle.unl_publication.proofs.Sure.{IsBetweenLooks-from, IsBetweenLooks-rise
 use Rattle.unl_publication.proofs.reader.Reader.enter.Goals as goal
 
 pub enter_past-requires-clause-rises : goal.enter_past-requires-clause-rises
-enter_past-requires-clause-rises g c = IsBetweenLooks-rises _ _ (IsBetweenLooks-from {S = g.row.T-State.Denot} {I = g.row.I.Denot} _ _ c.args.self.stands)
+enter_past-requires-clause-rises g c = IsBetweenLooks-rises _ _ (IsBetweenLooks-from {S = g.row.T-State.Denot} {I = g.row.I.Denot} _ _ c.args.self.between_looks)
 
 pub invariant_of-guard : goal.invariant_of-guard
 invariant_of-guard g c = let applied = g.T.Absorb.applied in let front = g.T.Counted.front_of in let e = c.in-Ok.ensures in record {
   counted = c.front-front.ensures ∙ (ap (λ x. front (g.T.Absorb.state x)) c.get.ensures ∙ e.front_is);
   shows = ∣ Shows-entered applied front _ _ _ _ _ e ∣₁;
-  sits = ∣ IsLooking-taken applied front _ _ _ (Takes-from applied front _ _ _ _ e) (IsBetweenLooks-from {S = g.row.T-State.Denot} {I = g.row.I.Denot} _ _ c.args.self.stands) ∣₁;
+  is_looking = ∣ IsLooking-taken applied front _ _ _ (Takes-from applied front _ _ _ _ e) (IsBetweenLooks-from {S = g.row.T-State.Denot} {I = g.row.I.Denot} _ _ c.args.self.between_looks) ∣₁;
   allowed = ∣ e.allowed ∣₁;
 }
 
@@ -18,19 +18,19 @@ pub invariant_of-guard-in-Ok : goal.invariant_of-guard-in-Ok
 invariant_of-guard-in-Ok g c = let applied = g.T.Absorb.applied in let front = g.T.Counted.front_of in let e = c.in-Ok.ensures in record {
   counted = c.front-front.ensures ∙ (ap (λ x. front (g.T.Absorb.state x)) c.get.ensures ∙ e.front_is);
   shows = ∣ Shows-entered applied front _ _ _ _ _ e ∣₁;
-  sits = ∣ IsLooking-taken applied front _ _ _ (Takes-from applied front _ _ _ _ e) (IsBetweenLooks-from {S = g.row.T-State.Denot} {I = g.row.I.Denot} _ _ c.args.self.stands) ∣₁;
+  is_looking = ∣ IsLooking-taken applied front _ _ _ (Takes-from applied front _ _ _ _ e) (IsBetweenLooks-from {S = g.row.T-State.Denot} {I = g.row.I.Denot} _ _ c.args.self.between_looks) ∣₁;
   allowed = ∣ e.allowed ∣₁;
 }
 
 pub returns-then-front-least-clause-follows : goal.returns-then-front-least-clause-follows
 returns-then-front-least-clause-follows g c = let applied = g.T.Absorb.applied in let front = g.T.Counted.front_of in
-    (refuses applied c.args.self.least _ _ _ _ _ (IsBetweenLooks-from {S = g.row.T-State.Denot} {I = g.row.I.Denot} _ _ c.args.self.stands).ahead (Takes-from applied front _ _ _ _ c.in-Ok.ensures)
+    (refuses applied c.args.self.least _ _ _ _ _ (IsBetweenLooks-from {S = g.row.T-State.Denot} {I = g.row.I.Denot} _ _ c.args.self.between_looks).ahead (Takes-from applied front _ _ _ _ c.in-Ok.ensures)
     (omega (arith, c.if-front-least.true, c.front-front.ensures, ap (λ x. front (g.T.Absorb.state x)) c.get.ensures, c.in-Ok.ensures.front_is))
     c.leave.ensures.past c.leave.ensures.same).0
 
 pub returns-then-front-least-clause-refused : goal.returns-then-front-least-clause-refused
 returns-then-front-least-clause-refused g c = let applied = g.T.Absorb.applied in let front = g.T.Counted.front_of in
-    (refuses applied _ _ _ _ _ _ (IsBetweenLooks-from {S = g.row.T-State.Denot} {I = g.row.I.Denot} _ _ c.args.self.stands).ahead (Takes-from applied front _ _ _ _ c.in-Ok.ensures)
+    (refuses applied _ _ _ _ _ _ (IsBetweenLooks-from {S = g.row.T-State.Denot} {I = g.row.I.Denot} _ _ c.args.self.between_looks).ahead (Takes-from applied front _ _ _ _ c.in-Ok.ensures)
     (omega (arith, c.if-front-least.true, c.front-front.ensures, ap (λ x. front (g.T.Absorb.state x)) c.get.ensures, c.in-Ok.ensures.front_is))
     c.leave.ensures.past c.leave.ensures.same).1
 
@@ -43,7 +43,7 @@ returns-in-Err-clause-kept g c = stayed g.T.Absorb.applied _ _ _ c.in-Err.ensure
 
 pub returns-else-front-least-clause-follows : goal.returns-else-front-least-clause-follows
 returns-else-front-least-clause-follows g c = let applied = g.T.Absorb.applied in let front = g.T.Counted.front_of in
-    follows applied _ _ _ (IsBetweenLooks-from {S = g.row.T-State.Denot} {I = g.row.I.Denot} _ _ c.args.self.stands).ahead (Takes-from applied front _ _ _ _ c.in-Ok.ensures)
+    follows applied _ _ _ (IsBetweenLooks-from {S = g.row.T-State.Denot} {I = g.row.I.Denot} _ _ c.args.self.between_looks).ahead (Takes-from applied front _ _ _ _ c.in-Ok.ensures)
 
 pub returns-else-front-least-clause-takes : goal.returns-else-front-least-clause-takes
 returns-else-front-least-clause-takes g c = Takes-from g.T.Absorb.applied g.T.Counted.front_of _ _ _ _ c.in-Ok.ensures

@@ -62,28 +62,28 @@ fn ask_line(alloc: Global, number: u64, front: u64, reply: &Reply) -> Result<Vec
 #[tactic(auto, using(crate::proofs::RefusalLemmas::refused))]
 fn ask_of_line(
     alloc: Global,
-    bench: &mut ReplayState,
+    replay_state: &mut ReplayState,
     number: u64,
     line: &Value,
 ) -> Result<Vec<u8>, Refusal>
-    ensures given { Steps result bench.new (ask_of_line number bench.old (view line.now)) }
-    ensures same { bench.new.desk ≡ bench.old.desk }
+    ensures given { Steps result replay_state.new (ask_of_line number replay_state.old (view line.now)) }
+    ensures same { replay_state.new.desk ≡ replay_state.old.desk }
 {
     let ask = ask_of(alloc, line)?;
-    put_ask(alloc, bench, number, &ask)
+    put_ask(alloc, replay_state, number, &ask)
 }
 
 fn put_ask(
     alloc: Global,
-    bench: &mut ReplayState,
+    replay_state: &mut ReplayState,
     number: u64,
     ask: &Ask,
 ) -> Result<Vec<u8>, Refusal>
-    ensures given { Steps result bench.new (Ok (put_ask number bench.old ask.now)) }
-    ensures same { bench.new.desk ≡ bench.old.desk }
+    ensures given { Steps result replay_state.new (Ok (put_ask number replay_state.old ask.now)) }
+    ensures same { replay_state.new.desk ≡ replay_state.old.desk }
 {
-    let (front, answer) = bench.desk.answer(alloc, &ask.request, &ask.draw)?;
-    settled(alloc, &mut bench.book, number, front, answer)
+    let (front, answer) = replay_state.desk.answer(alloc, &ask.request, &ask.draw)?;
+    settled(alloc, &mut replay_state.book, number, front, answer)
 }
 
 /// Prints an answer and records its report in the metrics book.
@@ -104,15 +104,15 @@ fn settled(
 #[tactic(auto, using(crate::proofs::RefusalLemmas::refused))]
 fn metrics_of_line(
     alloc: Global,
-    bench: &mut ReplayState,
+    replay_state: &mut ReplayState,
     number: u64,
     line: &Value,
 ) -> Result<Vec<u8>, Refusal>
-    ensures given { Steps result bench.new (metrics_of_line number bench.old (view line.now)) }
-    ensures same { bench.new.desk ≡ bench.old.desk }
+    ensures given { Steps result replay_state.new (metrics_of_line number replay_state.old (view line.now)) }
+    ensures same { replay_state.new.desk ≡ replay_state.old.desk }
 {
     let environment = required::<Name>(alloc, Field::Environment, line)?;
-    put_metrics(alloc, &mut bench.book, number, environment.as_str())
+    put_metrics(alloc, &mut replay_state.book, number, environment.as_str())
 }
 
 /// Prints the bulk report of an environment and acknowledges it.
@@ -144,21 +144,21 @@ fn metrics_line(alloc: Global, number: u64, body: &str) -> Result<String, AllocE
 /// Processes a line by its op.
 fn answer_op(
     alloc: Global,
-    bench: &mut ReplayState,
+    replay_state: &mut ReplayState,
     number: u64,
     line: Value,
     op: &str,
 ) -> Result<Vec<u8>, Refusal>
-    requires { bench.old.desk.front < 2 ^ 64 - 1 }
-    ensures given { Steps result bench.new (answer_op number bench.old (view line) op.now) }
-    ensures front { bench.new.desk.front ≤ bench.old.desk.front + 1 }
+    requires { replay_state.old.desk.front < 2 ^ 64 - 1 }
+    ensures given { Steps result replay_state.new (answer_op number replay_state.old (view line) op.now) }
+    ensures front { replay_state.new.desk.front ≤ replay_state.old.desk.front + 1 }
 {
     match op {
-        "tokens" => tokens_of_line(alloc, &mut bench.desk, number, &line),
-        "batch" => batch_of_line(alloc, &mut bench.desk, number, line),
-        "feed" => feed_of_line(alloc, &mut bench.desk, number, line),
-        "ask" => ask_of_line(alloc, bench, number, &line),
-        "metrics" => metrics_of_line(alloc, bench, number, &line),
+        "tokens" => tokens_of_line(alloc, &mut replay_state.desk, number, &line),
+        "batch" => batch_of_line(alloc, &mut replay_state.desk, number, line),
+        "feed" => feed_of_line(alloc, &mut replay_state.desk, number, line),
+        "ask" => ask_of_line(alloc, replay_state, number, &line),
+        "metrics" => metrics_of_line(alloc, replay_state, number, &line),
         _ => Err(Refusal::Document(BadDocument::WrongKind(Field::Op))),
     }
 }
@@ -166,32 +166,32 @@ fn answer_op(
 #[tactic(auto, using(crate::proofs::RefusalLemmas::refused))]
 fn answer_object(
     alloc: Global,
-    bench: &mut ReplayState,
+    replay_state: &mut ReplayState,
     number: u64,
     line: Value,
 ) -> Result<Vec<u8>, Refusal>
-    requires { bench.old.desk.front < 2 ^ 64 - 1 }
-    ensures given { Steps result bench.new (answer_object number bench.old (view line)) }
-    ensures front { bench.new.desk.front ≤ bench.old.desk.front + 1 }
+    requires { replay_state.old.desk.front < 2 ^ 64 - 1 }
+    ensures given { Steps result replay_state.new (answer_object number replay_state.old (view line)) }
+    ensures front { replay_state.new.desk.front ≤ replay_state.old.desk.front + 1 }
 {
     let op = required::<AnyText>(alloc, Field::Op, &line)?;
-    answer_op(alloc, bench, number, line, op.as_str())
+    answer_op(alloc, replay_state, number, line, op.as_str())
 }
 
 /// Processes a line and returns the text that it prints.
 #[tactic(auto, unfolding(crate::specs::Replay::answer_read))]
 pub fn answer_line(
     alloc: Global,
-    bench: &mut ReplayState,
+    replay_state: &mut ReplayState,
     number: u64,
     bytes: &[u8],
 ) -> Result<Vec<u8>, Refusal>
-    requires { bench.old.desk.front < 2 ^ 64 - 1 }
-    ensures given { Steps result bench.new (answer_read number bench.old bytes.now) }
-    ensures front { bench.new.desk.front ≤ bench.old.desk.front + 1 }
+    requires { replay_state.old.desk.front < 2 ^ 64 - 1 }
+    ensures given { Steps result replay_state.new (answer_read number replay_state.old bytes.now) }
+    ensures front { replay_state.new.desk.front ≤ replay_state.old.desk.front + 1 }
 {
     match read_object(alloc, bytes)? {
-        Some(line) => answer_object(alloc, bench, number, line),
+        Some(line) => answer_object(alloc, replay_state, number, line),
         None => Err(Refusal::Document(BadDocument::NotJson)),
     }
 }
