@@ -6,14 +6,15 @@ use Rattle.unl_durable_upstream.specs.Given.{IsReading}
 use Rattle.unl_durable_upstream.specs.declared.given.ProgramArguments.{ProgramArguments}
 use Rattle.unl_durable_upstream.specs.Serving.{Ends, Facing}
 use Rattle.unl_durable_upstream.specs.declared.fault.KeepingFault.{KeepingFault}
-use Rattle.unl_durable_upstream.specs.declared.fault.KeepingFault.TheVariants.{BadWords, File, Row, Keeper, Door, Memory}
-use Rattle.unl_upstream.specs.Kept.{KeeperState, KeptState, kept_state}
+use Rattle.unl_durable_upstream.specs.declared.fault.KeepingFault.TheVariants.{BadArguments, File, Row, Keeper, Door, Memory}
+use Rattle.unl_keeper.specs.State.{KeeperState}
+use Rattle.unl_upstream.specs.Kept.{KeptState, kept_state}
 use Rattle.unl_upstream.specs.Upstream.{UpstreamState}
 
 -- serving failed, so the database was not closed
 failed : (initial : UpstreamState) (port : ℕ) (fault : KeepingFault) (last : KeptState) (before after : Facing)
     → Ends (kept_state initial unopened) port (Err fault) last before after → ServesAndCloses initial port (Err fault) before after
-failed initial port BadWords last before after ends = absurd ends
+failed initial port BadArguments last before after ends = absurd ends
 failed initial port (File error) last before after ends = absurd ends
 failed initial port (Row place) last before after ends = (last, ends)
 failed initial port Keeper last before after ends = (last, ends)
@@ -26,7 +27,7 @@ closed : (initial : UpstreamState) (port : ℕ) (served result : Result ℕ Keep
     → ServesAndCloses initial port result before after
 closed initial port (Ok served) (Ok count) last before after ends is =
     (last, subst (λ (n : ℕ). Ends (kept_state initial unopened) port (Ok n) last before after) (sym is) ends)
-closed initial port (Ok served) (Err BadWords) last before after ends is = absurd is
+closed initial port (Ok served) (Err BadArguments) last before after ends is = absurd is
 closed initial port (Ok served) (Err (File error)) last before after ends is = (served, (last, ends))
 closed initial port (Ok served) (Err (Row place)) last before after ends is = absurd is
 closed initial port (Ok served) (Err Keeper) last before after ends is = absurd is
@@ -50,7 +51,7 @@ door_failed (Err fault) result is fails = sym is ∙ fails
 
 -- the door is closed if all ended well
 pub closed_at : (initial : UpstreamState) (port : ℕ) (result : Result ℕ KeepingFault) (before after : Facing)
-    → ServesAndCloses initial port result before after → IfOk result (λ served. IsClosedAt port after.door)
+    → ServesAndCloses initial port result before after → IfOk result (λ served. IsClosedAt port before.door after.door)
 closed_at initial port (Ok served) before after ends = ends.1.serves.1
 closed_at initial port (Err fault) before after ends = tt
 

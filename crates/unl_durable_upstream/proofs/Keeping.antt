@@ -5,8 +5,9 @@ use Rattle.unl_base.specs.declared.Failed.{Failed}
 use Rattle.unl_server.specs.Handling.{Coming}
 use Rattle.unl_server.specs.Linked.{ServesLinks as ServesObservable, linking}
 use Rattle.unl_durable_upstream.specs.Serving.{Facing, KeepsAcknowledged, LinksEnd, NamesLinks, OpensAndServes}
+use Rattle.unl_keeper.specs.State.{HasKept}
 use Rattle.unl_upstream.specs.declared.command.Command.{Command}
-use Rattle.unl_upstream.specs.Kept.{AttemptsPreserve, Carries, HasKept, IsAfterKept, KeptState, LeavesOne, failed_after, kept_commands}
+use Rattle.unl_upstream.specs.Kept.{AttemptsPreserve, Carries, IsAfterKept, KeptState, LeavesOne, failed_after, kept_commands}
 use Rattle.unl_upstream.specs.KeptHosting.{AllLinksEffect, IsNamed, LinkServed, Linked}
 use Rattle.unl_upstream.specs.Reopening.{IsSameKeeper, Reopened}
 use Rattle.unl_upstream.specs.Served.{draws_after}
@@ -36,7 +37,7 @@ links_named opened last before after served links returned has serves =
       names = names;
       keeps = carries.appended
           ∙ ap (λ (added : List Command). option_map (λ commands. commands ++ added) (kept_commands opened.keeper)) (sym names.adds);
-      calm = λ none. names.calm (omega (arith, carries.faults, none));
+      no_faults = λ none. names.no_faults (omega (arith, carries.faults, none));
     }
 
 -- ---- what is kept

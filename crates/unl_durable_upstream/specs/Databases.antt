@@ -1,5 +1,5 @@
 -- How the program's run over a database file ends.
-use Rattle.std.specs.Prelude.{◌≡◌, ◌⊎◌, ℕ, Bool, false, if◌then◌else◌, List, None, Result, Ok, Err}
+use Rattle.std.specs.Prelude.{◌≡◌, ◌⊎◌, ℕ, Bool, false, if◌then◌else◌, List, [], None, Result, Ok, Err}
 use Rattle.unl_base.specs.Doors.{DoorState}
 use Rattle.unl_base.specs.Draws.{TakesDraw}
 use Rattle.unl_base.specs.declared.draws.Draw.{Draw}
@@ -9,9 +9,10 @@ use Rattle.unl_durable_upstream.specs.Faults.{IsOfDatabase}
 use Rattle.unl_durable_upstream.specs.Given.{IsReading}
 use Rattle.unl_durable_upstream.specs.Serving.{Ends, Facing, code_of, facing}
 use Rattle.unl_durable_upstream.specs.declared.fault.KeepingFault.{KeepingFault}
-use Rattle.unl_durable_upstream.specs.declared.fault.KeepingFault.TheVariants.{BadWords, File, Row, Keeper, Door, Memory}
+use Rattle.unl_durable_upstream.specs.declared.fault.KeepingFault.TheVariants.{BadArguments, File, Row, Keeper, Door, Memory}
 use Rattle.unl_durable_upstream.specs.declared.given.ProgramArguments.{ProgramArguments}
-use Rattle.unl_upstream.specs.Kept.{KeeperState, KeptState, kept_state}
+use Rattle.unl_keeper.specs.State.{KeeperState}
+use Rattle.unl_upstream.specs.Kept.{KeptState, kept_state}
 use Rattle.unl_upstream.specs.Upstream.{UpstreamState}
 use Rattle.unl_words.specs.declared.words.UpstreamArguments.{UpstreamArguments}
 
@@ -29,7 +30,7 @@ ServesDatabase initial port result before after = (last : KeptState) × Ends (ke
 -- out, no link was handed out, or that was while the database was closed.
 abbrev pub ServesAndCloses : UpstreamState → ℕ → Result ℕ KeepingFault → Facing → Facing → Type 0
 ServesAndCloses initial port (Ok served) before after = ServesDatabase initial port (Ok served) before after
-ServesAndCloses initial port (Err BadWords) before after = ⊥
+ServesAndCloses initial port (Err BadArguments) before after = ⊥
 ServesAndCloses initial port (Err (File error)) before after = (served : ℕ) × ServesDatabase initial port (Ok served) before after
 ServesAndCloses initial port (Err (Row place)) before after = ServesDatabase initial port (Err (Row place)) before after
 ServesAndCloses initial port (Err Keeper) before after = ServesDatabase initial port (Err Keeper) before after
@@ -63,9 +64,9 @@ IsUnserved (Err fault) before after = IsOfDatabase fault × (after ≡ before)
 pub record RunsFile (options : UpstreamArguments) (result : Result ℕ KeepingFault) (before after : Facing) : Type 0 where
   pub ends : IsUnserved result before after ⊎ Runs options result before after
 
--- the door listens on no port, and no link was handed out or taken back
+-- the door has listened on no port, and no link was handed out or taken back
 pub record IsNewDoor (door : DoorState) : Type 0 where
-  pub silent : door.port ≡ None
+  pub silent : door.ports ≡ []
   pub given : door.given ≡ 0
   pub back : door.back ≡ 0
 

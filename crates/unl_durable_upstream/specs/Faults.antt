@@ -4,7 +4,7 @@ use Rattle.sqlite.specs.declared.error.Error.{Error}
 use Rattle.sqlite.specs.declared.error.Error.TheVariants.{SqliteFailure}
 use Rattle.sqlite.specs.declared.error.ErrorCode.TheVariants.{OutOfMemory}
 use Rattle.unl_durable_upstream.specs.declared.fault.KeepingFault.{KeepingFault}
-use Rattle.unl_durable_upstream.specs.declared.fault.KeepingFault.TheVariants.{BadWords, File, Row, Keeper, Door, Memory}
+use Rattle.unl_durable_upstream.specs.declared.fault.KeepingFault.TheVariants.{BadArguments, File, Row, Keeper, Door, Memory}
 
 -- out of memory is `Memory`, any other error is `File`
 abbrev pub fault_of : Error → KeepingFault
@@ -13,7 +13,7 @@ fault_of error = File error
 
 -- the fault is that of opening or closing a database, or out of memory
 abbrev pub IsOfDatabase : KeepingFault → Type 0
-IsOfDatabase BadWords = ⊥
+IsOfDatabase BadArguments = ⊥
 IsOfDatabase (File error) = ⊤
 IsOfDatabase (Row place) = ⊥
 IsOfDatabase Keeper = ⊥

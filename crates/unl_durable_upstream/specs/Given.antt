@@ -1,7 +1,8 @@
 -- What the command line means: the path of a file, and the options of the upstream.
-use Rattle.std.specs.Prelude.{◌≡◌, ◌⊎◌, ⊤, ℕ, nat_lt, List, [], ◌∷◌, codes, if◌then◌else◌, Option, Some, None, Result, Ok, Err, string_bytes}
+use Rattle.std.specs.Prelude.{◌≡◌, ◌⊎◌, ⊤, ℕ, nat_lt, List, [], ◌∷◌, codes, if◌then◌else◌, Option, Some, None, Result, Ok, Err}
+use Rattle.std.specs.Prelude.{string_bytes}
 use Rattle.unl_durable_upstream.specs.declared.fault.KeepingFault.{KeepingFault}
-use Rattle.unl_durable_upstream.specs.declared.fault.KeepingFault.TheVariants.{BadWords, File, Row, Keeper, Door, Memory}
+use Rattle.unl_durable_upstream.specs.declared.fault.KeepingFault.TheVariants.{BadArguments, File, Row, Keeper, Door, Memory}
 use Rattle.unl_durable_upstream.specs.declared.given.ProgramArguments.{ProgramArguments}
 use Rattle.unl_words.specs.Words.{words_of}
 use Rattle.unl_words.specs.declared.refusal.WordsRefusal.TheVariants.{Bad}
@@ -36,7 +37,7 @@ AreBad (first ∷ others) = (words_of (codes "upstream" ∷ others) ≡ Err Bad)
 -- the result of reading these arguments
 abbrev pub IsReading : List (List ℕ) → Result ProgramArguments KeepingFault → Type 0
 IsReading words (Ok given) = IsGiven words given
-IsReading words (Err BadWords) = AreBad words
+IsReading words (Err BadArguments) = AreBad words
 IsReading words (Err (File error)) = ⊥
 IsReading words (Err (Row place)) = ⊥
 IsReading words (Err Keeper) = ⊥

@@ -1,15 +1,16 @@
 -- How an upstream ends on a keeper: it is reopened from the keeper's rows, then serves the links of its door. What is not
 -- observable of a keeper, of a door or of draws is `None`.
 use Rattle.std.specs.Prelude.{◌≡◌, ◌≢◌, ◌⊎◌, ℕ, ◌+◌, List, [], ◌++◌, length, option_map, Result, Some, Ok, Err}
-use Rattle.unl_base.specs.Doors.{DoorState, IsClosedAt}
+use Rattle.unl_base.specs.Doors.{DoorState, IsClosedAt, ListenedAt}
 use Rattle.unl_base.specs.declared.Failed.{Failed}
 use Rattle.unl_server.specs.Handling.{Coming}
 use Rattle.unl_server.specs.Linked.{ServesLinks as ServesObservable, linking}
 use Rattle.unl_durable_upstream.specs.declared.fault.KeepingFault.{KeepingFault}
-use Rattle.unl_durable_upstream.specs.declared.fault.KeepingFault.TheVariants.{BadWords, File, Row, Keeper, Door, Memory}
+use Rattle.unl_durable_upstream.specs.declared.fault.KeepingFault.TheVariants.{BadArguments, File, Row, Keeper, Door, Memory}
 use Rattle.unl_upstream.specs.declared.command.Command.{Command}
 use Rattle.unl_upstream.specs.History.{after_commands}
-use Rattle.unl_upstream.specs.Kept.{AttemptsInOrder, AttemptsPreserve, IsAfterKept, KeepAttempt, KeeperState, KeptState, RoseBy, acknowledged}
+use Rattle.unl_keeper.specs.State.{KeeperState}
+use Rattle.unl_upstream.specs.Kept.{AttemptsInOrder, AttemptsPreserve, IsAfterKept, KeepAttempt, KeptState, RoseBy, acknowledged}
 use Rattle.unl_upstream.specs.Kept.{failed_after, faults_among, kept_commands, kept_state}
 use Rattle.unl_upstream.specs.KeptHosting.{AllLinksEffect, Hosts, LinkServed, NoKeeperFaults}
 use Rattle.unl_upstream.specs.Reopening.{GivesBack, IsSameKeeper, Reopens}
@@ -19,7 +20,7 @@ use Rattle.unl_upstream.specs.declared.reopening.ReopenFault.TheVariants as reop
 
 -- the exit code of the program for a fault
 abbrev pub code_of : KeepingFault → ℕ
-code_of BadWords = 2
+code_of BadArguments = 2
 code_of (Row place) = 3
 code_of Memory = 6
 code_of Door = 7
@@ -46,9 +47,10 @@ pub record ServesLinks (opened last : KeptState) (before after : Facing) (served
 -- How serving ends on a door that was to listen on this port. On success it served `served` links until the door was closed.
 -- On failure either the door could not listen and nothing changed, or it served some links and then failed.
 abbrev pub LinksEnd : KeptState → ℕ → Result ℕ Failed → KeptState → Facing → Facing → Type 0
-LinksEnd opened port (Ok served) last before after = ServesLinks opened last before after served × IsClosedAt port after.door
+LinksEnd opened port (Ok served) last before after = ServesLinks opened last before after served × IsClosedAt port before.door after.door
 LinksEnd opened port (Err failed) last before after =
-    ((last ≡ opened) × (after ≡ before)) ⊎ ((served : ℕ) × ServesLinks opened last before after served × (after.door.port ≡ Some port))
+    ((last ≡ opened) × (after ≡ before))
+    ⊎ ((served : ℕ) × ServesLinks opened last before after served × ListenedAt port before.door after.door)
 
 -- The links of a door whose links are observable. Each adds the commands of its requests that were kept, in order, and the
 -- keeper keeps all of them after those that it was reopened with. If the keeper never failed, no reply is 503 `KeeperFault`.
@@ -58,8 +60,8 @@ pub record NamesLinks
       returned
   pub names : AllLinksEffect opened.up opened.keeper.count before.coming [] 0 opened serves.given_links serves.backs last after.coming
   pub keeps : kept_commands last.keeper ≡ option_map (λ commands. commands ++ names.commands_after) (kept_commands opened.keeper)
-  pub calm : last.keeper.faults ≡ 0 → NoKeeperFaults opened.up opened.keeper.count before.coming [] 0 opened serves.given_links
-      serves.backs names.commands_after names.gone_after last names.linked
+  pub no_faults : last.keeper.faults ≡ 0 → NoKeeperFaults opened.up opened.keeper.count before.coming [] 0 opened serves.given_links
+      serves.backs names.commands_after names.drawn_after last names.linked
 
 -- ---- what is kept
 
@@ -124,7 +126,7 @@ pub record RefusesRow (start : KeptState) (place : ℕ) (last : KeptState) (befo
 -- how reopening and serving ends, on a door that was to listen on this port
 abbrev pub Ends : KeptState → ℕ → Result ℕ KeepingFault → KeptState → Facing → Facing → Type 0
 Ends start port (Ok served) last before after = OpensAndServes start port (Ok served) last before after
-Ends start port (Err BadWords) last before after = ⊥
+Ends start port (Err BadArguments) last before after = ⊥
 Ends start port (Err (File error)) last before after = ⊥
 Ends start port (Err (Row place)) last before after = RefusesRow start place last before after
 Ends start port (Err Keeper) last before after = FailsToReopen start reopening.Fault last before after

@@ -5,7 +5,7 @@ ghost use Rattle.unl_base.specs.Faults.{Rose};
 ghost use Rattle.unl_durable_upstream.specs.Databases.{IsClosedWith, Runs, RunsFile, ServesAndCloses};
 ghost use Rattle.unl_durable_upstream.specs.Serving.{Ends, facing};
 ghost use Rattle.unl_durable_upstream.specs.declared.fault.KeepingFault.TheVariants.{Door as door_fault};
-ghost use Rattle.unl_upstream.specs.Kept.{KeptState, keeper_by, kept_state};
+ghost use Rattle.unl_upstream.specs.Kept.{KeptState, kept_state};
 ghost use Rattle.unl_upstream.specs.Reopening.{IsOpening};
 ghost use Rattle.unl_words.specs.Ranges.{IsUpstream};
 
@@ -92,7 +92,7 @@ pub fn serve_over<F: Disk + Drop, D: Door, R: Draws, W: Wait + Eprint>(
     ensures runs { Runs given.now.options result
         (facing (D.state door.old) (R.coming draws.old)) (facing (D.state door.new) (R.coming draws.new)) }
     ensures door { result ≡ Err door_fault → Rose (D.faults door.old) (D.faults door.new) }
-    ensures closed { IfOk result (λ served. IsClosedAt given.now.options.port (D.state door.new)) }
+    ensures closed { IfOk result (λ served. IsClosedAt given.now.options.port (D.state door.old) (D.state door.new)) }
 {
     let boot = draws.draw().word;
     match begin(alloc, boot, &given.options) {
@@ -133,7 +133,7 @@ fn serve_keeper<K: Keeper + Drop, D: Door, R: Draws, W: Wait + Eprint>(
     draws: &mut R,
 ) -> (Result<u64, KeepingFault>, K)
     requires { IsOpening up }
-    ensures ends { (last : KeptState) × Ends (kept_state up (keeper_by K.opened K.faults K.count K.rows keeper)) given.now.options.port
+    ensures ends { (last : KeptState) × Ends (kept_state up (K.state keeper)) given.now.options.port
         result.0 last (facing (D.state door.old) (R.coming draws.old)) (facing (D.state door.new) (R.coming draws.new)) }
     ensures door { result.0 ≡ Err door_fault → Rose (D.faults door.old) (D.faults door.new) }
 {

@@ -13,7 +13,7 @@ use thiserror::Error;
 pub enum KeepingFault {
     /// There is no path, or the arguments after it are not options of `upstream`.
     #[error("unl_durable_upstream: bad words")]
-    BadWords,
+    BadArguments,
     /// The database could not be opened or closed.
     #[error("unl_durable_upstream: {0}")]
     File(sqlite::Error),
@@ -37,7 +37,7 @@ impl KeepingFault {
         ensures { result ≡ code_of self.now }
     {
         match self {
-            KeepingFault::BadWords => 2,
+            KeepingFault::BadArguments => 2,
             KeepingFault::Row(_) => 3,
             KeepingFault::Memory => 6,
             KeepingFault::Door => 7,

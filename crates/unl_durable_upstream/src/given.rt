@@ -35,14 +35,14 @@ impl ProgramArguments {
 /// takes them.
 ///
 /// # Errors
-/// `BadWords`: there is no path, `read_words` refuses the options, or an argument is not UTF-8. `Memory`: out of memory.
+/// `BadArguments`: there is no path, `read_words` refuses the options, or an argument is not UTF-8. `Memory`: out of memory.
 pub fn read_given(rt: &HostRuntime) -> Result<ProgramArguments, KeepingFault>
     ensures reads { (words : List (List ℕ)) × IsReading words result }
     ensures valid { IfOk result (λ given. IsUpstream given.options) }
 {
     match read_arguments(rt) {
         Ok(words) => read_path_first(rt.alloc(), words),
-        Err(ArgumentsFault::Bad) => Err(KeepingFault::BadWords),
+        Err(ArgumentsFault::Bad) => Err(KeepingFault::BadArguments),
         Err(ArgumentsFault::Memory) => Err(KeepingFault::Memory),
     }
 }
@@ -54,15 +54,15 @@ fn read_path_first(alloc: Global, mut words: Vec<String>) -> Result<ProgramArgum
 {
     let command = String::from_str(alloc, "upstream")?;
     let Some(first) = words.first_mut() else {
-        return Err(KeepingFault::BadWords);
+        return Err(KeepingFault::BadArguments);
     };
     let path = mem::replace(first, command);
     match read_words(alloc, &words) {
         Ok(read) => match upstream_options(read) {
             Some(options) => Ok(ProgramArguments { path, options }),
-            None => Err(KeepingFault::BadWords),
+            None => Err(KeepingFault::BadArguments),
         },
-        Err(WordsRefusal::Bad) => Err(KeepingFault::BadWords),
+        Err(WordsRefusal::Bad) => Err(KeepingFault::BadArguments),
         Err(WordsRefusal::Memory) => Err(KeepingFault::Memory),
     }
 }

@@ -24,7 +24,7 @@ use unl_usage::{Program, report_refusal, warn_of_epoch};
 
 fn main(rt: HostRuntime) -> ExitCode {
     let ended = run(&rt, rt);
-    if let Err(KeepingFault::BadWords) = &ended {
+    if let Err(KeepingFault::BadArguments) = &ended {
         report_refusal(&rt, Program::DurableUpstream);
     }
     let printed = print_end(&rt, &ended);

@@ -67,13 +67,7 @@ fn is_fault<T: Drop>(outcome: &Result<T, KeepRefusal>) -> bool {
 }
 
 impl<'a, K: Keeper + Drop, E: Eprint> Keeper for ReportingKeeper<'a, K, E> {
-    ghost opened = { λ k. K.opened k.keeper };
-
-    ghost faults = { λ k. K.faults k.keeper };
-
-    ghost count = { λ k. K.count k.keeper };
-
-    ghost rows = { λ k. K.rows k.keeper };
+    ghost state = { λ k. K.state k.keeper };
 
     fn open(&mut self, alloc: Global) -> Result<u64, KeepRefusal> {
         self.keeper.open(alloc)

@@ -4,7 +4,7 @@ ghost use Rattle.unl_base.specs.Faults.{Rose};
 ghost use Rattle.unl_durable_upstream.specs.Beginning.{upstream_of};
 ghost use Rattle.unl_durable_upstream.specs.Serving.{Ends, LinksEnd, facing};
 ghost use Rattle.unl_durable_upstream.specs.declared.fault.KeepingFault.TheVariants.{Door as door_fault, Keeper as keeper_fault};
-ghost use Rattle.unl_upstream.specs.Kept.{keeper_by, kept_state};
+ghost use Rattle.unl_upstream.specs.Kept.{kept_state};
 ghost use Rattle.unl_upstream.specs.Reopening.{IsOpening};
 ghost use Rattle.unl_words.specs.Ranges.{IsUpstream};
 
@@ -14,7 +14,7 @@ use std::sync::Wait;
 use unl_base::{Door, Draws, Failed};
 use unl_documents::Memory;
 use unl_keeper::Keeper;
-use unl_upstream::{ReopenFault, Upstream, host_kept, reopen};
+use unl_upstream::{ReopenFault, Upstream, reopen, serve_kept_door};
 use unl_usage::report_commands;
 use unl_words::{UpstreamArguments, own_book};
 
@@ -59,10 +59,9 @@ pub fn serve_reopened<K: Keeper, D: Door, R: Draws, W: Wait + Eprint>(
     draws: &mut R,
 ) -> Result<u64, KeepingFault>
     requires { IsOpening up.old }
-    ensures ends { Ends (kept_state up.old (keeper_by K.opened K.faults K.count K.rows keeper.old)) port result
-        (kept_state up.new (keeper_by K.opened K.faults K.count K.rows keeper.new))
+    ensures ends { Ends (kept_state up.old (K.state keeper.old)) port result (kept_state up.new (K.state keeper.new))
         (facing (D.state door.old) (R.coming draws.old)) (facing (D.state door.new) (R.coming draws.new)) }
-    ensures keeper { result ≡ Err keeper_fault → Rose (K.faults keeper.old) (K.faults keeper.new) }
+    ensures keeper { result ≡ Err keeper_fault → Rose (K.state keeper.old).faults (K.state keeper.new).faults }
     ensures door { result ≡ Err door_fault → Rose (D.faults door.old) (D.faults door.new) }
 {
     match reopen(alloc, up, keeper) {
@@ -85,6 +84,7 @@ pub fn serve_reopened<K: Keeper, D: Door, R: Draws, W: Wait + Eprint>(
 ///
 /// # Errors
 /// `Failed`: the door failed, and incremented its fault count.
+#[tactic(auto, using(unl_base::proofs::Listening::listens_after))]
 fn serve_links<K: Keeper, D: Door, R: Draws, W: Wait>(
     rt: &W,
     alloc: Global,
@@ -94,14 +94,13 @@ fn serve_links<K: Keeper, D: Door, R: Draws, W: Wait>(
     door: &mut D,
     draws: &mut R,
 ) -> Result<u64, Failed>
-    requires { K.opened keeper.old ≡ true }
-    ensures ends { LinksEnd (kept_state up.old (keeper_by K.opened K.faults K.count K.rows keeper.old)) port result
-        (kept_state up.new (keeper_by K.opened K.faults K.count K.rows keeper.new))
+    requires { (K.state keeper.old).opened ≡ true }
+    ensures ends { LinksEnd (kept_state up.old (K.state keeper.old)) port result (kept_state up.new (K.state keeper.new))
         (facing (D.state door.old) (R.coming draws.old)) (facing (D.state door.new) (R.coming draws.new)) }
     ensures cause { OnErr result (Rose (D.faults door.old) (D.faults door.new)) }
 {
     if door.listen(port).is_err() {
         return Err(Failed);
     }
-    host_kept(rt, alloc, up, keeper, door, draws)
+    serve_kept_door(rt, alloc, up, keeper, door, draws)
 }
