@@ -1,12 +1,13 @@
 -- How an edge ends after it took its first draw and tried to listen.
-use Rattle.std.proofs.Common.{◌≡◌, ◌≤◌, ◌∙◌, ℕ, Bool, List, length, Option, Some, None, Result, Ok, Err, IfSome, ap, arith, inl, inr, refl, sym, subst, true}
-use Rattle.std.specs.Prelude.{◌⊎◌}
+use Rattle.std.proofs.Common.{◌≡◌, ◌<◌, ◌≤◌, ◌∙◌, ℕ, Bool, List, length, Option, Some, None, Result, Ok, Err, IfSome, ap, arith, inl, inr, refl, sym, subst}
+use Rattle.std.proofs.Common.{false, true}
+use Rattle.std.specs.Prelude.{◌⊎◌, OnErr, OnOk}
 use Rattle.unl_base.specs.Draws.{TakesDraw}
-use Rattle.unl_base.specs.Doors.{ServedOnlyAt, DoorState, IsClosed, IsClosedAt, listening_at}
+use Rattle.unl_base.specs.Doors.{DoorState, IsClosed, IsClosedAt, ListenedAt, ListenedOnlyAt, ServedOnlyAt, listening_at}
 use Rattle.unl_base.specs.Streams.{Sends, SendsFront}
 use Rattle.unl_base.specs.declared.draws.Draw.{Draw}
 use Rattle.unl_core.specs.declared.board.Board.{Board}
-use Rattle.unl_edge.specs.Edges.{EdgeEnds, EdgeRuns, HandsLinks, IsServed, RunsEdge, StopsForMemory}
+use Rattle.unl_edge.specs.Edges.{EdgeEnds, EdgeRuns, HandsLinks, IsServed, RunsEdge, StopsEarly}
 use Rattle.unl_edge.specs.Scene.{Scene}
 use Rattle.unl_edge.specs.EdgeServices.{EdgeService, begun_board, duty_of, service_at, service_of}
 use Rattle.unl_edge.specs.Upstreams.{connections_line, line_end}
@@ -20,6 +21,18 @@ use Rattle.unl_input.specs.Refusal.{WritesLine}
 use Rattle.unl_input.specs.declared.refusal.WriteLineFault.{WriteLineFault}
 use Rattle.unl_input.specs.declared.refusal.WriteLineFault.TheVariants as say
 use Rattle.unl_workers.specs.Accepting.{HandsOut}
+
+-- ---- the door
+
+-- what holds on `Ok` holds if the result is one
+pub once_ok : {A E X : Type 0} (result : Result A E) (a : A) → result ≡ Ok a → OnOk result X → X
+once_ok (Ok b) a is x = x
+once_ok (Err e) a is x = absurd (cc is)
+
+-- and what holds on `Err` if it is that
+pub once_err : {A E X : Type 0} (result : Result A E) (e : E) → result ≡ Err e → OnErr result X → X
+once_err (Ok a) e is x = absurd (cc is)
+once_err (Err d) e is x = x
 
 -- ---- the links
 
@@ -41,12 +54,29 @@ none_had : (links : Option (List (List ℕ))) → IfSome links (λ list. 0 ≤ l
 none_had None = tt
 none_had (Some list) = omega arith
 
--- they came at the port that the door listens at
-pub came_at : (served port : ℕ) (could : Bool) (before door after : DoorState) → could ≡ true → door ≡ listening_at port could before
-    → HandsOut served door after → after.port ≡ Some port
-came_at served port could before door after did listens hands =
-    ap (λ (d : DoorState). d.port) hands.door ∙ ap (λ (d : DoorState). d.port) listens
-    ∙ ap (λ (b : Bool). (listening_at port b before).port) did
+-- the door listened once more, at this port
+pub listened_at : (port : ℕ) (could : Bool) (before door : DoorState) → could ≡ true → door ≡ listening_at port could before
+    → ListenedAt port before door
+listened_at port could before door did listens =
+    ap (λ (d : DoorState). d.ports) listens ∙ ap (λ (b : Bool). (listening_at port b before).ports) did
+
+-- it could not
+pub listened_nowhere : (port : ℕ) (could : Bool) (before door : DoorState) → could ≡ false → door ≡ listening_at port could before
+    → door.ports ≡ before.ports
+listened_nowhere port could before door didnt listens =
+    ap (λ (d : DoorState). d.ports) listens ∙ ap (λ (b : Bool). (listening_at port b before).ports) didnt
+
+-- the same of a door that nothing else changed
+pub listened_at_last : (port : ℕ) (could : Bool) (before door after : DoorState) → could ≡ true → door ≡ listening_at port could before
+    → after ≡ door → ListenedAt port before after
+listened_at_last port could before door after did listens same =
+    ap (λ (d : DoorState). d.ports) same ∙ listened_at port could before door did listens
+
+-- the links came at the port where the door listened
+pub port_of_links : (served port : ℕ) (could : Bool) (before door after : DoorState) → could ≡ true → door ≡ listening_at port could before
+    → HandsOut served door after → ListenedAt port before after
+port_of_links served port could before door after did listens hands =
+    ap (λ (d : DoorState). d.ports) hands.door ∙ listened_at port could before door did listens
 
 -- no link was handed out
 pub hands_none : (port : ℕ) (could : Bool) (before after : Scene) → after.door.state ≡ listening_at port could before.door.state
@@ -61,22 +91,17 @@ hands_none port could before after listens unread = record {
 
 -- so a door that is then closed was closed there
 pub closes_at : (served port : ℕ) (could : Bool) (before door after : DoorState) → could ≡ true → door ≡ listening_at port could before
-    → HandsOut served door after → IsClosed after → IsClosedAt port after
+    → HandsOut served door after → IsClosed after → IsClosedAt port before after
 closes_at served port could before door after did listens hands closed =
-    record { closed = closed; at = came_at served port could before door after did listens hands }
+    record { closed = closed; at = port_of_links served port could before door after did listens hands }
 
 -- ---- the draw before
 
-from_draw : {served : ℕ} {before after : Scene} {draws : Option (List Draw × Draw)} → HandsLinks served (record before { draws = draws }) after
-    → HandsLinks served before after
-from_draw hands =
-    record { given = hands.given; had = hands.had; none_back = hands.none_back; left = hands.left; unread = hands.unread }
-
 -- memory ran out before anything was handed out or sent
-pub stops_at_once : (port : ℕ) (before after middle : Scene) → before ≡ middle → after.door.state ≡ middle.door.state → after.input.left ≡ middle.input.left
-    → after.output.sent ≡ middle.output.sent → StopsForMemory port before after
+pub stops_at_once : (port : ℕ) (before after middle : Scene) → before ≡ middle → after.door.state ≡ middle.door.state
+    → after.input.left ≡ middle.input.left → after.output.sent ≡ middle.output.sent → StopsEarly port before after
 stops_at_once port before after middle same shut unread silent =
-    subst (λ (scene : Scene). StopsForMemory port scene after) (sym same) (0, none, inl refl, silent)
+    subst (λ (scene : Scene). StopsEarly port scene after) (sym same) (none, inl (ap (λ (d : DoorState). d.ports) shut), silent)
   where
     none : HandsLinks 0 middle after
     none = record {
@@ -99,7 +124,7 @@ runs_so words end before after draw coming taken ends = by_end end ends
     by_end Closed ends = runs Closed ends
     by_end WriteFault ends = runs WriteFault ends
     by_end DoorFault ends = runs DoorFault ends
-    by_end OutOfMemory ends = (ends.0, from_draw {draws = coming} ends.1, ends.2, ends.3)
+    by_end OutOfMemory ends = inr (runs OutOfMemory ends)
 
 -- the same, with the state before and the edge service known by their parts
 pub begun_ends : (words : EdgeArguments) (duty : Duty) (board : Board) (end : ServingEnd) (before middle after : Scene)
@@ -117,8 +142,8 @@ begun_ends words duty board end before middle after draw coming polls begins sam
 
 -- the door was closed, and the last line was sent
 pub closed_ends : (service : EdgeService) (port served : ℕ) (before middle after : Scene) → before ≡ middle → HandsLinks served middle after
-    → IsServed service port served middle after → Sends middle.output.sent (connections_line served) after.output.sent → IsClosedAt port after.door.state
-    → EdgeEnds service port Closed before after
+    → IsServed service port served middle after → Sends middle.output.sent (connections_line served) after.output.sent
+    → IsClosedAt port middle.door.state after.door.state → EdgeEnds service port Closed before after
 closed_ends service port served before middle after same hands serves sent closed =
     subst (λ (scene : Scene). EdgeEnds service port Closed scene after) (sym same) ends
   where
@@ -127,41 +152,52 @@ closed_ends service port served before middle after same hands serves sent close
 
 -- the door was closed, and a prefix of the line was sent
 pub broken_ends : (service : EdgeService) (port served : ℕ) (before middle after : Scene) → before ≡ middle → HandsLinks served middle after
-    → IsServed service port served middle after → SendsFront middle.output.sent (connections_line served) after.output.sent → IsClosedAt port after.door.state
-    → EdgeEnds service port WriteFault before after
+    → IsServed service port served middle after → SendsFront middle.output.sent (connections_line served) after.output.sent
+    → IsClosedAt port middle.door.state after.door.state → EdgeEnds service port WriteFault before after
 broken_ends service port served before middle after same hands serves sent closed =
     subst (λ (scene : Scene). EdgeEnds service port WriteFault scene after) (sym same) ends
   where
     ends : EdgeEnds service port WriteFault middle after
     ends = (served, hands, serves, sent, closed)
 
+-- no link was handed out, so nothing is to be said of links
+pub none_served : {X : Type 0} → 0 < 0 → X
+none_served some = absurd (omega (arith, some))
+
 -- the door failed, or no thread could be started
 pub failed_ends : (service : EdgeService) (port served : ℕ) (before middle after : Scene) → before ≡ middle → HandsLinks served middle after
-    → ServedOnlyAt port served after.door.state → after.output.sent ≡ middle.output.sent → EdgeEnds service port DoorFault before after
-failed_ends service port served before middle after same hands came silent =
+    → (0 < served → IsServed service port served middle after) → ServedOnlyAt port served middle.door.state after.door.state
+    → after.output.sent ≡ middle.output.sent → EdgeEnds service port DoorFault before after
+failed_ends service port served before middle after same hands serves received silent =
     subst (λ (scene : Scene). EdgeEnds service port DoorFault scene after) (sym same) ends
   where
     ends : EdgeEnds service port DoorFault middle after
-    ends = (served, hands, came, silent)
+    ends = (served, hands, serves, received, silent)
 
--- memory ran out before the first link, or for the line
-pub stopped_ends : (service : EdgeService) (port served : ℕ) (before middle after : Scene) → before ≡ middle → HandsLinks served middle after
-    → (served ≡ 0) ⊎ IsClosedAt port after.door.state → after.output.sent ≡ middle.output.sent → EdgeEnds service port OutOfMemory before after
-stopped_ends service port served before middle after same hands over silent =
-    subst (λ (scene : Scene). EdgeEnds service port OutOfMemory scene after) (sym same) ends
-  where
-    ends : EdgeEnds service port OutOfMemory middle after
-    ends = (served, hands, over, silent)
+-- memory ran out before the first link
+pub stopped_early : (service : EdgeService) (port : ℕ) (before middle after : Scene) → before ≡ middle → HandsLinks 0 middle after
+    → ListenedOnlyAt port middle.door.state after.door.state → after.output.sent ≡ middle.output.sent
+    → EdgeEnds service port OutOfMemory before after
+stopped_early service port before middle after same hands listened silent =
+    subst (λ (scene : Scene). EdgeEnds service port OutOfMemory scene after) (sym same) (inl (hands, listened, silent))
+
+-- memory ran out for the line
+pub stopped_at_line : (service : EdgeService) (port served : ℕ) (before middle after : Scene) → before ≡ middle
+    → HandsLinks served middle after → IsServed service port served middle after → after.output.sent ≡ middle.output.sent
+    → IsClosedAt port middle.door.state after.door.state → EdgeEnds service port OutOfMemory before after
+stopped_at_line service port served before middle after same hands serves silent closed =
+    subst (λ (scene : Scene). EdgeEnds service port OutOfMemory scene after) (sym same) (inr (served, hands, serves, silent, closed))
 
 -- the same, from the result of printing the line
-pub told_ends : (service : EdgeService) (port served : ℕ) (told : Result Unit WriteLineFault) (end : ServingEnd) (before middle after : Scene)
-    → end ≡ line_end told → before ≡ middle → HandsLinks served middle after → IsServed service port served middle after
-    → WritesLine told (connections_line served) middle.output.sent after.output.sent → IsClosedAt port after.door.state → EdgeEnds service port end before after
-told_ends service port served told end before middle after is same hands serves said closed =
-    subst (λ (e : ServingEnd). EdgeEnds service port e before after) (sym is) (by_told told said)
+pub printed_ends : (service : EdgeService) (port served : ℕ) (printed : Result Unit WriteLineFault) (end : ServingEnd) (before middle after : Scene)
+    → end ≡ line_end printed → before ≡ middle → HandsLinks served middle after → IsServed service port served middle after
+    → WritesLine printed (connections_line served) middle.output.sent after.output.sent → IsClosedAt port middle.door.state after.door.state
+    → EdgeEnds service port end before after
+printed_ends service port served printed end before middle after is same hands serves said closed =
+    subst (λ (e : ServingEnd). EdgeEnds service port e before after) (sym is) (by_printed printed said)
   where
-    by_told : (told : Result Unit WriteLineFault) → WritesLine told (connections_line served) middle.output.sent after.output.sent
-        → EdgeEnds service port (line_end told) before after
-    by_told (Ok u) said = closed_ends service port served before middle after same hands serves said closed
-    by_told (Err say.WriteFault) said = broken_ends service port served before middle after same hands serves said closed
-    by_told (Err say.Memory) said = stopped_ends service port served before middle after same hands (inr closed) said
+    by_printed : (printed : Result Unit WriteLineFault) → WritesLine printed (connections_line served) middle.output.sent after.output.sent
+        → EdgeEnds service port (line_end printed) before after
+    by_printed (Ok u) said = closed_ends service port served before middle after same hands serves said closed
+    by_printed (Err say.WriteFault) said = broken_ends service port served before middle after same hands serves said closed
+    by_printed (Err say.Memory) said = stopped_at_line service port served before middle after same hands serves said closed

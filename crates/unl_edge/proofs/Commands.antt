@@ -8,10 +8,10 @@ use Rattle.unl_base.specs.Streams.{HasEnded, Sends, SendsFront, Takes}
 use Rattle.unl_base.proofs.Sending.{Sends_nothing}
 use Rattle.unl_core.specs.Board.{AreDifferent}
 use Rattle.unl_documents.specs.Texts.{is_name}
-use Rattle.unl_edge.specs.Keeping.{Shelf, SpellKept, keeping, shelf_of}
+use Rattle.unl_edge.specs.Keeping.{KeptLines, SpellKept, keeping, kept_lines_of}
 use Rattle.unl_edge.specs.Scene.{Scene}
 use Rattle.unl_edge.specs.Status.{Caused, code_of, ending_status, upstream_status}
-use Rattle.unl_edge.specs.Upstreams.{Begins, ComesBack, EndsKept, Facing, IsDecidedByLines, IsDecidedFrom, IsMade, IsOfRow, KeeperEnd, LinesEnd}
+use Rattle.unl_edge.specs.Upstreams.{Begins, ComesBack, EndsKept, Facing, IsDecidedByLines, IsDecidedFrom, IsOfRow, KeeperEnd, LinesEnd}
 use Rattle.unl_edge.specs.Upstreams.{IsNew, LinksEnd, Opens, RefusesRow, RunsUpstream, ServesAfterLines, ServesLinks, UpstreamEnds, UpstreamRuns}
 use Rattle.unl_edge.specs.Upstreams.{connections_line, facing_of, lines_code, obeying}
 use Rattle.unl_edge.specs.declared.ends.ServingEnd.{ServingEnd}
@@ -24,6 +24,7 @@ use Rattle.unl_edge.proofs.Named.{links_named}
 use Rattle.unl_server.specs.Handling.{Coming}
 use Rattle.unl_input.specs.declared.refusal.WriteLineFault.TheVariants as say
 use Rattle.unl_keeper.specs.Rows.{kept}
+use Rattle.unl_keeper.specs.State.{HasKept, IsNewKeeper, KeeperState, kept_rows}
 use Rattle.unl_input.specs.Lines.{lines}
 use Rattle.unl_input.specs.Taken.{Ending, IsRefused, Outcome, done, outcome_of, refused}
 use Rattle.unl_input.specs.declared.taking.LinesFault.{LinesFault}
@@ -32,7 +33,7 @@ use Rattle.unl_input.specs.Whole.{AnswersAll, IsRefusing, HoldsOfRead, TakesLine
 use Rattle.unl_input.proofs.Silent.{memory_is_silent, nothing_sent, prints_cause_alone}
 use Rattle.unl_input.proofs.Whole.{holds_of_observable, whole_read}
 use Rattle.unl_tokens.specs.declared.token.Token.{Token}
-use Rattle.unl_upstream.specs.Kept.{HasKept, KeeperState, KeptState, acknowledged, commands_in, kept_commands, kept_rows, kept_state}
+use Rattle.unl_upstream.specs.Kept.{KeptState, acknowledged, commands_in, kept_commands, kept_state}
 use Rattle.unl_upstream.specs.Reopening.{IsSameKeeper, Reopens, rows_after}
 use Rattle.unl_upstream.specs.Upstream.{UpstreamState, opening}
 use Rattle.unl_upstream.proofs.Carrying.{both_behind, holds_still}
@@ -71,33 +72,33 @@ serves_none state before after has coming given back left returned = record {
 
 -- nothing was sent if memory ran out, or the keeper failed, while the lines were taken
 pub silent_lines_end : (opened : KeptState) (left left_after old new : Option (List ℕ))
-    → TakesLines keeping (shelf_of opened) (Err line.Memory) left left_after old new → new ≡ old
-silent_lines_end opened left left_after old new takes = memory_is_silent keeping (shelf_of opened) left left_after old new silent takes
+    → TakesLines keeping (kept_lines_of opened) (Err line.Memory) left left_after old new → new ≡ old
+silent_lines_end opened left left_after old new takes = memory_is_silent keeping (kept_lines_of opened) left left_after old new silent takes
 
 -- the same, of a result that is out of memory
 pub silent_at : (opened : KeptState) (result : Result (Unit {0}) LinesFault) (left left_after old new : Option (List ℕ)) → result ≡ Err line.Memory
-    → TakesLines keeping (shelf_of opened) result left left_after old new → new ≡ old
+    → TakesLines keeping (kept_lines_of opened) result left left_after old new → new ≡ old
 silent_at opened result left left_after old new is takes =
     silent_lines_end opened left left_after old new
-    (subst (λ (r : Result (Unit {0}) LinesFault). TakesLines keeping (shelf_of opened) r left left_after old new) is takes)
+    (subst (λ (r : Result (Unit {0}) LinesFault). TakesLines keeping (kept_lines_of opened) r left left_after old new) is takes)
 
 -- how an upstream ends after all its lines were accepted, from the state after them
-pub after_lines : (opened kept : KeptState) (port : ℕ) (last : KeptState) (desk : Shelf) (end : ServingEnd) (left left_after : Option (List ℕ))
-    (before after : Facing) (sent : Option (List ℕ)) → HasKept kept.keeper → shelf_of kept ≡ desk → AnswersAll keeping (shelf_of opened) desk left left_after before.sent sent
+pub after_lines : (opened kept : KeptState) (port : ℕ) (last : KeptState) (desk : KeptLines) (end : ServingEnd) (left left_after : Option (List ℕ))
+    (before after : Facing) (sent : Option (List ℕ)) → HasKept kept.keeper → kept_lines_of kept ≡ desk → AnswersAll keeping (kept_lines_of opened) desk left left_after before.sent sent
     → LinksEnd kept port end last (record before { sent = sent }) after
     → LinesEnd opened port (Links end) last.keeper left left_after before after
 after_lines opened kept port last desk end left left_after before after sent has is taken links = by_end end links
   where
     same_sent : sent ≡ before.sent
     same_sent =
-        nothing_sent before.sent sent (outcome_of keeping (shelf_of opened) taken.read).text
-        (prints_cause_alone keeping silent (shelf_of opened) taken.read) taken.answered.sent
+        nothing_sent before.sent sent (outcome_of keeping (kept_lines_of opened) taken.read).text
+        (prints_cause_alone keeping silent (kept_lines_of opened) taken.read) taken.answered.sent
 
-    accepted : outcome_of keeping (shelf_of opened) taken.read ≡ record { text = []; ending = done; desk = shelf_of kept }
-    accepted = all_taken keeping (shelf_of opened) (shelf_of kept) taken.read silent taken.answered.ending (taken.leaves ∙ sym is)
+    accepted : outcome_of keeping (kept_lines_of opened) taken.read ≡ record { text = []; ending = done; desk = kept_lines_of kept }
+    accepted = all_taken keeping (kept_lines_of opened) (kept_lines_of kept) taken.read silent taken.answered.ending (taken.leaves ∙ sym is)
 
-    spelled : SpellKept (shelf_of opened) (lines taken.read) (shelf_of kept)
-    spelled = lines_keep (shelf_of opened) (shelf_of kept) taken.read accepted
+    spelled : SpellKept (kept_lines_of opened) (lines taken.read) (kept_lines_of kept)
+    spelled = lines_keep (kept_lines_of opened) (kept_lines_of kept) taken.read accepted
 
     serves : (served : ℕ) → ServesLinks kept last (record before { sent = sent }) after served
         → ServesAfterLines opened last.keeper left left_after before after served
@@ -169,7 +170,7 @@ none_applied start up (text ∷ texts) none leads = absurd (omega (arith, none))
 
 -- an upstream reopened on such a keeper is in its opening state, and no command is kept
 opens_empty : (start : UpstreamState) (made : KeeperState) (reopened : ℕ) (opened : KeptState) → made.rows ≡ Some [] → Opens (kept_state start made) reopened opened
-    → shelf_of opened ≡ record { up = start; count = 0; commands = Some [] }
+    → kept_lines_of opened ≡ record { up = start; count = 0; commands = Some [] }
 opens_empty start made reopened opened empty opens =
     let rows : opened.keeper.rows ≡ Some [] = opens.same.rows ∙ empty in
     let none : reopened ≡ 0 = subst (λ (o : Option (List (List ℕ))). IfSome o (λ list. reopened ≡ length list)) rows opens.reopens.whole in
@@ -179,20 +180,20 @@ opens_empty start made reopened opened empty opens =
     λ i. record { up = up i; count = count i; commands = option_map commands_in (kept (count i) (rows i)) }
 
 -- the same, if what the maker holds is observable
-opens_plain : (start : UpstreamState) (made : KeeperState) (held : Option (List (List ℕ))) → IsMade held made → (reopened : ℕ) (opened : KeptState)
-    → Opens (kept_state start made) reopened opened → IfSome held (λ _. shelf_of opened ≡ record { up = start; count = 0; commands = Some [] })
-opens_plain start made held is_made reopened opened opens = by_held held is_made.empty
+opens_plain : (start : UpstreamState) (made : KeeperState) (held : Option (List (List ℕ))) → IsNewKeeper held made → (reopened : ℕ) (opened : KeptState)
+    → Opens (kept_state start made) reopened opened → IfSome held (λ _. kept_lines_of opened ≡ record { up = start; count = 0; commands = Some [] })
+opens_plain start made held is_new_keeper reopened opened opens = by_held held is_new_keeper.empty
   where
     by_held : (held : Option (List (List ℕ))) → IfSome held (λ _. made.rows ≡ Some [])
-        → IfSome held (λ _. shelf_of opened ≡ record { up = start; count = 0; commands = Some [] })
+        → IfSome held (λ _. kept_lines_of opened ≡ record { up = start; count = 0; commands = Some [] })
     by_held None empty = tt
     by_held (Some rows) empty = opens_empty start made reopened opened empty opens
 
 -- so no command is kept yet
 none_kept : (start : UpstreamState) (opened : KeptState) (held : Option (List (List ℕ)))
-    → IfSome held (λ _. shelf_of opened ≡ record { up = start; count = 0; commands = Some [] }) → IfSome held (λ _. kept_commands opened.keeper ≡ Some [])
+    → IfSome held (λ _. kept_lines_of opened ≡ record { up = start; count = 0; commands = Some [] }) → IfSome held (λ _. kept_commands opened.keeper ≡ Some [])
 none_kept start opened None plain = tt
-none_kept start opened (Some rows) plain = ap (λ (s : Shelf). s.commands) plain
+none_kept start opened (Some rows) plain = ap (λ (s : KeptLines). s.commands) plain
 
 -- the maker holds what the keeper keeps, if that is observable and the keeper kept nothing at first
 holds_kept : (last : KeeperState) (first : Option (List Command)) (held held_after : Option (List (List ℕ))) (commands : List Command)
@@ -213,23 +214,23 @@ never_failed zero rose none = refl
 never_failed (suc n) rose none = absurd (none (rose (λ is. cc)))
 
 -- a keeper was created, and its maker got it back
-pub ends_kept : (start : UpstreamState) (port : ℕ) (end : UpstreamEnd) (made last : KeeperState) (before after : Scene) → IsMade before.keep.held made
+pub ends_kept : (start : UpstreamState) (port : ℕ) (end : UpstreamEnd) (made last : KeeperState) (before after : Scene) → IsNewKeeper before.keep.held made
     → KeeperEnd (kept_state start made) port end last before.input.left after.input.left (facing_of before) (facing_of after)
     → ComesBack last before.keep after.keep → UpstreamEnds start port end before after
-ends_kept start port end made last before after is_made ends back = by_end end ends
+ends_kept start port end made last before after is_new_keeper ends back = by_end end ends
   where
     kept : (end : UpstreamEnd) → KeeperEnd (kept_state start made) port end last before.input.left after.input.left (facing_of before) (facing_of after)
         → EndsKept start port end before after
     kept end ends = record {
       made = made;
-      is_made = is_made;
-      plain = opens_plain start made before.keep.held is_made;
+      is_new_keeper = is_new_keeper;
+      plain = opens_plain start made before.keep.held is_new_keeper;
       last = last;
       ends = ends;
       back = back;
       holds = λ reopened opened commands opens.
           holds_kept last (kept_commands opened.keeper) before.keep.held after.keep.held commands
-          (none_kept start opened before.keep.held (opens_plain start made before.keep.held is_made reopened opened opens)) back.held;
+          (none_kept start opened before.keep.held (opens_plain start made before.keep.held is_new_keeper reopened opened opens)) back.held;
     }
 
     by_end : (end : UpstreamEnd) → KeeperEnd (kept_state start made) port end last before.input.left after.input.left (facing_of before) (facing_of after)
@@ -269,8 +270,8 @@ environments_differ (name ∷ texts) differ =
     let parts = others_differ name texts differ in (parts.0, environments_differ texts parts.1)
 
 -- the environments of the arguments have different names
-pub words_differ : (environments : List (List ℕ)) → are_environments environments ≡ true → AreDifferent environments
-words_differ environments are =
+pub environments_are_different : (environments : List (List ℕ)) → are_environments environments ≡ true → AreDifferent environments
+environments_are_different environments are =
     let parts = both (has_count 1 8 environments) (list_all is_name environments && are_different environments) are in
     environments_differ environments (both (list_all is_name environments) (are_different environments) parts.1).1
 
@@ -313,29 +314,29 @@ refusing_decides outcome left left_after old new is =
 
 -- if all lines were accepted, the exit code by the lines is 0
 lines_decide : (opened : KeptState) (last : KeeperState) (left left_after : Option (List ℕ)) (before after : Facing) (served : ℕ)
-    → ServesAfterLines opened last left left_after before after served → IfSome left (λ bytes. 0 ≡ lines_code keeping (shelf_of opened) bytes)
+    → ServesAfterLines opened last left left_after before after served → IfSome left (λ bytes. 0 ≡ lines_code keeping (kept_lines_of opened) bytes)
 lines_decide opened last left left_after before after served serves = of_read left (whole_read left left_after serves.read serves.took serves.end)
   where
-    of_read : (left : Option (List ℕ)) → IfSome left (λ bytes. bytes ≡ serves.read) → IfSome left (λ bytes. 0 ≡ lines_code keeping (shelf_of opened) bytes)
+    of_read : (left : Option (List ℕ)) → IfSome left (λ bytes. bytes ≡ serves.read) → IfSome left (λ bytes. 0 ≡ lines_code keeping (kept_lines_of opened) bytes)
     of_read None is = tt
     of_read (Some bytes) is =
-        subst (λ (bs : List ℕ). 0 ≡ lines_code keeping (shelf_of opened) bs) (sym is)
-        (ap (λ (o : Outcome Shelf). code_of (ending_status o.ending)) (sym serves.accepted))
+        subst (λ (bs : List ℕ). 0 ≡ lines_code keeping (kept_lines_of opened) bs) (sym is)
+        (ap (λ (o : Outcome KeptLines). code_of (ending_status o.ending)) (sym serves.accepted))
 
 -- the lines determine the exit code of a reopened upstream
 by_lines : (start : UpstreamState) (made : KeeperState) (reopened : ℕ) (opened : KeptState) (code : ℕ) (held : Option (List (List ℕ))) (left : Option (List ℕ))
-    → IsMade held made → Opens (kept_state start made) reopened opened → IfSome left (λ bytes. code ≡ lines_code keeping (shelf_of opened) bytes)
+    → IsNewKeeper held made → Opens (kept_state start made) reopened opened → IfSome left (λ bytes. code ≡ lines_code keeping (kept_lines_of opened) bytes)
     → IsDecidedFrom (kept_state start made) code left × IfSome held (λ _. IfSome left (λ bytes. code ≡ lines_code obeying start bytes))
-by_lines start made reopened opened code held left is_made opens decides = (inr (reopened, opened, opens, decides), by_held held is_made.empty)
+by_lines start made reopened opened code held left is_new_keeper opens decides = (inr (reopened, opened, opens, decides), by_held held is_new_keeper.empty)
   where
-    plainly : (shelf_of opened ≡ record { up = start; count = 0; commands = Some [] }) → (bytes : List ℕ) → code ≡ lines_code keeping (shelf_of opened) bytes
+    plainly : (kept_lines_of opened ≡ record { up = start; count = 0; commands = Some [] }) → (bytes : List ℕ) → code ≡ lines_code keeping (kept_lines_of opened) bytes
         → code ≡ lines_code obeying start bytes
     plainly same bytes is =
-        is ∙ ap (λ (e : Ending). code_of (ending_status e)) (same_ending (shelf_of opened) bytes (ap (λ (s : Shelf). s.count) same))
-        ∙ ap (λ (s : Shelf). lines_code obeying s.up bytes) same
+        is ∙ ap (λ (e : Ending). code_of (ending_status e)) (same_ending (kept_lines_of opened) bytes (ap (λ (s : KeptLines). s.count) same))
+        ∙ ap (λ (s : KeptLines). lines_code obeying s.up bytes) same
 
-    by_left : (shelf_of opened ≡ record { up = start; count = 0; commands = Some [] }) → (left : Option (List ℕ))
-        → IfSome left (λ bytes. code ≡ lines_code keeping (shelf_of opened) bytes) → IfSome left (λ bytes. code ≡ lines_code obeying start bytes)
+    by_left : (kept_lines_of opened ≡ record { up = start; count = 0; commands = Some [] }) → (left : Option (List ℕ))
+        → IfSome left (λ bytes. code ≡ lines_code keeping (kept_lines_of opened) bytes) → IfSome left (λ bytes. code ≡ lines_code obeying start bytes)
     by_left same None is = tt
     by_left same (Some bytes) is = plainly same bytes is
 
@@ -346,9 +347,9 @@ by_lines start made reopened opened code held left is_made opens decides = (inr 
 
 -- a refused row determines the exit code
 by_row : (start : UpstreamState) (made : KeeperState) (place : ℕ) (held : Option (List (List ℕ))) (left : Option (List ℕ))
-    → IsMade held made → RefusesRow (kept_state start made) place
+    → IsNewKeeper held made → RefusesRow (kept_state start made) place
     → IsDecidedFrom (kept_state start made) 3 left × IfSome held (λ _. IfSome left (λ bytes. 3 ≡ lines_code obeying start bytes))
-by_row start made place held left is_made refuses = (inl (place, refuses, refl), by_held held is_made.empty)
+by_row start made place held left is_new_keeper refuses = (inl (place, refuses, refl), by_held held is_new_keeper.empty)
   where
     by_held : (held : Option (List (List ℕ))) → IfSome held (λ _. made.rows ≡ Some [])
         → IfSome held (λ _. IfSome left (λ bytes. 3 ≡ lines_code obeying start bytes))
@@ -357,30 +358,30 @@ by_row start made place held left is_made refuses = (inl (place, refuses, refl),
 
 -- the exit code of an upstream with a keeper
 kept_decided : {Read Write Door Keep : Type 0} (start : UpstreamState) (port : ℕ) (made last : KeeperState) (end : UpstreamEnd) (held : Option (List (List ℕ)))
-    (left left_after : Option (List ℕ)) (before after : Facing) → IsMade held made → KeeperEnd (kept_state start made) port end last left left_after before after
+    (left left_after : Option (List ℕ)) (before after : Facing) → IsNewKeeper held made → KeeperEnd (kept_state start made) port end last left left_after before after
     → Caused (upstream_status end) Read Write Door Keep → ¬ Read → ¬ Write → ¬ Door → ¬ Keep → code_of (upstream_status end) ≢ 6
     → IsDecidedFrom (kept_state start made) (code_of (upstream_status end)) left
     × IfSome held (λ _. IfSome left (λ bytes. code_of (upstream_status end) ≡ lines_code obeying start bytes))
-kept_decided start port made last NoMemory held left left_after before after is_made ends caused read write door keep memory = absurd (memory refl)
-kept_decided start port made last KeeperFault held left left_after before after is_made ends caused read write door keep memory = absurd (keep caused)
-kept_decided start port made last (Row (Ok u)) held left left_after before after is_made ends caused read write door keep memory =
-    by_row start made ends.0 held left is_made ends.1
-kept_decided start port made last (Row (Err say.WriteFault)) held left left_after before after is_made ends caused read write door keep memory =
+kept_decided start port made last NoMemory held left left_after before after is_new_keeper ends caused read write door keep memory = absurd (memory refl)
+kept_decided start port made last KeeperFault held left left_after before after is_new_keeper ends caused read write door keep memory = absurd (keep caused)
+kept_decided start port made last (Row (Ok u)) held left left_after before after is_new_keeper ends caused read write door keep memory =
+    by_row start made ends.0 held left is_new_keeper ends.1
+kept_decided start port made last (Row (Err say.WriteFault)) held left left_after before after is_new_keeper ends caused read write door keep memory =
     absurd (write caused)
-kept_decided start port made last (Row (Err say.Memory)) held left left_after before after is_made ends caused read write door keep memory =
+kept_decided start port made last (Row (Err say.Memory)) held left left_after before after is_new_keeper ends caused read write door keep memory =
     absurd (memory refl)
-kept_decided start port made last (Lines line.Bad) held left left_after before after is_made ends caused read write door keep memory =
-    by_lines start made ends.reopened ends.opened 3 held left is_made ends.opens
-    (refusing_decides (outcome_of keeping (shelf_of ends.opened)) left left_after before.sent after.sent ends.ends.0)
-kept_decided start port made last (Lines line.ReadFault) held left left_after before after is_made ends caused read write door keep memory = absurd (read caused)
-kept_decided start port made last (Lines line.WriteFault) held left left_after before after is_made ends caused read write door keep memory = absurd (write caused)
-kept_decided start port made last (Lines line.Memory) held left left_after before after is_made ends caused read write door keep memory = absurd (memory refl)
-kept_decided start port made last (Links Closed) held left left_after before after is_made ends caused read write door keep memory =
-    by_lines start made ends.reopened ends.opened 0 held left is_made ends.opens
+kept_decided start port made last (Lines line.Bad) held left left_after before after is_new_keeper ends caused read write door keep memory =
+    by_lines start made ends.reopened ends.opened 3 held left is_new_keeper ends.opens
+    (refusing_decides (outcome_of keeping (kept_lines_of ends.opened)) left left_after before.sent after.sent ends.ends.0)
+kept_decided start port made last (Lines line.ReadFault) held left left_after before after is_new_keeper ends caused read write door keep memory = absurd (read caused)
+kept_decided start port made last (Lines line.WriteFault) held left left_after before after is_new_keeper ends caused read write door keep memory = absurd (write caused)
+kept_decided start port made last (Lines line.Memory) held left left_after before after is_new_keeper ends caused read write door keep memory = absurd (memory refl)
+kept_decided start port made last (Links Closed) held left left_after before after is_new_keeper ends caused read write door keep memory =
+    by_lines start made ends.reopened ends.opened 0 held left is_new_keeper ends.opens
     (lines_decide ends.opened last left left_after before after ends.ends.0 ends.ends.1)
-kept_decided start port made last (Links WriteFault) held left left_after before after is_made ends caused read write door keep memory = absurd (write caused)
-kept_decided start port made last (Links DoorFault) held left left_after before after is_made ends caused read write door keep memory = absurd (door caused)
-kept_decided start port made last (Links OutOfMemory) held left left_after before after is_made ends caused read write door keep memory = absurd (memory refl)
+kept_decided start port made last (Links WriteFault) held left left_after before after is_new_keeper ends caused read write door keep memory = absurd (write caused)
+kept_decided start port made last (Links DoorFault) held left left_after before after is_new_keeper ends caused read write door keep memory = absurd (door caused)
+kept_decided start port made last (Links OutOfMemory) held left left_after before after is_new_keeper ends caused read write door keep memory = absurd (memory refl)
 
 -- the lines determine the exit code of an upstream
 pub upstream_decided : {Read Write Door Keep : Type 0} (words : UpstreamArguments) (end : UpstreamEnd)
@@ -394,12 +395,12 @@ upstream_decided {Read} {Write} {Door} {Keep} words end before after runs caused
         → code_of (upstream_status end) ≢ 6 → IsDecidedByLines words (code_of (upstream_status end)) before
     decided end start coming begins ends caused memory =
         let parts = kept_decided start words.port ends.made ends.last end before.keep.held before.input.left after.input.left
-        (facing_of (record before { draws = coming })) (facing_of after) ends.is_made ends.ends caused read write door keep memory in record {
+        (facing_of (record before { draws = coming })) (facing_of after) ends.is_new_keeper ends.ends caused read write door keep memory in record {
           start = start;
           coming = coming;
           begins = begins;
           made = ends.made;
-          is_made = ends.is_made;
+          is_new_keeper = ends.is_new_keeper;
           reopened = parts.0;
           decided = parts.1;
         }

@@ -1,12 +1,12 @@
 -- How the program ends, from the ends of its commands.
-use Rattle.std.proofs.Common.{◌≡◌, ◌≢◌, ℕ, ◌==◌, List, cond, Option, Some, None, IfSome, Result, Ok, Err, refl, sym, subst, ap, ◌∙◌}
+use Rattle.std.proofs.Common.{◌≡◌, ◌≢◌, ℕ, ◌==◌, List, cond, Option, Some, None, IfSome, Result, Ok, Err, inl, refl, sym, subst, ap, ◌∙◌}
 use Rattle.unl_base.specs.declared.draws.Draw.{Draw}
 use Rattle.unl_documents.specs.Reading.{Reading}
 use Rattle.unl_documents.specs.Results.{Gives}
 use Rattle.unl_edge.specs.Ends.{CheckEnds, Ended, Ends, HasCauses, IsDecided, LeavesAlone, PrintsReport, explained_status, outcome_end}
 use Rattle.unl_edge.specs.Follows.{ask_of, ends_in, subject_of}
 use Rattle.unl_edge.specs.Scene.{Scene}
-use Rattle.unl_edge.specs.Status.{Caused, FailsToKeep, IsCaused, check_status, code_of, ending_status, explain_status, follow_status, lines_status, load_status, serving_status, words_status}
+use Rattle.unl_edge.specs.Status.{Caused, FailsToKeep, IsCaused, check_status, code_of, ending_status, explain_status, follow_status, lines_status, load_status, serving_status, arguments_status}
 use Rattle.unl_edge.proofs.Closing.{stops_at_once}
 use Rattle.unl_edge.proofs.Commands.{refusing_decides, upstream_decided}
 use Rattle.unl_edge.specs.declared.ends.CheckEnd.{CheckEnd}
@@ -14,10 +14,10 @@ use Rattle.unl_edge.specs.declared.ends.CheckEnd.TheVariants as check
 use Rattle.unl_edge.specs.declared.ends.ServingEnd.{ServingEnd}
 use Rattle.unl_edge.specs.declared.ends.ServingEnd.TheVariants as serving
 use Rattle.unl_edge.specs.declared.ends.UpstreamEnd.TheVariants as upstream
-use Rattle.unl_edge.specs.declared.ends.WordsEnd.{WordsEnd}
-use Rattle.unl_edge.specs.declared.ends.WordsEnd.TheVariants as words
+use Rattle.unl_edge.specs.declared.ends.ArgumentsEnd.{ArgumentsEnd}
+use Rattle.unl_edge.specs.declared.ends.ArgumentsEnd.TheVariants as words
 use Rattle.unl_edge.specs.declared.status.Status.{Status}
-use Rattle.unl_edge.specs.declared.status.Status.TheVariants.{Done, TestFailed, BadWords, Refused, ReadFault, WriteFault, OutOfMemory, DoorFault, KeeperFault}
+use Rattle.unl_edge.specs.declared.status.Status.TheVariants.{Done, TestFailed, BadArguments, Refused, ReadFault, WriteFault, OutOfMemory, DoorFault, KeeperFault}
 use Rattle.unl_explain.specs.Running.{Explains, explained}
 use Rattle.unl_explain.specs.declared.running.ExplainFault.{ExplainFault}
 use Rattle.unl_explain.specs.declared.running.ExplainFault.TheVariants as explain
@@ -25,7 +25,7 @@ use Rattle.unl_follow.specs.declared.fault.FollowFault.{FollowFault}
 use Rattle.unl_follow.specs.declared.fault.FollowFault.TheVariants as follow
 use Rattle.unl_follow.proofs.Turning.{none_made}
 use Rattle.unl_input.proofs.Outcomes.{decides}
-use Rattle.unl_input.specs.Answer.{ComesTo, Outcome, outcome_of}
+use Rattle.unl_input.specs.Answer.{HasOutcome, Outcome, outcome_of}
 use Rattle.unl_input.proofs.Whole.{ends_at_once, whole_read}
 use Rattle.unl_input.specs.declared.taking.LinesFault.{LinesFault}
 use Rattle.unl_input.specs.declared.taking.LinesFault.TheVariants as lines
@@ -52,7 +52,7 @@ at_memory (Ok Replay) scene = record {
 }
 at_memory (Ok (Check now word)) scene = record { end = check.OutOfMemory; is = refl; ends = refl }
 at_memory (Ok Explain) scene = record { end = Err explain.Memory; is = refl; ends = refl }
-at_memory (Ok (Edge edge)) scene = record { end = serving.OutOfMemory; is = refl; ends = stops_at_once edge.port scene scene scene refl refl refl refl }
+at_memory (Ok (Edge edge)) scene = record { end = serving.OutOfMemory; is = refl; ends = inl (stops_at_once edge.port scene scene scene refl refl refl refl) }
 at_memory (Ok (Upstream up)) scene = record { end = upstream.OutOfMemory; is = refl; ends = record { silent = refl; shut = refl } }
 at_memory (Ok (Follow replica)) scene = record {
   end = Err follow.Memory;
@@ -63,7 +63,7 @@ at_memory (Ok (Load seed count)) scene = record { end = Err load.Memory; is = re
 at_memory (Err Bad) scene = record { end = words.OutOfMemory; is = refl; ends = refl }
 at_memory (Err Memory) scene = refl
 
--- what was done for the arguments as read was done for the arguments
+-- what holds for the arguments as they were read holds for the arguments
 pub ends_by : (given reading : WordsReading) (status : Status) (before after : Scene)
     → Gives Memory given reading → Ends given status before after → (given ≡ Err Memory → (status ≡ OutOfMemory) × (after ≡ before))
     → Ends reading status before after
@@ -85,7 +85,7 @@ unchanged (Ok (Load seed count)) scene = refl
 unchanged (Err Bad) scene = refl
 unchanged (Err Memory) scene = refl
 
--- what was left alone for the arguments as read was left alone for the arguments
+-- what the arguments as they were read leave unchanged, the arguments leave unchanged
 pub leaves_by : (given reading : WordsReading) (status : Status) (before after : Scene)
     → Gives Memory given reading → LeavesAlone given before after → (given ≡ Err Memory → (status ≡ OutOfMemory) × (after ≡ before))
     → LeavesAlone reading before after
@@ -99,14 +99,14 @@ leaves_by (Err Memory) reading status before after gives leaves none =
 -- the status of an exit code
 status_of : ℕ → Status
 status_of n =
-    cond (n == 0) Done (cond (n == 1) TestFailed (cond (n == 2) BadWords (cond (n == 3) Refused (cond (n == 4) ReadFault (
+    cond (n == 0) Done (cond (n == 1) TestFailed (cond (n == 2) BadArguments (cond (n == 3) Refused (cond (n == 4) ReadFault (
     cond (n == 5) WriteFault (cond (n == 6) OutOfMemory (cond (n == 7) DoorFault KeeperFault)))))))
 
 status_back : (status : Status) → status_of (code_of status) ≡ status
 unfolding status_of
 status_back Done = refl
 status_back TestFailed = refl
-status_back BadWords = refl
+status_back BadArguments = refl
 status_back Refused = refl
 status_back ReadFault = refl
 status_back WriteFault = refl
@@ -131,7 +131,7 @@ all_causes status code before after is caused = record {
 
 -- the result of processing an input determines what follows from it
 decided_by : {T : Type 0} (reads : List ℕ → Reading T) (code : Outcome T → ℕ) (number : ℕ) (outcome : Outcome T) (left left_after : Option (List ℕ))
-    → ComesTo reads outcome left left_after → number ≡ code outcome → IfSome left (λ bytes. number ≡ code (outcome_of reads bytes))
+    → HasOutcome reads outcome left left_after → number ≡ code outcome → IfSome left (λ bytes. number ≡ code (outcome_of reads bytes))
 decided_by reads code number outcome left left_after comes is = at_each left (decides reads outcome left left_after comes)
   where
     at_each : (l : Option (List ℕ)) → IfSome l (λ all. outcome_of reads all ≡ outcome) → IfSome l (λ bytes. number ≡ code (outcome_of reads bytes))
@@ -198,8 +198,8 @@ explain_decided Read Write Door Keep (Err explain.WriteFault) left left_after ol
 explain_decided Read Write Door Keep (Err explain.Memory) left left_after old new ends caused read write memory = absurd (memory refl)
 
 -- bad arguments determine the exit code alone
-bad_decided : (Read Write Door Keep : Type 0) (end : WordsEnd) → Caused (words_status end) Read Write Door Keep → ¬ Write → code_of (words_status end) ≢ 6
-    → code_of (words_status end) ≡ 2
+bad_decided : (Read Write Door Keep : Type 0) (end : ArgumentsEnd) → Caused (arguments_status end) Read Write Door Keep → ¬ Write → code_of (arguments_status end) ≢ 6
+    → code_of (arguments_status end) ≡ 2
 bad_decided Read Write Door Keep words.Bad caused write memory = refl
 bad_decided Read Write Door Keep words.WriteFault caused write memory = absurd (write caused)
 bad_decided Read Write Door Keep words.OutOfMemory caused write memory = absurd (memory refl)
@@ -235,37 +235,37 @@ of_end status Read Write Door Keep P ended caused memory then =
     (then (subst (λ (s : Status). Caused s Read Write Door Keep) ended.is caused) (subst (λ (s : Status). code_of s ≢ 6) ended.is memory))
 
 -- the arguments and the input determine how the program ends
-by_words : {Read Write Door : Type 0} (reading : WordsReading) (status : Status) (before after : Scene) → Ends reading status before after
+by_arguments : {Read Write Door : Type 0} (reading : WordsReading) (status : Status) (before after : Scene) → Ends reading status before after
     → Caused status Read Write Door (FailsToKeep before after) → ¬ Read → ¬ Write → ¬ Door → code_of status ≢ 6 → IsDecided reading (code_of status) before after
-by_words {Read} {Write} {Door} (Ok Replay) status before after ended caused read write door memory =
+by_arguments {Read} {Write} {Door} (Ok Replay) status before after ended caused read write door memory =
     of_end status Read Write Door (FailsToKeep before after) (λ code. IsDecided (Ok Replay) code before after) ended caused memory
     (λ cause some. replay_decided Read Write Door (FailsToKeep before after) ended.end before.input.left after.input.left before.output.sent after.output.sent ended.ends cause
     read write some)
-by_words {Read} {Write} {Door} (Ok (Check now word)) status before after ended caused read write door memory =
+by_arguments {Read} {Write} {Door} (Ok (Check now word)) status before after ended caused read write door memory =
     of_end status Read Write Door (FailsToKeep before after) (λ code. IsDecided (Ok (Check now word)) code before after) ended caused memory
     (λ cause some. check_decided Read Write Door (FailsToKeep before after) (record { now = now; word = word }) ended.end before.input.left after.input.left before.output.sent
     after.output.sent ended.ends cause read write some)
-by_words {Read} {Write} {Door} (Ok Explain) status before after ended caused read write door memory =
+by_arguments {Read} {Write} {Door} (Ok Explain) status before after ended caused read write door memory =
     of_end status Read Write Door (FailsToKeep before after) (λ code. IsDecided (Ok Explain) code before after) ended caused memory
     (λ cause some. explain_decided Read Write Door (FailsToKeep before after) ended.end before.input.left after.input.left before.output.sent after.output.sent ended.ends cause
     read write some)
-by_words {Read} {Write} {Door} (Ok (Edge edge)) status before after ended caused read write door memory =
+by_arguments {Read} {Write} {Door} (Ok (Edge edge)) status before after ended caused read write door memory =
     of_end status Read Write Door (FailsToKeep before after) (λ code. IsDecided (Ok (Edge edge)) code before after) ended caused memory
     (λ cause some. edge_decided Read Write Door (FailsToKeep before after) ended.end cause write door some)
-by_words {Read} {Write} {Door} (Ok (Upstream up)) status before after ended caused read write door memory =
+by_arguments {Read} {Write} {Door} (Ok (Upstream up)) status before after ended caused read write door memory =
     of_end status Read Write Door (FailsToKeep before after) (λ code. IsDecided (Ok (Upstream up)) code before after) ended caused memory
     (λ cause some quiet. upstream_decided up ended.end before after
     ended.ends cause read write door (λ fails. quiet fails.0) some)
-by_words {Read} {Write} {Door} (Ok (Follow replica)) status before after ended caused read write door memory =
+by_arguments {Read} {Write} {Door} (Ok (Follow replica)) status before after ended caused read write door memory =
     of_end status Read Write Door (FailsToKeep before after) (λ code. IsDecided (Ok (Follow replica)) code before after) ended caused memory
     (λ cause some. follow_decided Read Write Door (FailsToKeep before after) ended.end cause write some)
-by_words {Read} {Write} {Door} (Ok (Load seed count)) status before after ended caused read write door memory =
+by_arguments {Read} {Write} {Door} (Ok (Load seed count)) status before after ended caused read write door memory =
     of_end status Read Write Door (FailsToKeep before after) (λ code. IsDecided (Ok (Load seed count)) code before after) ended caused memory
     (λ cause some. load_decided Read Write Door (FailsToKeep before after) ended.end cause write some)
-by_words {Read} {Write} {Door} (Err Bad) status before after ended caused read write door memory =
+by_arguments {Read} {Write} {Door} (Err Bad) status before after ended caused read write door memory =
     of_end status Read Write Door (FailsToKeep before after) (λ code. IsDecided (Err Bad) code before after) ended caused memory
     (λ cause some. bad_decided Read Write Door (FailsToKeep before after) ended.end cause write some)
-by_words (Err Memory) status before after ends caused read write door memory = ap code_of ends
+by_arguments (Err Memory) status before after ends caused read write door memory = ap code_of ends
 
 -- so they determine its exit code, if no count rose and memory didn't run out
 pub decided : {Read Write Door : Type 0} (reading : WordsReading) (status : Status) (code : ℕ) (before after : Scene)
@@ -273,4 +273,4 @@ pub decided : {Read Write Door : Type 0} (reading : WordsReading) (status : Stat
     → ¬ Read → ¬ Write → ¬ Door → code ≢ 6 → IsDecided reading code before after
 decided {Read} {Write} {Door} reading status code before after is ends caused read write door memory =
     subst (λ c. IsDecided reading c before after) (sym is)
-    (by_words reading status before after ends caused read write door (λ six. memory (is ∙ six)))
+    (by_arguments reading status before after ends caused read write door (λ six. memory (is ∙ six)))

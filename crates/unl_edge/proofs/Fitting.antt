@@ -16,7 +16,7 @@ use Rattle.unl_documents.specs.Texts.{has_bytes}
 use Rattle.unl_http_api.specs.RequestText.{fits_line}
 use Rattle.unl_tokens.specs.Scopes.{scope_of}
 use Rattle.unl_words.specs.Lists.{are_different, are_upstream_tokens, environment_of, has_count, is_named, is_token}
-use Rattle.unl_words.specs.Values.{goes_on, is_address, is_line, is_number, is_port, is_secret, number_within, within}
+use Rattle.unl_words.specs.Values.{is_line_byte, is_address, is_line, is_number, is_port, is_secret, number_within, within}
 use Rattle.unl_words.specs.declared.refusal.WordsRefusal.TheVariants.{Bad}
 use Rattle.unl_words.proofs.Known.{counted, others_differ}
 
@@ -36,7 +36,7 @@ byte_fits false false false is = refl
 pub line_fits : (text : List ℕ) → is_line text ≡ true → IsTrue (fits_line text)
 line_fits [] is = refl
 line_fits (byte ∷ text) is =
-    let parts = both (goes_on byte) (is_line text) is in
+    let parts = both (is_line_byte byte) (is_line text) is in
     rw (byte_fits (byte == 0) (byte == 10) (byte == 13) parts.0, line_fits text parts.1) refl
 
 -- a token fits in a line
@@ -48,14 +48,14 @@ token_fits text is =
 -- ---- an address
 
 -- a digit doesn't end a line
-digit_goes_on : (byte : ℕ) → is_ascii_digit byte ≡ true → goes_on byte ≡ true
-digit_goes_on byte is = grind (arith, nat_tests)
+digit_is_line_byte : (byte : ℕ) → is_ascii_digit byte ≡ true → is_line_byte byte ≡ true
+digit_is_line_byte byte is = grind (arith, nat_tests)
 
-digits_go_on : (text : List ℕ) → list_all is_ascii_digit text ≡ true → is_line text ≡ true
-digits_go_on [] are = refl
-digits_go_on (byte ∷ text) are =
+digits_are_line : (text : List ℕ) → list_all is_ascii_digit text ≡ true → is_line text ≡ true
+digits_are_line [] are = refl
+digits_are_line (byte ∷ text) are =
     let parts = both (is_ascii_digit byte) (list_all is_ascii_digit text) are in
-    rw (digit_goes_on byte parts.0, digits_go_on text parts.1) refl
+    rw (digit_is_line_byte byte parts.0, digits_are_line text parts.1) refl
 
 -- a port consists of digits
 port_is_line : (text : List ℕ) → is_port text ≡ true → is_line text ≡ true
@@ -63,17 +63,17 @@ unfolding number_within
 port_is_line text is = by_number (is_number text) refl is
   where
     by_number : (number : Bool) → is_number text ≡ number → is_ok (cond number (within 1 65535 (digits_value 10 text)) (Err Bad)) ≡ true → is_line text ≡ true
-    by_number true same is = digits_go_on text (both (nat_lt 0 (length text)) (list_all is_ascii_digit text) same).1
+    by_number true same is = digits_are_line text (both (nat_lt 0 (length text)) (list_all is_ascii_digit text) same).1
     by_number false same is = absurd (cc is)
 
--- a text is a line if the parts before and after a place are, and the byte there goes on
-goes_on_around : (text : List ℕ) (place : ℕ) → place < length text → goes_on (slice_index text place) ≡ true → is_line (take place text) ≡ true
+-- a text is a line if the parts before and after a place are, and the byte there is no line end or NUL
+line_around : (text : List ℕ) (place : ℕ) → place < length text → is_line_byte (slice_index text place) ≡ true → is_line (take place text) ≡ true
     → is_line (drop (suc place) text) ≡ true → is_line text ≡ true
-goes_on_around [] place inside here before after = refl
-goes_on_around (byte ∷ text) zero inside here before after = rw (here, after) refl
-goes_on_around (byte ∷ text) (suc place) inside here before after =
-    let parts = both (goes_on byte) (is_line (take place text)) before in
-    rw (parts.0, goes_on_around text place (omega (arith, inside)) here parts.1 after) refl
+line_around [] place inside here before after = refl
+line_around (byte ∷ text) zero inside here before after = rw (here, after) refl
+line_around (byte ∷ text) (suc place) inside here before after =
+    let parts = both (is_line_byte byte) (is_line (take place text)) before in
+    rw (parts.0, line_around text place (omega (arith, inside)) here parts.1 after) refl
 
 -- the last place of a byte below a bound
 record IsFound (byte : ℕ) (text : List ℕ) (most place : ℕ) : Type 0 where
@@ -107,7 +107,7 @@ address_fits text is = by_place (rfind_below 58 text (length text)) refl is
         let parts = both (is_secret (take place text)) (is_port (drop (place + 1) text)) is in
         let name = both (has_bytes (take place text)) (is_line (take place text)) parts.0 in
         let next : place + 1 ≡ suc place = omega arith in
-        line_fits text (goes_on_around text place found.below (rw found.here refl) name.1
+        line_fits text (line_around text place found.below (rw found.here refl) name.1
         (subst (λ n. is_line (drop n text) ≡ true) next (port_is_line (drop (place + 1) text) parts.1)))
 
 -- ---- lists of tokens

@@ -4,8 +4,8 @@ use denote.Param.SendFields.{declared_send}
 use denote.RattleType.{RattleType}
 use denote.Ref.{NamedLft}
 use Rattle.std.proofs.Crossing.{crosses}
-use Rattle.unl_edge.specs.contracts.attending.EdgeLinkHandler as EdgeLinkHandler
-use Rattle.unl_edge.specs.contracts.attending.FreshDesk as FreshDesk
+use Rattle.unl_edge.specs.contracts.link_handler.EdgeLinkHandler as EdgeLinkHandler
+use Rattle.unl_edge.specs.contracts.link_handler.FreshDesk as FreshDesk
 use Rattle.unl_edge_state.specs.contracts.reader.EdgeReader as EdgeReader
 use Rattle.unl_metrics.specs.contracts.book.MetricsBook as MetricsBook
 use Rattle.unl_connection.specs.contracts.served.Served as Served
@@ -15,8 +15,8 @@ pub desk_send : IsSend EdgeReader.the_row → IsSend FreshDesk.the_row
 desk_send reader = declared_send FreshDesk.the_type (reader, tt)
 
 -- the state of a worker, from its parts
-pub attendant_send : (lifetime : NamedLft) (wait : RattleType) → IsSync wait → IsSend FreshDesk.the_row → IsSend MetricsBook.the_row
+pub handler_send : (lifetime : NamedLft) (wait : RattleType) → IsSync wait → IsSend FreshDesk.the_row → IsSend MetricsBook.the_row
     → IsSend Served.the_row → IsSend (EdgeLinkHandler.the_row lifetime wait)
-attendant_send lifetime wait shared desk book notes =
+handler_send lifetime wait shared desk book notes =
     declared_send (EdgeLinkHandler.the_type lifetime wait)
     (desk, (book, (notes, (search (sendable, crosses) depth 20, (search (sendable, crosses) depth 20, tt)))))

@@ -4,21 +4,20 @@ use Rattle.std.specs.Prelude.{All, IfOk, OnOk, flat_map}
 use Rattle.std.specs.List.{AllZip}
 use Rattle.std.proofs.lemmas.List.{length-map, map-append}
 use Rattle.unl_base.specs.Doors.{DoorState, listening_at}
-use Rattle.unl_base.specs.Peers.{PeerState}
 use Rattle.unl_core.specs.declared.board.Board.{Board}
 use Rattle.unl_core.specs.declared.board.Install.{Install}
 use Rattle.unl_delta.specs.Installing.{Installed}
 use Rattle.unl_edge.specs.EdgeLinks.{EachLinkServed, ServesEachLink, ServesShares, WorkOnEachLink, WorkerServes}
 use Rattle.unl_edge.specs.EdgeServices.{EdgeService, Worker, opened, service_at, worker_of}
-use Rattle.unl_edge.specs.Edges.{links_of}
-use Rattle.unl_edge.specs.Polling.{PollsOn, peer_seen}
+use Rattle.unl_edge.specs.Edges.{accepted_in}
+use Rattle.unl_edge.specs.Polling.{PollsOn}
 use Rattle.unl_edge.specs.LinkHandling.{HasLearned, ReadsOnAt, ServesAt}
-use Rattle.unl_edge.specs.declared.attending.EdgeLinkHandler.{EdgeLinkHandler}
+use Rattle.unl_edge.specs.declared.link_handler.EdgeLinkHandler.{EdgeLinkHandler}
 use Rattle.unl_edge.proofs.Polling.{polls_same}
 use Rattle.unl_edge.proofs.Working.{work_beside}
 use Rattle.unl_edge_state.specs.Editions.{BoardAt, orderly_opening}
 use Rattle.unl_publication.specs.declared.knowledge.Knowledge.{Knowledge}
-use Rattle.unl_refresh.specs.Exchange.{PeerView, peer_view}
+use Rattle.unl_refresh.specs.Exchange.{PeerView}
 use Rattle.unl_refresh.specs.Turns.{Duty, KeepsDuty, MakesTurn, PollState, poll_state}
 use Rattle.unl_server.specs.Handling.{Coming}
 use Rattle.unl_server.specs.Links.{LinkState, link_state}
@@ -27,6 +26,7 @@ use Rattle.unl_workers.specs.Serving.{Serving, ServesSlot, serving}
 use Rattle.unl_workers.specs.Shares.{EachLinkServedOnce, ServedAtEach}
 use Rattle.unl_workers.specs.Taking.{ServesEach, with_draws}
 use Rattle.unl_workers.specs.Tallies.{SameLinks, weigh}
+use Rattle.unl_workers.specs.declared.acceptor.AcceptOutcome.{AcceptOutcome}
 use Rattle.unl_workers.specs.declared.pool.PoolFault.{PoolFault}
 use Rattle.unl_workers.specs.declared.pool.PoolOutcome.{PoolOutcome}
 use Rattle.unl_workers.specs.declared.worker.WorkerSlot.{WorkerSlot}
@@ -99,39 +99,42 @@ each_served {W} {R} {L} coming_of left sent faults door door_after count before 
       same = λ h. same_states state_of every.given all every.same h ∙ ap (weigh h) (sym (map_shares state_of every.shares));
     }
 
--- the workers served each link once, if serving ended well
+-- the workers served each link once
 pub work_on_each : {W R L : Type 0} (coming_of : R → Coming) (left sent : L → Option (List ℕ)) (faults : L → ℕ) (door door_after : DoorState)
     (known : Knowledge BoardAt Install) (before : List (WorkerSlot (EdgeLinkHandler W) R)) (workers : ℕ)
-    (served : Result (PoolOutcome (EdgeLinkHandler W) R) PoolFault) (result : Result ℕ PoolFault) → result ≡ links_of served
-    → length before ≡ workers → All (λ post. HasLearned known post.server.desk.reader) before
-    → IfOk served (λ outcome. AllZip (ServesSlot ServesAt ReadsOnAt coming_of) before outcome.posts.items)
+    (served : Result (PoolOutcome (EdgeLinkHandler W) R) PoolFault) (result : Result AcceptOutcome PoolFault) → result ≡ accepted_in served
+    → length before ≡ workers → All (λ pool_slot. HasLearned known pool_slot.server.desk.reader) before
+    → IfOk served (λ outcome. AllZip (ServesSlot ServesAt ReadsOnAt coming_of) before outcome.slots.items)
     → IfOk served (λ outcome. 0 < length before
-    → EachLinkServedOnce ServesAt coming_of left sent faults door door_after outcome.links before outcome.posts.items)
-    → IfOk result (λ links. 0 < workers → WorkOnEachLink workers known.opening (length known.installs) door door_after links)
+    → EachLinkServedOnce ServesAt coming_of left sent faults door door_after outcome.accepted.links before outcome.slots.items)
+    → IfOk result (λ accepted. 0 < workers → WorkOnEachLink workers known.opening (length known.installs) door door_after accepted.links)
 unfolding work_beside
 work_on_each coming_of left sent faults door door_after known before workers (Ok outcome) result is many learned all every =
-    subst (λ (r : Result ℕ PoolFault).
-    IfOk r (λ links. 0 < workers → WorkOnEachLink workers known.opening (length known.installs) door door_after links)) (sym is)
+    subst (λ (r : Result AcceptOutcome PoolFault).
+    IfOk r (λ accepted. 0 < workers → WorkOnEachLink workers known.opening (length known.installs) door door_after accepted.links))
+    (sym is)
     (λ some. record {
-      work = work_beside coming_of known before outcome.posts.items workers many learned all;
-      each = each_served coming_of left sent faults door door_after outcome.links before outcome.posts.items
+      work = work_beside coming_of known before outcome.slots.items workers many learned all;
+      each = each_served coming_of left sent faults door door_after outcome.accepted.links before outcome.slots.items
           (every (subst (λ (n : ℕ). 0 < n) (sym many) some));
     })
 work_on_each coming_of left sent faults door door_after known before workers (Err fault) result is many learned all every =
-    subst (λ (r : Result ℕ PoolFault).
-    IfOk r (λ links. 0 < workers → WorkOnEachLink workers known.opening (length known.installs) door door_after links)) (sym is) tt
+    subst (λ (r : Result AcceptOutcome PoolFault).
+    IfOk r (λ accepted. 0 < workers → WorkOnEachLink workers known.opening (length known.installs) door door_after accepted.links))
+    (sym is) tt
 
 -- ---- an edge service
 
 -- the first turn was made, and after it later turns were made and each link was served
 pub each_after_turn : (service : EdgeService) (now : Duty) (begun ended : PollState) (peer peer_after : PeerView) (door door_after : DoorState)
-    (served : Result ℕ PoolFault)
+    (served : Result AcceptOutcome PoolFault)
     → MakesTurn service.duty.known service.duty.upstream service.duty.slot_pollers
     (poll_state service.opening service.duty.tags service.duty.metrics peer) begun
     → KeepsDuty service.duty now → OnOk served (PollsOn now begun ended) → ended.peer ≡ peer_after
-    → IfOk served (λ links. 0 < service.workers → WorkOnEachLink service.workers service.edition begun.installed.front door door_after links)
-    → IfOk served (λ links. 0 < service.workers → ServesEachLink service peer peer_after door door_after links)
-each_after_turn service now begun ended peer peer_after door door_after (Ok links) turn keeps polls same every = λ some.
+    → IfOk served
+    (λ accepted. 0 < service.workers → WorkOnEachLink service.workers service.edition begun.installed.front door door_after accepted.links)
+    → IfOk served (λ accepted. 0 < service.workers → ServesEachLink service peer peer_after door door_after accepted.links)
+each_after_turn service now begun ended peer peer_after door door_after (Ok accepted) turn keeps polls same every = λ some.
     let each = every some in
     record {
       runs = record {
@@ -150,28 +153,19 @@ each_after_turn service now begun ended peer peer_after door door_after (Ok link
     }
 each_after_turn service now begun ended peer peer_after door door_after (Err fault) turn keeps polls same every = tt
 
--- the same edge service, by its parts; the peer's state has the bytes sent on its connection
+-- the same edge service, by its parts
 pub same_service : (duty : Duty) (board : Board) (begun : Installed) (edition : Option BoardAt) (workers readers : ℕ)
-    (peer peer_after : PeerState) (sent sent_after : Option (List ℕ)) (faults faults_after : ℕ) (door door_after : DoorState)
-    (served : Result ℕ PoolFault)
+    (peer peer_after : PeerView) (door door_after : DoorState) (served : Result AcceptOutcome PoolFault)
     → begun ≡ opened board → edition ≡ Some (orderly_opening board) → readers ≡ workers → 0 < workers
-    → peer.sent ≡ sent → peer_after.sent ≡ sent_after
-    → IfOk served (λ links. 0 < readers
-    → ServesEachLink (record { duty = duty; opening = begun; edition = edition; workers = readers })
-    (peer_view peer.replies sent faults) (peer_view peer_after.replies sent_after faults_after) door door_after links)
-    → IfOk served (λ links. ServesEachLink (service_at duty board workers) (peer_seen peer faults) (peer_seen peer_after faults_after)
-    door door_after links)
-same_service duty board begun edition workers readers peer peer_after sent sent_after faults faults_after door door_after (Ok links)
-    same opens count some same_sent same_after serves =
-    subst (λ (service : EdgeService). ServesEachLink service (peer_seen peer faults) (peer_seen peer_after faults_after) door door_after links)
+    → IfOk served (λ accepted. 0 < readers
+    → ServesEachLink (record { duty = duty; opening = begun; edition = edition; workers = readers }) peer peer_after door door_after
+    accepted.links)
+    → IfOk served (λ accepted. ServesEachLink (service_at duty board workers) peer peer_after door door_after accepted.links)
+same_service duty board begun edition workers readers peer peer_after door door_after (Ok accepted) same opens count some serves =
+    subst (λ (service : EdgeService). ServesEachLink service peer peer_after door door_after accepted.links)
     (λ i. record { duty = duty; opening = same i; edition = opens i; workers = count i })
-    (subst (λ (bytes : Option (List ℕ)). ServesEachLink (record { duty = duty; opening = begun; edition = edition; workers = readers }) (peer_seen peer faults) (peer_view peer_after.replies bytes faults_after) door door_after links)
-    (sym same_after)
-    (subst (λ (bytes : Option (List ℕ)).
-    ServesEachLink (record { duty = duty; opening = begun; edition = edition; workers = readers }) (peer_view peer.replies bytes faults) (peer_view peer_after.replies sent_after faults_after) door door_after links)
-    (sym same_sent) (serves (subst (λ (n : ℕ). 0 < n) (sym count) some))))
-same_service duty board begun edition workers readers peer peer_after sent sent_after faults faults_after door door_after (Err fault)
-    same opens count some same_sent same_after serves = tt
+    (serves (subst (λ (n : ℕ). 0 < n) (sym count) some))
+same_service duty board begun edition workers readers peer peer_after door door_after (Err fault) same opens count some serves = tt
 
 -- the door served was the one that had just begun to listen
 pub serves_at : (service : EdgeService) (port served : ℕ) (could : Bool) (peer peer_after : PeerView) (before door after : DoorState)

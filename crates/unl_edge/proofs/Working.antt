@@ -1,18 +1,20 @@
 -- What happened at the worker slots, as the work of workers.
-use Rattle.std.proofs.Common.{◌≡◌, ◌≤◌, ◌+◌, ◌∙◌, ℕ, zero, suc, List, [], ◌∷◌, ◌++◌, length, map, Option, Result, Ok, Err, ap, arith, subst, sym}
+use Rattle.std.proofs.Common.{◌≡◌, ◌≤◌, ◌+◌, ◌∙◌, ℕ, zero, suc, List, [], ◌∷◌, ◌++◌, length, map, Option, Result, Ok, Err}
+use Rattle.std.proofs.Common.{ap, arith, refl, subst, sym}
 use Rattle.std.specs.Prelude.{All, OnOk}
 use Rattle.std.specs.List.{AllZip}
 use Rattle.std.proofs.lemmas.List.{length-map}
 use Rattle.std.proofs.lemmas.List.Elements.{All-cons, All-head, All-nil, All-push, All-tail}
+use Rattle.unl_base.specs.Doors.{DoorState}
 use Rattle.unl_core.specs.declared.board.Install.{Install}
 use Rattle.unl_edge.specs.LinkHandling.{HasLearned, IsOfOrigin, ReadsOnAt, ServesAt}
 use Rattle.unl_edge.specs.EdgeServices.{ServesLinks, WorkConcurrently, Worker, Works, worker_of}
-use Rattle.unl_edge.specs.declared.attending.EdgeLinkHandler.{EdgeLinkHandler}
+use Rattle.unl_edge.specs.declared.link_handler.EdgeLinkHandler.{EdgeLinkHandler}
 use Rattle.unl_edge_state.specs.Editions.{BoardAt}
-use Rattle.unl_edge_state.specs.Reading.{IsNewReader, SeesInOrder, seen_by, told_to}
+use Rattle.unl_edge_state.specs.Reading.{IsNewReader, SeesInOrder, seen_by, learned_front_of}
 use Rattle.unl_edge_state.proofs.Looks.{sees_in_order}
 use Rattle.unl_edge_state.specs.Writing.{Writing, installed_by}
-use Rattle.unl_edge.specs.Edges.{links_of}
+use Rattle.unl_edge.specs.Edges.{accepted_in}
 use Rattle.unl_edge.specs.Polling.{PollsOn}
 use Rattle.unl_refresh.specs.Exchange.{PeerView}
 use Rattle.unl_refresh.specs.Turns.{Duty, PollState, poll_state}
@@ -25,8 +27,11 @@ use Rattle.unl_connection.specs.Notes.{Rise}
 use Rattle.unl_connection.specs.declared.served.ServedOne.{ServedOne}
 use Rattle.unl_refresh.proofs.Connecting.{connects_still}
 use Rattle.unl_refresh.specs.Connects.{Connects}
+use Rattle.unl_workers.specs.Pool.{AcceptedIn, HasCauses}
 use Rattle.unl_workers.specs.Serving.{ServesSlot, ServesMany, Serving, serving}
+use Rattle.unl_workers.specs.declared.acceptor.AcceptOutcome.{AcceptOutcome}
 use Rattle.unl_workers.specs.declared.pool.PoolFault.{PoolFault}
+use Rattle.unl_workers.specs.declared.pool.PoolFault.TheVariants.{Spawner, Memory}
 use Rattle.unl_workers.specs.declared.worker.WorkerSlot.{WorkerSlot}
 
 -- fronts that rise from one to another
@@ -48,56 +53,56 @@ links_served (suc n) before after many =
     (works_by many.0, links_served n before many.0 many.1, record { link = one.link; link_after = one.link_after; served = one.served })
 
 -- a slot that was served
-attended : {W R : Type 0} (coming_of : R → Coming) (before after : WorkerSlot (EdgeLinkHandler W) R)
+served_links : {W R : Type 0} (coming_of : R → Coming) (before after : WorkerSlot (EdgeLinkHandler W) R)
     → ServesSlot ServesAt ReadsOnAt coming_of before after → Works (worker_of coming_of before) (worker_of coming_of after)
 unfolding works_by
-attended coming_of before after attends =
+served_links coming_of before after attends =
     (after.links, links_served after.links (serving before.server (coming_of before.draws)) (serving after.server (coming_of after.draws)) attends.served)
 
 -- each of them
-pub all_attended : {W R : Type 0} (coming_of : R → Coming) (before after : List (WorkerSlot (EdgeLinkHandler W) R))
+pub all_served_links : {W R : Type 0} (coming_of : R → Coming) (before after : List (WorkerSlot (EdgeLinkHandler W) R))
     → AllZip (ServesSlot ServesAt ReadsOnAt coming_of) before after → AllZip Works (map (worker_of coming_of) before) (map (worker_of coming_of) after)
-all_attended coming_of [] [] all = tt
-all_attended coming_of [] (last ∷ after) all = absurd all
-all_attended coming_of (first ∷ before) [] all = absurd all
-all_attended coming_of (first ∷ before) (last ∷ after) all = (attended coming_of first last all.0, all_attended coming_of before after all.1)
+all_served_links coming_of [] [] all = tt
+all_served_links coming_of [] (last ∷ after) all = absurd all
+all_served_links coming_of (first ∷ before) [] all = absurd all
+all_served_links coming_of (first ∷ before) (last ∷ after) all = (served_links coming_of first last all.0, all_served_links coming_of before after all.1)
 
 -- what their readers have learned
-pub all_told : {W R : Type 0} (coming_of : R → Coming) (known : Knowledge BoardAt Install) (posts : List (WorkerSlot (EdgeLinkHandler W) R))
-    → All (λ post. HasLearned known post.server.desk.reader) posts
-    → All (λ worker. length known.installs ≤ told_to worker.reader) (map (worker_of coming_of) posts)
-all_told coming_of known [] learned = All-nil (λ (worker : Worker). length known.installs ≤ told_to worker.reader)
-all_told {W} {R} coming_of known (post ∷ posts) learned =
-    All-cons (λ (worker : Worker). length known.installs ≤ told_to worker.reader) (worker_of coming_of post) (map (worker_of coming_of) posts)
-    (All-head (λ (p : WorkerSlot (EdgeLinkHandler W) R). HasLearned known p.server.desk.reader) post posts learned).least
-    (all_told coming_of known posts (All-tail (λ (p : WorkerSlot (EdgeLinkHandler W) R). HasLearned known p.server.desk.reader) post posts learned))
+pub all_learned : {W R : Type 0} (coming_of : R → Coming) (known : Knowledge BoardAt Install) (pool_slots : List (WorkerSlot (EdgeLinkHandler W) R))
+    → All (λ pool_slot. HasLearned known pool_slot.server.desk.reader) pool_slots
+    → All (λ worker. length known.installs ≤ learned_front_of worker.reader) (map (worker_of coming_of) pool_slots)
+all_learned coming_of known [] learned = All-nil (λ (worker : Worker). length known.installs ≤ learned_front_of worker.reader)
+all_learned {W} {R} coming_of known (pool_slot ∷ pool_slots) learned =
+    All-cons (λ (worker : Worker). length known.installs ≤ learned_front_of worker.reader) (worker_of coming_of pool_slot) (map (worker_of coming_of) pool_slots)
+    (All-head (λ (p : WorkerSlot (EdgeLinkHandler W) R). HasLearned known p.server.desk.reader) pool_slot pool_slots learned).least
+    (all_learned coming_of known pool_slots (All-tail (λ (p : WorkerSlot (EdgeLinkHandler W) R). HasLearned known p.server.desk.reader) pool_slot pool_slots learned))
 
 -- and the first board of that
-pub all_open : {W R : Type 0} (coming_of : R → Coming) (known : Knowledge BoardAt Install) (posts : List (WorkerSlot (EdgeLinkHandler W) R))
-    → All (λ post. HasLearned known post.server.desk.reader) posts
-    → All (λ worker. (seen_by worker.reader).opening ≡ known.opening) (map (worker_of coming_of) posts)
+pub all_open : {W R : Type 0} (coming_of : R → Coming) (known : Knowledge BoardAt Install) (pool_slots : List (WorkerSlot (EdgeLinkHandler W) R))
+    → All (λ pool_slot. HasLearned known pool_slot.server.desk.reader) pool_slots
+    → All (λ worker. (seen_by worker.reader).opening ≡ known.opening) (map (worker_of coming_of) pool_slots)
 all_open coming_of known [] learned = All-nil (λ (worker : Worker). (seen_by worker.reader).opening ≡ known.opening)
-all_open {W} {R} coming_of known (post ∷ posts) learned =
-    All-cons (λ (worker : Worker). (seen_by worker.reader).opening ≡ known.opening) (worker_of coming_of post) (map (worker_of coming_of) posts)
-    (All-head (λ (p : WorkerSlot (EdgeLinkHandler W) R). HasLearned known p.server.desk.reader) post posts learned).opens
-    (all_open coming_of known posts (All-tail (λ (p : WorkerSlot (EdgeLinkHandler W) R). HasLearned known p.server.desk.reader) post posts learned))
+all_open {W} {R} coming_of known (pool_slot ∷ pool_slots) learned =
+    All-cons (λ (worker : Worker). (seen_by worker.reader).opening ≡ known.opening) (worker_of coming_of pool_slot) (map (worker_of coming_of) pool_slots)
+    (All-head (λ (p : WorkerSlot (EdgeLinkHandler W) R). HasLearned known p.server.desk.reader) pool_slot pool_slots learned).opens
+    (all_open coming_of known pool_slots (All-tail (λ (p : WorkerSlot (EdgeLinkHandler W) R). HasLearned known p.server.desk.reader) pool_slot pool_slots learned))
 
 -- what their readers see
-pub all_ordered : {W R : Type 0} (coming_of : R → Coming) (posts : List (WorkerSlot (EdgeLinkHandler W) R))
-    → All (λ worker. SeesInOrder worker.reader) (map (worker_of coming_of) posts)
+pub all_ordered : {W R : Type 0} (coming_of : R → Coming) (pool_slots : List (WorkerSlot (EdgeLinkHandler W) R))
+    → All (λ worker. SeesInOrder worker.reader) (map (worker_of coming_of) pool_slots)
 all_ordered coming_of [] = All-nil (λ (worker : Worker). SeesInOrder worker.reader)
-all_ordered {W} {R} coming_of (post ∷ posts) =
-    All-cons (λ (worker : Worker). SeesInOrder worker.reader) (worker_of coming_of post) (map (worker_of coming_of) posts)
-    (sees_in_order post.server.desk.reader post.server.desk.steady) (all_ordered coming_of posts)
+all_ordered {W} {R} coming_of (pool_slot ∷ pool_slots) =
+    All-cons (λ (worker : Worker). SeesInOrder worker.reader) (worker_of coming_of pool_slot) (map (worker_of coming_of) pool_slots)
+    (sees_in_order pool_slot.server.desk.reader pool_slot.server.desk.steady) (all_ordered coming_of pool_slots)
 
 -- one more slot has learned
-pub learned_more : {W R : Type 0} (known now : Knowledge BoardAt Install) (posts longer : List (WorkerSlot (EdgeLinkHandler W) R)) (post : WorkerSlot (EdgeLinkHandler W) R)
-    → now ≡ known → longer ≡ posts ++ post ∷ [] → All (λ post. HasLearned known post.server.desk.reader) posts → HasLearned now post.server.desk.reader
-    → All (λ post. HasLearned known post.server.desk.reader) longer
-learned_more {W} {R} known now posts longer post same more learned one =
+pub learned_more : {W R : Type 0} (known now : Knowledge BoardAt Install) (pool_slots longer : List (WorkerSlot (EdgeLinkHandler W) R)) (pool_slot : WorkerSlot (EdgeLinkHandler W) R)
+    → now ≡ known → longer ≡ pool_slots ++ pool_slot ∷ [] → All (λ pool_slot. HasLearned known pool_slot.server.desk.reader) pool_slots → HasLearned now pool_slot.server.desk.reader
+    → All (λ pool_slot. HasLearned known pool_slot.server.desk.reader) longer
+learned_more {W} {R} known now pool_slots longer pool_slot same more learned one =
     subst (λ (all : List (WorkerSlot (EdgeLinkHandler W) R)). All (λ p. HasLearned known p.server.desk.reader) all) (sym more)
-    (All-push (λ (p : WorkerSlot (EdgeLinkHandler W) R). HasLearned known p.server.desk.reader) posts post learned
-    (subst (λ (k : Knowledge BoardAt Install). HasLearned k post.server.desk.reader) same one))
+    (All-push (λ (p : WorkerSlot (EdgeLinkHandler W) R). HasLearned known p.server.desk.reader) pool_slots pool_slot learned
+    (subst (λ (k : Knowledge BoardAt Install). HasLearned k pool_slot.server.desk.reader) same one))
 
 -- the readers after the first are of its origin
 pub others_of : (known : Knowledge BoardAt Install) (readers rest : List EdgeReader) (reader : EdgeReader) → readers ≡ reader ∷ rest
@@ -112,35 +117,81 @@ others_new readers rest reader steps all =
 
 -- the workers worked concurrently
 unfoldable pub work_beside : {W R : Type 0} (coming_of : R → Coming) (known : Knowledge BoardAt Install) (before after : List (WorkerSlot (EdgeLinkHandler W) R))
-    (workers : ℕ) → length before ≡ workers → All (λ post. HasLearned known post.server.desk.reader) before
+    (workers : ℕ) → length before ≡ workers → All (λ pool_slot. HasLearned known pool_slot.server.desk.reader) before
     → AllZip (ServesSlot ServesAt ReadsOnAt coming_of) before after → WorkConcurrently workers known.opening (length known.installs)
 work_beside coming_of known before after workers many learned all = record {
   begun = map (worker_of coming_of) before;
   ended = map (worker_of coming_of) after;
   many = length-map before (worker_of coming_of) ∙ many;
   opens = all_open coming_of known before learned;
-  told = all_told coming_of known before learned;
-  worked = all_attended coming_of before after all;
+  learned = all_learned coming_of known before learned;
+  worked = all_served_links coming_of before after all;
   ordered = all_ordered coming_of after;
 }
+
+-- ---- what the door handed out
+
+-- as many links as the pool says
+pub accepted_so : {S R : Type 0} (served : Result (PoolOutcome S R) PoolFault) (result : Result AcceptOutcome PoolFault)
+    (before after : DoorState) → result ≡ accepted_in served
+    → AcceptedIn (λ (outcome : PoolOutcome S R). outcome.accepted) served before after
+    → AcceptedIn (λ (accepted : AcceptOutcome). accepted) result before after
+accepted_so (Ok outcome) result before after is accepts =
+    subst (λ (r : Result AcceptOutcome PoolFault). AcceptedIn (λ (accepted : AcceptOutcome). accepted) r before after) (sym is) accepts
+accepted_so (Err fault) result before after is accepts =
+    subst (λ (r : Result AcceptOutcome PoolFault). AcceptedIn (λ (accepted : AcceptOutcome). accepted) r before after) (sym is) accepts
+
+-- and it failed, or a thread couldn't be started, only if the pool says so
+pub caused_so : {S R : Type 0} (served : Result (PoolOutcome S R) PoolFault) (result : Result AcceptOutcome PoolFault)
+    (door door_after threads threads_after : ℕ) → result ≡ accepted_in served
+    → HasCauses (λ (outcome : PoolOutcome S R). outcome.accepted) served door door_after threads threads_after
+    → HasCauses (λ (accepted : AcceptOutcome). accepted) result door door_after threads threads_after
+caused_so {S} {R} served result door door_after threads threads_after is causes =
+    subst (λ (r : Result AcceptOutcome PoolFault). HasCauses (λ (accepted : AcceptOutcome). accepted) r door door_after threads threads_after)
+    (sym is) (by_result served causes)
+  where
+    by_result : (served : Result (PoolOutcome S R) PoolFault)
+        → HasCauses (λ (outcome : PoolOutcome S R). outcome.accepted) served door door_after threads threads_after
+        → HasCauses (λ (accepted : AcceptOutcome). accepted) (accepted_in served) door door_after threads threads_after
+    by_result (Ok outcome) causes = record {
+      door_later = causes.door_later;
+      spawner_later = causes.spawner_later;
+      door = causes.door;
+      spawner = λ same. absurd (cc same);
+    }
+    by_result (Err Spawner) causes = record {
+      door_later = causes.door_later;
+      spawner_later = causes.spawner_later;
+      door = tt;
+      spawner = λ same. causes.spawner refl;
+    }
+    by_result (Err Memory) causes = record {
+      door_later = causes.door_later;
+      spawner_later = causes.spawner_later;
+      door = tt;
+      spawner = λ same. absurd (cc same);
+    }
 
 -- ---- an edge service
 
 -- the upstream was polled in the first turn, and then perhaps again
-pub asked_first : (slots places : ℕ) {replies later : Option (List (List ℕ))} (last : Option (List (List ℕ))) {faults middle : ℕ} (after : ℕ) (served : Result ℕ PoolFault)
+pub asked_first : (slots places : ℕ) {replies later : Option (List (List ℕ))} (last : Option (List (List ℕ))) {faults middle : ℕ} (after : ℕ)
+    (served : Result AcceptOutcome PoolFault)
     → slots ≡ places → Connects (slots + 1) replies faults later middle → OnOk served (Connects 0 later middle last after)
     → OnOk served (Connects (places + 1) replies faults last after)
-asked_first slots places {replies} last {faults} after (Ok links) count first then =
+asked_first slots places {replies} last {faults} after (Ok accepted) count first then =
     subst (λ (n : ℕ). Connects (n + 1) replies faults last after) count (connects_still first then)
 asked_first slots places last after (Err fault) count first then = tt
 
 -- turns that were made while links were served, from what the writer had before the workers learned of it
-pub polls_through : {W R : Type 0} (served : Result (PoolOutcome (EdgeLinkHandler W) R) PoolFault) (result : Result ℕ PoolFault) (duty : Duty)
-    (writer same_writer : Writing) (tags : List (Option (List ℕ))) (metrics : Book) (peer : PeerView) (after : PollState)
-    → result ≡ links_of served → OnOk served (PollsOn duty (poll_state (installed_by same_writer) tags metrics peer) after) → same_writer ≡ writer
+pub polls_through : {W R : Type 0} (served : Result (PoolOutcome (EdgeLinkHandler W) R) PoolFault) (result : Result AcceptOutcome PoolFault)
+    (duty : Duty) (writer same_writer : Writing) (tags : List (Option (List ℕ))) (metrics : Book) (peer : PeerView) (after : PollState)
+    → result ≡ accepted_in served
+    → OnOk served (PollsOn duty (poll_state (installed_by same_writer) tags metrics peer) after) → same_writer ≡ writer
     → OnOk result (PollsOn duty (poll_state (installed_by writer) tags metrics peer) after)
-polls_through (Ok beside) result duty writer same_writer tags metrics peer after is polls same =
-    subst (λ (r : Result ℕ PoolFault). OnOk r (PollsOn duty (poll_state (installed_by writer) tags metrics peer) after)) (sym is)
-    (subst (λ (w : Writing). PollsOn duty (poll_state (installed_by w) tags metrics peer) after) same polls)
+polls_through (Ok outcome) result duty writer same_writer tags metrics peer after is polls same =
+    subst (λ (r : Result AcceptOutcome PoolFault). OnOk r (PollsOn duty (poll_state (installed_by writer) tags metrics peer) after))
+    (sym is) (subst (λ (w : Writing). PollsOn duty (poll_state (installed_by w) tags metrics peer) after) same polls)
 polls_through (Err fault) result duty writer same_writer tags metrics peer after is polls same =
-    subst (λ (r : Result ℕ PoolFault). OnOk r (PollsOn duty (poll_state (installed_by writer) tags metrics peer) after)) (sym is) tt
+    subst (λ (r : Result AcceptOutcome PoolFault). OnOk r (PollsOn duty (poll_state (installed_by writer) tags metrics peer) after))
+    (sym is) tt

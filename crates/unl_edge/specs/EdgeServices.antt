@@ -7,9 +7,9 @@ use Rattle.unl_core.specs.declared.board.Board.{Board}
 use Rattle.unl_delta.specs.Installing.{Installed}
 use Rattle.unl_edge.specs.LinkHandling.{ServesOver}
 use Rattle.unl_edge.specs.Polling.{PollsUpstream}
-use Rattle.unl_edge.specs.declared.attending.EdgeLinkHandler.{EdgeLinkHandler}
+use Rattle.unl_edge.specs.declared.link_handler.EdgeLinkHandler.{EdgeLinkHandler}
 use Rattle.unl_edge_state.specs.Editions.{BoardAt, orderly_opening}
-use Rattle.unl_edge_state.specs.Reading.{SeesInOrder, seen_by, told_to}
+use Rattle.unl_edge_state.specs.Reading.{SeesInOrder, seen_by, learned_front_of}
 use Rattle.unl_edge_state.specs.declared.reader.EdgeReader.{EdgeReader}
 use Rattle.unl_server.specs.Handling.{Coming}
 use Rattle.unl_server.specs.Links.{LinkState}
@@ -66,8 +66,8 @@ pub record Worker : Type 0 where
 
 -- the worker of a slot
 abbrev pub worker_of : {W R : Type 0} → (R → Coming) → WorkerSlot (EdgeLinkHandler W) R → Worker
-worker_of coming_of post =
-    record { reader = post.server.desk.reader; book = post.server.book; coming = coming_of post.draws }
+worker_of coming_of pool_slot =
+    record { reader = pool_slot.server.desk.reader; book = pool_slot.server.book; coming = coming_of pool_slot.draws }
 
 -- a link was served
 pub record ServesALink (before after : Worker) : Type 0 where
@@ -92,13 +92,13 @@ pub record WorkConcurrently (workers : ℕ) (edition : Option BoardAt) (front : 
   pub ended : List Worker
   pub many : length begun ≡ workers
   pub opens : All (λ worker. (seen_by worker.reader).opening ≡ edition) begun
-  pub told : All (λ worker. front ≤ told_to worker.reader) begun
+  pub learned : All (λ worker. front ≤ learned_front_of worker.reader) begun
   pub worked : AllZip Works begun ended
   pub ordered : All (λ worker. SeesInOrder worker.reader) ended
 
 -- The upstream was polled: each exchange of the first turn had its request and its effect, whether it got a reply or the peer
--- failed, and so had those of the later turns. After the first turn the workers served links over no board earlier than the last
--- one that it published.
+-- failed, and so had those of the later turns. All that the peer was sent are these requests, each as one more text of its history.
+-- After the first turn the workers served links over no board earlier than the last one that it published.
 pub record RunsService (service : EdgeService) (peer peer_after : PeerView) : Type 0 where
   pub first : Installed
   pub polls : PollsUpstream service.duty service.opening peer first peer_after

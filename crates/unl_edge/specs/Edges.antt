@@ -1,27 +1,27 @@
 -- How an edge ends: it polls its upstream and serves the links of its door.
-use Rattle.std.specs.Prelude.{◌≡◌, ◌⊎◌, ℕ, ◌+◌, ◌≤◌, true, List, Option, option_map, drop, length, IfSome, Result, Ok, Err}
-use Rattle.unl_base.specs.Doors.{ServedOnlyAt, DoorState, IsClosed, IsClosedAt, listening_at}
+use Rattle.std.specs.Prelude.{◌≡◌, ◌⊎◌, ℕ, ◌+◌, ◌<◌, ◌≤◌, true, List, Option, option_map, drop, length, IfSome, Result, Ok, Err}
+use Rattle.unl_base.specs.Doors.{IsClosedAt, ListenedOnlyAt, ServedOnlyAt, listening_at}
 use Rattle.unl_base.specs.Draws.{TakesDraw}
 use Rattle.unl_base.specs.Streams.{Sends, SendsFront}
 use Rattle.unl_base.specs.declared.draws.Draw.{Draw}
 use Rattle.unl_edge.specs.Scene.{Scene}
 use Rattle.unl_edge.specs.EdgeLinks.{ServesEachLink}
 use Rattle.unl_edge.specs.EdgeServices.{EdgeService, service_of}
-use Rattle.unl_edge.specs.Polling.{peer_seen}
 use Rattle.unl_edge.specs.Upstreams.{connections_line}
 use Rattle.unl_edge.specs.declared.ends.ServingEnd.{ServingEnd}
 use Rattle.unl_edge.specs.declared.ends.ServingEnd.TheVariants.{Closed, WriteFault, DoorFault, OutOfMemory}
 use Rattle.unl_server.specs.Handling.{Coming}
 use Rattle.unl_refresh.specs.Connects.{Connects}
+use Rattle.unl_refresh.specs.Exchange.{peer_view}
 use Rattle.unl_words.specs.declared.words.EdgeArguments.{EdgeArguments}
-use Rattle.unl_workers.specs.Accepting.{HandsOut}
+use Rattle.unl_workers.specs.declared.acceptor.AcceptOutcome.{AcceptOutcome}
 use Rattle.unl_workers.specs.declared.pool.PoolOutcome.{PoolOutcome}
 use Rattle.unl_workers.specs.declared.pool.PoolFault.{PoolFault}
-use Rattle.unl_workers.specs.declared.pool.PoolFault.TheVariants.{Door, Spawner, Memory}
 
 -- If `Connects 0` holds from any earlier state to this one, it also holds to the later one.
-abbrev pub GoesOn : (replies : Option (List (List ℕ))) (faults : ℕ) (replies_after : Option (List (List ℕ))) (faults_after : ℕ) → Type 0
-GoesOn replies faults replies_after faults_after =
+abbrev pub KeepsConnects :
+    (replies : Option (List (List ℕ))) (faults : ℕ) (replies_after : Option (List (List ℕ))) (faults_after : ℕ) → Type 0
+KeepsConnects replies faults replies_after faults_after =
     (first : Option (List (List ℕ))) (faults_first : ℕ) → Connects 0 first faults_first replies faults
     → Connects 0 first faults_first replies_after faults_after
 
@@ -29,20 +29,13 @@ GoesOn replies faults replies_after faults_after =
 abbrev pub AsksPeer : ℕ → Scene → Scene → Type 0
 AsksPeer least before after = Connects least before.peer.state.replies before.peer.faults after.peer.state.replies after.peer.faults
 
--- the number of links handed out, or why serving ended
-abbrev pub links_of : {S R : Type 0} → Result (PoolOutcome S R) PoolFault → Result ℕ PoolFault
-links_of (Ok beside) = Ok beside.links
-links_of (Err fault) = Err fault
+-- what the door handed out, or why no link was accepted
+abbrev pub accepted_in : {S R : Type 0} → Result (PoolOutcome S R) PoolFault → Result AcceptOutcome PoolFault
+accepted_in (Ok outcome) = Ok outcome.accepted
+accepted_in (Err fault) = Err fault
 
--- `Ok`: the door handed out the number of links that is returned, and is closed. `Door`: it handed out some. If no thread could
--- be started or memory ran out, the door is unchanged. No link comes back: the worker that served it drops it.
-abbrev pub HandsOutLinks : {A : Type 0} → (A → ℕ) → Result A PoolFault → DoorState → DoorState → Type 0
-HandsOutLinks links (Ok done) before after = HandsOut (links done) before after × IsClosed after
-HandsOutLinks links (Err Door) before after = (n : ℕ) × HandsOut n before after
-HandsOutLinks links (Err Spawner) before after = after ≡ before
-HandsOutLinks links (Err Memory) before after = after ≡ before
-
--- `served` of the links to come were handed out, none came back, and nothing of the input was read.
+-- `served` of the links to come were handed out, none came back (the worker that served a link drops it), and nothing of the input
+-- was read.
 pub record HandsLinks (served : ℕ) (before after : Scene) : Type 0 where
   pub given : after.door.state.given ≡ before.door.state.given + served
   pub had : IfSome before.door.state.links (λ list. served ≤ length list)
@@ -54,28 +47,37 @@ pub record HandsLinks (served : ℕ) (before after : Scene) : Type 0 where
 -- with the door listening at this port, `served` links were handed out, and each was served once, by one of the workers.
 abbrev pub IsServed : EdgeService → ℕ → ℕ → Scene → Scene → Type 0
 IsServed service port served before after = AsksPeer (length service.opening.places + 1) before after
-    × ServesEachLink service (peer_seen before.peer.state before.peer.faults) (peer_seen after.peer.state after.peer.faults)
+    × ServesEachLink service (peer_view before.peer.state before.peer.faults) (peer_view after.peer.state after.peer.faults)
     (listening_at port true before.door.state) after.door.state served
 
--- Memory ran out before the first link was handed out, or for the last line once the door was closed; nothing was sent.
-abbrev pub StopsForMemory : ℕ → Scene → Scene → Type 0
-StopsForMemory port before after =
-    (served : ℕ) × HandsLinks served before after × ((served ≡ 0) ⊎ IsClosedAt port after.door.state)
-    × (after.output.sent ≡ before.output.sent)
+-- Memory ran out before the first link was handed out, and nothing was sent. The door listened at no other port than this one.
+abbrev pub StopsEarly : ℕ → Scene → Scene → Type 0
+StopsEarly port before after =
+    HandsLinks 0 before after × ListenedOnlyAt port before.door.state after.door.state × (after.output.sent ≡ before.output.sent)
 
--- How an edge ends, with a door that is to listen at this port. The door was closed there, and the last line or a prefix of it
--- was sent; before that, the upstream was asked for the book and for each slot at least once, and then each link was served once. Or
--- the door failed, a thread couldn't be started, or memory ran out, and nothing was sent.
+-- Memory ran out for the last line once the door was closed, and nothing was sent.
+abbrev pub StopsAtLine : EdgeService → ℕ → Scene → Scene → Type 0
+StopsAtLine service port before after =
+    (served : ℕ) × HandsLinks served before after × IsServed service port served before after
+    × (after.output.sent ≡ before.output.sent) × IsClosedAt port before.door.state after.door.state
+
+-- How an edge ends, with a door that is to listen at this port. The door listened there, once more than before, and was closed, and
+-- the last line or a prefix of it was sent; before that, the upstream was asked for the book and for each slot at least once, and then
+-- each link was served once. Or the door failed, a thread couldn't be started, or memory ran out, and nothing was sent. If links were
+-- handed out before, the upstream was asked then too, and each of them was served once.
 abbrev pub EdgeEnds : EdgeService → ℕ → ServingEnd → Scene → Scene → Type 0
 EdgeEnds service port Closed before after =
     (served : ℕ) × HandsLinks served before after × IsServed service port served before after
-    × Sends before.output.sent (connections_line served) after.output.sent × IsClosedAt port after.door.state
+    × Sends before.output.sent (connections_line served) after.output.sent
+    × IsClosedAt port before.door.state after.door.state
 EdgeEnds service port WriteFault before after =
     (served : ℕ) × HandsLinks served before after × IsServed service port served before after
-    × SendsFront before.output.sent (connections_line served) after.output.sent × IsClosedAt port after.door.state
+    × SendsFront before.output.sent (connections_line served) after.output.sent
+    × IsClosedAt port before.door.state after.door.state
 EdgeEnds service port DoorFault before after =
-    (served : ℕ) × HandsLinks served before after × ServedOnlyAt port served after.door.state × (after.output.sent ≡ before.output.sent)
-EdgeEnds service port OutOfMemory before after = StopsForMemory port before after
+    (served : ℕ) × HandsLinks served before after × (0 < served → IsServed service port served before after)
+    × ServedOnlyAt port served before.door.state after.door.state × (after.output.sent ≡ before.output.sent)
+EdgeEnds service port OutOfMemory before after = StopsEarly port before after ⊎ StopsAtLine service port before after
 
 -- an edge with these arguments takes a draw for its boot number, and ends like this
 pub record RunsEdge (words : EdgeArguments) (end : ServingEnd) (before after : Scene) : Type 0 where
@@ -84,9 +86,9 @@ pub record RunsEdge (words : EdgeArguments) (end : ServingEnd) (before after : S
   pub taken : TakesDraw before.draws draw coming
   pub ends : EdgeEnds (service_of words draw.word) words.port end (record before { draws = coming }) after
 
--- how an edge with these arguments ends
+-- how an edge with these arguments ends; memory may also have run out before it took the draw
 abbrev pub EdgeRuns : EdgeArguments → ServingEnd → Scene → Scene → Type 0
 EdgeRuns words Closed before after = RunsEdge words Closed before after
 EdgeRuns words WriteFault before after = RunsEdge words WriteFault before after
 EdgeRuns words DoorFault before after = RunsEdge words DoorFault before after
-EdgeRuns words OutOfMemory before after = StopsForMemory words.port before after
+EdgeRuns words OutOfMemory before after = StopsEarly words.port before after ⊎ RunsEdge words OutOfMemory before after

@@ -8,16 +8,16 @@ use Rattle.unl_edge.specs.Follows.{FollowEnds}
 use Rattle.unl_edge.specs.Scene.{ChangesForEdge, ChangesForReplica, ChangesForUpstream, ChangesOutput, ChangesStreams, Scene, ServingFailed}
 use Rattle.unl_edge.specs.Status.{FailsToKeep, check_status, code_of, ending_status, explain_status, follow_status}
 use Rattle.unl_edge.specs.Status.{lines_status, load_status}
-use Rattle.unl_edge.specs.Status.{serving_status, upstream_status, words_status}
+use Rattle.unl_edge.specs.Status.{serving_status, upstream_status, arguments_status}
 use Rattle.unl_edge.specs.Upstreams.{IsDecidedByLines, UpstreamRuns}
 use Rattle.unl_edge.specs.declared.ends.CheckEnd.{CheckEnd}
 use Rattle.unl_edge.specs.declared.ends.CheckEnd.TheVariants.{Passed, Failed as TestsFailed, Refused, ReadFault, WriteFault, OutOfMemory}
-use Rattle.unl_edge.specs.declared.ends.WordsEnd.{WordsEnd}
-use Rattle.unl_edge.specs.declared.ends.WordsEnd.TheVariants as words
+use Rattle.unl_edge.specs.declared.ends.ArgumentsEnd.{ArgumentsEnd}
+use Rattle.unl_edge.specs.declared.ends.ArgumentsEnd.TheVariants as words
 use Rattle.unl_edge.specs.declared.status.Status.{Status}
 use Rattle.unl_edge.specs.declared.status.Status.TheVariants as status
 use Rattle.unl_explain.specs.Running.{Explains, explained}
-use Rattle.unl_input.specs.Answer.{Outcome, Says, SaysFront, outcome_of}
+use Rattle.unl_input.specs.Answer.{Outcome, Says, SaysPrefix, outcome_of}
 use Rattle.unl_input.specs.declared.refusal.WriteLineFault.{WriteLineFault}
 use Rattle.unl_input.specs.declared.refusal.WriteLineFault.TheVariants as say
 use Rattle.unl_load.specs.Line.{load_line}
@@ -62,7 +62,7 @@ CheckEnds draw TestsFailed left left_after old new = PrintsReport draw TestsFail
 CheckEnds draw Refused left left_after old new = PrintsReport draw Refused left left_after old new
 CheckEnds draw ReadFault left left_after old new = new ≡ old
 CheckEnds draw WriteFault left left_after old new =
-    (outcome : Outcome Report) × SaysFront (accepted draw) text_of outcome left left_after old new
+    (outcome : Outcome Report) × SaysPrefix (accepted draw) text_of outcome left left_after old new
 CheckEnds draw OutOfMemory left left_after old new = new ≡ old
 
 -- ---- a load
@@ -76,14 +76,14 @@ LoadEnds seed count (Err load.Memory) old new = new ≡ old
 -- ---- bad arguments
 
 -- the line printed for bad arguments
-abbrev pub bad_words : List ℕ
-bad_words = codes "unl_edge: bad words\n"
+abbrev pub bad_arguments_line : List ℕ
+bad_arguments_line = codes "unl_edge: bad words\n"
 
 -- It was sent, or a prefix of it; or memory ran out before the arguments were read, and nothing was sent.
-abbrev pub PrintsBadWords : WordsEnd → Option (List ℕ) → Option (List ℕ) → Type 0
-PrintsBadWords words.Bad old new = Sends old bad_words new
-PrintsBadWords words.WriteFault old new = SendsFront old bad_words new
-PrintsBadWords words.OutOfMemory old new = new ≡ old
+abbrev pub PrintsBadArguments : ArgumentsEnd → Option (List ℕ) → Option (List ℕ) → Type 0
+PrintsBadArguments words.Bad old new = Sends old bad_arguments_line new
+PrintsBadArguments words.WriteFault old new = SendsFront old bad_arguments_line new
+PrintsBadArguments words.OutOfMemory old new = new ≡ old
 
 -- ---- the program
 
@@ -113,7 +113,7 @@ Ends (Ok (Follow replica)) status before after =
     Ended follow_status (λ end. FollowEnds replica end before after) status
 Ends (Ok (Load seed count)) status before after =
     Ended load_status (λ end. LoadEnds seed count end before.output.sent after.output.sent) status
-Ends (Err Bad) status before after = Ended words_status (λ end. PrintsBadWords end before.output.sent after.output.sent) status
+Ends (Err Bad) status before after = Ended arguments_status (λ end. PrintsBadArguments end before.output.sent after.output.sent) status
 Ends (Err Memory) s before after = s ≡ status.OutOfMemory
 
 -- The state of each end that the command doesn't use is as before, and so is the count of its faults. If memory ran out before

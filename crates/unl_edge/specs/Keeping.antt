@@ -13,14 +13,14 @@ use Rattle.unl_upstream.specs.declared.refusal.KeepCommandRefusal.TheVariants.{N
 use Rattle.unl_upstream.specs.declared.refusal.KeepCommandRefusal.TheVariants.{NoSuchSegment, TooMany, KeeperFull, KeeperFault, Memory}
 
 -- the state while lines are taken: the upstream, the number of its keeper's rows, and the commands in them, if observable
-pub record Shelf : Type 0 where
+pub record KeptLines : Type 0 where
   pub up : UpstreamState
   pub count : ℕ
   pub commands : Option (List Command)
 
 -- the same for an upstream and its keeper
-abbrev pub shelf_of : KeptState → Shelf
-shelf_of state = record { up = state.up; count = state.keeper.count; commands = kept_commands state.keeper }
+abbrev pub kept_lines_of : KeptState → KeptLines
+kept_lines_of state = record { up = state.up; count = state.keeper.count; commands = kept_commands state.keeper }
 
 -- the name of a refusal; empty for a fault of the keeper and out of memory, which refuse no line
 abbrev pub refusal_name : KeepCommandRefusal → List ℕ
@@ -33,37 +33,37 @@ refusal_name KeeperFault = []
 refusal_name Memory = []
 
 -- one more command was accepted and is kept
-abbrev pub with_command : Command → AppliedCommand → Shelf → Shelf
-with_command command obeyed shelf = record {
+abbrev pub with_command : Command → AppliedCommand → KeptLines → KeptLines
+with_command command obeyed kept_lines = record {
   up = obeyed.up;
-  count = shelf.count + 1;
-  commands = option_map (λ commands. commands ++ command ∷ []) shelf.commands;
+  count = kept_lines.count + 1;
+  commands = option_map (λ commands. commands ++ command ∷ []) kept_lines.commands;
 }
 
 -- a command that is kept prints nothing
-abbrev pub kept_as : Command → Shelf → Result AppliedCommand KeepCommandRefusal → LineResult Shelf
-kept_as command shelf (Ok obeyed) = Ok (record { text = []; desk = with_command command obeyed shelf })
-kept_as command shelf (Err refusal) = Err (refusal_name refusal)
+abbrev pub kept_as : Command → KeptLines → Result AppliedCommand KeepCommandRefusal → LineResult KeptLines
+kept_as command kept_lines (Ok obeyed) = Ok (record { text = []; desk = with_command command obeyed kept_lines })
+kept_as command kept_lines (Err refusal) = Err (refusal_name refusal)
 
 -- the effect of keeping a command, unless the keeper fails or memory runs out
-abbrev pub kept_one : Command → Shelf → LineResult Shelf
-kept_one command shelf = kept_as command shelf (with_room shelf.count (apply_command command shelf.up))
+abbrev pub kept_one : Command → KeptLines → LineResult KeptLines
+kept_one command kept_lines = kept_as command kept_lines (with_room kept_lines.count (apply_command command kept_lines.up))
 
 -- the command of a line is kept, if it can be read
-abbrev pub kept_by : Shelf → Reading Command → LineResult Shelf
-kept_by shelf (Ok command) = kept_one command shelf
-kept_by shelf (Err fault) = Err (fault_text fault)
+abbrev pub kept_by : KeptLines → Reading Command → LineResult KeptLines
+kept_by kept_lines (Ok command) = kept_one command kept_lines
+kept_by kept_lines (Err fault) = Err (fault_text fault)
 
 -- the effect of a line, unless the keeper fails or memory runs out
-unfoldable pub kept_line : Shelf → List ℕ → LineResult Shelf
-kept_line shelf line = kept_by shelf (command_in line)
+unfoldable pub kept_line : KeptLines → List ℕ → LineResult KeptLines
+kept_line kept_lines line = kept_by kept_lines (command_in line)
 
 -- as `kept_line`, whatever the line's number
-abbrev pub keeping : Taking Shelf
-keeping number shelf line = kept_line shelf line
+abbrev pub keeping : Taking KeptLines
+keeping number kept_lines line = kept_line kept_lines line
 
 -- The lines hold these commands, one each. All are accepted and lead to `after`, and they are kept after the earlier ones.
-pub record SpellKept (before : Shelf) (spelling : List (List ℕ)) (after : Shelf) : Type 0 where
+pub record SpellKept (before : KeptLines) (spelling : List (List ℕ)) (after : KeptLines) : Type 0 where
   pub commands : List Command
   pub spelled : map command_in spelling ≡ map Ok commands
   pub all_accepted : accepted commands before.up ≡ commands

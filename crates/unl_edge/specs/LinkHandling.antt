@@ -1,11 +1,11 @@
 -- What a worker of an edge does: it serves links over the published boards and passes on their metrics.
 use Rattle.std.specs.Prelude.{◌≡◌, ◌≤◌, ℕ, List, [], length, max, Some}
 use Rattle.unl_core.specs.Desk.{Keeps}
-use Rattle.unl_edge.specs.declared.attending.EdgeLinkHandler.{EdgeLinkHandler}
+use Rattle.unl_edge.specs.declared.link_handler.EdgeLinkHandler.{EdgeLinkHandler}
 use Rattle.unl_edge_state.specs.declared.reader.EdgeReader.{EdgeReader}
 use Rattle.unl_core.specs.declared.board.Install.{Install}
 use Rattle.unl_edge_state.specs.Editions.{BoardAt}
-use Rattle.unl_edge_state.specs.Reading.{board_of, next_of, seen_by, told_to}
+use Rattle.unl_edge_state.specs.Reading.{board_of, next_of, seen_by, learned_front_of}
 use Rattle.unl_server.specs.Handling.{Coming}
 use Rattle.unl_server.specs.Conversation.{Converses}
 use Rattle.unl_server.specs.Links.{LinkState}
@@ -25,12 +25,12 @@ pub record IsOfOrigin (known : Knowledge BoardAt Install) (reader : EdgeReader) 
 
 -- The reader has learned all that is known, so it answers from no earlier board; and it knows the same first board.
 pub record HasLearned (known : Knowledge BoardAt Install) (reader : EdgeReader) : Type 0 where
-  pub least : length known.installs ≤ told_to reader
+  pub least : length known.installs ≤ learned_front_of reader
   pub opens : (seen_by reader).opening ≡ known.opening
 
 -- a bound from below on the fronts that a reader answers from: the number of publications that it learned of or saw
 abbrev pub least_front : EdgeReader → ℕ
-least_front reader = max (told_to reader) (front_seen (seen_by reader))
+least_front reader = max (learned_front_of reader) (front_seen (seen_by reader))
 
 -- A later state of a reader: its bound does not fall, and the boards that it knew are still known.
 pub record ReadsOn (before after : EdgeReader) : Type 0 where

@@ -22,7 +22,7 @@ abbrev pub obeyed_as : CommandResult AppliedCommand → LineResult UpstreamState
 obeyed_as (Ok obeyed) = Ok (record { text = []; desk = obeyed.up })
 obeyed_as (Err refusal) = Err (refusal_name refusal)
 
--- the command that a line spells is obeyed, if it spells one
+-- the command that a line spells is executed, if it spells one
 abbrev pub obeyed_by : UpstreamState → Reading Command → LineResult UpstreamState
 obeyed_by up (Ok command) = obeyed_as (apply_command command up)
 obeyed_by up (Err fault) = Err (fault_text fault)

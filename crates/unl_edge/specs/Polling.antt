@@ -1,16 +1,11 @@
 -- The turns of an edge's poller: the first, and those that follow while its workers serve links.
 use Rattle.std.specs.Prelude.{◌≡◌, ◌⊎◌, ◌<◌, ◌≤◌, ◌+◌, ◌-◌, ◌^◌, ℕ, length}
-use Rattle.unl_base.specs.Peers.{PeerState}
 use Rattle.unl_delta.specs.Installing.{Installed}
 use Rattle.unl_metrics.specs.Book.{Book}
-use Rattle.unl_refresh.specs.Exchange.{PeerView, peer_view}
+use Rattle.unl_refresh.specs.Exchange.{PeerView}
 use Rattle.unl_refresh.specs.Handing.{DrainsShared}
 use Rattle.unl_refresh.specs.Turns.{Duty, MakesTurn, PollState, StopsInTurn, poll_state}
 use Rattle.unl_workers.specs.Periodic.{Turns}
-
--- what the poller's contracts see of a peer in this state, with this fault count
-abbrev pub peer_seen : PeerState → ℕ → PeerView
-peer_seen peer faults = peer_view peer.replies peer.sent faults
 
 -- What a poller works with is the same.
 pub record SameWork (before after : Duty) : Type 0 where
@@ -38,7 +33,7 @@ pub record PollsOn (duty : Duty) (before after : PollState) : Type 0 where
   pub made : Turns (LaterTurn duty) turns before after
 
 -- The first turn was made from what was installed at first, with the poller's own tags and metrics. `first` is what it installed.
--- Then later turns were made.
+-- Then later turns were made. Each request of these turns is one more text of the peer's history, and nothing else was sent to it.
 pub record PollsUpstream (duty : Duty) (opening : Installed) (peer : PeerView) (first : Installed) (peer_after : PeerView) : Type 0 where
   pub begun : PollState
   pub installed : begun.installed ≡ first

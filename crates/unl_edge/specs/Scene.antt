@@ -4,6 +4,7 @@ use Rattle.unl_base.specs.Doors.{DoorState}
 use Rattle.unl_base.specs.Faults.{Rose}
 use Rattle.unl_base.specs.Peers.{PeerState}
 use Rattle.unl_base.specs.declared.draws.Draw.{Draw}
+use Rattle.unl_keeper.specs.State.{MakerState}
 
 -- the input: the bytes to come, and the count of its faults
 pub record InputEnd : Type 0 where
@@ -15,22 +16,18 @@ pub record OutputEnd : Type 0 where
   pub sent : Option (List ℕ)
   pub faults : ℕ
 
--- the door: what it handed out and got back, and the count of its faults
+-- the door: the ports that it listened at, what it handed out and got back, and the count of its faults
 pub record DoorEnd : Type 0 where
   pub state : DoorState
   pub faults : ℕ
 
--- the peer: its connection, what the next ones give, and the count of its faults
+-- the peer: its connection, what was sent on this one and on each before, what the next ones give, and the count of its faults
 pub record PeerEnd : Type 0 where
   pub state : PeerState
   pub faults : ℕ
 
--- the maker of keepers: the rows of the keeper that it got back last, and the count of its faults
-pub record KeepEnd : Type 0 where
-  pub held : Option (List (List ℕ))
-  pub faults : ℕ
-
--- all of these, the draws to come, the turns left of the pace, and the count of the spawner's faults
+-- all of these, the draws to come, the turns left of the pace, the count of the spawner's faults, and the maker of keepers: the rows
+-- of the keeper that it got back last, and the count of its faults
 pub record Scene : Type 0 where
   pub input : InputEnd
   pub output : OutputEnd
@@ -39,7 +36,7 @@ pub record Scene : Type 0 where
   pub peer : PeerEnd
   pub pace : Option ℕ
   pub spawner : ℕ
-  pub keep : KeepEnd
+  pub keep : MakerState
 
 -- the door failed, or a job could not be started
 abbrev pub ServingFailed : Scene → Scene → Type 0

@@ -1,14 +1,14 @@
 -- How an upstream ends: it is reopened on a keeper, takes the commands of its input's lines, and then serves the links of its
 -- door.
-use Rattle.std.specs.Prelude.{◌≡◌, ◌≢◌, ◌⊎◌, ℕ, false, List, [], ◌++◌, codes, decimal, Option, Some, IfSome, Result, Ok, Err}
+use Rattle.std.specs.Prelude.{◌≡◌, ◌≢◌, ◌⊎◌, ℕ, List, [], ◌++◌, codes, decimal, Option, Some, IfSome, Result, Ok, Err}
 use Rattle.std.specs.Prelude.{option_and_then, option_map}
 use Rattle.unl_base.specs.Doors.{ServedOnlyAt, DoorState, IsClosedAt}
 use Rattle.unl_base.specs.Draws.{TakesDraw}
 use Rattle.unl_base.specs.Faults.{Rose}
 use Rattle.unl_base.specs.Streams.{HasEnded, Sends, SendsFront, Takes}
 use Rattle.unl_base.specs.declared.draws.Draw.{Draw}
-use Rattle.unl_edge.specs.Keeping.{SpellKept, keeping, shelf_of}
-use Rattle.unl_edge.specs.Scene.{KeepEnd, Scene}
+use Rattle.unl_edge.specs.Keeping.{SpellKept, keeping, kept_lines_of}
+use Rattle.unl_edge.specs.Scene.{Scene}
 use Rattle.unl_edge.specs.declared.ends.ServingEnd.{ServingEnd}
 use Rattle.unl_edge.specs.declared.ends.ServingEnd.TheVariants.{Closed, WriteFault, DoorFault, OutOfMemory}
 use Rattle.unl_edge.specs.declared.ends.UpstreamEnd.{UpstreamEnd}
@@ -21,9 +21,10 @@ use Rattle.unl_input.specs.Lines.{lines}
 use Rattle.unl_input.specs.Taken.{Taking, done, outcome_of}
 use Rattle.unl_input.specs.Whole.{TakesLines}
 use Rattle.unl_input.specs.declared.taking.LinesFault.TheVariants as line
+use Rattle.unl_keeper.specs.State.{IsNewKeeper, KeeperState, MakerState, kept_rows}
 use Rattle.unl_server.specs.Handling.{Coming}
-use Rattle.unl_server.specs.Linked.{ServesLinks as ServesTold, linking}
-use Rattle.unl_upstream.specs.Kept.{AttemptsPreserve, KeeperState, KeptState, acknowledged, commands_in, kept_commands, kept_rows, kept_state}
+use Rattle.unl_server.specs.Linked.{ServesLinks as ServesObservable, linking}
+use Rattle.unl_upstream.specs.Kept.{AttemptsPreserve, KeptState, acknowledged, commands_in, kept_commands, kept_state}
 use Rattle.unl_upstream.specs.KeptHosting.{Hosts, LinkServed, AllLinksEffect, NoKeeperFaults}
 use Rattle.unl_edge.specs.PlainLines.{obeyed_line}
 use Rattle.unl_upstream.specs.Reopening.{IsOpening, IsSameKeeper, Reopens}
@@ -79,19 +80,20 @@ pub record ServesLinks (state last : KeptState) (before after : Facing) (served 
   pub hosts : Hosts (linking state before.coming before.door) (linking last after.coming after.door) served
   pub carries : AttemptsPreserve state last
 
--- How serving ends at a door that is to listen at this port: the door was closed, and the last line was sent, or a
--- prefix of it, or nothing if out of memory; or the door failed.
+-- How serving ends at a door that is to listen at this port: the door listened there, once more than before, and was closed, and the
+-- last line was sent, or a prefix of it, or nothing if out of memory; or the door failed.
 abbrev pub LinksEnd : KeptState → ℕ → ServingEnd → KeptState → Facing → Facing → Type 0
 LinksEnd state port Closed last before after =
     (served : ℕ) × ServesLinks state last before after served × Sends before.sent (connections_line served) after.sent
-    × IsClosedAt port after.door
+    × IsClosedAt port before.door after.door
 LinksEnd state port WriteFault last before after =
     (served : ℕ) × ServesLinks state last before after served × SendsFront before.sent (connections_line served) after.sent
-    × IsClosedAt port after.door
+    × IsClosedAt port before.door after.door
 LinksEnd state port DoorFault last before after =
-    (served : ℕ) × ServesLinks state last before after served × ServedOnlyAt port served after.door × (after.sent ≡ before.sent)
+    (served : ℕ) × ServesLinks state last before after served × ServedOnlyAt port served before.door after.door
+    × (after.sent ≡ before.sent)
 LinksEnd state port OutOfMemory last before after =
-    (served : ℕ) × ServesLinks state last before after served × (after.sent ≡ before.sent) × IsClosedAt port after.door
+    (served : ℕ) × ServesLinks state last before after served × (after.sent ≡ before.sent) × IsClosedAt port before.door after.door
 
 -- The links of a door whose links are observable, by commands and draws from the opening on. The first is served after the
 -- commands of the lines, and each adds the commands of its requests that were kept. So the keeper keeps all of them, after
@@ -99,11 +101,12 @@ LinksEnd state port OutOfMemory last before after =
 pub record NamesLinks
     (opened : KeptState) (commands : List Command) (kept last : KeptState) (before after : Facing) (served : ℕ)
     (links : List (List ℕ)) (returned : List (List ℕ × ℕ)) : Type 0 where
-  pub serves : ServesTold LinkServed (linking kept before.coming before.door) (linking last after.coming after.door) served links returned
+  pub serves : ServesObservable LinkServed (linking kept before.coming before.door) (linking last after.coming after.door) served links
+      returned
   pub names : AllLinksEffect opened.up opened.keeper.count before.coming commands 0 kept serves.given_links serves.backs last after.coming
   pub keeps : kept_commands last.keeper ≡ option_map (λ kept. kept ++ names.commands_after) (kept_commands opened.keeper)
-  pub calm : last.keeper.faults ≡ 0 → NoKeeperFaults opened.up opened.keeper.count before.coming commands 0 kept serves.given_links
-      serves.backs names.commands_after names.gone_after last names.linked
+  pub no_faults : last.keeper.faults ≡ 0 → NoKeeperFaults opened.up opened.keeper.count before.coming commands 0 kept serves.given_links
+      serves.backs names.commands_after names.drawn_after last names.linked
 
 -- ---- the lines
 
@@ -120,8 +123,8 @@ pub record ServesAfterLines
   pub took : Takes left read left_after
   pub end : HasEnded left_after
   pub kept : KeptState
-  pub accepted : outcome_of keeping (shelf_of opened) read ≡ record { text = []; ending = done; desk = shelf_of kept }
-  pub spelled : SpellKept (shelf_of opened) (lines read) (shelf_of kept)
+  pub accepted : outcome_of keeping (kept_lines_of opened) read ≡ record { text = []; ending = done; desk = kept_lines_of kept }
+  pub spelled : SpellKept (kept_lines_of opened) (lines read) (kept_lines_of kept)
   pub up : UpstreamState
   pub serves : ServesLinks kept (kept_state up last) before after served
   pub keeps : kept_commands last
@@ -138,34 +141,28 @@ LinesEnd opened port NoMemory last left left_after before after = ⊥
 LinesEnd opened port KeeperFault last left left_after before after = IsUntouched before after
 LinesEnd opened port (Row written) last left left_after before after = ⊥
 LinesEnd opened port (Lines fault) last left left_after before after =
-    TakesLines keeping (shelf_of opened) (Err fault) left left_after before.sent after.sent × (after.door ≡ before.door)
+    TakesLines keeping (kept_lines_of opened) (Err fault) left left_after before.sent after.sent × (after.door ≡ before.door)
     × (fault ≡ line.Memory → last.faults ≡ 0)
 LinesEnd opened port (Links Closed) last left left_after before after =
     (served : ℕ) × ServesAfterLines opened last left left_after before after served
-    × Sends before.sent (connections_line served) after.sent × IsClosedAt port after.door
+    × Sends before.sent (connections_line served) after.sent × IsClosedAt port before.door after.door
 LinesEnd opened port (Links WriteFault) last left left_after before after =
     (served : ℕ) × ServesAfterLines opened last left left_after before after served
-    × SendsFront before.sent (connections_line served) after.sent × IsClosedAt port after.door
+    × SendsFront before.sent (connections_line served) after.sent × IsClosedAt port before.door after.door
 LinesEnd opened port (Links DoorFault) last left left_after before after =
-    (served : ℕ) × ServesAfterLines opened last left left_after before after served × ServedOnlyAt port served after.door
-    × (after.sent ≡ before.sent)
+    (served : ℕ) × ServesAfterLines opened last left left_after before after served
+    × ServedOnlyAt port served before.door after.door × (after.sent ≡ before.sent)
 LinesEnd opened port (Links OutOfMemory) last left left_after before after =
     (served : ℕ) × ServesAfterLines opened last left left_after before after served × (after.sent ≡ before.sent)
-    × IsClosedAt port after.door
+    × IsClosedAt port before.door after.door
 
 -- ---- the keeper
 
--- A new keeper: it isn't opened and has no faults. If what its maker holds is observable, it has no rows.
-pub record IsMade (held : Option (List (List ℕ))) (keeper : KeeperState) : Type 0 where
-  pub unopened : keeper.opened ≡ false
-  pub faultless : keeper.faults ≡ 0
-  pub empty : IfSome held (λ _. keeper.rows ≡ Some [])
-
 -- The maker gets a keeper back: it holds the keeper's rows, and its fault count rose if the keeper ever failed.
-pub record ComesBack (keeper : KeeperState) (before after : KeepEnd) : Type 0 where
+pub record ComesBack (keeper : KeeperState) (before after : MakerState) : Type 0 where
   pub held : after.held ≡ option_and_then (λ _. kept_rows keeper) before.held
   pub rose : keeper.faults ≢ 0 → Rose before.faults after.faults
-  pub calm : ¬ (Rose before.faults after.faults) → keeper.faults ≡ 0
+  pub no_faults : ¬ (Rose before.faults after.faults) → keeper.faults ≡ 0
 
 -- the upstream has taken no command
 pub record IsNew (up : UpstreamState) : Type 0 where
@@ -216,9 +213,9 @@ KeeperEnd start port (Links end) last left left_after before after = EndsReopene
 -- commands kept afterwards: those of the lines and then, if links were served, those of the links.
 pub record EndsKept (start : UpstreamState) (port : ℕ) (end : UpstreamEnd) (before after : Scene) : Type 0 where
   pub made : KeeperState
-  pub is_made : IsMade before.keep.held made
+  pub is_new_keeper : IsNewKeeper before.keep.held made
   pub plain : (reopened : ℕ) (opened : KeptState) → Opens (kept_state start made) reopened opened
-      → IfSome before.keep.held (λ _. shelf_of opened ≡ record { up = start; count = 0; commands = Some [] })
+      → IfSome before.keep.held (λ _. kept_lines_of opened ≡ record { up = start; count = 0; commands = Some [] })
   pub last : KeeperState
   pub ends : KeeperEnd (kept_state start made) port end last before.input.left after.input.left (facing_of before) (facing_of after)
   pub back : ComesBack last before.keep after.keep
@@ -269,7 +266,7 @@ abbrev pub IsDecidedFrom : KeptState → ℕ → Option (List ℕ) → Type 0
 IsDecidedFrom start code left =
     ((place : ℕ) × RefusesRow start place × (code ≡ 3))
     ⊎ ((reopened : ℕ) × (opened : KeptState) × Opens start reopened opened
-    × IfSome left (λ bytes. code ≡ lines_code keeping (shelf_of opened) bytes))
+    × IfSome left (λ bytes. code ≡ lines_code keeping (kept_lines_of opened) bytes))
 
 -- The exit code is that of how the lines end, from the start state with these arguments, reopened on a new keeper. If what the
 -- maker holds is observable, it is that of how they end without a keeper.
@@ -278,6 +275,6 @@ pub record IsDecidedByLines (words : UpstreamArguments) (code : ℕ) (before : S
   pub coming : Coming
   pub begins : Begins words before.draws start coming
   pub made : KeeperState
-  pub is_made : IsMade before.keep.held made
+  pub is_new_keeper : IsNewKeeper before.keep.held made
   pub reopened : IsDecidedFrom (kept_state start made) code before.input.left
   pub decided : IfSome before.keep.held (λ _. IfSome before.input.left (λ bytes. code ≡ lines_code obeying start bytes))

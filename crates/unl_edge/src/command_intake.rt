@@ -23,15 +23,15 @@ pub(crate) struct CommandIntake<K: Keeper> {
 
 impl<K: Keeper> Model for CommandIntake<K> {
     ghost use Rattle.std.specs.Prelude.{◌≡◌, ◌≢◌, false, true};
-    ghost use Rattle.unl_edge.specs.Keeping.{Shelf, shelf_of};
-    ghost use Rattle.unl_upstream.specs.Kept.{keeper_by, kept_state};
+    ghost use Rattle.unl_edge.specs.Keeping.{KeptLines, kept_lines_of};
+    ghost use Rattle.unl_upstream.specs.Kept.{kept_state};
 
-    ghost Value = { Shelf };
+    ghost Value = { KeptLines };
 
-    ghost view = { λ kept. shelf_of (kept_state kept.up (keeper_by K.opened K.faults K.count K.rows kept.keeper)) };
+    ghost view = { λ kept. kept_lines_of (kept_state kept.up (K.state kept.keeper)) };
 
-    ghost invariant = { λ kept. (K.opened kept.keeper ≡ true) × (kept.failed ≡ true → K.faults kept.keeper ≢ 0)
-        × (kept.failed ≡ false → K.faults kept.keeper ≡ 0) };
+    ghost invariant = { λ kept. ((K.state kept.keeper).opened ≡ true) × (kept.failed ≡ true → (K.state kept.keeper).faults ≢ 0)
+        × (kept.failed ≡ false → (K.state kept.keeper).faults ≡ 0) };
 }
 
 /// Keeps the command of each line. A command that is kept prints nothing. A line whose command can't be read or is refused is
@@ -42,9 +42,9 @@ impl<K: Keeper> LineProcessor for CommandIntake<K> {
 
     type Desk = CommandIntake<K>;
 
-    ghost line_result = { λ number shelf line. kept_line shelf line };
+    ghost line_result = { λ number kept_lines line. kept_line kept_lines line };
 
-    ghost fits = { λ number shelf. Unit {0} };
+    ghost fits = { λ number kept_lines. Unit {0} };
 
     #[tactic(auto, unfolding(crate::specs::Keeping::kept_line))]
     fn take(

@@ -1,11 +1,11 @@
 //! Proofs that the parts of a worker's state are `Send`. They are proved part by part, since one proof search over all of them
 //! times out.
 ghost use Rattle.std.specs.Thread.{IsSend};
-ghost use Rattle.unl_edge.specs.contracts.attending.FreshDesk as DeskType;
+ghost use Rattle.unl_edge.specs.contracts.link_handler.FreshDesk as DeskType;
 ghost use Rattle.unl_metrics.specs.contracts.book.MetricsBook as BookType;
 ghost use Rattle.unl_connection.specs.contracts.served.Served as NotesType;
 
-use crate::attending::FreshDesk;
+use crate::link_handler::FreshDesk;
 use unl_connection::Served;
 use unl_edge_state::readers_are_send;
 use unl_metrics::MetricsBook;

@@ -5,23 +5,23 @@ ghost use Rattle.unl_base.specs.Doors.{IsListening};
 ghost use Rattle.unl_core.specs.Board.{AreSlots};
 ghost use Rattle.unl_edge.specs.LinkHandling.{IsOfOrigin, ReadsOnAt, ServesAt};
 ghost use Rattle.unl_edge.specs.EdgeLinks.{ServesEachLink, WorkOnEachLink};
-ghost use Rattle.unl_edge.specs.Edges.{HandsOutLinks, links_of};
+ghost use Rattle.unl_edge.specs.Edges.{accepted_in};
 ghost use Rattle.unl_edge.specs.EdgeServices.{opened, service_at};
-ghost use Rattle.unl_edge.specs.Polling.{PollsOn, peer_seen};
+ghost use Rattle.unl_edge.specs.Polling.{PollsOn};
 ghost use Rattle.unl_edge_state.specs.Reading.{HasBegun, IsNewReader};
 ghost use Rattle.unl_edge_state.specs.Writing.{installed_by};
 ghost use Rattle.unl_refresh.specs.Connects.{Connects};
 ghost use Rattle.unl_refresh.specs.Exchange.{peer_view};
 ghost use Rattle.unl_refresh.specs.Turns.{poll_state};
-ghost use Rattle.unl_workers.specs.Pool.{HasCauses};
+ghost use Rattle.unl_workers.specs.Pool.{AcceptedIn, HasCauses};
 ghost use Rattle.unl_workers.specs.Serving.{ServesSlot};
 ghost use Rattle.unl_workers.specs.Shares.{EachLinkServedOnce};
 
-use crate::attending::EdgeLinkHandler;
 use crate::crossing::worker_parts_are_send;
+use crate::link_handler::EdgeLinkHandler;
 use crate::refresh_task::RefreshTask;
 use crate::same_origin_writer::turn_by;
-use crate::worker_slots::posts_of;
+use crate::worker_slots::worker_slots_of;
 use std::alloc::Global;
 use std::sync::{Mutex, Wait};
 use unl_base::{Door, Draws, Pace, Peer, Spawner};
@@ -30,15 +30,14 @@ use unl_documents::Memory;
 use unl_edge_state::{EdgeReader, EdgeWriter, begin_orderly, readers_are_send, writers_are_send};
 use unl_metrics::MetricsBook;
 use unl_refresh::Poller;
-use unl_workers::{PoolFault, PoolOutcome, WorkerSlot, run_pool};
+use unl_workers::{AcceptOutcome, PoolFault, PoolOutcome, WorkerSlot, run_pool};
 
 /// Serves the links of a listening door with this many workers, over a board that is kept up to date. The upstream is polled
 /// once before the first link is accepted, and then at a pace, concurrently with the workers. Returns the number of links that
-/// the door handed out.
+/// the door handed out, and whether it was closed then or failed.
 ///
 /// # Errors
-/// `Door` if the door failed. `Spawner` if a thread couldn't be started, and `Memory` if out of memory; in these two cases the
-/// door handed out no link.
+/// `Spawner` if a thread couldn't be started, and `Memory` if out of memory; the door handed out no link then.
 pub(crate) fn serve_service<D: Door, P, R, T, S: Spawner, W: Wait + Sync>(
     alloc: Global,
     rt: &W,
@@ -50,7 +49,7 @@ pub(crate) fn serve_service<D: Door, P, R, T, S: Spawner, W: Wait + Sync>(
     draws: &mut R,
     pace: &mut T,
     spawner: &mut S,
-) -> Result<u64, PoolFault>
+) -> Result<AcceptOutcome, PoolFault>
 where
     D::L: Drop + Send,
     P: Peer + Send,
@@ -60,13 +59,14 @@ where
     requires workers { (0 < workers) × (workers ≤ 16) }
     requires slots { AreSlots board.slots }
     requires slot_pollers { poller.slots ≡ length (opened board).places }
-    ensures hands { HandsOutLinks (λ links. links) result (D.state door.old) (D.state door.new) }
+    ensures accepts { AcceptedIn (λ accepted. accepted) result (D.state door.old) (D.state door.new) }
     ensures connects { OnOk result (Connects (length (opened board).places + 1)
         (P.state peer.old).replies (P.Source.faults peer.old) (P.state peer.new).replies (P.Source.faults peer.new)) }
-    ensures each_link_served_once { IfOk result (λ links. ServesEachLink (service_at poller board workers)
-        (peer_seen (P.state peer.old) (P.Source.faults peer.old)) (peer_seen (P.state peer.new) (P.Source.faults peer.new))
-        (D.state door.old) (D.state door.new) links) }
-    ensures causes { HasCauses result (D.faults door.old) (D.faults door.new) (S.faults spawner.old) (S.faults spawner.new) }
+    ensures each_link_served_once { IfOk result (λ accepted. ServesEachLink (service_at poller board workers)
+        (peer_view (P.state peer.old) (P.Source.faults peer.old)) (peer_view (P.state peer.new) (P.Source.faults peer.new))
+        (D.state door.old) (D.state door.new) accepted.links) }
+    ensures causes { HasCauses (λ accepted. accepted) result
+        (D.faults door.old) (D.faults door.new) (S.faults spawner.old) (S.faults spawner.new) }
 {
     match begin_orderly(rt, alloc, board, workers) {
         Ok((writer, readers)) => serve_from(
@@ -88,7 +88,7 @@ fn serve_from<D: Door, P, R, T, S: Spawner, W: Wait + Sync>(
     draws: &mut R,
     pace: &mut T,
     spawner: &mut S,
-) -> Result<u64, PoolFault>
+) -> Result<AcceptOutcome, PoolFault>
 where
     D::L: Drop + Send,
     P: Peer + Send,
@@ -100,19 +100,20 @@ where
     requires few { length writer.places ≤ 8 }
     requires readers { All (HasBegun writer.known) readers.items }
     requires new { All IsNewReader readers.items }
-    ensures hands { HandsOutLinks (λ links. links) result (D.state door.old) (D.state door.new) }
+    ensures accepts { AcceptedIn (λ accepted. accepted) result (D.state door.old) (D.state door.new) }
     ensures connects { OnOk result (Connects (length writer.entry.places + 1)
         (P.state peer.old).replies (P.Source.faults peer.old) (P.state peer.new).replies (P.Source.faults peer.new)) }
-    ensures each_link_served_once { IfOk result (λ links. 0 < length readers.items → ServesEachLink (record {
+    ensures each_link_served_once { IfOk result (λ accepted. 0 < length readers.items → ServesEachLink (record {
       duty = poller;
       opening = installed_by writer.entry;
       edition = writer.entry.known.opening;
       workers = length readers.items;
     })
-        (peer_view (P.state peer.old).replies (P.Sink.sent peer.old) (P.Source.faults peer.old))
-        (peer_view (P.state peer.new).replies (P.Sink.sent peer.new) (P.Source.faults peer.new))
-        (D.state door.old) (D.state door.new) links) }
-    ensures causes { HasCauses result (D.faults door.old) (D.faults door.new) (S.faults spawner.old) (S.faults spawner.new) }
+        (peer_view (P.state peer.old) (P.Source.faults peer.old))
+        (peer_view (P.state peer.new) (P.Source.faults peer.new))
+        (D.state door.old) (D.state door.new) accepted.links) }
+    ensures causes { HasCauses (λ accepted. accepted) result
+        (D.faults door.old) (D.faults door.new) (S.faults spawner.old) (S.faults spawner.new) }
 {
     let mut poller = poller;
     let (mut writer, turned) = turn_by(alloc, &mut poller, writer, peer);
@@ -153,7 +154,7 @@ fn serve_after<D: Door, P, R, T, S: Spawner, W: Wait + Sync>(
     draws: &mut R,
     pace: &mut T,
     spawner: &mut S,
-) -> Result<u64, PoolFault>
+) -> Result<AcceptOutcome, PoolFault>
 where
     D::L: Drop + Send,
     P: Peer + Send,
@@ -162,49 +163,50 @@ where
     requires listens { IsListening (D.state door.old) }
     requires readers { All (IsOfOrigin writer.old.known) readers.items }
     requires new { All IsNewReader readers.items }
-    ensures hands { HandsOutLinks (λ links. links) result (D.state door.old) (D.state door.new) }
+    ensures accepts { AcceptedIn (λ accepted. accepted) result (D.state door.old) (D.state door.new) }
     ensures connects { OnOk result (Connects 0
         (P.state peer.old).replies (P.Source.faults peer.old) (P.state peer.new).replies (P.Source.faults peer.new)) }
     ensures polls { OnOk result (PollsOn poller.old
         (poll_state (installed_by writer.old) poller.old.tags poller.old.metrics
-        (peer_view (P.state peer.old).replies (P.Sink.sent peer.old) (P.Source.faults peer.old)))
+        (peer_view (P.state peer.old) (P.Source.faults peer.old)))
         (poll_state (installed_by writer.new) poller.new.tags poller.new.metrics
-        (peer_view (P.state peer.new).replies (P.Sink.sent peer.new) (P.Source.faults peer.new)))) }
-    ensures each_link_served_once { IfOk result (λ links. 0 < length readers.items
+        (peer_view (P.state peer.new) (P.Source.faults peer.new)))) }
+    ensures each_link_served_once { IfOk result (λ accepted. 0 < length readers.items
         → WorkOnEachLink (length readers.items) writer.old.known.opening (length writer.old.known.installs)
-        (D.state door.old) (D.state door.new) links) }
-    ensures causes { HasCauses result (D.faults door.old) (D.faults door.new) (S.faults spawner.old) (S.faults spawner.new) }
+        (D.state door.old) (D.state door.new) accepted.links) }
+    ensures causes { HasCauses (λ accepted. accepted) result
+        (D.faults door.old) (D.faults door.new) (S.faults spawner.old) (S.faults spawner.new) }
 {
     let shared = Mutex::new(MetricsBook::new(alloc));
-    match posts_of(alloc, rt, &shared, writer, readers, draws) {
-        Ok(posts) => links_of(serve_posts(
-            alloc, rt, writer, peer, &shared, poller, posts, door, pace, spawner,
+    match worker_slots_of(alloc, rt, &shared, writer, readers, draws) {
+        Ok(pool_slots) => accepted_in(serve_worker_slots(
+            alloc, rt, writer, peer, &shared, poller, pool_slots, door, pace, spawner,
         )),
         Err(Memory) => Err(PoolFault::Memory),
     }
 }
 
-/// Returns the number of links that were handed out.
-fn links_of<S: Drop, R: Drop>(
+/// Returns what the door handed out.
+fn accepted_in<S: Drop, R: Drop>(
     served: Result<PoolOutcome<S, R>, PoolFault>,
-) -> Result<u64, PoolFault>
-    ensures { result ≡ links_of served }
+) -> Result<AcceptOutcome, PoolFault>
+    ensures { result ≡ accepted_in served }
 {
     match served {
-        Ok(beside) => Ok(beside.links),
+        Ok(outcome) => Ok(outcome.accepted),
         Err(fault) => Err(fault),
     }
 }
 
 /// As `serve_after`, with these worker slots. Each slot serves the links that it takes one after the other.
-fn serve_posts<'a, D: Door, P, R, T, S: Spawner, W: Wait + Sync>(
+fn serve_worker_slots<'a, D: Door, P, R, T, S: Spawner, W: Wait + Sync>(
     alloc: Global,
     rt: &'a W,
     writer: &mut EdgeWriter<'_, W>,
     peer: &mut P,
     shared: &'a Mutex<MetricsBook>,
     poller: &mut Poller,
-    posts: Vec<WorkerSlot<EdgeLinkHandler<'a, W>, R>>,
+    pool_slots: Vec<WorkerSlot<EdgeLinkHandler<'a, W>, R>>,
     door: &mut D,
     pace: &mut T,
     spawner: &mut S,
@@ -215,19 +217,20 @@ where
     R: Draws + Drop + Send,
     T: Pace + Send,
     requires { IsListening (D.state door.old) }
-    ensures hands { HandsOutLinks (λ beside. beside.links) result (D.state door.old) (D.state door.new) }
-    ensures posts { IfOk result (λ beside. AllZip (ServesSlot ServesAt ReadsOnAt R.coming) posts.entry.items beside.posts.items) }
-    ensures each_link_served_once { IfOk result (λ outcome. 0 < length posts.entry.items
+    ensures accepts { AcceptedIn (λ outcome. outcome.accepted) result (D.state door.old) (D.state door.new) }
+    ensures slots { IfOk result (λ outcome. AllZip (ServesSlot ServesAt ReadsOnAt R.coming) pool_slots.entry.items outcome.slots.items) }
+    ensures each_link_served_once { IfOk result (λ outcome. 0 < length pool_slots.entry.items
         → EachLinkServedOnce ServesAt R.coming D.L.Source.left D.L.Sink.sent D.L.Source.faults
-        (D.state door.old) (D.state door.new) outcome.links posts.entry.items outcome.posts.items) }
+        (D.state door.old) (D.state door.new) outcome.accepted.links pool_slots.entry.items outcome.slots.items) }
     ensures polls { OnOk result (PollsOn poller.old
         (poll_state (installed_by writer.old) poller.old.tags poller.old.metrics
-        (peer_view (P.state peer.old).replies (P.Sink.sent peer.old) (P.Source.faults peer.old)))
+        (peer_view (P.state peer.old) (P.Source.faults peer.old)))
         (poll_state (installed_by writer.new) poller.new.tags poller.new.metrics
-        (peer_view (P.state peer.new).replies (P.Sink.sent peer.new) (P.Source.faults peer.new)))) }
+        (peer_view (P.state peer.new) (P.Source.faults peer.new)))) }
     ensures connects { OnOk result (Connects 0
         (P.state peer.old).replies (P.Source.faults peer.old) (P.state peer.new).replies (P.Source.faults peer.new)) }
-    ensures causes { HasCauses result (D.faults door.old) (D.faults door.new) (S.faults spawner.old) (S.faults spawner.new) }
+    ensures causes { HasCauses (λ outcome. outcome.accepted) result
+        (D.faults door.old) (D.faults door.new) (S.faults spawner.old) (S.faults spawner.new) }
 {
     let mut turn = RefreshTask {
         poller,
@@ -240,9 +243,8 @@ where
     writers_are_send::<W>();
     worker_parts_are_send();
     // The result is matched, since it is known that the task still holds its references only if all ended well.
-    match run_pool(alloc, rt, spawner, door, pace, &mut turn, posts) {
-        Ok(beside) => Ok(beside),
-        Err(PoolFault::Door) => Err(PoolFault::Door),
+    match run_pool(alloc, rt, spawner, door, pace, &mut turn, pool_slots) {
+        Ok(outcome) => Ok(outcome),
         Err(PoolFault::Spawner) => Err(PoolFault::Spawner),
         Err(PoolFault::Memory) => Err(PoolFault::Memory),
     }

@@ -15,7 +15,7 @@ use crate::upstreams::print_connections;
 use crate::world::World;
 use std::alloc::Global;
 use std::sync::Wait;
-use unl_base::{Door, Draws, Pace, Peer, Sink, Source, Spawner};
+use unl_base::{Door, Draws, Failed, Pace, Peer, Sink, Source, Spawner};
 use unl_core::Board;
 use unl_documents::{List, Memory, Text};
 use unl_keeper::KeepMaker;
@@ -24,7 +24,8 @@ use unl_words::{EdgeArguments, token_environments};
 use unl_workers::PoolFault;
 
 /// Runs an edge. The boot number of its board is the word of a draw. The upstream is polled once; then the workers serve the
-/// links that come to the port, concurrently, while the upstream is polled again at a pace.
+/// links that come to the port, concurrently, while the upstream is polled again at a pace. If the door fails, the links that came
+/// before are served as well.
 pub fn run_edge<I: Source, O: Sink, D: Door, P, R, T, S: Spawner, Q: KeepMaker, W: Wait + Sync>(
     alloc: Global,
     words: &EdgeArguments,
@@ -42,7 +43,7 @@ where
         (ServingFailed world.old world.new) ⊥ }
 {
     let boot = world.draws.draw().word;
-    match begin_site(alloc, boot, words) {
+    match begin_service(alloc, boot, words) {
         Ok((board, poller)) => serve_links(alloc, words.port, words.workers, board, poller, world),
         Err(Memory) => ServingEnd::OutOfMemory,
     }
@@ -50,7 +51,7 @@ where
 
 /// Creates a board with an empty slot for each of the upstream's tokens, and the state that keeps it up to date.
 #[tactic(auto, using(crate::proofs::Fitting::address_fits, crate::proofs::Fitting::tokens_fit, crate::proofs::Fitting::opened_places))]
-fn begin_site(alloc: Global, boot: u64, words: &EdgeArguments) -> Result<(Board, Poller), Memory>
+fn begin_service(alloc: Global, boot: u64, words: &EdgeArguments) -> Result<(Board, Poller), Memory>
     requires { IsEdge words.now }
     ensures slots { IfOk result (λ service. AreSlots service.0.slots) }
     ensures board { IfOk result (λ service. service.0 ≡ begun_board boot words.now.host words.now.upstream_tokens) }
@@ -130,8 +131,14 @@ where
         &mut world.pace,
         &mut world.spawner,
     ) {
-        Ok(links) => ServingEnd::of_line(print_connections(alloc, &mut world.output, links)),
-        Err(PoolFault::Door) => ServingEnd::DoorFault,
+        Ok(accepted) => match accepted.door {
+            Ok(()) => ServingEnd::of_line(print_connections(
+                alloc,
+                &mut world.output,
+                accepted.links,
+            )),
+            Err(Failed) => ServingEnd::DoorFault,
+        },
         Err(PoolFault::Spawner) => ServingEnd::DoorFault,
         Err(PoolFault::Memory) => ServingEnd::OutOfMemory,
     }

@@ -64,7 +64,7 @@ pub enum UpstreamEnd {
 
 /// The outcome for arguments that name no command.
 #[derive(Clone, Copy, Debug, PartialEq, Eq)]
-pub enum WordsEnd {
+pub enum ArgumentsEnd {
     /// The arguments are bad, and that was printed.
     Bad,
     /// The output failed.

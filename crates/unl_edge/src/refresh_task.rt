@@ -20,7 +20,7 @@ pub(crate) struct RefreshTask<'u, 'e, 'p, 'a, 'w, W: Wait, P> {
 impl<'u, 'e, 'p, 'a, 'w, W: Wait, P: Peer> PeriodicTask for RefreshTask<'u, 'e, 'p, 'a, 'w, W, P> {
     ghost use Rattle.std.specs.Prelude.{◌≡◌};
     ghost use Rattle.std.proofs.Common.{◌∙◌, refl};
-    ghost use Rattle.unl_edge.specs.Edges.{GoesOn};
+    ghost use Rattle.unl_edge.specs.Edges.{KeepsConnects};
     ghost use Rattle.unl_edge.specs.Polling.{LaterTurn, SameWork};
     ghost use Rattle.unl_edge_state.specs.Writing.{installed_by};
     ghost use Rattle.unl_refresh.specs.Exchange.{peer_view};
@@ -28,15 +28,15 @@ impl<'u, 'e, 'p, 'a, 'w, W: Wait, P: Peer> PeriodicTask for RefreshTask<'u, 'e, 
 
     ghost turned = { λ turn after. LaterTurn turn.poller.now
         (poll_state (installed_by turn.writer.now) turn.poller.now.tags turn.poller.now.metrics
-        (peer_view (P.state turn.peer.now).replies (P.Sink.sent turn.peer.now) (P.Source.faults turn.peer.now)))
+        (peer_view (P.state turn.peer.now) (P.Source.faults turn.peer.now)))
         (poll_state (installed_by after.writer.now) after.poller.now.tags after.poller.now.metrics
-        (peer_view (P.state after.peer.now).replies (P.Sink.sent after.peer.now) (P.Source.faults after.peer.now)))
+        (peer_view (P.state after.peer.now) (P.Source.faults after.peer.now)))
         × SameWork turn.poller.now after.poller.now };
 
     ghost keeps = { λ turn after. (after.poller.ghost_name ≡ turn.poller.ghost_name)
         × (after.writer.ghost_name ≡ turn.writer.ghost_name)
         × (after.peer.ghost_name ≡ turn.peer.ghost_name)
-        × GoesOn (P.state turn.peer.now).replies (P.Source.faults turn.peer.now)
+        × KeepsConnects (P.state turn.peer.now).replies (P.Source.faults turn.peer.now)
         (P.state after.peer.now).replies (P.Source.faults after.peer.now) };
 
     /// Moves the shared metrics out first, so that no lock is held during the requests.

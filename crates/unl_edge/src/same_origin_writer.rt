@@ -39,7 +39,7 @@ struct SameOriginWriter<'w, W: Wait, K: Root> {
 }
 
 impl<W: Wait, K: Root> Installer for SameOriginWriter<'_, W, K> {
-    ghost installed = { λ rooted. installed_by rooted.writer };
+    ghost installed = { λ origin_writer. installed_by origin_writer.writer };
 
     fn slots(&self) -> usize {
         self.writer.slots()
@@ -86,9 +86,9 @@ pub(crate) fn turn_by<'w, W: Wait, P: Peer>(
         → ByResult result.1 (MakesTurn poller.old.known poller.old.upstream poller.old.slot_pollers)
         (StopsInTurn poller.old.known poller.old.upstream poller.old.slot_pollers)
         (poll_state (installed_by writer.entry) poller.old.tags poller.old.metrics
-        (peer_view (P.state peer.old).replies (P.Sink.sent peer.old) (P.Source.faults peer.old)))
+        (peer_view (P.state peer.old) (P.Source.faults peer.old)))
         (poll_state (installed_by result.0) poller.new.tags poller.new.metrics
-        (peer_view (P.state peer.new).replies (P.Sink.sent peer.new) (P.Source.faults peer.new))) }
+        (peer_view (P.state peer.new) (P.Source.faults peer.new))) }
     ensures same { KeepsDuty poller.old poller.new }
 {
     turn_from::<W, P, Brand>(alloc, poller, writer, peer)
@@ -112,16 +112,16 @@ fn turn_from<'w, W: Wait, P: Peer, K: Root>(
         → ByResult result.1 (MakesTurn poller.old.known poller.old.upstream poller.old.slot_pollers)
         (StopsInTurn poller.old.known poller.old.upstream poller.old.slot_pollers)
         (poll_state (installed_by writer.entry) poller.old.tags poller.old.metrics
-        (peer_view (P.state peer.old).replies (P.Sink.sent peer.old) (P.Source.faults peer.old)))
+        (peer_view (P.state peer.old) (P.Source.faults peer.old)))
         (poll_state (installed_by result.0) poller.new.tags poller.new.metrics
-        (peer_view (P.state peer.new).replies (P.Sink.sent peer.new) (P.Source.faults peer.new))) }
+        (peer_view (P.state peer.new) (P.Source.faults peer.new))) }
     ensures same { KeepsDuty poller.old poller.new }
 {
-    let mut rooted = SameOriginWriter::<W, K> {
+    let mut origin_writer = SameOriginWriter::<W, K> {
         writer,
         root: PhantomData,
     };
-    let turned = poller.turn(alloc, &mut rooted, peer);
-    let SameOriginWriter { writer, root: _ } = rooted;
+    let turned = poller.turn(alloc, &mut origin_writer, peer);
+    let SameOriginWriter { writer, root: _ } = origin_writer;
     (writer, turned)
 }

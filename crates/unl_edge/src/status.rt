@@ -1,9 +1,9 @@
 //! The exit code of the program.
 ghost use Rattle.std.specs.Prelude.{◌≡◌};
 ghost use Rattle.unl_edge.specs.Status.{check_status, code_of, explain_status, follow_status, lines_status, load_status};
-ghost use Rattle.unl_edge.specs.Status.{row_status, serving_status, upstream_status, words_status};
+ghost use Rattle.unl_edge.specs.Status.{row_status, serving_status, upstream_status, arguments_status};
 
-use crate::ends::{CheckEnd, ServingEnd, UpstreamEnd, WordsEnd};
+use crate::ends::{ArgumentsEnd, CheckEnd, ServingEnd, UpstreamEnd};
 use unl_explain::ExplainFault;
 use unl_follow::FollowFault;
 use unl_input::{LinesFault, WriteLineFault};
@@ -17,7 +17,7 @@ pub enum Status {
     /// A test of a check failed.
     TestFailed,
     /// The arguments name no command, or a value is outside its range.
-    BadWords,
+    BadArguments,
     /// The input is refused, or a line of it, or a row of a keeper.
     Refused,
     /// The input failed.
@@ -40,7 +40,7 @@ impl Status {
         match self {
             Status::Done => 0,
             Status::TestFailed => 1,
-            Status::BadWords => 2,
+            Status::BadArguments => 2,
             Status::Refused => 3,
             Status::ReadFault => 4,
             Status::WriteFault => 5,
@@ -150,13 +150,13 @@ impl Status {
     }
 
     /// Returns the status for arguments that name no command.
-    pub fn of_words(end: WordsEnd) -> Status
-        ensures { result ≡ words_status end }
+    pub fn of_arguments(end: ArgumentsEnd) -> Status
+        ensures { result ≡ arguments_status end }
     {
         match end {
-            WordsEnd::Bad => Status::BadWords,
-            WordsEnd::WriteFault => Status::WriteFault,
-            WordsEnd::OutOfMemory => Status::OutOfMemory,
+            ArgumentsEnd::Bad => Status::BadArguments,
+            ArgumentsEnd::WriteFault => Status::WriteFault,
+            ArgumentsEnd::OutOfMemory => Status::OutOfMemory,
         }
     }
 }

@@ -6,7 +6,7 @@ ghost use Rattle.unl_edge.specs.Status.{Caused, IsCaused, row_status, serving_st
 ghost use Rattle.unl_edge.specs.Upstreams.{IsNew, KeeperEnd, LinesEnd, LinksEnd, UpstreamEnds, UpstreamRuns};
 ghost use Rattle.unl_edge.specs.Upstreams.{connections_line, facing, row_line};
 ghost use Rattle.unl_input.specs.Refusal.{WritesLine};
-ghost use Rattle.unl_upstream.specs.Kept.{keeper_by, kept_state};
+ghost use Rattle.unl_upstream.specs.Kept.{kept_state};
 ghost use Rattle.unl_upstream.specs.Reopening.{IsOpening};
 ghost use Rattle.unl_upstream.specs.Upstream.{opening};
 ghost use Rattle.unl_words.specs.OwnBook.{own_book};
@@ -22,7 +22,7 @@ use unl_base::{Door, Draws, Pace, Peer, Sink, Source, Spawner, write_all};
 use unl_documents::Memory;
 use unl_input::{LinesFault, WriteLineFault, process_lines};
 use unl_keeper::{KeepMaker, KeepRefusal, Keeper};
-use unl_upstream::{ReopenFault, Upstream, host_kept, reopen};
+use unl_upstream::{ReopenFault, Upstream, reopen, serve_kept_door};
 use unl_words::{UpstreamArguments, own_book};
 
 /// Runs an upstream. Its boot number is the word of a draw. It is reopened on a keeper, takes the commands of the input's lines,
@@ -156,13 +156,14 @@ fn run_reopened<K: Keeper, I: Source, O: Sink, D: Door, R: Draws, W: Wait>(
     draws: &mut R,
 ) -> (UpstreamEnd, K)
     requires opens { IsOpening up }
-    requires faultless { K.faults keeper ≡ 0 }
-    ensures ends { KeeperEnd (kept_state up (keeper_by K.opened K.faults K.count K.rows keeper)) port result.0
-        (keeper_by K.opened K.faults K.count K.rows result.1) (I.left input.old) (I.left input.new)
+    requires faultless { (K.state keeper).faults ≡ 0 }
+    ensures ends { KeeperEnd (kept_state up (K.state keeper)) port result.0 (K.state result.1)
+        (I.left input.old) (I.left input.new)
         (facing (O.sent output.old) (D.state door.old) (R.coming draws.old))
         (facing (O.sent output.new) (D.state door.new) (R.coming draws.new)) }
     ensures caused { Caused (upstream_status result.0) (Rose (I.faults input.old) (I.faults input.new))
-        (Rose (O.faults output.old) (O.faults output.new)) (Rose (D.faults door.old) (D.faults door.new)) (K.faults result.1 ≢ 0) }
+        (Rose (O.faults output.old) (O.faults output.new)) (Rose (D.faults door.old) (D.faults door.new))
+        ((K.state result.1).faults ≢ 0) }
 {
     match reopen(alloc, &mut up, &mut keeper) {
         Ok(_) => take_commands(rt, alloc, port, up, keeper, input, output, door, draws),
@@ -187,14 +188,15 @@ fn take_commands<K: Keeper, I: Source, O: Sink, D: Door, R: Draws, W: Wait>(
     door: &mut D,
     draws: &mut R,
 ) -> (UpstreamEnd, K)
-    requires opened { K.opened keeper ≡ true }
-    requires faultless { K.faults keeper ≡ 0 }
-    ensures ends { LinesEnd (kept_state up (keeper_by K.opened K.faults K.count K.rows keeper)) port result.0
-        (keeper_by K.opened K.faults K.count K.rows result.1) (I.left input.old) (I.left input.new)
+    requires opened { (K.state keeper).opened ≡ true }
+    requires faultless { (K.state keeper).faults ≡ 0 }
+    ensures ends { LinesEnd (kept_state up (K.state keeper)) port result.0 (K.state result.1)
+        (I.left input.old) (I.left input.new)
         (facing (O.sent output.old) (D.state door.old) (R.coming draws.old))
         (facing (O.sent output.new) (D.state door.new) (R.coming draws.new)) }
     ensures caused { Caused (upstream_status result.0) (Rose (I.faults input.old) (I.faults input.new))
-        (Rose (O.faults output.old) (O.faults output.new)) (Rose (D.faults door.old) (D.faults door.new)) (K.faults result.1 ≢ 0) }
+        (Rose (O.faults output.old) (O.faults output.new)) (Rose (D.faults door.old) (D.faults door.new))
+        ((K.state result.1).faults ≢ 0) }
 {
     let mut kept = CommandIntake {
         up,
@@ -228,9 +230,8 @@ fn serve_links<K: Keeper, O: Sink, D: Door, R: Draws, W: Wait>(
     door: &mut D,
     draws: &mut R,
 ) -> ServingEnd
-    requires { K.opened keeper.old ≡ true }
-    ensures ends { LinksEnd (kept_state up.old (keeper_by K.opened K.faults K.count K.rows keeper.old)) port result
-        (kept_state up.new (keeper_by K.opened K.faults K.count K.rows keeper.new))
+    requires { (K.state keeper.old).opened ≡ true }
+    ensures ends { LinksEnd (kept_state up.old (K.state keeper.old)) port result (kept_state up.new (K.state keeper.new))
         (facing (O.sent output.old) (D.state door.old) (R.coming draws.old))
         (facing (O.sent output.new) (D.state door.new) (R.coming draws.new)) }
     ensures caused { Caused (serving_status result) ⊥ (Rose (O.faults output.old) (O.faults output.new))
@@ -239,7 +240,7 @@ fn serve_links<K: Keeper, O: Sink, D: Door, R: Draws, W: Wait>(
     if door.listen(port).is_err() {
         return ServingEnd::DoorFault;
     }
-    match host_kept(rt, alloc, up, keeper, door, draws) {
+    match serve_kept_door(rt, alloc, up, keeper, door, draws) {
         Ok(served) => match print_connections(alloc, output, served) {
             Ok(()) => ServingEnd::Closed,
             Err(WriteLineFault::WriteFault) => ServingEnd::WriteFault,

@@ -3,7 +3,7 @@ ghost use Rattle.std.specs.Prelude.{◌≡◌, All, IfOk, length};
 ghost use Rattle.unl_edge.specs.LinkHandling.{HasLearned, IsOfOrigin};
 ghost use Rattle.unl_edge_state.specs.Reading.{IsNewReader};
 
-use crate::attending::EdgeLinkHandler;
+use crate::link_handler::EdgeLinkHandler;
 use std::alloc::Global;
 use std::sync::{Mutex, Wait};
 use unl_base::Draws;
@@ -13,7 +13,7 @@ use unl_metrics::MetricsBook;
 use unl_workers::WorkerSlot;
 
 /// Returns a worker slot for each reader. The reader learns what the writer has published, and the slot has its own draws.
-pub(crate) fn posts_of<'a, R: Draws + Drop, W: Wait>(
+pub(crate) fn worker_slots_of<'a, R: Draws + Drop, W: Wait>(
     alloc: Global,
     rt: &'a W,
     shared: &'a Mutex<MetricsBook>,
@@ -25,18 +25,18 @@ pub(crate) fn posts_of<'a, R: Draws + Drop, W: Wait>(
     requires new { All IsNewReader readers.items }
     ensures same { writer.new ≡ writer.old }
     ensures draws { R.coming draws.new ≡ R.coming draws.old }
-    ensures count { IfOk result (λ posts. length posts.items ≡ length readers.items) }
-    ensures learned { IfOk result (λ posts. All (λ post. HasLearned writer.old.known post.server.desk.reader) posts.items) }
+    ensures count { IfOk result (λ pool_slots. length pool_slots.items ≡ length readers.items) }
+    ensures learned { IfOk result (λ pool_slots. All (λ pool_slot. HasLearned writer.old.known pool_slot.server.desk.reader) pool_slots.items) }
 {
-    let mut posts = Vec::new(alloc);
+    let mut pool_slots = Vec::new(alloc);
     for reader in readers {
-        posts.push(post_of(alloc, rt, shared, writer, reader, draws)?)?;
+        pool_slots.push(worker_slot_of(alloc, rt, shared, writer, reader, draws)?)?;
     }
-    Ok(posts)
+    Ok(pool_slots)
 }
 
 /// Returns the worker slot for a reader.
-fn post_of<'a, R: Draws + Drop, W: Wait>(
+fn worker_slot_of<'a, R: Draws + Drop, W: Wait>(
     alloc: Global,
     rt: &'a W,
     shared: &'a Mutex<MetricsBook>,
@@ -48,9 +48,9 @@ fn post_of<'a, R: Draws + Drop, W: Wait>(
     requires new { IsNewReader reader }
     ensures same { writer.new ≡ writer.old }
     ensures draws { R.coming draws.new ≡ R.coming draws.old }
-    ensures learned { IfOk result (λ post. HasLearned writer.old.known post.server.desk.reader) }
+    ensures learned { IfOk result (λ pool_slot. HasLearned writer.old.known pool_slot.server.desk.reader) }
 {
     reader.learn(writer.tell());
-    let attendant = EdgeLinkHandler::new(alloc, rt, shared, reader)?;
-    Ok(WorkerSlot::new(attendant, draws.split()))
+    let handler = EdgeLinkHandler::new(alloc, rt, shared, reader)?;
+    Ok(WorkerSlot::new(handler, draws.split()))
 }

@@ -52,6 +52,6 @@ impl<
       peer = record { state = P.state world.peer; faults = P.Source.faults world.peer };
       pace = T.turns world.pace;
       spawner = S.faults world.spawner;
-      keep = record { held = Q.held world.keep; faults = Q.faults world.keep };
+      keep = Q.state world.keep;
     } };
 }

@@ -1,6 +1,6 @@
 use denote.Param.Send.{IsSend, sendable}
 use Rattle.std.proofs.Crossing.{crosses}
-use Rattle.unl_edge.specs.contracts.attending.FreshDesk as FreshDesk
+use Rattle.unl_edge.specs.contracts.link_handler.FreshDesk as FreshDesk
 use Rattle.unl_edge.proofs.Sent.{desk_send}
 use Rattle.unl_edge.proofs.crossing.desks_cross.Goals as goal
 

@@ -1,4 +1,4 @@
-use Rattle.std.proofs.Common.{refl, sym}
+use Rattle.std.proofs.Common.{inl, refl, sym}
 use Rattle.unl_edge.proofs.Closing.{begun_ends, stops_at_once}
 use Rattle.unl_edge.proofs.edges.run_edge.Goals as goal
 
@@ -8,7 +8,7 @@ returns-in-Ok-clause-runs g c =
     (sym c.world.view_is) c.draw-boot.ensures.drawn c.serve_links.ensures.ends
 
 pub returns-in-Err-clause-runs : goal.returns-in-Err-clause-runs
-returns-in-Err-clause-runs g c = stops_at_once _ _ _ _ (sym c.world.view_is) refl refl refl
+returns-in-Err-clause-runs g c = inl (stops_at_once _ _ _ _ (sym c.world.view_is) refl refl refl)
 
 pub returns-in-Ok-clause-frame : goal.returns-in-Ok-clause-frame
 returns-in-Ok-clause-frame g c = rw (← c.world.view_is) c.serve_links.ensures.frame

@@ -12,7 +12,7 @@ returns-clause-ends g c =
 pub returns-clause-accepted : goal.returns-clause-accepted
 returns-clause-accepted g c = λ command names takes.
     ends_by c.read_words-reading.result (command.asks (matches_of command.app (map string_bytes c.args.words.now)))
-    c.carry_out.result c.args.world.now c.carry_out.new.world (c.read_words-reading.ensures.taken command names takes)
+    c.carry_out.result c.args.world.now c.carry_out.new.world (c.read_words-reading.ensures.decided command names takes)
     c.carry_out.ensures.ends c.carry_out.ensures.memory
 
 pub returns-clause-frame : goal.returns-clause-frame

@@ -1,10 +1,10 @@
 use Rattle.std.proofs.Common.{rules}
 use Rattle.unl_words.specs.OwnBook.{own_book}
-use Rattle.unl_edge.proofs.Commands.{is_new, words_differ}
+use Rattle.unl_edge.proofs.Commands.{is_new, environments_are_different}
 use Rattle.unl_edge.proofs.upstreams.begin.Goals as goal
 
 pub new-requires-clause-different : goal.new-requires-clause-different
-new-requires-clause-different c = words_differ c.args.words.now.environments c.requires.named
+new-requires-clause-different c = environments_are_different c.args.words.now.environments c.requires.named
 
 pub invariant_of-fresh : goal.invariant_of-fresh
 invariant_of-fresh c =

@@ -1,18 +1,18 @@
 use Rattle.std.proofs.Common.{refl, rules}
 use Rattle.unl_edge.specs.Upstreams.{facing}
-use Rattle.unl_upstream.specs.Kept.{HasKept, keeper_by, kept_state}
+use Rattle.unl_keeper.specs.State.{HasKept}
+use Rattle.unl_upstream.specs.Kept.{kept_state}
 use Rattle.unl_edge.proofs.Commands.{after_lines, silent_at}
 use Rattle.unl_edge.proofs.upstreams.take_commands.Goals as goal
 
 pub returns-in-Ok-clause-ends : goal.returns-in-Ok-clause-ends
 returns-in-Ok-clause-ends g c =
-    let has : HasKept (keeper_by g.K.Keeper.opened g.K.Keeper.faults g.K.Keeper.count g.K.Keeper.rows c.kept.inside.keeper) = search rules in
-    after_lines
-    (kept_state c.args.up (keeper_by g.K.Keeper.opened g.K.Keeper.faults g.K.Keeper.count g.K.Keeper.rows c.args.keeper))
-    (kept_state c.kept.inside.up (keeper_by g.K.Keeper.opened g.K.Keeper.faults g.K.Keeper.count g.K.Keeper.rows c.kept.inside.keeper)) c.args.port
-    (kept_state c.serve_links-end.new.up
-    (keeper_by g.K.Keeper.opened g.K.Keeper.faults g.K.Keeper.count g.K.Keeper.rows c.serve_links-end.new.keeper))
-    c.process_lines-processed.new.desk c.serve_links-end.result (g.I.Source.left c.args.input.now) (g.I.Source.left c.process_lines-processed.new.source)
+    let has : HasKept (g.K.Keeper.state c.kept.inside.keeper) = search rules in
+    after_lines (kept_state c.args.up (g.K.Keeper.state c.args.keeper))
+    (kept_state c.kept.inside.up (g.K.Keeper.state c.kept.inside.keeper)) c.args.port
+    (kept_state c.serve_links-end.new.up (g.K.Keeper.state c.serve_links-end.new.keeper))
+    c.process_lines-processed.new.desk c.serve_links-end.result
+    (g.I.Source.left c.args.input.now) (g.I.Source.left c.process_lines-processed.new.source)
     (facing (g.O.Sink.sent c.args.output.now) (g.D.Door.state c.args.door.now) (g.R.Draws.coming c.args.draws.now))
     (facing (g.O.Sink.sent c.serve_links-end.new.output) (g.D.Door.state c.serve_links-end.new.door)
     (g.R.Draws.coming c.serve_links-end.new.draws))
@@ -20,8 +20,7 @@ returns-in-Ok-clause-ends g c =
 
 pub returns-in-Err-Memory-clause-ends : goal.returns-in-Err-Memory-clause-ends
 returns-in-Err-Memory-clause-ends g c = record {
-  silent = silent_at
-      (kept_state c.args.up (keeper_by g.K.Keeper.opened g.K.Keeper.faults g.K.Keeper.count g.K.Keeper.rows c.args.keeper))
+  silent = silent_at (kept_state c.args.up (g.K.Keeper.state c.args.keeper))
       c.process_lines-processed.result (g.I.Source.left c.args.input.now) (g.I.Source.left c.process_lines-processed.new.source)
       (g.O.Sink.sent c.args.output.now) (g.O.Sink.sent c.process_lines-processed.new.sink) (search rules)
       c.process_lines-processed.ensures.lines;

@@ -63,7 +63,7 @@ impl<'a, W> EdgeLinkHandler<'a, W> {
         reader: EdgeReader,
     ) -> Result<EdgeLinkHandler<'a, W>, Memory>
         requires { IsSteady reader }
-        ensures { IfOk result (λ attendant. (attendant.desk.reader ≡ reader) × (attendant.book ≡ [])) }
+        ensures { IfOk result (λ handler. (handler.desk.reader ≡ reader) × (handler.book ≡ [])) }
     {
         let notes = Served::new(alloc)?;
         Ok(EdgeLinkHandler {

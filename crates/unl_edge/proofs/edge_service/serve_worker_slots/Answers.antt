@@ -6,17 +6,17 @@ use Rattle.unl_refresh.specs.Connects.{Connects}
 use Rattle.unl_refresh.specs.Exchange.{peer_view}
 use Rattle.unl_refresh.specs.Turns.{poll_state}
 use Rattle.unl_edge.proofs.Polling.{polls_on}
-use Rattle.unl_edge.proofs.Sent.{attendant_send}
+use Rattle.unl_edge.proofs.Sent.{handler_send}
 use Rattle.unl_edge.specs.Polling.{PollsOn}
 use Rattle.unl_edge_state.specs.Writing.{installed_by}
-use Rattle.unl_edge.proofs.edge_service.serve_posts.Goals as goal
+use Rattle.unl_edge.proofs.edge_service.serve_worker_slots.Goals as goal
 
 pub run_pool-requires-send-S : goal.run_pool-requires-send-S
 run_pool-requires-send-S g c κs within =
     let desk = c.worker_parts_are_send.ensures.desk in
     let book = c.worker_parts_are_send.ensures.book in
     let notes = c.worker_parts_are_send.ensures.notes in
-    search (attendant_send, sendable, crosses) depth 20
+    search (handler_send, sendable, crosses) depth 20
 
 -- the task holds the references that it was given
 pub returns-in-Ok-clause-connects : goal.returns-in-Ok-clause-connects
@@ -36,11 +36,11 @@ returns-in-Ok-clause-polls g c =
     let same_peer = c.in-Ok.ensures.turns.keeps.2 in
     let fact : PollsOn c.args.poller.now
     (poll_state (installed_by c.args.writer.now) c.args.poller.now.tags c.args.poller.now.metrics
-    (peer_view (g.P.Peer.state c.args.peer.now).replies (g.P.Sink.sent c.args.peer.now) (g.P.Source.faults c.args.peer.now)))
+    (peer_view (g.P.Peer.state c.args.peer.now) (g.P.Source.faults c.args.peer.now)))
     (poll_state (installed_by after.writer.now) after.poller.now.tags after.poller.now.metrics
-    (peer_view (g.P.Peer.state after.peer.now).replies (g.P.Sink.sent after.peer.now) (g.P.Source.faults after.peer.now))) =
+    (peer_view (g.P.Peer.state after.peer.now) (g.P.Source.faults after.peer.now))) =
     polls_on after _ _ _ _ _ _ c.in-Ok.ensures.turns
     (λ t. poll_state (installed_by t.writer.now) t.poller.now.tags t.poller.now.metrics
-    (peer_view (g.P.Peer.state t.peer.now).replies (g.P.Sink.sent t.peer.now) (g.P.Source.faults t.peer.now)))
+    (peer_view (g.P.Peer.state t.peer.now) (g.P.Source.faults t.peer.now)))
     (λ t. t.poller.now) (λ x y turned. turned) in
     search rules

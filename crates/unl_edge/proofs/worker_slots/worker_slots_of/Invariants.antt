@@ -2,15 +2,15 @@ use Rattle.std.proofs.Common.{◌≡◌, ◌+◌, length}
 use Rattle.std.specs.Prelude.{All}
 use Rattle.unl_edge.specs.LinkHandling.{HasLearned, IsOfOrigin}
 use Rattle.unl_edge_state.specs.Reading.{IsNewReader}
-use Rattle.unl_edge.proofs.worker_slots.posts_of.Given as goal
+use Rattle.unl_edge.proofs.worker_slots.worker_slots_of.Given as goal
 
 -- each slot so far has learned, and the readers to come are new and of the writer's origin
 abbrev pub invariant-loop-reader : goal.invariant-loop-reader
 invariant-loop-reader g l = record {
   same : l.writer ≡ l.initial.writer;
   draws : g.R.Draws.coming l.draws ≡ g.R.Draws.coming l.initial.draws;
-  count : length l.posts.items + length l.reader-iterator.rest.items ≡ length l.initial.reader-iterator.rest.items;
-  learned : All (λ post. HasLearned l.initial.writer.known post.server.desk.reader) l.posts.items;
+  count : length l.pool_slots.items + length l.reader-iterator.rest.items ≡ length l.initial.reader-iterator.rest.items;
+  learned : All (λ pool_slot. HasLearned l.initial.writer.known pool_slot.server.desk.reader) l.pool_slots.items;
   rest : All (IsOfOrigin l.initial.writer.known) l.reader-iterator.rest.items;
   new : All IsNewReader l.reader-iterator.rest.items;
 }
