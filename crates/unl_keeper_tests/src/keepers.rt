@@ -1,5 +1,5 @@
 //! Reopening a keeper in memory that has rows, which no program does.
-ghost use Rattle.std.specs.Prelude.{◌≡◌, ◌≤◌, true};
+ghost use Rattle.std.specs.Prelude.{◌≡◌, ◌≤◌, true, OnOk};
 
 use std::alloc::Global;
 use std::test::Fail;
@@ -9,12 +9,13 @@ use unl_keeper::{KeepRefusal, Keeper, MemoryKeeper};
 /// Puts a text. Fails with `Fault` if the keeper is full.
 fn put(alloc: Global, keeper: &mut MemoryKeeper, text: &str) -> Result<(), KeepRefusal>
     requires { keeper.old.opened ≡ true }
-    ensures { keeper.new.opened ≡ true }
+    ensures { OnOk result (keeper.new.opened ≡ true) }
 {
     if keeper.count() >= 10_000_000 {
         return Err(KeepRefusal::Fault);
     }
-    keeper.put(alloc, &Text::new(alloc, text)?)
+    keeper.put(alloc, &Text::new(alloc, text)?)?;
+    Ok(())
 }
 
 /// Returns whether row `place` holds this text.

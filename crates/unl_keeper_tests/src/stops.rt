@@ -20,8 +20,8 @@ const MOST: u64 = 2000;
 
 /// Puts a feature of this name, and returns its version number if the command is acknowledged.
 fn put<K: Keeper>(alloc: Global, up: &mut Upstream, keeper: &mut K, name: char) -> Option<u64>
-    requires { K.opened keeper.old ≡ true }
-    ensures { K.opened keeper.new ≡ true }
+    requires { (K.state keeper.old).opened ≡ true }
+    ensures { (K.state keeper.new).opened ≡ true }
 {
     let text = format!(in alloc;
         r#"{{"command":"put-feature","environment":"dev","feature":{{"name":"{name}","enabled":true}}}}"#
@@ -34,8 +34,8 @@ fn put<K: Keeper>(alloc: Global, up: &mut Upstream, keeper: &mut K, name: char) 
 
 /// Puts the features in order until one is not acknowledged with the next version number, and returns how many were.
 fn put_all<K: Keeper>(alloc: Global, up: &mut Upstream, keeper: &mut K) -> u64
-    requires { K.opened keeper.old ≡ true }
-    ensures { K.opened keeper.new ≡ true }
+    requires { (K.state keeper.old).opened ≡ true }
+    ensures { (K.state keeper.new).opened ≡ true }
 {
     let mut done = 0u64;
     'names: for name in NAMES.chars() {

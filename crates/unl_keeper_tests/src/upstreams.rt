@@ -20,7 +20,7 @@ fn fresh(alloc: Global) -> Result<Upstream, Memory>
 
 /// Creates an upstream and reopens it from a keeper.
 pub(crate) fn opened<K: Keeper>(alloc: Global, keeper: &mut K) -> Result<Upstream, ReopenFault>
-    ensures { IfOk result (λ _. K.opened keeper.new ≡ true) }
+    ensures { IfOk result (λ _. (K.state keeper.new).opened ≡ true) }
 {
     let Ok(mut up) = fresh(alloc) else {
         return Err(ReopenFault::Memory);
@@ -38,8 +38,8 @@ pub(crate) fn give<K: Keeper>(
     keeper: &mut K,
     text: &str,
 ) -> Option<Result<u64, KeepCommandRefusal>>
-    requires { K.opened keeper.old ≡ true }
-    ensures { K.opened keeper.new ≡ true }
+    requires { (K.state keeper.old).opened ≡ true }
+    ensures { (K.state keeper.new).opened ≡ true }
 {
     match read_json(alloc, text.as_bytes()) {
         Ok(Some(value)) => match read_command(alloc, &value) {

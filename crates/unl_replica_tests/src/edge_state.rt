@@ -163,7 +163,7 @@ fn publish_beside<R: Threads + Wait>(
     }
 }
 
-/// Whether what the writer tells has its list, for each of the two readers.
+/// Whether what the writer reports has its list, for each of the two readers.
 fn tells_lists<W: Wait>(writer: &mut EdgeWriter<'_, W>) -> bool {
     let first = writer.tell();
     let second = writer.tell();

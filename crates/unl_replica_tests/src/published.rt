@@ -1,7 +1,7 @@
 //! Tests of published values: readers that learn of a publication, and a reader concurrent with its writer.
 ghost use Rattle.std.specs.Prelude.{◌≡◌, ◌<◌, ◌≤◌, IfOk, IfSome};
 ghost use Rattle.unl_publication.specs.Looking.{SameOrigin};
-ghost use Rattle.unl_publication.specs.Seen.{next, published, told_list};
+ghost use Rattle.unl_publication.specs.Seen.{next, published, reported_list};
 
 use left_right::Absorb;
 use std::alloc::{AllocError, Global};
@@ -80,7 +80,7 @@ fn publish_and_tell<W: Wait>(
     number: u64,
 ) -> Result<Told<Setting, u64, Ruled<u64>>, AllocError>
     ensures writer { SameOrigin (published writer.new) (published writer.old) }
-    ensures told { IfOk result (λ told. IfSome (told_list told) (λ list. SameOrigin list (published writer.old))) }
+    ensures told { IfOk result (λ told. IfSome (reported_list told) (λ list. SameOrigin list (published writer.old))) }
 {
     match writer.publish(number) {
         Ok(_) => Ok(writer.tell()),
@@ -132,7 +132,7 @@ fn a_told_reader_sees_what_was_published(rt: HostRuntime) -> Result<(), Fail> {
     Ok(())
 }
 
-/// Whether what the writer tells has its list, with one reader and room for this many seats.
+/// Whether what the writer reports has its list, with one reader and room for this many seats.
 fn tells_its_list<W: Wait>(rt: &W, alloc: Global, seats: usize) -> Result<bool, AllocError>
     requires { (0 < seats) × (seats ≤ 16) }
 {

@@ -231,7 +231,7 @@ fn one_connection_is_many_links(rt: HostRuntime) -> Result<(), Fail> {
     Ok(())
 }
 
-/// A network whose listeners accept two connections, and then fail for good. Its clock goes on by `step` seconds with each reading.
+/// A network whose listeners accept two connections, and then fail for good. Its clock advances by `step` seconds at each reading.
 #[derive(Clone, Copy)]
 struct Failing<'a, R> {
     rt: R,

@@ -10,7 +10,9 @@ use unl_base::{
     CountPace, Door, Draws, Failed, Link, ListDraws, OneByOne, RealSpawner, Sink, Source, Spawner,
 };
 use unl_server::Server;
-use unl_workers::{LinkHandler, PeriodicTask, PoolFault, PoolOutcome, WorkerSlot, run_pool};
+use unl_workers::{
+    AcceptOutcome, LinkHandler, PeriodicTask, PoolFault, PoolOutcome, WorkerSlot, run_pool,
+};
 
 /// A link with one request. Its first read waits until the `happened` counter reaches `awaits`, and fails after many yields.
 #[derive(Drop)]
@@ -85,7 +87,7 @@ impl Link for TestLink<'_> {
 /// A door with `left` links to come, the first of which waits. It fails once it has handed out `most`.
 #[derive(Drop)]
 struct TestDoor<'a> {
-    port: Option<u16>,
+    ports: Vec<u16>,
     left: u64,
     most: u64,
     given: u64,
@@ -100,6 +102,7 @@ struct TestDoor<'a> {
 
 /// Returns a door with `left` links. The first waits until `happened` reaches `awaits`; the door fails after `most` links.
 fn door_of<'a>(
+    alloc: Global,
     left: u64,
     most: u64,
     awaits: u64,
@@ -107,7 +110,7 @@ fn door_of<'a>(
     answered: &'a AtomicU64,
 ) -> TestDoor<'a> {
     TestDoor {
-        port: None,
+        ports: Vec::new(alloc),
         left,
         most,
         given: 0,
@@ -125,7 +128,7 @@ impl<'a> Door for TestDoor<'a> {
     type L = TestLink<'a>;
 
     ghost state = { λ door. record {
-      port = door.port;
+      ports = door.ports.items;
       closed = nat_eq door.left 0;
       given = door.given;
       back = door.back;
@@ -136,7 +139,10 @@ impl<'a> Door for TestDoor<'a> {
     ghost faults = { λ door. door.faults };
 
     fn listen(&mut self, port: u16) -> Result<(), Failed> {
-        self.port = Some(port);
+        if self.ports.push(port).is_err() {
+            self.faults = self.faults.saturating_add(1);
+            return Err(Failed);
+        }
         Ok(())
     }
 
@@ -226,24 +232,48 @@ impl PeriodicTask for Counting<'_> {
 }
 
 /// Returns `count` worker slots.
-fn posts_of(alloc: Global, count: u64) -> Result<Vec<WorkerSlot<Greeter, ListDraws>>, AllocError> {
-    let mut posts = Vec::new(alloc);
+fn slots_of(alloc: Global, count: u64) -> Result<Vec<WorkerSlot<Greeter, ListDraws>>, AllocError> {
+    let mut slots = Vec::new(alloc);
     for _ in 0..count {
         let draws = ListDraws::new(Vec::new(alloc));
-        posts.push(WorkerSlot::new(Greeter { greeted: 0 }, draws))?;
+        slots.push(WorkerSlot::new(Greeter { greeted: 0 }, draws))?;
     }
-    Ok(posts)
+    Ok(slots)
 }
 
-/// Returns the number of links handed out, of links that the slots served, of links greeted, and of turns made.
-fn counts_of(beside: PoolOutcome<Greeter, ListDraws>) -> (u64, u64, u64, u64) {
+/// What the door handed out, and the number of links that the slots served, of links greeted, and of turns made.
+#[derive(Clone, Copy, Debug, PartialEq, Eq)]
+struct Counts {
+    accepted: AcceptOutcome,
+    served: u64,
+    greeted: u64,
+    turns: u64,
+}
+
+/// Returns the counts where each of `links` links was served and greeted.
+fn all_served(links: u64, door: Result<(), Failed>, turns: u64) -> Counts {
+    Counts {
+        accepted: AcceptOutcome { links, door },
+        served: links,
+        greeted: links,
+        turns,
+    }
+}
+
+/// Returns the counts of an outcome.
+fn counts_of(outcome: PoolOutcome<Greeter, ListDraws>) -> Counts {
     let mut served = 0u64;
     let mut greeted = 0u64;
-    for post in beside.posts.as_slice() {
-        served = served.saturating_add(post.links);
-        greeted = greeted.saturating_add(post.server.greeted);
+    for slot in outcome.slots.as_slice() {
+        served = served.saturating_add(slot.links);
+        greeted = greeted.saturating_add(slot.server.greeted);
     }
-    (beside.links, served, greeted, beside.turns)
+    Counts {
+        accepted: outcome.accepted,
+        served,
+        greeted,
+        turns: outcome.turns,
+    }
 }
 
 /// Serves the links of a door with this many workers, concurrently with at most this many turns.
@@ -255,24 +285,24 @@ fn outcome_of<P: Spawner, W: Wait + Sync>(
     turns: u64,
     door: &mut TestDoor<'_>,
     seen: &AtomicU64,
-) -> Result<(u64, u64, u64, u64), PoolFault> {
-    let Ok(posts) = posts_of(alloc, workers) else {
+) -> Result<Counts, PoolFault> {
+    let Ok(slots) = slots_of(alloc, workers) else {
         return Err(PoolFault::Memory);
     };
     if door.listen(1).is_err() {
-        return Err(PoolFault::Door);
+        return Err(PoolFault::Memory);
     }
     let mut turn = Counting { seen };
     let mut pace = CountPace::new(turns);
-    let beside = run_pool(alloc, rt, spawner, door, &mut pace, &mut turn, posts);
-    match beside {
-        Ok(beside) => Ok(counts_of(beside)),
+    let outcome = run_pool(alloc, rt, spawner, door, &mut pace, &mut turn, slots);
+    match outcome {
+        Ok(outcome) => Ok(counts_of(outcome)),
         Err(fault) => Err(fault),
     }
 }
 
 /// A test case: the number of links, the most that the door hands out, the workers, the turns, whether the first link waits for
-/// turns or for answers, and for how many; and the expected counts.
+/// turns or for answers, and for how many; the expected number of links served, and whether the door fails.
 #[derive(Clone, Copy)]
 struct Case {
     links: u64,
@@ -281,12 +311,12 @@ struct Case {
     turns: u64,
     for_turns: bool,
     awaits: u64,
-    counts: Result<(u64, u64, u64, u64), PoolFault>,
-    answered: u64,
+    served: u64,
+    door: Result<(), Failed>,
 }
 
 /// The first link of two waits until the second is answered; a hundred links; a first link that waits for the second turn while
-/// the links after it keep the door open; and a door that fails while workers wait.
+/// the links after it keep the door open; and a door that fails after five links, which are all served.
 const CASES: [Case; 4] = [
     Case {
         links: 2,
@@ -295,8 +325,8 @@ const CASES: [Case; 4] = [
         turns: 0,
         for_turns: false,
         awaits: 1,
-        counts: Ok((2, 2, 2, 0)),
-        answered: 2,
+        served: 2,
+        door: Ok(()),
     },
     Case {
         links: 100,
@@ -305,8 +335,8 @@ const CASES: [Case; 4] = [
         turns: 0,
         for_turns: false,
         awaits: 0,
-        counts: Ok((100, 100, 100, 0)),
-        answered: 100,
+        served: 100,
+        door: Ok(()),
     },
     Case {
         links: 100,
@@ -315,8 +345,8 @@ const CASES: [Case; 4] = [
         turns: 2,
         for_turns: true,
         awaits: 2,
-        counts: Ok((100, 100, 100, 2)),
-        answered: 100,
+        served: 100,
+        door: Ok(()),
     },
     Case {
         links: 9,
@@ -325,8 +355,8 @@ const CASES: [Case; 4] = [
         turns: 0,
         for_turns: false,
         awaits: 0,
-        counts: Err(PoolFault::Door),
-        answered: 5,
+        served: 5,
+        door: Err(Failed),
     },
 ];
 
@@ -336,7 +366,14 @@ fn links_are_served_side_by_side(rt: HostRuntime) -> Result<(), Fail> {
         let answered = AtomicU64::new(0);
         let seen = AtomicU64::new(0);
         let happened = if case.for_turns { &seen } else { &answered };
-        let mut door = door_of(case.links, case.most, case.awaits, happened, &answered);
+        let mut door = door_of(
+            rt.alloc(),
+            case.links,
+            case.most,
+            case.awaits,
+            happened,
+            &answered,
+        );
         let mut spawner = RealSpawner::new(&rt);
         let outcome = outcome_of(
             rt.alloc(),
@@ -347,8 +384,8 @@ fn links_are_served_side_by_side(rt: HostRuntime) -> Result<(), Fail> {
             &mut door,
             &seen,
         );
-        assert_eq!(rt; outcome, case.counts);
-        assert_eq!(rt; answered.load(Ordering::SeqCst), case.answered);
+        assert_eq!(rt; outcome, Ok(all_served(case.served, case.door, case.turns)));
+        assert_eq!(rt; answered.load(Ordering::SeqCst), case.served);
     }
     Ok(())
 }
@@ -357,9 +394,9 @@ fn links_are_served_side_by_side(rt: HostRuntime) -> Result<(), Fail> {
 fn one_by_one_serves_up_to_64(rt: HostRuntime) -> Result<(), Fail> {
     let answered = AtomicU64::new(0);
     let seen = AtomicU64::new(0);
-    let mut door = door_of(64, 1_000, 0, &answered, &answered);
+    let mut door = door_of(rt.alloc(), 64, 1_000, 0, &answered, &answered);
     let mut spawner: OneByOne<&HostRuntime> = OneByOne::new();
     let outcome = outcome_of(rt.alloc(), &rt, &mut spawner, 2, 5, &mut door, &seen);
-    assert_eq!(rt; outcome, Ok((64, 64, 64, 0)));
+    assert_eq!(rt; outcome, Ok(all_served(64, Ok(()), 0)));
     Ok(())
 }
