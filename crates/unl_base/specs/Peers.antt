@@ -14,7 +14,7 @@ pub record PeerState : Type 0 where
   pub earlier : Option (List (List ℕ))
   pub replies : Option (List (List ℕ))
 
--- The state beside its bytes of a stream that is neither a link nor a peer: there is none.
+-- A stream that is neither a link nor a peer has no state besides its bytes.
 abbrev pub nothing_beside : PeerState
 nothing_beside = record { connected = false; left = None; sent = None; earlier = None; replies = None }
 

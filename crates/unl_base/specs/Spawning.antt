@@ -1,4 +1,4 @@
--- Why jobs did not run beside one another, and the fault count of the spawner.
+-- Why jobs did not run concurrently, and the fault count of the spawner.
 use Rattle.std.specs.Prelude.{◌≡◌, ◌≤◌, ℕ, Result, Err, OnOk}
 use Rattle.unl_base.specs.Faults.{Rose}
 use Rattle.unl_base.specs.declared.spawn_fault.SpawnFault.{SpawnFault}

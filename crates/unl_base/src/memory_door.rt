@@ -120,8 +120,8 @@ impl MemoryDoor {
         }
     }
 
-    /// The bytes sent by the link that was given back at index `place`, counted from 0; `None` if `place` or fewer
-    /// links were given back.
+    /// The bytes sent by the link that was returned at index `place`, counted from 0; `None` if `place` or fewer
+    /// links were returned.
     pub fn sent(&self, place: usize) -> Option<&[u8]>
         ensures { option_map (λ sent. sent.now) result ≡ option_map (λ link. link.0) (slice_get self.now.stock.returned place) }
     {

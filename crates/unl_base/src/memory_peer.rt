@@ -12,83 +12,30 @@ use std::alloc::Global;
 use std::collections::VecDeque;
 use std::marker::Model;
 
-/// The replies of the connections to come.
-#[derive(Debug, Drop)]
-struct Replies {
-    texts: VecDeque<Vec<u8>>,
+/// Removes and returns the next reply; returns an empty one if none remain.
+fn next_reply(replies: &mut VecDeque<Vec<u8>>) -> Vec<u8>
+    ensures reply { result.items ≡ next_of (map (λ text. text.items) replies.old.items) }
+    ensures rest { map (λ text. text.items) replies.new.items ≡ drop 1 (map (λ text. text.items) replies.old.items) }
+{
+    let none = Vec::new(*replies.allocator());
+    replies.pop_front().unwrap_or(none)
 }
 
-impl Model for Replies {
-    ghost use Rattle.std.specs.Prelude.{List, ℕ, map};
-
-    ghost Value = { List (List ℕ) };
-
-    ghost view = { λ replies. map (λ text. text.items) replies.texts.items };
-}
-
-impl Replies {
-    fn new(texts: Vec<Vec<u8>>) -> Self
-        ensures { result ≡ map (λ text. text.items) texts.items }
-    {
-        Replies {
-            texts: VecDeque::from(texts),
-        }
+/// Appends a copy of a text.
+///
+/// # Errors
+///
+/// `BaseMemory`: out of memory for it. Nothing changes.
+fn add_copy(texts: &mut Vec<Vec<u8>>, text: &[u8]) -> Result<(), BaseMemory>
+    ensures ok { OnOk result (map (λ text. text.items) texts.new.items
+        ≡ map (λ text. text.items) texts.old.items ++ text.now ∷ []) }
+    ensures err { OnErr result (texts.new.items ≡ texts.old.items) }
+{
+    let copy = copy_of(*texts.allocator(), text)?;
+    if texts.push(copy).is_err() {
+        return Err(BaseMemory);
     }
-
-    /// Removes and returns the next reply; returns an empty one if none remain.
-    fn next(&mut self) -> Vec<u8>
-        ensures reply { result.items ≡ next_of self.old }
-        ensures rest { self.new ≡ drop 1 self.old }
-    {
-        let none = Vec::new(*self.texts.allocator());
-        self.texts.pop_front().unwrap_or(none)
-    }
-}
-
-/// The bytes sent before the last connect, a text for each earlier connection.
-#[derive(Debug, Drop)]
-struct Texts {
-    texts: Vec<Vec<u8>>,
-}
-
-impl Model for Texts {
-    ghost use Rattle.std.specs.Prelude.{List, ℕ, map};
-
-    ghost Value = { List (List ℕ) };
-
-    ghost view = { λ earlier. map (λ text. text.items) earlier.texts.items };
-}
-
-impl Texts {
-    fn new(alloc: Global) -> Self
-        ensures { result ≡ [] }
-    {
-        Texts {
-            texts: Vec::new(alloc),
-        }
-    }
-
-    fn as_slice(&self) -> &[Vec<u8>]
-        ensures { map (λ text. text.items) result.now ≡ self.now }
-    {
-        self.texts.as_slice()
-    }
-
-    /// Appends a copy of a text.
-    ///
-    /// # Errors
-    ///
-    /// `BaseMemory`: out of memory for it. Nothing changes.
-    fn add(&mut self, text: &[u8]) -> Result<(), BaseMemory>
-        ensures ok { OnOk result (self.new ≡ self.old ++ text.now ∷ []) }
-        ensures err { OnErr result (self.new ≡ self.old) }
-    {
-        let copy = copy_of(*self.texts.allocator(), text)?;
-        if self.texts.push(copy).is_err() {
-            return Err(BaseMemory);
-        }
-        Ok(())
-    }
+    Ok(())
 }
 
 /// Copies a text.
@@ -108,22 +55,23 @@ fn copy_of(alloc: Global, text: &[u8]) -> Result<Vec<u8>, BaseMemory>
 #[derive(Debug, Drop)]
 pub struct MemoryPeer {
     line: Option<Incoming>,
-    replies: Replies,
+    replies: VecDeque<Vec<u8>>,
     going: Outgoing,
-    earlier: Texts,
+    earlier: Vec<Vec<u8>>,
     calls: Calls,
 }
 
 impl Model for MemoryPeer {
+    ghost use Rattle.std.specs.Prelude.{map};
     ghost use Rattle.unl_base.specs.Memory.{MemoryPeerState};
 
     ghost Value = { MemoryPeerState };
 
     ghost view = { λ peer. record {
       line = peer.line;
-      replies = peer.replies;
+      replies = map (λ text. text.items) peer.replies.items;
       store = peer.going;
-      earlier = peer.earlier;
+      earlier = map (λ text. text.items) peer.earlier.items;
       calls = peer.calls;
     } };
 }
@@ -152,9 +100,9 @@ impl MemoryPeer {
     {
         Ok(MemoryPeer {
             line: None,
-            replies: Replies::new(replies),
+            replies: VecDeque::from(replies),
             going: Outgoing::new(alloc, room)?,
-            earlier: Texts::new(alloc),
+            earlier: Vec::new(alloc),
             calls: Calls::new(failing),
         })
     }
@@ -263,11 +211,11 @@ impl Peer for MemoryPeer {
         if self.calls.fails() {
             return Err(Failed);
         }
-        if self.earlier.add(self.going.as_slice()).is_err() {
+        if add_copy(&mut self.earlier, self.going.as_slice()).is_err() {
             self.calls.fail();
             return Err(Failed);
         }
-        self.line = Some(Incoming::new(self.replies.next(), usize::MAX));
+        self.line = Some(Incoming::new(next_reply(&mut self.replies), usize::MAX));
         self.going.clear();
         Ok(())
     }

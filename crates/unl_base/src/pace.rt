@@ -11,7 +11,7 @@ pub trait Pace {
     /// Waits for the next turn and returns true. Returns false if and only if `turns` is known to be 0.
     fn more(&mut self) -> bool
         ensures takes { turns self.new ≡ option_map (λ n. n - 1) (turns self.old) }
-        ensures told { IfSome (turns self.old) (λ n. result ≡ nat_lt 0 n) }
+        ensures observable { IfSome (turns self.old) (λ n. result ≡ nat_lt 0 n) }
         ensures goes_on { IfNone (turns self.old) (result ≡ true) };
 }
 

@@ -4,7 +4,7 @@ ghost use Rattle.std.specs.List.{AllZip};
 ghost use Rattle.unl_base.specs.Faults.{Rose};
 ghost use Rattle.unl_base.specs.Spawning.{HasSpawnCause};
 
-use crate::beside::run_beside;
+use crate::concurrent::run_concurrently;
 use crate::in_turn::work_all;
 use crate::job::Job;
 use crate::spawn_fault::SpawnFault;
@@ -72,7 +72,7 @@ pub trait Spawner {
         match self.place() {
             Placement::Here => run_in_turn(jobs, here),
             Placement::Threads(rt) => {
-                let (here, done) = run_beside(rt, jobs, here);
+                let (here, done) = run_concurrently(rt, jobs, here);
                 if let Err(SpawnFault::NotStarted) = &done {
                     self.count_fault(NotStarted::now());
                 }

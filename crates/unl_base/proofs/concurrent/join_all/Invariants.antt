@@ -1,6 +1,6 @@
 use Rattle.std.proofs.Common.{◌≤◌, ◌+◌, length, map, vec_capacity}
 use Rattle.std.specs.List.{AllZip}
-use Rattle.unl_base.proofs.beside.join_all.Given as goal
+use Rattle.unl_base.proofs.concurrent.join_all.Given as goal
 
 abbrev pub invariant-loop-handle : goal.invariant-loop-handle
 invariant-loop-handle g l =

@@ -1,6 +1,6 @@
 use Rattle.std.proofs.Common.{arith, ap, length, length-append, ◌∷◌, []}
 use Rattle.unl_base.proofs.Doing.{joined_one}
-use Rattle.unl_base.proofs.beside.join_all.Goals as goal
+use Rattle.unl_base.proofs.concurrent.join_all.Goals as goal
 
 pub loop-handle-preserved : goal.loop-handle-preserved
 loop-handle-preserved g c =

@@ -14,7 +14,7 @@ use std::thread::{Promise, PromisedHandle, Scope, Threads};
 /// # Errors
 ///
 /// `NotStarted`: a job can't be started. `Memory`: out of memory for the list of jobs. Either way `here` is cancelled.
-pub fn run_beside<R: Threads + Wait, J: Job + Send + Drop, M: Job>(
+pub fn run_concurrently<R: Threads + Wait, J: Job + Send + Drop, M: Job>(
     rt: &R,
     jobs: Vec<J>,
     here: M,
