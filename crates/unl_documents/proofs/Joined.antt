@@ -9,10 +9,10 @@ use Rattle.std.proofs.lemmas.List.Folds.{length-flat_map-take}
 use Rattle.unl_documents.specs.Chunks.{joined, NoneIsEmpty}
 
 -- An index within the first list.
-slice_get_front : {T : Type 0} (xs ys : List T) (k : ℕ) → k < length xs → slice_get (xs ++ ys) k ≡ slice_get xs k
-slice_get_front [] ys k lt = absurd (omega arith)
-slice_get_front (x ∷ xs) ys zero lt = refl
-slice_get_front (x ∷ xs) ys (suc k) lt = slice_get_front xs ys k (omega arith)
+slice_get_prefix : {T : Type 0} (xs ys : List T) (k : ℕ) → k < length xs → slice_get (xs ++ ys) k ≡ slice_get xs k
+slice_get_prefix [] ys k lt = absurd (omega arith)
+slice_get_prefix (x ∷ xs) ys zero lt = refl
+slice_get_prefix (x ∷ xs) ys (suc k) lt = slice_get_prefix xs ys k (omega arith)
 
 -- An index past the first list.
 slice_get_behind : {T : Type 0} (xs ys : List T) (k : ℕ) → length xs ≤ k → slice_get (xs ++ ys) k ≡ slice_get ys (k - length xs)
@@ -25,7 +25,7 @@ pub in_current_list : {T : Type 0} (lists : List (List T)) (i : ℕ) (here : Lis
     → slice_get (joined (drop i lists)) k ≡ total → slice_get here k ≡ total
 in_current_list lists i here k total lt is inside so_far =
     let parts : drop i lists ≡ here ∷ drop (i + 1) lists = drop_more lists i here lt ∙ ap (λ list. list ∷ drop (i + 1) lists) (sym is) in
-    sym (slice_get_front here (joined (drop (i + 1) lists)) k inside) ∙ ap (λ left. slice_get (joined left) k) (sym parts) ∙ so_far
+    sym (slice_get_prefix here (joined (drop (i + 1) lists)) k inside) ∙ ap (λ left. slice_get (joined left) k) (sym parts) ∙ so_far
 
 -- An index past the next list.
 pub in_later_list : {T : Type 0} (lists : List (List T)) (i : ℕ) (here : List T) (k : ℕ) (total : Option T) → i < length lists → here ≡ get_or lists i here → length here ≤ k

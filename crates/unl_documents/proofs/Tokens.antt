@@ -42,9 +42,9 @@ pub spelled : {xs ys : List Token} {old new : Written} → xs ≡ ys → Wrote y
 spelled {xs} {ys} {old} {new} same wrote = record { before = wrote.before; tokens = wrote.tokens ∙ ap (λ ts. old.tokens ++ ts) (sym same) }
 
 -- Adds the tokens of an optional value.
-pub found_more : (front : List Token) (o : Option Data) (ds : List Data) → (front ++ tokens_if o) ++ all_tokens ds ≡ front ++ all_tokens (cons_option o ds)
-found_more front None ds = append_assoc front [] (all_tokens ds)
-found_more front (Some d) ds = append_assoc front (tokens_of d) (all_tokens ds)
+pub found_more : (prefix : List Token) (o : Option Data) (ds : List Data) → (prefix ++ tokens_if o) ++ all_tokens ds ≡ prefix ++ all_tokens (cons_option o ds)
+found_more prefix None ds = append_assoc prefix [] (all_tokens ds)
+found_more prefix (Some d) ds = append_assoc prefix (tokens_of d) (all_tokens ds)
 
 pub items_tokens_of : (ds : List Data) → items_tokens (items_outline (items_of ds)) ≡ all_tokens ds ++ end_array ∷ []
 items_tokens_of [] = refl

@@ -4,12 +4,12 @@ ghost use Rattle.std.specs.List.{find};
 ghost use Rattle.unl_documents.specs.Inline.{all_constraints, constraints_for, counts, first_excess as first_excess_of};
 ghost use Rattle.unl_documents.specs.Chunks.{joined};
 
+use crate::chunked_list::Chunk;
 use crate::feature::Feature;
 use crate::list::List;
 use crate::memory::Memory;
 use crate::segment::Segment;
 use crate::segments::segment_of;
-use crate::series::Chunk;
 use crate::shared::Shared;
 use crate::state::State;
 use crate::strategy::Strategy;
@@ -20,18 +20,18 @@ use crate::strategy::Strategy;
 pub(crate) fn first_excess(state: &State) -> Result<Option<u64>, Memory>
     ensures { IfOk result (λ found. found ≡ first_excess_of state.now) }
 {
-    first_excess_in(state.features.runs(), &state.segments)
+    first_excess_in(state.features.chunks(), &state.segments)
 }
 
 fn first_excess_in(
-    runs: &[Chunk<Feature>],
+    chunks: &[Chunk<Feature>],
     segments: &List<Shared<Segment>>,
 ) -> Result<Option<u64>, Memory>
     ensures { IfOk result (λ found. found
-        ≡ find (nat_lt 100) (flat_map (λ f. counts segments.now f.strategies) (joined runs.now))) }
+        ≡ find (nat_lt 100) (flat_map (λ f. counts segments.now f.strategies) (joined chunks.now))) }
 {
-    for run in runs {
-        let found = first_excess_among(run.get().as_slice(), segments)?;
+    for chunk in chunks {
+        let found = first_excess_among(chunk.get().as_slice(), segments)?;
         if found.is_some() {
             return Ok(found);
         }

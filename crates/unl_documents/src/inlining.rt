@@ -9,6 +9,7 @@ ghost use Rattle.unl_documents.specs.Chunks.{joined, NoneIsEmpty};
 ghost use Rattle.unl_documents.specs.States.{IsValidState};
 ghost use Rattle.unl_documents.specs.declared.inlining.InlineRefusal.TheVariants.{Memory as memory};
 
+use crate::chunked_list::{Chunk, ChunkedList};
 use crate::constraint::Constraint;
 use crate::copied::TryClone;
 use crate::excess::first_excess;
@@ -18,7 +19,6 @@ use crate::memory::Memory;
 use crate::operator::Operator;
 use crate::segment::Segment;
 use crate::segments::segment_of;
-use crate::series::{Chunk, ChunkedList};
 use crate::shared::Shared;
 use crate::state::State;
 use crate::strategy::Strategy;
@@ -27,7 +27,7 @@ use std::alloc::Global;
 use thiserror::Error;
 
 /// Why the segments of a state couldn't be inlined.
-#[derive(Clone, Copy, Debug, PartialEq, Eq, Error)]
+#[derive(Clone, Copy, Debug, Error)]
 pub enum InlineRefusal {
     /// A strategy would have this many constraints, more than 100.
     #[error("a strategy would have {0} constraints")]
@@ -70,9 +70,9 @@ fn inlined(alloc: Global, state: &State) -> Result<State, Memory>
     ensures { IfOk result (λ s. s ≡ inlined_state state.now) }
 {
     Ok(State {
-        features: ChunkedList::of_runs(inlined_runs(
+        features: ChunkedList::from_chunks(inlined_chunks(
             alloc,
-            state.features.runs(),
+            state.features.chunks(),
             &state.segments,
         )?),
         segments: List::new(alloc),
@@ -80,18 +80,18 @@ fn inlined(alloc: Global, state: &State) -> Result<State, Memory>
 }
 
 /// Inlines the segments into the features of each chunk. The new chunks have as many features as the old ones.
-fn inlined_runs(
+fn inlined_chunks(
     alloc: Global,
-    runs: &[Chunk<Feature>],
+    chunks: &[Chunk<Feature>],
     segments: &List<Shared<Segment>>,
 ) -> Result<List<Chunk<Feature>>, Memory>
-    requires { NoneIsEmpty runs.now }
-    ensures features { IfOk result (λ rs. joined rs ≡ map (feature_inlined segments.now) (joined runs.now)) }
+    requires { NoneIsEmpty chunks.now }
+    ensures features { IfOk result (λ rs. joined rs ≡ map (feature_inlined segments.now) (joined chunks.now)) }
     ensures full { IfOk result NoneIsEmpty }
 {
     let mut inlined = List::new(alloc);
-    for run in runs {
-        let features = inlined_features(alloc, run.get().as_slice(), segments)?;
+    for chunk in chunks {
+        let features = inlined_features(alloc, chunk.get().as_slice(), segments)?;
         inlined.push(Shared::new(alloc, features)?)?;
     }
     Ok(inlined)
@@ -122,7 +122,7 @@ fn inlined_feature(
     if names_none(feature.get().strategies.as_slice()) {
         return feature.copy();
     }
-    Shared::new(alloc, feature_anew(alloc, feature.get(), segments)?)
+    Shared::new(alloc, with_inlined(alloc, feature.get(), segments)?)
 }
 
 /// Returns whether no strategy refers to a segment.
@@ -133,7 +133,7 @@ fn names_none(strategies: &[Strategy]) -> bool
 }
 
 #[tactic(auto, unfolding(crate::specs::Inline::inlined_feature))]
-fn feature_anew(
+fn with_inlined(
     alloc: Global,
     feature: &Feature,
     segments: &List<Shared<Segment>>,

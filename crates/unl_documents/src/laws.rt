@@ -77,7 +77,8 @@ pub fn order_is_the_sorting<T>()
     ensures sorting { (key : T → List ℕ) (spelled : List ℕ → List ℕ) (field : Field) (xs ys : List T)
         → (in_order key spelled field xs ≡ Ok ys) ↔ IsSorting key xs ys }
     ensures twice { (key : T → List ℕ) (spelled : List ℕ → List ℕ) (field : Field) (xs : List T) (e : BadDocument)
-        → (in_order key spelled field xs ≡ Err e) ↔ ((k : List ℕ) × IsLeastDuplicate k (map key xs) × (e ≡ DuplicateName field (spelled k))) }
+        → (in_order key spelled field xs ≡ Err e)
+        ↔ ((k : List ℕ) × IsLeastDuplicate k (map key xs) × (e ≡ DuplicateName field (spelled k))) }
 {}
 
 /// The value parsed from bytes is the one whose JSON text they are.

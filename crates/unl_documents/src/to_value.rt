@@ -6,10 +6,10 @@ ghost use Rattle.serde_json.specs.Data.{boolean, string as text_data};
 ghost use Rattle.unl_documents.specs.Chunks.{joined};
 ghost use Rattle.unl_documents.specs.Writing.{with, with_some, count, list, unless_zero as those_but_zero};
 
+use crate::chunked_list::{Chunk, ChunkedList};
 use crate::field::Field;
 use crate::list::List;
 use crate::memory::Memory;
-use crate::series::{Chunk, ChunkedList};
 use crate::shared::Shared;
 use crate::text::Text;
 use serde_json::{Map, Value};
@@ -70,7 +70,7 @@ impl<W: ToValue> ToValue for ChunkedList<W> {
     ghost written = { list W.written };
 
     fn write(&self, alloc: Global) -> Result<Value, Memory> {
-        let values = each_of_runs(alloc, self.runs())?;
+        let values = each_of_chunks(alloc, self.chunks())?;
         Ok(Value::Array(values))
     }
 }
@@ -91,12 +91,12 @@ fn each_written<W: ToValue>(alloc: Global, items: &[W]) -> Result<Vec<Value>, Me
     Ok(values)
 }
 
-fn each_of_runs<W: ToValue>(alloc: Global, runs: &[Chunk<W>]) -> Result<Vec<Value>, Memory>
-    ensures { IfOk result (λ v. map view v.items ≡ map W.written (joined runs.now)) }
+fn each_of_chunks<W: ToValue>(alloc: Global, chunks: &[Chunk<W>]) -> Result<Vec<Value>, Memory>
+    ensures { IfOk result (λ v. map view v.items ≡ map W.written (joined chunks.now)) }
 {
     let mut values = Vec::new(alloc);
-    for run in runs {
-        push_each(alloc, &mut values, run.get().as_slice())?;
+    for chunk in chunks {
+        push_each(alloc, &mut values, chunk.get().as_slice())?;
     }
     Ok(values)
 }

@@ -11,10 +11,10 @@ ghost use Rattle.unl_documents.specs.Chunks.{joined};
 ghost use Rattle.unl_documents.specs.Tokens.{Wrote, all_tokens, tokens_at, tokens_at_some, tokens_of};
 ghost use Rattle.unl_documents.specs.Writing.{count, unless_zero as those_but_zero};
 
+use crate::chunked_list::{Chunk, ChunkedList};
 use crate::field::Field;
 use crate::list::List;
 use crate::memory::Memory;
-use crate::series::{Chunk, ChunkedList};
 use crate::shared::Shared;
 use crate::text::Text;
 use crate::to_value::{ToValue, unless_zero};
@@ -95,19 +95,19 @@ impl<P: WriteJson> WriteJson for ChunkedList<P> {
 
     fn print(&self, out: &mut Writer) -> Result<(), Memory> {
         out.begin_array()?;
-        print_runs(out, self.runs())?;
+        print_chunks(out, self.chunks())?;
         out.end_array()?;
         Ok(())
     }
 }
 
 /// Writes the items of the chunks in order.
-fn print_runs<P: WriteJson>(out: &mut Writer, runs: &[Chunk<P>]) -> Result<(), Memory>
-    requires { All P.is_printable (joined runs.now) }
-    ensures { OnOk result (Wrote (all_tokens (map P.written (joined runs.now))) out.old out.new) }
+fn print_chunks<P: WriteJson>(out: &mut Writer, chunks: &[Chunk<P>]) -> Result<(), Memory>
+    requires { All P.is_printable (joined chunks.now) }
+    ensures { OnOk result (Wrote (all_tokens (map P.written (joined chunks.now))) out.old out.new) }
 {
-    for run in runs {
-        print_each(out, run.get().as_slice())?;
+    for chunk in chunks {
+        print_each(out, chunk.get().as_slice())?;
     }
     Ok(())
 }

@@ -10,17 +10,17 @@ use Rattle.unl_documents.proofs.excess.first_excess_in.Goals as goal
 
 pub returns-then-is_some : goal.returns-then-is_some
 returns-then-is_some c =
-    let each = λ (run : List Feature). flat_map (λ f. counts c.args.segments.now f.strategies) run in
-    found_here (nat_lt 100) each c.args.runs.now c.loop-run.run-index c.run-item.result c.in_ok-found.found c.loop-run-test.true c.run-item.is (search rules) (search rules) c.loop-run.invariant
-    ∙ ap (find (nat_lt 100)) (sym (flat_map_joined (λ f. counts c.args.segments.now f.strategies) c.args.runs.now))
+    let each = λ (chunk : List Feature). flat_map (λ f. counts c.args.segments.now f.strategies) chunk in
+    found_here (nat_lt 100) each c.args.chunks.now c.loop-chunk.chunk-index c.chunk-item.result c.in_ok-found.found c.loop-chunk-test.true c.chunk-item.is (search rules) (search rules) c.loop-chunk.invariant
+    ∙ ap (find (nat_lt 100)) (sym (flat_map_joined (λ f. counts c.args.segments.now f.strategies) c.args.chunks.now))
 
-pub loop-run-preserved : goal.loop-run-preserved
-loop-run-preserved c =
-    let each = λ (run : List Feature). flat_map (λ f. counts c.args.segments.now f.strategies) run in
-    found_later (nat_lt 100) each c.args.runs.now c.loop-run.run-index c.run-item.result c.in_ok-found.found c.loop-run-test.true c.run-item.is (search rules) (search rules) c.loop-run.invariant
+pub loop-chunk-preserved : goal.loop-chunk-preserved
+loop-chunk-preserved c =
+    let each = λ (chunk : List Feature). flat_map (λ f. counts c.args.segments.now f.strategies) chunk in
+    found_later (nat_lt 100) each c.args.chunks.now c.loop-chunk.chunk-index c.chunk-item.result c.in_ok-found.found c.loop-chunk-test.true c.chunk-item.is (search rules) (search rules) c.loop-chunk.invariant
 
 pub returns : goal.returns
 returns c =
-    let each = λ (run : List Feature). flat_map (λ f. counts c.args.segments.now f.strategies) run in
-    ap (λ rest. find (nat_lt 100) (flat_map each rest)) (sym (drop_all c.loop-run.run-index c.args.runs.now c.loop-run-test.false)) ∙ c.loop-run.invariant
-    ∙ ap (find (nat_lt 100)) (sym (flat_map_joined (λ f. counts c.args.segments.now f.strategies) c.args.runs.now))
+    let each = λ (chunk : List Feature). flat_map (λ f. counts c.args.segments.now f.strategies) chunk in
+    ap (λ rest. find (nat_lt 100) (flat_map each rest)) (sym (drop_all c.loop-chunk.chunk-index c.args.chunks.now c.loop-chunk-test.false)) ∙ c.loop-chunk.invariant
+    ∙ ap (find (nat_lt 100)) (sym (flat_map_joined (λ f. counts c.args.segments.now f.strategies) c.args.chunks.now))

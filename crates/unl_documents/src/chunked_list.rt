@@ -1,5 +1,5 @@
 //! Long lists that are cheap to copy: a copy shares all chunks of items with its original.
-ghost use Rattle.std.specs.Prelude.{◌≡◌, ◌==◌, ◌+◌, ◌-◌, ◌<◌, ◌≤◌, [], ◌++◌, IfOk, IfSome, OnOk, All};
+ghost use Rattle.std.specs.Prelude.{◌≡◌, ◌==◌, ◌+◌, ◌-◌, ◌<◌, ◌≤◌, [], ◌∷◌, ◌++◌, IfOk, IfSome, OnOk, OnErr, All};
 ghost use Rattle.std.specs.Prelude.{length, option_map, slice_get, take, drop};
 ghost use Rattle.unl_documents.specs.Chunks.{joined, NoneIsEmpty};
 
@@ -21,7 +21,7 @@ pub type Chunk<T> = Shared<List<Shared<T>>>;
 /// Chunks built in this module have 1 to 128 items.
 #[derive(Drop)]
 pub struct ChunkedList<T> {
-    runs: List<Chunk<T>>,
+    chunks: List<Chunk<T>>,
 }
 
 impl<T> Model for ChunkedList<T> {
@@ -30,9 +30,9 @@ impl<T> Model for ChunkedList<T> {
 
     ghost Value = { List T };
 
-    ghost view = { λ s. joined s.runs };
+    ghost view = { λ s. joined s.chunks };
 
-    ghost invariant = { λ s. NoneIsEmpty s.runs };
+    ghost invariant = { λ s. NoneIsEmpty s.chunks };
 }
 
 impl<T: Drop> ChunkedList<T> {
@@ -41,7 +41,7 @@ impl<T: Drop> ChunkedList<T> {
         ensures { result ≡ [] }
     {
         ChunkedList {
-            runs: List::new(alloc),
+            chunks: List::new(alloc),
         }
     }
 
@@ -50,24 +50,24 @@ impl<T: Drop> ChunkedList<T> {
         ensures { IfOk result (λ s. s ≡ items.now) }
     {
         Ok(ChunkedList {
-            runs: cut(alloc, items.as_slice())?,
+            chunks: cut(alloc, items.as_slice())?,
         })
     }
 
     /// A list with these chunks, none of which may be empty.
-    pub fn of_runs(runs: List<Chunk<T>>) -> ChunkedList<T>
-        requires { NoneIsEmpty runs }
-        ensures { result ≡ joined runs }
+    pub fn from_chunks(chunks: List<Chunk<T>>) -> ChunkedList<T>
+        requires { NoneIsEmpty chunks }
+        ensures { result ≡ joined chunks }
     {
-        ChunkedList { runs }
+        ChunkedList { chunks }
     }
 
     /// Returns the chunks that hold the items.
-    pub fn runs(&self) -> &[Chunk<T>]
+    pub fn chunks(&self) -> &[Chunk<T>]
         ensures items { joined result.now ≡ self.now }
         ensures full { NoneIsEmpty result.now }
     {
-        self.runs.as_slice()
+        self.chunks.as_slice()
     }
 
     /// Returns the number of items.
@@ -78,21 +78,21 @@ impl<T: Drop> ChunkedList<T> {
     pub fn len(&self) -> Result<usize, Memory>
         ensures { IfOk result (λ count. count ≡ length self.now) }
     {
-        count_of(self.runs.as_slice())
+        count_of(self.chunks.as_slice())
     }
 
     /// Returns whether there are no items.
     pub fn is_empty(&self) -> bool
         ensures { result ≡ (length self.now == 0) }
     {
-        self.runs.is_empty()
+        self.chunks.is_empty()
     }
 
     /// Returns the item at index `place`, counted from 0.
     pub fn get(&self, place: usize) -> Option<&T>
         ensures { option_map (λ x. x.now) result ≡ slice_get self.now place }
     {
-        item_at(self.runs.as_slice(), place)
+        item_at(self.chunks.as_slice(), place)
     }
 
     /// Returns a list of these items followed by `items`. It shares all chunks, except that the last one is rebuilt if
@@ -100,49 +100,49 @@ impl<T: Drop> ChunkedList<T> {
     pub fn append(&self, alloc: Global, items: &[Shared<T>]) -> Result<ChunkedList<T>, Memory>
         ensures { IfOk result (λ s. s ≡ self.now ++ items.now) }
     {
-        appended(alloc, self.runs.as_slice(), items)
+        appended(alloc, self.chunks.as_slice(), items)
     }
 }
 
 impl<T: Drop> TryClone for ChunkedList<T> {
     fn copy(&self, alloc: Global) -> Result<ChunkedList<T>, Memory> {
         Ok(ChunkedList {
-            runs: self.runs.copy(alloc)?,
+            chunks: self.chunks.copy(alloc)?,
         })
     }
 }
 
-/// Returns the list of `runs` with the chunk at index `place` replaced by `run`. `run` is split if it has more than 128
+/// Returns the list of `chunks` with the chunk at index `place` replaced by `chunk`. `chunk` is split if it has more than 128
 /// items and left out if it is empty.
-pub fn with_run<T: Drop>(
+pub fn with_chunk<T: Drop>(
     alloc: Global,
-    runs: &[Chunk<T>],
+    chunks: &[Chunk<T>],
     place: usize,
-    run: List<Shared<T>>,
+    chunk: List<Shared<T>>,
 ) -> Result<ChunkedList<T>, Memory>
-    requires inside { place < length runs.now }
-    requires full { NoneIsEmpty runs.now }
-    ensures { IfOk result (λ s. s ≡ joined (take place runs.now) ++ run ++ joined (drop (place + 1) runs.now)) }
+    requires inside { place < length chunks.now }
+    requires full { NoneIsEmpty chunks.now }
+    ensures { IfOk result (λ s. s ≡ joined (take place chunks.now) ++ chunk ++ joined (drop (place + 1) chunks.now)) }
 {
     let mut changed = List::new(alloc);
-    push_owners(&mut changed, before(runs, place))?;
-    push_run(alloc, &mut changed, run)?;
-    push_owners(&mut changed, behind(runs, place))?;
-    Ok(ChunkedList { runs: changed })
+    push_owners(&mut changed, before(chunks, place))?;
+    push_chunk(alloc, &mut changed, chunk)?;
+    push_owners(&mut changed, behind(chunks, place))?;
+    Ok(ChunkedList { chunks: changed })
 }
 
-fn before<T>(runs: &[T], place: usize) -> &[T]
-    requires { place < length runs.now }
-    ensures { result.now ≡ take place runs.now }
+fn before<T>(chunks: &[T], place: usize) -> &[T]
+    requires { place < length chunks.now }
+    ensures { result.now ≡ take place chunks.now }
 {
-    &runs[..place]
+    &chunks[..place]
 }
 
-fn behind<T>(runs: &[T], place: usize) -> &[T]
-    requires { place < length runs.now }
-    ensures { result.now ≡ drop (place + 1) runs.now }
+fn behind<T>(chunks: &[T], place: usize) -> &[T]
+    requires { place < length chunks.now }
+    ensures { result.now ≡ drop (place + 1) chunks.now }
 {
-    &runs[place + 1..]
+    &chunks[place + 1..]
 }
 
 /// Appends another owner of each value.
@@ -156,43 +156,55 @@ fn push_owners<T: Drop>(list: &mut List<Shared<T>>, more: &[Shared<T>]) -> Resul
 }
 
 /// Appends a chunk, which may be empty or too long: an empty one is left out, a long one split.
-fn push_run<T: Drop>(
+fn push_chunk<T: Drop>(
     alloc: Global,
-    runs: &mut List<Chunk<T>>,
-    run: List<Shared<T>>,
+    chunks: &mut List<Chunk<T>>,
+    chunk: List<Shared<T>>,
 ) -> Result<(), Memory>
-    requires { NoneIsEmpty runs.old }
-    ensures items { OnOk result (joined runs.new ≡ joined runs.old ++ run) }
-    ensures full { NoneIsEmpty runs.new }
+    requires { NoneIsEmpty chunks.old }
+    ensures items { OnOk result (joined chunks.new ≡ joined chunks.old ++ chunk) }
+    ensures full { NoneIsEmpty chunks.new }
 {
-    if run.is_empty() || run.len() > MOST {
-        return push_cut(alloc, runs, run.as_slice());
+    if chunk.is_empty() || chunk.len() > MOST {
+        return push_cut(alloc, chunks, chunk.as_slice());
     }
-    runs.push(Shared::new(alloc, run)?)
+    chunks.push(Shared::new(alloc, chunk)?)
 }
 
 /// Appends `items` as new chunks.
 fn push_cut<T: Drop>(
     alloc: Global,
-    runs: &mut List<Chunk<T>>,
+    chunks: &mut List<Chunk<T>>,
     items: &[Shared<T>],
 ) -> Result<(), Memory>
-    requires { NoneIsEmpty runs.old }
-    ensures items { OnOk result (joined runs.new ≡ joined runs.old ++ items.now) }
-    ensures full { NoneIsEmpty runs.new }
+    requires { NoneIsEmpty chunks.old }
+    ensures items { OnOk result (joined chunks.new ≡ joined chunks.old ++ items.now) }
+    ensures full { NoneIsEmpty chunks.new }
 {
-    for part in items.chunks(size_of_runs(items.len())) {
-        runs.push(Shared::new(alloc, owners(alloc, part)?)?)?;
+    for part in items.chunks(size_of_chunks(items.len())) {
+        push_copy(alloc, chunks, part)?;
     }
     Ok(())
 }
 
+/// Appends a chunk with another owner of each value. The list is unchanged on an error.
+fn push_copy<T: Drop>(
+    alloc: Global,
+    chunks: &mut List<Chunk<T>>,
+    part: &[Shared<T>],
+) -> Result<(), Memory>
+    ensures ok { OnOk result (chunks.new ≡ chunks.old ++ part.now ∷ []) }
+    ensures err { OnErr result (chunks.new ≡ chunks.old) }
+{
+    chunks.push(Shared::new(alloc, owners(alloc, part)?)?)
+}
+
 /// Returns the chunk size with which `count` items are split into chunks of about the same length.
-fn size_of_runs(count: usize) -> usize
+fn size_of_chunks(count: usize) -> usize
     ensures { 0 < result }
 {
-    let runs = count / MOST + 1;
-    count / runs + 1
+    let chunks = count / MOST + 1;
+    count / chunks + 1
 }
 
 /// Returns a list with another owner of each value.
@@ -206,65 +218,65 @@ fn owners<T: Drop>(alloc: Global, values: &[Shared<T>]) -> Result<List<Shared<T>
 
 /// Splits items into chunks.
 fn cut<T: Drop>(alloc: Global, items: &[Shared<T>]) -> Result<List<Chunk<T>>, Memory>
-    ensures items { IfOk result (λ runs. joined runs ≡ items.now) }
+    ensures items { IfOk result (λ chunks. joined chunks ≡ items.now) }
     ensures full { IfOk result NoneIsEmpty }
 {
-    let mut runs = List::new(alloc);
-    push_cut(alloc, &mut runs, items)?;
-    Ok(runs)
+    let mut chunks = List::new(alloc);
+    push_cut(alloc, &mut chunks, items)?;
+    Ok(chunks)
 }
 
 fn appended<T: Drop>(
     alloc: Global,
-    runs: &[Chunk<T>],
+    chunks: &[Chunk<T>],
     items: &[Shared<T>],
 ) -> Result<ChunkedList<T>, Memory>
-    requires { NoneIsEmpty runs.now }
-    ensures { IfOk result (λ s. s ≡ joined runs.now ++ items.now) }
+    requires { NoneIsEmpty chunks.now }
+    ensures { IfOk result (λ s. s ≡ joined chunks.now ++ items.now) }
 {
-    match last_with_room(runs, items.len()) {
-        None => with_runs(alloc, runs, items),
+    match last_with_room(chunks, items.len()) {
+        None => with_chunks(alloc, chunks, items),
         Some(last) => {
-            let mut run = owners(alloc, last.as_slice())?;
-            push_owners(&mut run, items)?;
-            with_run(alloc, runs, runs.len() - 1, run)
+            let mut chunk = owners(alloc, last.as_slice())?;
+            push_owners(&mut chunk, items)?;
+            with_chunk(alloc, chunks, chunks.len() - 1, chunk)
         }
     }
 }
 
 /// Returns the last chunk, if it has room for `count` more items.
-fn last_with_room<T: Drop>(runs: &[Chunk<T>], count: usize) -> Option<&List<Shared<T>>>
-    ensures inside { IfSome result (λ last. 0 < length runs.now) }
-    ensures items { IfSome result (λ last. joined (take (length runs.now - 1) runs.now) ++ last.now ≡ joined runs.now) }
+fn last_with_room<T: Drop>(chunks: &[Chunk<T>], count: usize) -> Option<&List<Shared<T>>>
+    ensures inside { IfSome result (λ last. 0 < length chunks.now) }
+    ensures items { IfSome result (λ last. joined (take (length chunks.now - 1) chunks.now) ++ last.now ≡ joined chunks.now) }
 {
-    let last = runs.last()?.get();
+    let last = chunks.last()?.get();
     if MOST.saturating_sub(last.len()) < count {
         return None;
     }
     Some(last)
 }
 
-/// Returns the list of `runs`, followed by `items` in new chunks.
-fn with_runs<T: Drop>(
+/// Returns the list of `chunks`, followed by `items` in new chunks.
+fn with_chunks<T: Drop>(
     alloc: Global,
-    runs: &[Chunk<T>],
+    chunks: &[Chunk<T>],
     items: &[Shared<T>],
 ) -> Result<ChunkedList<T>, Memory>
-    requires { NoneIsEmpty runs.now }
-    ensures { IfOk result (λ s. s ≡ joined runs.now ++ items.now) }
+    requires { NoneIsEmpty chunks.now }
+    ensures { IfOk result (λ s. s ≡ joined chunks.now ++ items.now) }
 {
-    let mut more = owners(alloc, runs)?;
+    let mut more = owners(alloc, chunks)?;
     push_cut(alloc, &mut more, items)?;
-    Ok(ChunkedList { runs: more })
+    Ok(ChunkedList { chunks: more })
 }
 
 /// Returns the total number of items in the chunks.
-fn count_of<T: Drop>(runs: &[Chunk<T>]) -> Result<usize, Memory>
-    ensures { IfOk result (λ count. count ≡ length (joined runs.now)) }
+fn count_of<T: Drop>(chunks: &[Chunk<T>]) -> Result<usize, Memory>
+    ensures { IfOk result (λ count. count ≡ length (joined chunks.now)) }
 {
     let mut count = 0;
-    for run in runs {
-        count = sum_of(count, run.get().len())?;
+    for chunk in chunks {
+        count = sum_of(count, chunk.get().len())?;
     }
     Ok(count)
 }
@@ -276,22 +288,22 @@ fn sum_of(count: usize, more: usize) -> Result<usize, Memory>
 }
 
 /// Returns the item at index `place` of all chunks together.
-fn item_at<T: Drop>(runs: &[Chunk<T>], place: usize) -> Option<&T>
-    ensures { option_map (λ x. x.now) result ≡ slice_get (joined runs.now) place }
+fn item_at<T: Drop>(chunks: &[Chunk<T>], place: usize) -> Option<&T>
+    ensures { option_map (λ x. x.now) result ≡ slice_get (joined chunks.now) place }
 {
     let mut left = place;
-    for run in runs {
-        let count = run.get().len();
+    for chunk in chunks {
+        let count = chunk.get().len();
         if left < count {
-            return item_of(run.get(), left);
+            return item_of(chunk.get(), left);
         }
         left -= count;
     }
     None
 }
 
-fn item_of<T: Drop>(run: &List<Shared<T>>, place: usize) -> Option<&T>
-    ensures { option_map (λ x. x.now) result ≡ slice_get run.now place }
+fn item_of<T: Drop>(chunk: &List<Shared<T>>, place: usize) -> Option<&T>
+    ensures { option_map (λ x. x.now) result ≡ slice_get chunk.now place }
 {
-    run.get(place).map(|item| item.get())
+    chunk.get(place).map(|item| item.get())
 }
