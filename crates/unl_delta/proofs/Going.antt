@@ -25,40 +25,40 @@ use Rattle.unl_delta.specs.Valid.{NeverFall, IsBatch, IsValidEvent, IsValidBatch
 use Rattle.unl_delta.proofs.Every.{every_append}
 
 -- the events read so far, followed by those still to be read
-abbrev pub with_front : List Event → Result (List Event) BadBatch → Result (List Event) BadBatch
-with_front front reading = reading >>= λ others. Ok (front ++ others)
+abbrev pub with_prefix : List Event → Result (List Event) BadBatch → Result (List Event) BadBatch
+with_prefix prefix reading = reading >>= λ others. Ok (prefix ++ others)
 
-regroup : (front : List Event) (e : Event) (reading : Result (List Event) BadBatch) → with_front front (reading >>= λ others. Ok (e ∷ others)) ≡ with_front (front ++ e ∷ []) reading
-regroup front e (Ok others) = ap Ok (sym (append_assoc front (e ∷ []) others))
-regroup front e (Err fault) = refl
+regroup : (prefix : List Event) (e : Event) (reading : Result (List Event) BadBatch) → with_prefix prefix (reading >>= λ others. Ok (e ∷ others)) ≡ with_prefix (prefix ++ e ∷ []) reading
+regroup prefix e (Ok others) = ap Ok (sym (append_assoc prefix (e ∷ []) others))
+regroup prefix e (Err fault) = refl
 
-pub goes_on : (front : List Event) (values : List Value) (i before : ℕ) (d : Value) (e : Event) (total : Result (List Event) BadBatch) → i < length values → event_at i before (view (get_or values i d)) ≡ Ok e
-    → with_front front (events_from i before (items_view (drop i values))) ≡ total → with_front (front ++ e ∷ []) (events_from (i + 1) (number_of e) (items_view (drop (i + 1) values))) ≡ total
+pub goes_on : (prefix : List Event) (values : List Value) (i before : ℕ) (d : Value) (e : Event) (total : Result (List Event) BadBatch) → i < length values → event_at i before (view (get_or values i d)) ≡ Ok e
+    → with_prefix prefix (events_from i before (items_view (drop i values))) ≡ total → with_prefix (prefix ++ e ∷ []) (events_from (i + 1) (number_of e) (items_view (drop (i + 1) values))) ≡ total
 unfolding events_from
-goes_on front values i before d e total lt here so_far =
+goes_on prefix values i before d e total lt here so_far =
     let parts : drop i values ≡ get_or values i d ∷ drop (i + 1) values = rw add-one (drop-cons values i d lt) in
-    let one : with_front front (events_from i before (items_view (drop i values))) ≡ with_front (front ++ e ∷ []) (events_from (i + 1) (number_of e) (items_view (drop (i + 1) values))) =
-    rw (parts, here) (regroup front e (events_from (i + 1) (number_of e) (items_view (drop (i + 1) values)))) in
+    let one : with_prefix prefix (events_from i before (items_view (drop i values))) ≡ with_prefix (prefix ++ e ∷ []) (events_from (i + 1) (number_of e) (items_view (drop (i + 1) values))) =
+    rw (parts, here) (regroup prefix e (events_from (i + 1) (number_of e) (items_view (drop (i + 1) values)))) in
     sym one ∙ so_far
 
-pub ends : (fault : BadBatch) (front : List Event) (values : List Value) (i before : ℕ) (d : Value) (total : Result (List Event) BadBatch) → i < length values → (fault ≢ Memory → event_at i before (view (get_or values i d)) ≡ Err fault)
-    → with_front front (events_from i before (items_view (drop i values))) ≡ total → fault ≢ Memory → total ≡ Err fault
+pub ends : (fault : BadBatch) (prefix : List Event) (values : List Value) (i before : ℕ) (d : Value) (total : Result (List Event) BadBatch) → i < length values → (fault ≢ Memory → event_at i before (view (get_or values i d)) ≡ Err fault)
+    → with_prefix prefix (events_from i before (items_view (drop i values))) ≡ total → fault ≢ Memory → total ≡ Err fault
 unfolding events_from
-ends fault front values i before d total lt here so_far known =
+ends fault prefix values i before d total lt here so_far known =
     let parts = drop-cons values i d lt in
     let found : event_at i before (view (get_or values i d)) ≡ Err fault = here known in
-    let one : with_front front (events_from i before (items_view (drop i values))) ≡ Err fault = rw (parts, found) refl in
+    let one : with_prefix prefix (events_from i before (items_view (drop i values))) ≡ Err fault = rw (parts, found) refl in
     sym so_far ∙ one
 
-pub is_done : (front : List Event) (values : List Value) (i before : ℕ) (total : Result (List Event) BadBatch) → length values ≤ i → with_front front (events_from i before (items_view (drop i values))) ≡ total → total ≡ Ok front
+pub is_done : (prefix : List Event) (values : List Value) (i before : ℕ) (total : Result (List Event) BadBatch) → length values ≤ i → with_prefix prefix (events_from i before (items_view (drop i values))) ≡ total → total ≡ Ok prefix
 unfolding events_from
-is_done front values i before total le so_far =
+is_done prefix values i before total le so_far =
     let nothing : drop i values ≡ [] = drop_all i values le in
-    let one : with_front front (events_from i before (items_view (drop i values))) ≡ Ok front = rw nothing (ap Ok (append-nil front)) in
+    let one : with_prefix prefix (events_from i before (items_view (drop i values))) ≡ Ok prefix = rw nothing (ap Ok (append-nil prefix)) in
     sym so_far ∙ one
 
-pub each_more : (front : List Event) (e : Event) → Every IsValidEvent front → IsValidEvent e → Every IsValidEvent (front ++ e ∷ [])
-each_more front e each valid = every_append IsValidEvent front (e ∷ []) each (valid, tt)
+pub each_more : (prefix : List Event) (e : Event) → Every IsValidEvent prefix → IsValidEvent e → Every IsValidEvent (prefix ++ e ∷ [])
+each_more prefix e each valid = every_append IsValidEvent prefix (e ∷ []) each (valid, tt)
 
 -- ---- the order of the events read
 

@@ -154,9 +154,9 @@ parts_seen {T} key k xs shown again j i place there known rising lists also name
     let at : place ≡ prefix_len (λ (y : T). is_before (key y) k) xs =
     is ∙ ap (λ (zs : List T). prefix_len (λ (y : T). is_before (key y) j) zs) lists
     ∙ ap (λ (h : List ℕ). prefix_len (λ (y : T). is_before (key y) h) xs) named in
-    let stood : represents key k xs place ≡ known =
+    let here : represents key k xs place ≡ known =
     sym (found ∙ ap (λ (zs : List T). represents key i zs place) also ∙ ap (λ (h : List ℕ). represents key h xs place) named_again) ∙ known_is in
-    rw (← stood) (parts_at key k xs place (rises_from_rising key xs rising) at)
+    rw (← here) (parts_at key k xs place (rises_from_rising key xs rising) at)
 
 pub replaced_is : {T : Type 0} (key : T → List ℕ) (x : T) (xs : List T) (place : ℕ) → Parts key (key x) xs place true → slice_set xs place x ≡ put key x xs
 replaced_is {T} key x xs place parts =

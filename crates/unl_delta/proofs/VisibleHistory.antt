@@ -50,7 +50,7 @@ entries_up_to low n (e ∷ es) s h = decided (cases_lt n (number_of e)) (entries
 pub entries_between : (low a m : ℕ) (es : List Event) (s : State) → a ≤ m → NeverFall number_of low es → between entry_number a m (entries_on s es) ≡ entries_on (fold_events (up_to number_of a es) s) (between number_of a m es)
 entries_between low a m es s le h =
     append_cancel_left (entries_on s (up_to number_of a es)) _ _ (
-    ap (λ (front : List Entry). front ++ between entry_number a m (entries_on s es)) (sym (entries_up_to low a es s h)) ∙ sym (split entry_number low a m (entries_on s es) le (entries_never_fall low es s h)) ∙ entries_up_to low m es s h
+    ap (λ (prefix : List Entry). prefix ++ between entry_number a m (entries_on s es)) (sym (entries_up_to low a es s h)) ∙ sym (split entry_number low a m (entries_on s es) le (entries_never_fall low es s h)) ∙ entries_up_to low m es s h
     ∙ ap (entries_on s) (split number_of low a m es le h) ∙ entries_append (up_to number_of a es) (between number_of a m es) s
     )
 

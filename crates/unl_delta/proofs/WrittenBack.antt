@@ -107,23 +107,23 @@ events_back [] changes numbers valid readable = refl
 events_back (e ∷ es) changes numbers valid readable = rw (at_back 0 0 e valid.0 readable.0 refl numbers.0, changes_back 0 (number_of e) es changes numbers.1 valid.1 readable.1) refl
 
 -- the value of each key, where the epoch and `after` are optional
-record Stands (value : Data) (told since : Option ℕ) (es : List Event) : Type 0 where
-  pub epoch : at field.Epoch value ≡ option_map count told
+record HasMembers (value : Data) (stated since : Option ℕ) (es : List Event) : Type 0 where
+  pub epoch : at field.Epoch value ≡ option_map count stated
   pub after : at field.After value ≡ option_map count since
   pub events : at field.Events value ≡ Some (list_data event_data es)
 
-parts_stand : (epoch after : Option ℕ) (es : List Event) → Stands (batch_with epoch after es) epoch after es
+has_members : (epoch after : Option ℕ) (es : List Event) → HasMembers (batch_with epoch after es) epoch after es
 unfolding batch_with at
-parts_stand None None es = record { epoch = refl; after = refl; events = refl }
-parts_stand None (Some a) es = record { epoch = refl; after = refl; events = refl }
-parts_stand (Some g) None es = record { epoch = refl; after = refl; events = refl }
-parts_stand (Some g) (Some a) es = record { epoch = refl; after = refl; events = refl }
+has_members None None es = record { epoch = refl; after = refl; events = refl }
+has_members None (Some a) es = record { epoch = refl; after = refl; events = refl }
+has_members (Some g) None es = record { epoch = refl; after = refl; events = refl }
+has_members (Some g) (Some a) es = record { epoch = refl; after = refl; events = refl }
 
 after_back : (value : Data) (after : Option ℕ) → at field.After value ≡ option_map count after → optional any_whole field.After value ≡ Ok after
 after_back value None here = optional_none any_whole field.After value here
 after_back value (Some a) here = optional_back any_whole field.After value (count a) a here (any_whole_back field.After a)
 
-parts_back : (held : Option ℕ) (value : Data) (batch : Batch) → Stands value (unless_zero batch.epoch) batch.after batch.events → events_from 0 0 (items_of (map event_data batch.events)) ≡ Ok batch.events
+parts_back : (held : Option ℕ) (value : Data) (batch : Batch) → HasMembers value (unless_zero batch.epoch) batch.after batch.events → events_from 0 0 (items_of (map event_data batch.events)) ≡ Ok batch.events
     → batch_of held value ≡ Ok (record { epoch = batch.epoch; after = option_or batch.after held; events = batch.events })
 unfolding batch_of
 parts_back held value batch represents back = rw (represents.events, zero_back field.Epoch value batch.epoch represents.epoch, after_back value batch.after represents.after, back) refl
@@ -131,4 +131,4 @@ parts_back held value batch represents back = rw (represents.events, zero_back f
 pub batch_back : (held : Option ℕ) (batch : Batch) → IsValidBatch batch → Every IsReadable batch.events → batch_of held (batch_data batch) ≡ Ok (record { epoch = batch.epoch; after = option_or batch.after held; events = batch.events })
 unfolding batch_data
 batch_back held batch valid readable =
-    parts_back held (batch_with (unless_zero batch.epoch) batch.after batch.events) batch (parts_stand (unless_zero batch.epoch) batch.after batch.events) (events_back batch.events valid.order.changes valid.order.numbers valid.events readable)
+    parts_back held (batch_with (unless_zero batch.epoch) batch.after batch.events) batch (has_members (unless_zero batch.epoch) batch.after batch.events) (events_back batch.events valid.order.changes valid.order.numbers valid.events readable)

@@ -6,19 +6,19 @@ ghost use Rattle.unl_dependencies.specs.Evaluation.{feature_named as feature_wit
 
 use unl_documents::{Chunk, ChunkedList, Feature, Shared};
 
-/// Returns the first feature with the given name, if the series has one. Does not allocate.
+/// Returns the first feature with the given name, if the list has one. Does not allocate.
 pub fn feature_named<'a>(features: &'a ChunkedList<Feature>, name: &str) -> Option<&'a Feature>
     ensures value { option_map (λ f. f.now) result ≡ feature_with name.now features.now }
     ensures valid { All IsValidFeature features.now → IfSome result (λ f. IsValidFeature f.now) }
 {
-    first_in_runs(features.runs(), name)
+    first_in_chunks(features.chunks(), name)
 }
 
-fn first_in_runs<'a>(runs: &'a [Chunk<Feature>], name: &str) -> Option<&'a Feature>
-    ensures { option_map (λ f. f.now) result ≡ feature_with name.now (joined runs.now) }
+fn first_in_chunks<'a>(chunks: &'a [Chunk<Feature>], name: &str) -> Option<&'a Feature>
+    ensures { option_map (λ f. f.now) result ≡ feature_with name.now (joined chunks.now) }
 {
-    for run in runs {
-        if let Some(feature) = first_named(run.get().as_slice(), name) {
+    for chunk in chunks {
+        if let Some(feature) = first_named(chunk.get().as_slice(), name) {
             return Some(feature);
         }
     }

@@ -1,6 +1,6 @@
 use Rattle.std.proofs.Common.{◌<◌, refl, subst, ap, ◌∙◌}
 use Rattle.unl_delta.specs.State.{entry_number, later}
-use Rattle.unl_delta.proofs.Runs.{later_keeps}
+use Rattle.unl_delta.proofs.Chunks.{later_keeps}
 use Rattle.unl_delta.proofs.applying.are_later.Goals as goal
 
 pub loop-entry-init : goal.loop-entry-init
