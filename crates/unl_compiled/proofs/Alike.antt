@@ -9,7 +9,7 @@ use Rattle.std.proofs.lemmas.Slice.Eq.{bytes_eq-Decides}
 use Rattle.unl_compiled.specs.Next.{keeps_place, state_after}
 use Rattle.unl_compiled.specs.Places.{IsIndex, places_from}
 use Rattle.unl_compiled.specs.declared.index.ProjectPlaces.{ProjectPlaces}
-use Rattle.unl_constraints.proofs.Searching.{if_key, told}
+use Rattle.unl_constraints.proofs.Searching.{if_key, decided_by_search}
 use Rattle.unl_delta.specs.declared.event.Event.{Event}
 use Rattle.unl_delta.specs.declared.event.Event.TheVariants.{Hydration, FeatureUpdated, FeatureRemoved, SegmentUpdated, SegmentRemoved}
 use Rattle.unl_delta.specs.Keyed.{is_before, put}
@@ -86,8 +86,8 @@ put_at f g fs place is rising at named within =
       | inl less ↦ let apart : bytes_eq g.name f.name ≡ false = less_apart f.name g.name (less_from_test _ less) in absurd cc
       | inr other ↦ other
     ] in
-    let stood : represents name_key f.name fs place ≡ true = rw (at, before) refl in
-    let parts : Parts name_key f.name fs place true = subst (λ (t : Bool). Parts name_key f.name fs place t) stood (parts_at name_key f.name fs place (rises_from_rising name_key fs rising) is) in
+    let represented : represents name_key f.name fs place ≡ true = rw (at, before) refl in
+    let parts : Parts name_key f.name fs place true = subst (λ (t : Bool). Parts name_key f.name fs place t) represented (parts_at name_key f.name fs place (rises_from_rising name_key fs rising) is) in
     sym (ap sides (replaced_is name_key f fs place parts))
     ∙ set_alike fs place f g at (sym ((bytes_eq-Decides g.name f.name).0 named)) (sym ((bytes_eq-Decides g.project f.project).0 within))
 
@@ -99,7 +99,7 @@ put_alike f fs rising within = decided (slice_get fs place) refl
 
     known : option_map_or (λ p. bytes_eq p f.project) (option_map (λ g. g.project) (option_and_then (if_key name_key f.name) (slice_get fs place))) false ≡ true
     known =
-        ap (λ (o : Option Feature). option_map_or (λ p. bytes_eq p f.project) (option_map (λ (g : Feature). g.project) o) false) (told name_key f.name fs rising).0
+        ap (λ (o : Option Feature). option_map_or (λ p. bytes_eq p f.project) (option_map (λ (g : Feature). g.project) o) false) (decided_by_search name_key f.name fs rising).0
         ∙ ap (λ (o : Option (List ℕ)). option_map_or (λ p. bytes_eq p f.project) o false) (project_found f.name fs) ∙ within
 
     decided : (o : Option Feature) → slice_get fs place ≡ o → sides (put name_key f fs) ≡ sides fs

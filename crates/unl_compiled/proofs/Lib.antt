@@ -1,10 +1,10 @@
-pub mod Coding
 pub mod NoFloats
 pub mod Finding
-mod InRuns
+mod InChunks
 mod Following
 mod Alike
 mod Shifts
 pub mod AtPlaces
 pub mod Projects
 pub mod Tokens
+mod Collecting

@@ -26,7 +26,7 @@ apart_from a b p apart same =
       | inr other ↦ other
     ]
 
--- An entry for another project may be put in front.
+-- An entry for another project may be put first.
 next_place : (e : ProjectPlaces) (project p : List ℕ) (place : ℕ) (es new : List ProjectPlaces) → bytes_eq e.project project ≡ false → listed p new ≡ listed p es ++ more project p place → listed p (e ∷ new) ≡ listed p (e ∷ es) ++ more project p place
 next_place e project p place es new apart is =
     elim (cases_Bool (bytes_eq e.project p)) [

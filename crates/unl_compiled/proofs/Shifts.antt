@@ -14,9 +14,9 @@ use Rattle.unl_compiled.specs.Next.{state_after}
 use Rattle.unl_compiled.specs.Places.{IsIndex, listed, places_from, places_of}
 use Rattle.unl_compiled.specs.declared.index.ProjectPlaces.{ProjectPlaces}
 use Rattle.unl_compiled.proofs.Alike.{none_named}
-use Rattle.unl_compiled.proofs.InRuns.{places_join}
+use Rattle.unl_compiled.proofs.InChunks.{places_join}
 use Rattle.unl_compiled.proofs.Projects.{differs}
-use Rattle.unl_constraints.proofs.Searching.{if_key, told}
+use Rattle.unl_constraints.proofs.Searching.{if_key, decided_by_search}
 use Rattle.unl_delta.specs.Keyed.{above, below, is_before, put, without}
 use Rattle.unl_delta.specs.State.{fold_events, later, number_of, project_of}
 use Rattle.unl_delta.specs.declared.event.Event.{Event}
@@ -129,10 +129,10 @@ none_low p k place (f ∷ fs) le =
       | inr other ↦ rw other (none_low p k (place + 1) fs (omega (arith, le)))
     ]
 
-cut_is : (p : List ℕ) (k place : ℕ) (front more : List Feature) → place + length front ≡ k → cut k (places_from place p (front ++ more)) ≡ length (places_from place p front)
+cut_is : (p : List ℕ) (k place : ℕ) (prefix more : List Feature) → place + length prefix ≡ k → cut k (places_from place p (prefix ++ more)) ≡ length (places_from place p prefix)
 cut_is p k place [] more at = none_low p k place more (omega (arith, at))
-cut_is p k place (f ∷ front) more at =
-    let rest : cut k (places_from (place + 1) p (front ++ more)) ≡ length (places_from (place + 1) p front) = cut_is p k (place + 1) front more (omega (arith, at)) in
+cut_is p k place (f ∷ prefix) more at =
+    let rest : cut k (places_from (place + 1) p (prefix ++ more)) ≡ length (places_from (place + 1) p prefix) = cut_is p k (place + 1) prefix more (omega (arith, at)) in
     elim (cases_Bool (bytes_eq f.project p)) [
       | inl is ↦ let low : nat_lt place k ≡ true = lt-ltb _ _ (omega (arith, at)) in rw (is, low) (omega (arith, rest))
       | inr other ↦ rw other rest
@@ -168,41 +168,41 @@ moved_parts : (c : Change) (p ns low high : List ℕ) → ns ≡ low ++ (place_i
     → moved c p ns ≡ low ++ (place_if (is_of p c.inserted) c.place ++ map (shifted (count_of c.removed) (count_of c.inserted)) high)
 moved_parts c p ns low high is at =
     let removed : List ℕ = place_if (is_of p c.removed) c.place in
-    let front : take (cut c.place ns) ns ≡ low = ap (λ (n : ℕ). take n ns) at ∙ ap (take (length low)) is ∙ take-append_seam low (removed ++ high) in
+    let prefix : take (cut c.place ns) ns ≡ low = ap (λ (n : ℕ). take n ns) at ∙ ap (take (length low)) is ∙ take-append_seam low (removed ++ high) in
     let back : drop (cut c.place ns) ns ≡ removed ++ high = ap (λ (n : ℕ). drop n ns) at ∙ ap (drop (length low)) is ∙ drop-append_seam low (removed ++ high) in
     let rest : drop (count_if (is_of p c.removed)) (drop (cut c.place ns) ns) ≡ high =
     ap (drop (count_if (is_of p c.removed))) back ∙ ap (λ (n : ℕ). drop n (removed ++ high)) (length_if (is_of p c.removed) c.place) ∙ drop-append_seam removed high in
-    λ i. front i ++ (place_if (is_of p c.inserted) c.place ++ map (shifted (count_of c.removed) (count_of c.inserted)) (rest i))
+    λ i. prefix i ++ (place_if (is_of p c.inserted) c.place ++ map (shifted (count_of c.removed) (count_of c.inserted)) (rest i))
 
 -- At most one feature at `place`, of the optional project.
-pub record Stand (place : ℕ) (project : Option (List ℕ)) (fs : List Feature) : Type 0 where
+pub record IsAt (place : ℕ) (project : Option (List ℕ)) (fs : List Feature) : Type 0 where
   pub count : length fs ≡ count_of project
   pub places : (p : List ℕ) → places_from place p fs ≡ place_if (is_of p project) place
 
-nothing_stands : (place : ℕ) → Stand place None []
-nothing_stands place = record { count = refl; places = λ p. refl }
+nothing_there : (place : ℕ) → IsAt place None []
+nothing_there place = record { count = refl; places = λ p. refl }
 
-one_stands : (place : ℕ) (f : Feature) → Stand place (Some f.project) (f ∷ [])
-one_stands place f = record { count = refl; places = λ p. refl }
+one_there : (place : ℕ) (f : Feature) → IsAt place (Some f.project) (f ∷ [])
+one_there place f = record { count = refl; places = λ p. refl }
 
-three_parts : (p : List ℕ) (place : ℕ) (there : Option (List ℕ)) (front here back : List Feature) → length front ≡ place → Stand place there here
-    → places_from 0 p (front ++ (here ++ back)) ≡ places_from 0 p front ++ (place_if (is_of p there) place ++ places_from (place + count_of there) p back)
-three_parts p place there front here back at stand =
-    let first : 0 + length front ≡ place = omega (arith, at) in
-    places_join p 0 front (here ++ back)
-    ∙ ap (λ (ns : List ℕ). places_from 0 p front ++ ns) (
+three_parts : (p : List ℕ) (place : ℕ) (there : Option (List ℕ)) (prefix here back : List Feature) → length prefix ≡ place → IsAt place there here
+    → places_from 0 p (prefix ++ (here ++ back)) ≡ places_from 0 p prefix ++ (place_if (is_of p there) place ++ places_from (place + count_of there) p back)
+three_parts p place there prefix here back at located =
+    let first : 0 + length prefix ≡ place = omega (arith, at) in
+    places_join p 0 prefix (here ++ back)
+    ∙ ap (λ (ns : List ℕ). places_from 0 p prefix ++ ns) (
     ap (λ (n : ℕ). places_from n p (here ++ back)) first ∙ places_join p place here back
-    ∙ (λ i. stand.places p i ++ places_from (place + stand.count i) p back)
+    ∙ (λ i. located.places p i ++ places_from (place + located.count i) p back)
     )
 
-moved_places : (c : Change) (p : List ℕ) (front old new back : List Feature) → length front ≡ c.place → Stand c.place c.removed old → Stand c.place c.inserted new
-    → moved c p (places_of p (front ++ (old ++ back))) ≡ places_of p (front ++ (new ++ back))
-moved_places c p front old new back at removed inserted =
-    let low : List ℕ = places_from 0 p front in
-    let first : 0 + length front ≡ c.place = omega (arith, at) in
-    moved_parts c p (places_of p (front ++ (old ++ back))) low (places_from (c.place + count_of c.removed) p back) (three_parts p c.place c.removed front old back at removed) (cut_is p c.place 0 front (old ++ back) first)
+moved_places : (c : Change) (p : List ℕ) (prefix old new back : List Feature) → length prefix ≡ c.place → IsAt c.place c.removed old → IsAt c.place c.inserted new
+    → moved c p (places_of p (prefix ++ (old ++ back))) ≡ places_of p (prefix ++ (new ++ back))
+moved_places c p prefix old new back at removed inserted =
+    let low : List ℕ = places_from 0 p prefix in
+    let first : 0 + length prefix ≡ c.place = omega (arith, at) in
+    moved_parts c p (places_of p (prefix ++ (old ++ back))) low (places_from (c.place + count_of c.removed) p back) (three_parts p c.place c.removed prefix old back at removed) (cut_is p c.place 0 prefix (old ++ back) first)
     ∙ ap (λ (ns : List ℕ). low ++ (place_if (is_of p c.inserted) c.place ++ ns)) (shift_is p (count_of c.removed) (count_of c.inserted) c.place back)
-    ∙ sym (three_parts p c.place c.inserted front new back at inserted)
+    ∙ sym (three_parts p c.place c.inserted prefix new back at inserted)
 
 -- ---- the features split by a name
 
@@ -210,7 +210,7 @@ moved_places c p front old new back at removed inserted =
 record Named (name : List ℕ) (fs : List Feature) (place : ℕ) (project : Option (List ℕ)) (old : List Feature) : Type 0 where
   parts : fs ≡ below name_key name fs ++ (old ++ above name_key name fs)
   low : length (below name_key name fs) ≡ place
-  stand : Stand place project old
+  located : IsAt place project old
 
 at_place : (fs : List Feature) (place : ℕ) (g : Feature) → slice_get fs place ≡ Some g → fs ≡ take place fs ++ g ∷ drop (suc place) fs
 at_place [] place g at = absurd cc
@@ -231,7 +231,7 @@ by_name name fs place is rising = decided (project_of name fs) refl
     known : option_map (λ g. g.project) (option_and_then (if_key name_key name) (slice_get fs place)) ≡ project_of name fs
     known =
         ap (λ (n : ℕ). option_map (λ (g : Feature). g.project) (option_and_then (if_key name_key name) (slice_get fs n))) is
-        ∙ ap (λ (o : Option Feature). option_map (λ (g : Feature). g.project) o) (told name_key name fs rising).0 ∙ project_found name fs
+        ∙ ap (λ (o : Option Feature). option_map (λ (g : Feature). g.project) o) (decided_by_search name_key name fs rising).0 ∙ project_found name fs
 
     -- The feature at the position has the name.
     named : (g : Feature) (project : List ℕ) → slice_get fs place ≡ Some g → bytes_eq g.name name ≡ true → g.project ≡ project → Named name fs place (Some project) (g ∷ [])
@@ -241,12 +241,12 @@ by_name name fs place is rising = decided (project_of name fs) refl
           | inl less ↦ let apart : bytes_eq g.name name ≡ false = less_apart name g.name (less_from_test _ less) in absurd cc
           | inr other ↦ other
         ] in
-        let stood : represents name_key name fs place ≡ true = rw (at, before) refl in
-        let whole : Parts name_key name fs place true = subst (λ (t : Bool). Parts name_key name fs place t) stood parted in
+        let represented : represents name_key name fs place ≡ true = rw (at, before) refl in
+        let whole : Parts name_key name fs place true = subst (λ (t : Bool). Parts name_key name fs place t) represented parted in
         record {
           parts = at_place fs place g at ∙ ap (λ (ys : List Feature). ys ++ g ∷ drop (suc place) fs) whole.low ∙ ap (λ (ys : List Feature). below name_key name fs ++ g ∷ ys) whole.high;
           low = low;
-          stand = subst (λ (q : List ℕ). Stand place (Some q) (g ∷ [])) within (one_stands place g);
+          located = subst (λ (q : List ℕ). IsAt place (Some q) (g ∷ [])) within (one_there place g);
         }
 
     found : (o : Option Feature) (project : List ℕ) → slice_get fs place ≡ o → project_of name fs ≡ Some project → (old : List Feature) × Named name fs place (Some project) old
@@ -264,32 +264,32 @@ by_name name fs place is rising = decided (project_of name fs) refl
           record {
             parts = sym (without_none name_key name fs (rises_from_rising name_key fs rising) (none_named name fs none));
             low = low;
-            stand = nothing_stands place;
+            located = nothing_there place;
           },
         )
     decided (Some project) there = found (slice_get fs place) project refl there
 
 -- The index after other features replace the one of a name.
 replaced : (name : List ℕ) (fs others : List Feature) (c : Change) (index new : List ProjectPlaces) → AreRising (map name_key fs) → c.place ≡ prefix_len (λ y. is_before (name_key y) name) fs
-    → c.removed ≡ project_of name fs → Stand c.place c.inserted others → IsIndex fs index → ((p : List ℕ) → IsParted c.place (listed p index) → listed p new ≡ moved c p (listed p index))
+    → c.removed ≡ project_of name fs → IsAt c.place c.inserted others → IsIndex fs index → ((p : List ℕ) → IsParted c.place (listed p index) → listed p new ≡ moved c p (listed p index))
     → IsIndex (below name_key name fs ++ (others ++ above name_key name fs)) new
 replaced name fs others c index new rising at removed inserted is goes p =
     let s = by_name name fs c.place at rising in
-    let stand : Stand c.place c.removed s.0 = subst (λ (o : Option (List ℕ)). Stand c.place o s.0) (sym removed) s.1.stand in
+    let located : IsAt c.place c.removed s.0 = subst (λ (o : Option (List ℕ)). IsAt c.place o s.0) (sym removed) s.1.located in
     let parted : IsParted c.place (listed p index) = subst (λ (ns : List ℕ). IsParted c.place ns) (sym (is p)) (parted_places c.place p 0 fs) in
-    goes p parted ∙ ap (moved c p) (is p ∙ ap (places_of p) s.1.parts) ∙ moved_places c p (below name_key name fs) s.0 others (above name_key name fs) s.1.low stand inserted
+    goes p parted ∙ ap (moved c p) (is p ∙ ap (places_of p) s.1.parts) ∙ moved_places c p (below name_key name fs) s.0 others (above name_key name fs) s.1.low located inserted
 
 -- The index after a feature is added or replaced.
 pub index_with : (f : Feature) (fs : List Feature) (c : Change) (index new : List ProjectPlaces) → AreRising (map name_key fs) → c.place ≡ prefix_len (λ y. is_before (name_key y) f.name) fs
     → c.removed ≡ project_of f.name fs → c.inserted ≡ Some f.project → IsIndex fs index → ((p : List ℕ) → IsParted c.place (listed p index) → listed p new ≡ moved c p (listed p index)) → IsIndex (put name_key f fs) new
 index_with f fs c index new rising at removed inserted is goes =
-    replaced f.name fs (f ∷ []) c index new rising at removed (subst (λ (o : Option (List ℕ)). Stand c.place o (f ∷ [])) (sym inserted) (one_stands c.place f)) is goes
+    replaced f.name fs (f ∷ []) c index new rising at removed (subst (λ (o : Option (List ℕ)). IsAt c.place o (f ∷ [])) (sym inserted) (one_there c.place f)) is goes
 
 -- The index after the feature of a name is removed.
 pub index_without : (name : List ℕ) (fs : List Feature) (c : Change) (index new : List ProjectPlaces) → AreRising (map name_key fs) → c.place ≡ prefix_len (λ y. is_before (name_key y) name) fs
     → c.removed ≡ project_of name fs → c.inserted ≡ None → IsIndex fs index → ((p : List ℕ) → IsParted c.place (listed p index) → listed p new ≡ moved c p (listed p index)) → IsIndex (without name_key name fs) new
 index_without name fs c index new rising at removed inserted is goes =
-    replaced name fs [] c index new rising at removed (subst (λ (o : Option (List ℕ)). Stand c.place o []) (sym inserted) (nothing_stands c.place)) is goes
+    replaced name fs [] c index new rising at removed (subst (λ (o : Option (List ℕ)). IsAt c.place o []) (sym inserted) (nothing_there c.place)) is goes
 
 -- ---- one event
 

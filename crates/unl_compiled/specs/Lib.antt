@@ -2,3 +2,4 @@ pub mod Toggles
 pub mod Places
 pub mod Next
 pub mod Moving
+pub mod Appending

@@ -14,16 +14,16 @@ pub record Change : Type 0 where
   pub removed : Option (List ℕ)
   pub inserted : Option (List ℕ)
 
--- How many features an optional project stands for: 1 or 0.
+-- How many features an optional project counts for: 1 or 0.
 abbrev pub count_of : Option (List ℕ) → ℕ
 count_of None = 0
 count_of (Some project) = 1
 
--- The second project is there, and is the first.
+-- The second project is present, and equals the first.
 abbrev pub is_of : List ℕ → Option (List ℕ) → Bool
 is_of project other = option_map_or (λ p. bytes_eq p project) other false
 
--- 1 if so, else 0.
+-- 1 for true, 0 for false.
 abbrev pub count_if : Bool → ℕ
 count_if so = if so then 1 else 0
 

@@ -3,6 +3,7 @@ use Rattle.std.specs.Prelude.{ℕ, List, Bool, ◌||◌, filter_map, Option, Som
 use Rattle.serde_json.specs.Data.{Data, boolean, string, array, object, no_members}
 use Rattle.serde_json.specs.View.{items_of}
 use Rattle.unl_context.specs.Context.{Fields}
+use Rattle.unl_delta.specs.View.{view_of}
 use Rattle.unl_dependencies.specs.declared.evaluation.Evaluation.{Evaluation}
 use Rattle.unl_dependencies.specs.declared.evaluation.VariantAnswer.{VariantAnswer}
 use Rattle.unl_dependencies.specs.Evaluation.{feature_evaluation}
@@ -40,14 +41,6 @@ toggle_if all f e = if all || e.on then Some (toggle_data f e) else None
 unfoldable pub toggle_of : State → Bool → Fields → Moment → Feature → Option Data
 toggle_of state all context moment f = toggle_if all f (feature_evaluation state f context moment)
 
--- The toggle of a feature, evaluated over a state, if its project is seen.
-abbrev pub toggle_if_seen : Projects → State → Bool → Fields → Moment → Feature → Option Data
-toggle_if_seen projects state all context moment f = if sees projects f.project then toggle_of state all context moment f else None
-
--- The toggle of the feature at a position, evaluated over a state.
-abbrev pub toggle_at : State → Bool → Fields → Moment → List Feature → ℕ → Option Data
-toggle_at state all context moment features place = option_and_then (toggle_of state all context moment) (slice_get features place)
-
 -- The body that has these toggles.
 unfoldable pub written_toggles : List Data → Data
 written_toggles toggles = object (
@@ -57,3 +50,35 @@ written_toggles toggles = object (
 -- The body for a state: all toggles, or those that are on.
 unfoldable pub toggles_data : State → Bool → Fields → Moment → Data
 toggles_data state all context moment = written_toggles (filter_map (toggle_of state all context moment) state.features)
+
+-- A query for the toggles of the features of a state whose project is seen: all of them, or those that are on.
+pub record ToggleQuery : Type 0 where
+  pub state : State
+  pub projects : Projects
+  pub all : Bool
+  pub context : Fields
+  pub moment : Moment
+
+-- The part of the state that the query's projects see.
+abbrev pub visible : ToggleQuery → State
+visible query = view_of (sees query.projects) query.state
+
+-- The toggle of a feature, if the query asks for it.
+abbrev pub toggle_for : ToggleQuery → Feature → Option Data
+toggle_for query f = toggle_of (visible query) query.all query.context query.moment f
+
+-- The toggle of a feature, if its project is seen and the query asks for it.
+abbrev pub toggle_if_seen : ToggleQuery → Feature → Option Data
+toggle_if_seen query f = if sees query.projects f.project then toggle_for query f else None
+
+-- The toggle of the feature at a position, if the query asks for it.
+abbrev pub toggle_at : ToggleQuery → ℕ → Option Data
+toggle_at query place = option_and_then (toggle_for query) (slice_get query.state.features place)
+
+-- The toggles that the query asks for, in the order of their names.
+abbrev pub toggles_for : ToggleQuery → List Data
+toggles_for query = filter_map (toggle_for query) (visible query).features
+
+-- The body that a query asks for.
+abbrev pub body_for : ToggleQuery → Data
+body_for query = toggles_data (visible query) query.all query.context query.moment

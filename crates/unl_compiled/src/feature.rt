@@ -1,9 +1,11 @@
 //! Features with compiled constraints.
-ghost use Rattle.std.specs.Prelude.{◌≡◌, ◌<◌, Some, IfOk, length, map, option_map, slice_get};
+ghost use Rattle.std.specs.Prelude.{◌≡◌, ◌<◌, ◌&&◌, Some, IfOk, length, map, option_map, slice_get};
+ghost use Rattle.std.specs.List.{list_all};
+ghost use Rattle.unl_constraints.specs.Constraint.{all_hold};
 ghost use Rattle.unl_dependencies.specs.Evaluation.{is_active_at};
 ghost use Rattle.unl_documents.specs.Parameters.{AreRising};
 ghost use Rattle.unl_documents.specs.States.{id_key};
-ghost use Rattle.unl_strategies.specs.Strategy.{is_active as strategy_is_active};
+ghost use Rattle.unl_strategies.specs.Strategy.{is_met};
 
 use crate::segment::{CompiledSegment, all_met, compiled};
 use std::alloc::Global;
@@ -60,6 +62,7 @@ impl CompiledFeature {
     }
 
     /// Whether the feature has a strategy at index `place`, and that strategy is active.
+    #[tactic(auto, unfolding(unl_strategies::specs::Strategy::is_active))]
     pub(crate) fn is_active(
         &self,
         alloc: Global,
@@ -75,14 +78,14 @@ impl CompiledFeature {
             None => Ok(false),
             Some(strategy) => {
                 let constraints = self.constraints(place as usize).as_slice();
-                let name = &self.document().name;
-                active(
+                if !is_eligible(alloc, strategy, constraints, segments, context, moment.now)? {
+                    return Ok(false);
+                }
+                rule(
                     alloc,
                     strategy,
-                    constraints,
-                    name,
+                    &self.document().name,
                     place,
-                    segments,
                     context,
                     moment,
                 )
@@ -91,31 +94,25 @@ impl CompiledFeature {
     }
 }
 
-/// Whether a strategy is active, given its compiled constraints, the name of its feature, and its index in that feature.
-#[tactic(auto, unfolding(unl_strategies::specs::Strategy::is_active))]
-fn active(
+/// Whether a context meets all constraints of a strategy, given compiled, and each segment that it names. `now` is in
+/// milliseconds since 1970.
+fn is_eligible(
     alloc: Global,
     strategy: &Strategy,
     constraints: &[Compiled],
-    feature: &Text,
-    place: u32,
     segments: &[Shared<CompiledSegment>],
     context: &Context,
-    moment: &Moment,
+    now: u64,
 ) -> Result<bool, Memory>
     requires rising { AreRising (map id_key segments.now) }
     requires constraints { constraints.now ≡ strategy.now.constraints }
-    ensures { IfOk result (λ b. b
-        ≡ strategy_is_active strategy.now feature.now place segments.now context.now moment.entry.now) }
+    ensures { IfOk result (λ b. b ≡ (all_hold strategy.now.constraints context.now now
+        && list_all (is_met segments.now context.now now) strategy.now.segments)) }
 {
-    let now = moment.now;
     if !Compiled::all_hold(alloc, constraints, context, now)? {
         return Ok(false);
     }
-    if !all_met(alloc, strategy.segments.as_slice(), segments, context, now)? {
-        return Ok(false);
-    }
-    rule(alloc, strategy, feature, place, context, moment)
+    all_met(alloc, strategy.segments.as_slice(), segments, context, now)
 }
 
 impl Keyed for CompiledFeature {

@@ -20,31 +20,31 @@ pub(crate) struct ProjectPlaces {
 /// Builds the index of the features of these chunks. Only projects that have features are listed.
 pub(crate) fn index_of(
     alloc: Global,
-    runs: &[Chunk<CompiledFeature>],
+    chunks: &[Chunk<CompiledFeature>],
 ) -> Result<List<ProjectPlaces>, Memory>
-    ensures { IfOk result (IsIndex (joined runs.now)) }
+    ensures { IfOk result (IsIndex (joined chunks.now)) }
 {
     let mut index = List::new(alloc);
     let mut place = 0;
-    for run in runs {
-        place = add_run(&mut index, alloc, run.get(), place)?;
+    for chunk in chunks {
+        place = add_chunk(&mut index, alloc, chunk.get(), place)?;
     }
     Ok(index)
 }
 
 /// Adds the features of a chunk to the index. `first` is the position of the chunk's first feature. Returns the position
 /// after its last one.
-fn add_run(
+fn add_chunk(
     index: &mut List<ProjectPlaces>,
     alloc: Global,
-    run: &List<Shared<CompiledFeature>>,
+    chunk: &List<Shared<CompiledFeature>>,
     first: usize,
 ) -> Result<usize, Memory>
-    ensures places { OnOk result ((p : List ℕ) → listed p index.new ≡ listed p index.old ++ places_from first p run.now) }
-    ensures next { IfOk result (λ next. next ≡ first + length run.now) }
+    ensures places { OnOk result ((p : List ℕ) → listed p index.new ≡ listed p index.old ++ places_from first p chunk.now) }
+    ensures next { IfOk result (λ next. next ≡ first + length chunk.now) }
 {
     let mut place = first;
-    for feature in run.as_slice() {
+    for feature in chunk.as_slice() {
         add(index, alloc, &feature.get().document().project, place)?;
         place = next_place(place)?;
     }

@@ -5,7 +5,7 @@ ghost use Rattle.std.specs.Option.{option_map_or};
 ghost use Rattle.unl_compiled.specs.Next.{keeps_place, state_after};
 ghost use Rattle.unl_compiled.specs.Places.{IsIndex};
 ghost use Rattle.unl_delta.specs.Keyed.{put, without};
-ghost use Rattle.unl_delta.specs.State as told;
+ghost use Rattle.unl_delta.specs.State as delta_state;
 ghost use Rattle.unl_documents.specs.Parameters.{AreRising};
 ghost use Rattle.unl_documents.specs.States.{name_key};
 
@@ -27,7 +27,7 @@ pub(crate) fn places_after(
     projects: &Shared<List<ProjectPlaces>>,
     after: &Parts,
 ) -> Result<Shared<List<ProjectPlaces>>, Memory>
-    requires order { told.IsInOrder before.now }
+    requires order { delta_state.IsInOrder before.now }
     requires projects { IsIndex before.now.features projects.now }
     requires after { after.now ≡ state_after number events.now before.now }
     ensures { IfOk result (IsIndex after.now.features) }
@@ -48,7 +48,7 @@ pub(crate) fn all_places(
 ) -> Result<Shared<List<ProjectPlaces>>, Memory>
     ensures { IfOk result (IsIndex parts.now.features) }
 {
-    Shared::new(alloc, index_of(alloc, parts.runs())?)
+    Shared::new(alloc, index_of(alloc, parts.chunks())?)
 }
 
 /// As `places_after`, for one event. If it puts or removes a feature, the positions after that feature shift by at most
@@ -61,7 +61,7 @@ fn places_after_one(
     projects: &List<ProjectPlaces>,
     after: &Parts,
 ) -> Result<Shared<List<ProjectPlaces>>, Memory>
-    requires order { told.IsInOrder before.now }
+    requires order { delta_state.IsInOrder before.now }
     requires projects { IsIndex before.now.features projects.now }
     requires after { after.now ≡ state_after number (event.now ∷ []) before.now }
     ensures { IfOk result (IsIndex after.now.features) }
@@ -152,7 +152,7 @@ fn keeps_place(parts: &Parts, event: &Event) -> bool
 /// The project of the feature of a name. The features are in ascending order of their names.
 fn project_of<'a>(parts: &'a Parts, name: &Text) -> Option<&'a Text>
     requires { AreRising (map name_key parts.now.features) }
-    ensures { option_map (λ t. t.now) result ≡ told.project_of name.now parts.now.features }
+    ensures { option_map (λ t. t.now) result ≡ delta_state.project_of name.now parts.now.features }
 {
     project_in(document_of(feature_named(parts, name.as_str())))
 }

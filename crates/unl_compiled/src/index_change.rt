@@ -197,7 +197,7 @@ fn shifted(place: usize, less: usize, more: usize) -> Result<usize, Memory>
     place.saturating_sub(less).checked_add(more).ok_or(Memory)
 }
 
-/// How many features the project stands for: 1 for a project, 0 for none.
+/// How many features the project counts for: 1 for a project, 0 for none.
 fn count_of(project: Option<&Text>) -> usize
     ensures { result ≡ count_of (option_map (λ t. t.now) project.entry) }
 {

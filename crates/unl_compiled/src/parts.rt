@@ -3,7 +3,7 @@ ghost use Rattle.std.specs.Prelude.{◌≡◌, ◌<◌, Some, IfOk, IsSome, leng
 ghost use Rattle.std.specs.List.{AllByRecursion};
 ghost use Rattle.unl_compiled.specs.Next.{state_after};
 ghost use Rattle.unl_compiled.specs.Places.{strategy_at};
-ghost use Rattle.unl_delta.specs.State as told;
+ghost use Rattle.unl_delta.specs.State as delta_state;
 ghost use Rattle.unl_delta.specs.Valid.{IsValidEvent};
 ghost use Rattle.unl_documents.specs.Chunks.{joined, NoneIsEmpty};
 
@@ -55,11 +55,18 @@ impl Parts {
     }
 
     /// The chunks of the feature list. None is empty.
-    pub(crate) fn runs(&self) -> &[Chunk<CompiledFeature>]
+    pub(crate) fn chunks(&self) -> &[Chunk<CompiledFeature>]
         ensures features { joined result.now ≡ self.now.features }
         ensures full { NoneIsEmpty result.now }
     {
-        self.features.runs()
+        self.features.chunks()
+    }
+
+    /// The feature at a position.
+    pub(crate) fn feature(&self, place: usize) -> Option<&CompiledFeature>
+        ensures { option_map (λ f. f.now) result ≡ slice_get self.now.features place }
+    {
+        self.features.get(place)
     }
 
     /// The compiled constraints of strategy number `strategy` of feature number `feature`. Both count from 0.
@@ -75,7 +82,7 @@ impl Parts {
     /// hydration, features and segments that no event names are shared with these parts.
     #[tactic(auto, unfolding(crate::specs::Next::state_after))]
     pub(crate) fn next(&self, alloc: Global, number: u64, events: &[Event]) -> Result<Parts, Memory>
-        requires order { told.IsInOrder self.now }
+        requires order { delta_state.IsInOrder self.now }
         requires events { AllByRecursion IsValidEvent events.now }
         ensures { IfOk result (λ p. p ≡ state_after number events.now self.now) }
     {
@@ -104,32 +111,32 @@ fn compiled_features(
 ) -> Result<ChunkedList<CompiledFeature>, Memory>
     ensures { IfOk result (λ all. all ≡ features.now) }
 {
-    Ok(ChunkedList::of_runs(compiled_runs(alloc, features.runs())?))
+    Ok(ChunkedList::from_chunks(compiled_chunks(alloc, features.chunks())?))
 }
 
-fn compiled_runs(
+fn compiled_chunks(
     alloc: Global,
-    runs: &[Chunk<Feature>],
+    chunks: &[Chunk<Feature>],
 ) -> Result<List<Chunk<CompiledFeature>>, Memory>
-    requires { NoneIsEmpty runs.now }
-    ensures same { IfOk result (λ all. all ≡ runs.now) }
+    requires { NoneIsEmpty chunks.now }
+    ensures same { IfOk result (λ all. all ≡ chunks.now) }
     ensures full { IfOk result NoneIsEmpty }
 {
     let mut all = List::new(alloc);
-    for run in runs {
-        all.push(Shared::new(alloc, compiled_run(alloc, run.get())?)?)?;
+    for chunk in chunks {
+        all.push(Shared::new(alloc, compiled_chunk(alloc, chunk.get())?)?)?;
     }
     Ok(all)
 }
 
-fn compiled_run(
+fn compiled_chunk(
     alloc: Global,
-    run: &List<Shared<Feature>>,
+    chunk: &List<Shared<Feature>>,
 ) -> Result<List<Shared<CompiledFeature>>, Memory>
-    ensures { IfOk result (λ all. all ≡ run.now) }
+    ensures { IfOk result (λ all. all ≡ chunk.now) }
 {
     let mut all = List::new(alloc);
-    for feature in run.as_slice() {
+    for feature in chunk.as_slice() {
         all.push(Shared::new(alloc, CompiledFeature::new(alloc, feature)?)?)?;
     }
     Ok(all)
@@ -150,9 +157,9 @@ fn compiled_segments(
 
 /// The parts after all of the events.
 fn fold_all(alloc: Global, parts: Parts, events: &[Event]) -> Result<Parts, Memory>
-    requires order { told.IsInOrder parts }
+    requires order { delta_state.IsInOrder parts }
     requires events { AllByRecursion IsValidEvent events.now }
-    ensures { IfOk result (λ p. p ≡ told.fold_events events.now parts) }
+    ensures { IfOk result (λ p. p ≡ delta_state.fold_events events.now parts) }
 {
     let mut now = parts;
     for event in events {
@@ -164,9 +171,9 @@ fn fold_all(alloc: Global, parts: Parts, events: &[Event]) -> Result<Parts, Memo
 /// The parts after the events whose number is greater than `above`.
 #[tactic(auto, unfolding(unl_delta::specs::State::later))]
 fn fold_later(alloc: Global, parts: Parts, events: &[Event], above: u64) -> Result<Parts, Memory>
-    requires order { told.IsInOrder parts }
+    requires order { delta_state.IsInOrder parts }
     requires events { AllByRecursion IsValidEvent events.now }
-    ensures { IfOk result (λ p. p ≡ told.fold_events (told.later told.number_of above events.now) parts) }
+    ensures { IfOk result (λ p. p ≡ delta_state.fold_events (delta_state.later delta_state.number_of above events.now) parts) }
 {
     let mut now = parts;
     for event in events {
@@ -177,8 +184,8 @@ fn fold_later(alloc: Global, parts: Parts, events: &[Event], above: u64) -> Resu
 
 /// The parts after an event, or unchanged if its number is not greater than `above`.
 fn step_above(alloc: Global, parts: Parts, event: &Event, above: u64) -> Result<Parts, Memory>
-    requires { told.IsInOrder parts }
-    ensures { IfOk result (λ p. p ≡ (if nat_lt above (told.number_of event.now) then told.step event.now parts else parts)) }
+    requires { delta_state.IsInOrder parts }
+    ensures { IfOk result (λ p. p ≡ (if nat_lt above (delta_state.number_of event.now) then delta_state.step event.now parts else parts)) }
 {
     if event.number() > above {
         return step(alloc, parts, event);
@@ -188,8 +195,8 @@ fn step_above(alloc: Global, parts: Parts, event: &Event, above: u64) -> Result<
 
 /// The parts after one event. Only the feature or segment that it names is recompiled; a hydration recompiles everything.
 fn step(alloc: Global, parts: Parts, event: &Event) -> Result<Parts, Memory>
-    requires { told.IsInOrder parts }
-    ensures { IfOk result (λ p. p ≡ told.step event.now parts) }
+    requires { delta_state.IsInOrder parts }
+    ensures { IfOk result (λ p. p ≡ delta_state.step event.now parts) }
 {
     match event {
         Event::Hydration { state, .. } => Parts::of(alloc, state),

@@ -136,7 +136,7 @@ pub(crate) fn feature_named<'a>(parts: &'a Parts, name: &str) -> Option<&'a Comp
     requires { AreRising (map name_key parts.now.features) }
     ensures { option_map (λ f. f.now) result ≡ feature_with name.now parts.now.features }
 {
-    feature_among(parts.runs(), name)
+    feature_among(parts.chunks(), name)
 }
 
 /// The position of the feature of a name, or where it would be inserted. The features are in ascending order of their
@@ -146,39 +146,39 @@ pub(crate) fn place_named(parts: &Parts, name: &str) -> Result<usize, Memory>
     ensures { IfOk result (λ place. place
         ≡ prefix_len (λ f. is_lt (slice_cmp nat_cmp (name_key f) name.now)) parts.now.features) }
 {
-    place_among(parts.runs(), name)
+    place_among(parts.chunks(), name)
 }
 
 /// As `place_named`, over the chunks of the features.
-fn place_among(runs: &[Chunk<CompiledFeature>], name: &str) -> Result<usize, Memory>
-    requires rising { AreRising (map name_key (joined runs.now)) }
-    requires full { NoneIsEmpty runs.now }
+fn place_among(chunks: &[Chunk<CompiledFeature>], name: &str) -> Result<usize, Memory>
+    requires rising { AreRising (map name_key (joined chunks.now)) }
+    requires full { NoneIsEmpty chunks.now }
     ensures { IfOk result (λ place. place
-        ≡ prefix_len (λ f. is_lt (slice_cmp nat_cmp (name_key f) name.now)) (joined runs.now)) }
+        ≡ prefix_len (λ f. is_lt (slice_cmp nat_cmp (name_key f) name.now)) (joined chunks.now)) }
 {
-    let place = run_of(runs, name);
-    let before = count_of(first(runs, place))?;
-    match run_at(runs, place) {
+    let place = chunk_of(chunks, name);
+    let before = count_of(first(chunks, place))?;
+    match chunk_at(chunks, place) {
         None => Ok(before),
-        Some(run) => sum_of(before, place_of(run.as_slice(), name)),
+        Some(chunk) => sum_of(before, place_of(chunk.as_slice(), name)),
     }
 }
 
 /// The first `place` chunks.
-fn first(runs: &[Chunk<CompiledFeature>], place: usize) -> &[Chunk<CompiledFeature>]
-    requires { place ≤ length runs.now }
-    ensures { result.now ≡ take place runs.now }
+fn first(chunks: &[Chunk<CompiledFeature>], place: usize) -> &[Chunk<CompiledFeature>]
+    requires { place ≤ length chunks.now }
+    ensures { result.now ≡ take place chunks.now }
 {
-    &runs[..place]
+    &chunks[..place]
 }
 
 /// How many features the chunks have together. An overflow is reported as out of memory.
-fn count_of(runs: &[Chunk<CompiledFeature>]) -> Result<usize, Memory>
-    ensures { IfOk result (λ count. count ≡ length (joined runs.now)) }
+fn count_of(chunks: &[Chunk<CompiledFeature>]) -> Result<usize, Memory>
+    ensures { IfOk result (λ count. count ≡ length (joined chunks.now)) }
 {
     let mut count = 0;
-    for run in runs {
-        count = sum_of(count, run.get().len())?;
+    for chunk in chunks {
+        count = sum_of(count, chunk.get().len())?;
     }
     Ok(count)
 }
@@ -191,32 +191,38 @@ fn sum_of(count: usize, more: usize) -> Result<usize, Memory>
 
 /// Finds a feature by its name in chunks whose names ascend. It can only be in the first chunk that doesn't end before
 /// the name.
-fn feature_among<'a>(runs: &'a [Chunk<CompiledFeature>], name: &str) -> Option<&'a CompiledFeature>
-    requires rising { AreRising (map name_key (joined runs.now)) }
-    requires full { NoneIsEmpty runs.now }
-    ensures { option_map (λ f. f.now) result ≡ feature_with name.now (joined runs.now) }
+fn feature_among<'a>(
+    chunks: &'a [Chunk<CompiledFeature>],
+    name: &str,
+) -> Option<&'a CompiledFeature>
+    requires rising { AreRising (map name_key (joined chunks.now)) }
+    requires full { NoneIsEmpty chunks.now }
+    ensures { option_map (λ f. f.now) result ≡ feature_with name.now (joined chunks.now) }
 {
-    match run_at(runs, run_of(runs, name)) {
+    match chunk_at(chunks, chunk_of(chunks, name)) {
         None => None,
-        Some(run) => feature_in(run, name),
+        Some(chunk) => feature_in(chunk, name),
     }
 }
 
 /// The chunk at an index.
-fn run_at(runs: &[Chunk<CompiledFeature>], place: usize) -> Option<&List<Shared<CompiledFeature>>>
-    ensures { option_map (λ run. run.now) result ≡ slice_get runs.now place }
+fn chunk_at(
+    chunks: &[Chunk<CompiledFeature>],
+    place: usize,
+) -> Option<&List<Shared<CompiledFeature>>>
+    ensures { option_map (λ chunk. chunk.now) result ≡ slice_get chunks.now place }
 {
-    Some(runs.get(place)?.get())
+    Some(chunks.get(place)?.get())
 }
 
 /// The index of the chunk that has the name, or that it would be inserted into, by binary search. It is the number of
 /// chunks if all end before the name.
-fn run_of(runs: &[Chunk<CompiledFeature>], name: &str) -> usize
-    requires rising { AreRising (map name_key (joined runs.now)) }
-    requires full { NoneIsEmpty runs.now }
-    ensures { result ≡ prefix_len (ends_before name_key name.now) runs.now }
+fn chunk_of(chunks: &[Chunk<CompiledFeature>], name: &str) -> usize
+    requires rising { AreRising (map name_key (joined chunks.now)) }
+    requires full { NoneIsEmpty chunks.now }
+    ensures { result ≡ prefix_len (ends_before name_key name.now) chunks.now }
 {
-    runs.partition_point(|run| ends_before(run.get().as_slice(), name))
+    chunks.partition_point(|chunk| ends_before(chunk.get().as_slice(), name))
 }
 
 /// Whether the features end before a name: the last one's name is less than it. False for no features.
@@ -230,11 +236,14 @@ fn ends_before(features: &[Shared<CompiledFeature>], name: &str) -> bool
 }
 
 /// Finds a feature by its name in one chunk, whose names ascend.
-fn feature_in<'a>(run: &'a List<Shared<CompiledFeature>>, name: &str) -> Option<&'a CompiledFeature>
-    requires { AreRising (map name_key run.now) }
-    ensures { option_map (λ f. f.now) result ≡ feature_with name.now run.now }
+fn feature_in<'a>(
+    chunk: &'a List<Shared<CompiledFeature>>,
+    name: &str,
+) -> Option<&'a CompiledFeature>
+    requires { AreRising (map name_key chunk.now) }
+    ensures { option_map (λ f. f.now) result ≡ feature_with name.now chunk.now }
 {
-    let features = run.as_slice();
+    let features = chunk.as_slice();
     feature_at(features, place_of(features, name), name)
 }
 

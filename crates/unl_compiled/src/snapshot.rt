@@ -15,6 +15,7 @@ ghost use Rattle.unl_tokens.specs.Names.{sees};
 use crate::index::{ProjectPlaces, places_of};
 use crate::index_after::{all_places, places_after};
 use crate::parts::Parts;
+use crate::query::ToggleQuery;
 use crate::seen::{Seen, document_of, seen_named};
 use crate::toggles::toggles_of;
 use crate::toggles_text::toggles_text;
@@ -133,15 +134,7 @@ impl Snapshot {
             ≡ toggles_data (view_of (sees projects.now) self.now.state) all context.now moment.entry.now) }
         ensures no_float { IfOk result (λ v. has_float (view v) ≡ false) }
     {
-        toggles_of(
-            alloc,
-            &self.parts,
-            self.projects.get().as_slice(),
-            projects,
-            all,
-            context,
-            moment,
-        )
+        toggles_of(alloc, &self.query(projects, all, context, moment))
     }
 
     /// The body that `toggles` returns, as the text that is sent. Fails only if it runs out of memory.
@@ -156,15 +149,7 @@ impl Snapshot {
         ensures { IfOk result (λ text. text
             ≡ compact_text (toggles_data (view_of (sees projects.now) self.now.state) all context.now moment.entry.now)) }
     {
-        toggles_text(
-            alloc,
-            &self.parts,
-            self.projects.get().as_slice(),
-            projects,
-            all,
-            context,
-            moment,
-        )
+        toggles_text(alloc, &self.query(projects, all, context, moment))
     }
 
     /// The positions of a project's features in the version's state, in ascending order. Empty if no feature has the project.
@@ -182,6 +167,30 @@ impl Snapshot {
         ensures { option_map (λ s. s.constraints) (strategy_at self.now.state feature strategy) ≡ Some result.now }
     {
         self.parts.constraints(feature, strategy)
+    }
+
+    /// A query for toggles over this snapshot.
+    fn query<'a>(
+        &'a self,
+        projects: &'a Projects,
+        all: bool,
+        context: &'a Context,
+        moment: &'a Moment<'a>,
+    ) -> ToggleQuery<'a>
+        ensures state { result.state ≡ self.now.state }
+        ensures projects { result.projects ≡ projects.now }
+        ensures all { result.all ≡ all }
+        ensures context { result.context ≡ context.now }
+        ensures moment { result.moment ≡ moment.entry.now }
+    {
+        ToggleQuery {
+            parts: &self.parts,
+            index: self.projects.get().as_slice(),
+            projects,
+            all,
+            context,
+            moment,
+        }
     }
 
     /// Makes the snapshot of a version from its compiled parts and its project index.

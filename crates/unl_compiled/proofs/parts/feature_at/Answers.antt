@@ -1,4 +1,4 @@
-use Rattle.unl_compiled.proofs.InRuns.{represents}
+use Rattle.unl_compiled.proofs.InChunks.{represents}
 use Rattle.unl_compiled.proofs.parts.feature_at.Goals as goal
 
 pub unwrap-requires : goal.unwrap-requires

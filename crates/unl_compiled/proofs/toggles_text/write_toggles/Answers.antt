@@ -1,3 +1,4 @@
+use Rattle.unl_compiled.specs.Toggles.{visible}
 use Rattle.unl_compiled.proofs.Tokens.{toggles_tokens}
 use Rattle.unl_documents.proofs.Tokens.{one, then}
 use Rattle.unl_compiled.proofs.toggles_text.write_toggles.Goals as goal
@@ -8,4 +9,5 @@ returns c =
     let opened = one c.in_ok-begin_array.ensures in
     let closed = one c.in_ok-end_array.ensures in
     let ended = one c.in_ok-end_object.ensures in
-    rw (toggles_tokens c.args.seen.now c.args.all c.args.context.now c.args.moment.now) (then begun (then c.in_ok-print_key.ensures (then opened (then c.in_ok-write_items.ensures (then closed ended)))))
+    let query = c.args.query.now in
+    rw (toggles_tokens (visible query) query.all query.context query.moment) (then begun (then c.in_ok-print_key.ensures (then opened (then c.in_ok-collect.ensures (then closed ended)))))

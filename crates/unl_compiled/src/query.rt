@@ -1,0 +1,107 @@
+//! Queries for toggles.
+ghost use Rattle.std.specs.Prelude.{◌≡◌, ◌||◌, All, IfOk, IfSome, filter_map, option_map, slice_get};
+ghost use Rattle.unl_compiled.specs.Toggles.{toggle_at, toggle_if_seen, toggles_for, visible};
+ghost use Rattle.unl_dependencies.specs.Evaluation.{feature_evaluation};
+ghost use Rattle.unl_documents.specs.Chunks.{joined};
+ghost use Rattle.unl_documents.specs.Valid.{IsValidFeature};
+ghost use Rattle.unl_tokens.specs.Names.{sees};
+
+use crate::feature::CompiledFeature;
+use crate::index::{ProjectPlaces, places_of_one};
+use crate::parts::Parts;
+use crate::seen::Seen;
+use std::alloc::Global;
+use std::marker::Model;
+use unl_context::Context;
+use unl_dependencies::{Evaluation, evaluate_feature};
+use unl_documents::{Chunk, Memory};
+use unl_strategies::Moment;
+use unl_tokens::Projects;
+
+/// A query for toggles: what is asked, over a valid state and its index by project.
+#[derive(Drop)]
+pub(crate) struct ToggleQuery<'a> {
+    /// The compiled state.
+    pub parts: &'a Parts,
+    /// The state's index by project.
+    pub index: &'a [ProjectPlaces],
+    /// The projects that are seen.
+    pub projects: &'a Projects,
+    /// Whether the toggles that are off are asked for too.
+    pub all: bool,
+    /// The context of the evaluation.
+    pub context: &'a Context,
+    /// The time of the evaluation and its source of random numbers.
+    pub moment: &'a Moment<'a>,
+}
+
+impl<'a> Model for ToggleQuery<'a> {
+    ghost use Rattle.unl_compiled.specs.Places.{IsIndex};
+    ghost use Rattle.unl_compiled.specs.Toggles.{ToggleQuery as Plain};
+    ghost use Rattle.unl_documents.specs.States.{IsValidState};
+
+    ghost Value = { Plain };
+
+    ghost view = { λ q. record {
+      state = q.parts.now;
+      projects = q.projects.now;
+      all = q.all;
+      context = q.context.now;
+      moment = q.moment.now;
+    } };
+
+    ghost invariant = { λ q. IsValidState q.parts.now × IsIndex q.parts.now.features q.index.now };
+}
+
+impl<'a> ToggleQuery<'a> {
+    /// The positions of the visible features, if the query has exactly one project.
+    pub(crate) fn places(&self) -> Option<&[usize]>
+        ensures { IfSome result (λ places. filter_map (toggle_at self.now) places.now ≡ toggles_for self.now) }
+    {
+        places_of_one(self.index, self.projects)
+    }
+
+    /// The chunks of all features, visible or not.
+    pub(crate) fn chunks(&self) -> &[Chunk<CompiledFeature>]
+        ensures toggles { filter_map (toggle_if_seen self.now) (joined result.now) ≡ toggles_for self.now }
+        ensures valid { All IsValidFeature (joined result.now) }
+    {
+        self.parts.chunks()
+    }
+
+    /// The feature at a position of the state.
+    pub(crate) fn feature(&self, place: usize) -> Option<&CompiledFeature>
+        ensures feature { option_map (λ f. f.now) result ≡ slice_get self.now.state.features place }
+        ensures valid { IfSome result (λ f. IsValidFeature f.now) }
+    {
+        self.parts.feature(place)
+    }
+
+    /// Whether a feature's project is seen.
+    pub(crate) fn sees(&self, feature: &CompiledFeature) -> bool
+        ensures { result ≡ sees self.now.projects feature.now.project }
+    {
+        self.projects.sees(feature.document().project.as_str())
+    }
+
+    /// Whether the toggle of an evaluated feature is asked for.
+    pub(crate) fn asks_for(&self, evaluation: &Evaluation) -> bool
+        ensures { result ≡ (self.now.all || evaluation.now.on) }
+    {
+        self.all || evaluation.on
+    }
+
+    /// Evaluates a feature over the visible part of the state.
+    pub(crate) fn evaluate(
+        &self,
+        alloc: Global,
+        feature: &CompiledFeature,
+    ) -> Result<Evaluation, Memory>
+        requires { IsValidFeature feature.now }
+        ensures { IfOk result (λ e. e
+            ≡ feature_evaluation (visible self.now) feature.now self.now.context self.now.moment) }
+    {
+        let seen = Seen::of(self.parts, self.projects);
+        evaluate_feature(alloc, &seen, feature, self.context, self.moment)
+    }
+}
