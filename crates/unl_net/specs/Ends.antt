@@ -19,7 +19,7 @@ MayEnd (Late now) phase since = nat_le (limit_of phase) (seconds_between since n
 MayEnd (CutOff cut) phase since = ⊤
 MayEnd (DoorEnds began now) phase since = nat_le 30 (seconds_between began now) ≡ true
 
--- what is counted of a connection whose time is over: that a client asks nothing more is no cut
+-- what is counted for a connection whose time is over in this phase; an idle client is not counted as cut off
 abbrev pub late_cut : Phase → Option Cut
 late_cut Idle = None
 late_cut Receiving = Some SlowRequest
@@ -28,7 +28,7 @@ late_cut Sending = Some SlowReader
 late_cut Draining = None
 late_cut Over = None
 
--- what is counted of a connection that ends for this reason in this phase
+-- what is counted for a connection that ends for this reason in this phase
 abbrev pub cut_of : EndReason → Phase → Option Cut
 cut_of Done phase = None
 cut_of (Failed fault) phase = None
@@ -36,7 +36,7 @@ cut_of (Late now) phase = late_cut phase
 cut_of (CutOff cut) phase = Some cut
 cut_of (DoorEnds began now) phase = None
 
--- the counts with one more
+-- the counts with one more connection that was cut off
 abbrev pub counted : Cut → Cuts → Cuts
 counted SlowRequest cuts = record cuts { slow_requests = min (cuts.slow_requests + 1) (2 ^ 64 - 1) }
 counted SlowReader cuts = record cuts { slow_readers = min (cuts.slow_readers + 1) (2 ^ 64 - 1) }

@@ -26,7 +26,7 @@ waits Sending = true
 waits Draining = true
 waits Over = false
 
--- for how many seconds at most
+-- for how many seconds a connection may be in this phase at most
 abbrev pub limit_of : Phase → ℕ
 limit_of Idle = 75
 limit_of Receiving = 30
@@ -35,8 +35,8 @@ limit_of Sending = 30
 limit_of Draining = 2
 limit_of Over = 0
 
--- What becomes of a connection whose link ends at this stage: it goes back unless it failed, and is closed behind its last answer
--- unless the link ended between two requests. `owes`: bytes are to be sent; `unread`: the client may have sent what no link has read.
+-- What becomes of a connection whose link ends at this stage: it goes back unless it failed, and is closed after its last answer unless
+-- the link ended between two requests. `owes`: bytes are to be sent; `unread`: the client may have sent what no link has read.
 abbrev pub fate_of : Stage → Bool → Bool → Fate
 fate_of Answered owes unread = if owes || unread then Ends else Closed
 fate_of Asked owes unread = if owes || unread then Ends else Closed

@@ -126,7 +126,7 @@ NotesRead old bytes result new = match_stage old.stage
     × (result ≡ logged_answer old.kind.key (answer_status bytes) (is_fed old bytes) old.known))
     ((new ≡ old) × (result ≡ None))
 
--- the text that is logged for a status; 1 stands for no reply, and 1000 for a feed that was not taken
+-- the text that is logged for a status; 1 means no reply, and 1000 a feed that was not taken
 abbrev pub answer_text : ℕ → List ℕ
 answer_text status =
     if nat_eq status 1 then codes "no answer" else if nat_eq status 1000 then codes "200, but not taken" else decimal status

@@ -8,9 +8,9 @@ use unl_http_api::{Frame, request_frame};
 #[derive(Drop)]
 pub(crate) struct ReceiveBuffer {
     bytes: Vec<u8>,
-    /// How many of them were read, from the front.
+    /// The number of bytes at the start that were read already.
     taken: usize,
-    /// How many after these may be read: those of one request.
+    /// The number of bytes after these that may be read, all of one request.
     opened: usize,
     ghost within: { taken + opened ≤ vec_len bytes },
 }
@@ -20,7 +20,7 @@ impl ReceiveBuffer {
     ghost use Rattle.unl_http_api.specs.declared.frame.Frame as frame;
     ghost use Rattle.unl_net.specs.Buffers.{opened_len, unread};
 
-    /// No bytes.
+    /// An empty buffer.
     pub fn new(alloc: Global) -> Self
         ensures { unread result ≡ [] }
     {
@@ -73,7 +73,8 @@ impl ReceiveBuffer {
         self.bytes.extend_from_slice(bytes).unwrap();
     }
 
-    /// What the unread bytes begin with. If an allocation fails, which only very long heads need, the request counts as unfinished.
+    /// Measures the request at the start of the unread bytes. If an allocation fails, which only very long heads need, the request
+    /// counts as unfinished.
     fn prefix(&self, alloc: Global) -> Frame
         ensures { result ≢ Frame.More → IsFrame (unread self.now) result }
     {
@@ -83,8 +84,8 @@ impl ReceiveBuffer {
         }
     }
 
-    /// Opens the request that the unread bytes begin with, if it is whole, or all of them if they are refused. Returns which of these
-    /// it found.
+    /// Opens bytes, so that they may be read: the request at the start of the unread bytes if it is whole, or all unread bytes if they
+    /// are refused. Returns which of these it found.
     pub fn open(&mut self, alloc: Global) -> Frame
         ensures same { unread self.new ≡ unread self.old }
         ensures frame { result ≢ Frame.More → IsFrame (unread self.new) result }
@@ -170,7 +171,7 @@ fn copy_prefix(bytes: &[u8], room: &mut [u8], count: usize)
 #[derive(Drop)]
 pub(crate) struct SendBuffer {
     bytes: Vec<u8>,
-    /// How many of them were sent, from the front.
+    /// The number of bytes at the start that were sent already.
     sent: usize,
     ghost within: { sent ≤ vec_len bytes },
 }
@@ -178,7 +179,7 @@ pub(crate) struct SendBuffer {
 impl SendBuffer {
     ghost use Rattle.unl_net.specs.Buffers.{unsent};
 
-    /// No bytes.
+    /// An empty buffer.
     pub fn new(alloc: Global) -> Self
         ensures { unsent result ≡ [] }
     {
@@ -212,7 +213,7 @@ impl SendBuffer {
     /// Appends bytes. It reserves no more memory than they need.
     ///
     /// # Errors
-    /// An allocation failed: nothing was appended.
+    /// Out of memory. Nothing was appended.
     pub fn add(&mut self, bytes: &[u8]) -> Result<(), AllocError>
         ensures ok { OnOk result (unsent self.new ≡ unsent self.old ++ bytes.now) }
         ensures err { OnErr result (unsent self.new ≡ unsent self.old) }

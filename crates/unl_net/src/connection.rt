@@ -16,10 +16,10 @@ use std::net::{OpenStream, Shutdown};
 use std::time::{Clock, Duration, Instant};
 use unl_http_api::Frame;
 
-/// How long a blocking call of a stream waits at most, in milliseconds: long enough for a request that is already on its way.
+/// The timeout of a blocking call of a stream, in milliseconds: long enough for a request that is already on its way.
 const MOMENT: u64 = 10;
 
-/// How many bytes are read at once.
+/// The size of one read, in bytes.
 pub(crate) const PIECE: usize = 4_096;
 
 /// More pieces than the longest request has. This bounds each loop of reads.
@@ -31,19 +31,19 @@ pub(crate) struct Connection<S: Read + Write + OpenStream + Drop> {
     pub stream: S,
     pub received: ReceiveBuffer,
     pub to_send: SendBuffer,
-    /// The received bytes are no request, or one that is refused by its head.
+    /// Whether the received bytes are refused: they are no request, or one whose head breaks a rule.
     pub refused: bool,
-    /// The client has ended its side: no more bytes come.
+    /// Whether the client has shut down its side: no more bytes come.
     pub ended: bool,
-    /// The connection is to be closed once all bytes are sent.
+    /// Whether the connection will be closed once all bytes are sent.
     pub closing: bool,
-    /// When its present phase began.
+    /// When its current phase began.
     pub since: Option<Instant>,
-    /// Its own side was ended: nothing more is sent.
+    /// Whether this side was shut down: nothing more is sent.
     is_shut: bool,
     /// Whether the stream's calls block.
     waits: bool,
-    /// Whether the stream has its time limits.
+    /// Whether the timeouts of the stream's calls are set.
     is_limited: bool,
 }
 
@@ -54,7 +54,7 @@ impl<S: Read + Write + OpenStream + Drop> Connection<S> {
     /// The stream can't be set to non-blocking.
     pub fn new(alloc: Global, stream: S) -> io::Result<Self> {
         stream.set_nonblocking(true)?;
-        // A reply is written as a whole, so no byte is to be delayed to be sent with others.
+        // A reply is written as a whole, so no byte should wait for further ones (Nagle's algorithm).
         let _ = stream.set_nodelay(true);
         Ok(Connection {
             stream,
@@ -70,10 +70,10 @@ impl<S: Read + Write + OpenStream + Drop> Connection<S> {
         })
     }
 
-    /// Lets the stream's calls block, for a moment at most.
+    /// Sets the stream to blocking, with a timeout of `MOMENT`.
     ///
     /// # Errors
-    /// That of the stream.
+    /// The error of the stream.
     pub fn set_waiting(&mut self) -> io::Result<()>
         ensures { self.new ≡ record self.old { waits = self.new.waits; is_limited = self.new.is_limited } }
     {
@@ -93,7 +93,7 @@ impl<S: Read + Write + OpenStream + Drop> Connection<S> {
     /// Sets the stream to non-blocking.
     ///
     /// # Errors
-    /// That of the stream.
+    /// The error of the stream.
     pub fn set_not_waiting(&mut self) -> io::Result<()>
         ensures { self.new ≡ record self.old { waits = self.new.waits } }
     {
@@ -104,7 +104,7 @@ impl<S: Read + Write + OpenStream + Drop> Connection<S> {
         Ok(())
     }
 
-    /// Opens the request that the received bytes begin with, and returns whether it is whole or refused.
+    /// Opens the first unread request, and returns whether it is whole or refused.
     pub fn open(&mut self, alloc: Global) -> bool
         ensures same { unread self.new.received ≡ unread self.old.received }
         ensures others { (self.new.stream ≡ self.old.stream) × (self.new.to_send ≡ self.old.to_send) }
@@ -115,7 +115,7 @@ impl<S: Read + Write + OpenStream + Drop> Connection<S> {
         prefix != Frame::More
     }
 
-    /// Lets the connection be closed behind its answers, unless bytes of a further request came.
+    /// Marks the connection to be closed after its answers, unless bytes of a further request were received.
     pub fn close_behind(&mut self)
         ensures { self.new ≡ record self.old { closing = self.old.closing || (length (unread self.old.received) == 0) } }
     {
@@ -142,7 +142,7 @@ impl<S: Read + Write + OpenStream + Drop> Connection<S> {
         phase_of(self.facts())
     }
 
-    /// Whether its time is over: at this moment it has waited for as long as its phase allows.
+    /// Whether its time is over: at `now` it has waited as long as its phase allows.
     pub fn is_late(&self, now: Option<Instant>) -> bool
         ensures { result ≡ nat_le
             (limit_of (phase_of (facts_of self.now.received self.now.to_send self.now.closing self.now.ended)))
@@ -154,7 +154,7 @@ impl<S: Read + Write + OpenStream + Drop> Connection<S> {
     /// Reads from the stream once. `None`: no byte came in time.
     ///
     /// # Errors
-    /// That of the stream.
+    /// The error of the stream.
     pub fn read(&mut self, room: &mut [u8]) -> io::Result<Option<usize>>
         ensures fits { IfOk result (λ given. IfSome given (λ n. n ≤ length room.new)) }
         ensures gives { GivesIfAny (S.remaining self.old.stream) (S.remaining self.new.stream) result room.new }
@@ -168,10 +168,10 @@ impl<S: Read + Write + OpenStream + Drop> Connection<S> {
         }
     }
 
-    /// Reads from the stream once, and appends that to the received bytes. Returns false if no byte came in time.
+    /// Reads from the stream once, and appends the bytes to the received ones. Returns false if no byte came in time.
     ///
     /// # Errors
-    /// That of the stream, or out of memory.
+    /// The error of the stream, or out of memory.
     #[tactic(auto, using(crate::proofs::Moving::receive_rules))]
     pub fn receive(&mut self, room: &mut [u8; PIECE]) -> io::Result<bool>
         ensures begins { BeginsWith (unread self.old.received) (unread self.new.received) }
@@ -195,7 +195,7 @@ impl<S: Read + Write + OpenStream + Drop> Connection<S> {
     /// Writes to the stream once, and returns how many bytes it took: 0 if it took none in time.
     ///
     /// # Errors
-    /// That of the stream.
+    /// The error of the stream.
     pub fn write(&mut self, piece: &[u8]) -> io::Result<usize>
         ensures fits { IfOk result (λ n. n ≤ length piece.now) }
         ensures appends { WriteAppends (S.contents self.old.stream) (S.contents self.new.stream) result piece.now }
@@ -208,13 +208,14 @@ impl<S: Read + Write + OpenStream + Drop> Connection<S> {
         }
     }
 
-    /// Writes the bytes to be sent once, and returns how many the stream took.
+    /// Makes one write of the bytes to be sent, and returns how many the stream took.
     ///
     /// # Errors
-    /// That of the stream.
+    /// The error of the stream.
     #[tactic(auto, using(crate::proofs::Moving::sent_keeps))]
     pub fn flush(&mut self) -> io::Result<usize>
-        ensures kept { Keeps (outgoing (S.contents self.old.stream) self.old.to_send) (outgoing (S.contents self.new.stream) self.new.to_send) }
+        ensures kept { Keeps (outgoing (S.contents self.old.stream) self.old.to_send)
+            (outgoing (S.contents self.new.stream) self.new.to_send) }
         ensures others { (self.new.received ≡ self.old.received) × (self.new.closing ≡ self.old.closing)
             × (self.new.ended ≡ self.old.ended) }
     {
@@ -228,11 +229,11 @@ impl<S: Read + Write + OpenStream + Drop> Connection<S> {
         }
     }
 
-    /// Does what is to be done for a connection that no link serves: sends the bytes to be sent, then reads what came. No received
-    /// byte is lost, unless the connection is to be closed. Returns its new phase.
+    /// Advances a connection that no link serves: sends the pending bytes, then reads what came. No received byte is lost unless the
+    /// connection is to be closed. Returns its new phase.
     ///
     /// # Errors
-    /// That of the stream, or out of memory.
+    /// The error of the stream, or out of memory.
     #[tactic(auto, using(crate::proofs::Moving::begins_same))]
     pub fn advance<C: Clock>(
         &mut self,
@@ -257,7 +258,7 @@ impl<S: Read + Write + OpenStream + Drop> Connection<S> {
     /// Reads what came, after all bytes were sent.
     ///
     /// # Errors
-    /// That of the stream, or out of memory.
+    /// The error of the stream, or out of memory.
     fn advance_reading<C: Clock>(
         &mut self,
         alloc: Global,
@@ -277,10 +278,10 @@ impl<S: Read + Write + OpenStream + Drop> Connection<S> {
         self.advance_receiving(alloc, clock, room)
     }
 
-    /// Opens the received request if it is whole, and else reads what came.
+    /// Opens the received request if it is whole, otherwise reads what came.
     ///
     /// # Errors
-    /// That of the stream, or out of memory.
+    /// The error of the stream, or out of memory.
     #[tactic(auto, using(crate::proofs::Moving::begins_same, crate::proofs::Moving::begins_then))]
     fn advance_receiving<C: Clock>(
         &mut self,
@@ -304,10 +305,11 @@ impl<S: Read + Write + OpenStream + Drop> Connection<S> {
     /// Sends the bytes to be sent, as far as the stream takes them.
     ///
     /// # Errors
-    /// That of the stream.
+    /// The error of the stream.
     #[tactic(auto, using(crate::proofs::Trying::stays))]
     fn send<C: Clock>(&mut self, alloc: Global, clock: &C) -> io::Result<()>
-        ensures sent { Keeps (outgoing (S.contents self.old.stream) self.old.to_send) (outgoing (S.contents self.new.stream) self.new.to_send) }
+        ensures sent { Keeps (outgoing (S.contents self.old.stream) self.old.to_send)
+            (outgoing (S.contents self.new.stream) self.new.to_send) }
         ensures received { self.new.received ≡ self.old.received }
         ensures nothing { unsent self.old.to_send ≡ [] → self.new ≡ self.old }
         ensures marks { (self.new.closing ≡ self.old.closing) × (self.new.ended ≡ self.old.ended) }
@@ -327,7 +329,7 @@ impl<S: Read + Write + OpenStream + Drop> Connection<S> {
     /// Reads what came, until a request is whole or nothing is left.
     ///
     /// # Errors
-    /// That of the stream, or out of memory.
+    /// The error of the stream, or out of memory.
     #[tactic(auto, using(crate::proofs::Trying::stays, crate::proofs::Trying::stays_on, crate::proofs::Moving::begins_kept))]
     fn receive_request<C: Clock>(
         &mut self,
@@ -354,7 +356,7 @@ impl<S: Read + Write + OpenStream + Drop> Connection<S> {
     /// Reads piece after piece, until a request is whole or nothing is left.
     ///
     /// # Errors
-    /// That of the stream, or out of memory.
+    /// The error of the stream, or out of memory.
     #[tactic(auto, using(crate::proofs::Moving::pieces_rules))]
     fn receive_pieces(&mut self, alloc: Global, room: &mut [u8; PIECE]) -> io::Result<()>
         ensures closing { self.new.closing ≡ self.old.closing }
@@ -370,10 +372,10 @@ impl<S: Read + Write + OpenStream + Drop> Connection<S> {
         Ok(())
     }
 
-    /// Reads a piece, and opens the request if it is whole then. Returns whether more is to be read.
+    /// Reads a piece, and opens the request if it is whole then. Returns whether to read on.
     ///
     /// # Errors
-    /// That of the stream, or out of memory.
+    /// The error of the stream, or out of memory.
     #[tactic(auto, using(crate::proofs::Trying::stays, crate::proofs::Moving::begins_same, crate::proofs::Moving::begins_kept))]
     fn receive_piece(&mut self, alloc: Global, room: &mut [u8; PIECE]) -> io::Result<bool>
         ensures closing { self.new.closing ≡ self.old.closing }
@@ -381,7 +383,7 @@ impl<S: Read + Write + OpenStream + Drop> Connection<S> {
         ensures kept { Keeps (coming self.old.received (S.remaining self.old.stream))
             (coming self.new.received (S.remaining self.new.stream)) }
     {
-        // After an unfinished request the client's end may be there already, and no further event reports it.
+        // After an unfinished request the client may already have shut down its side, and no further event reports that.
         if self.ended {
             return Ok(false);
         }
@@ -391,10 +393,10 @@ impl<S: Read + Write + OpenStream + Drop> Connection<S> {
         Ok(!self.open(alloc))
     }
 
-    /// Ends its own side, and throws away what comes until the client ends its side too.
+    /// Shuts down this side, and discards what comes until the client shuts down its side too.
     ///
     /// # Errors
-    /// That of the stream.
+    /// The error of the stream.
     fn drain<C: Clock>(
         &mut self,
         alloc: Global,

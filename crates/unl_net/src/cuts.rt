@@ -9,7 +9,7 @@ use std::fmt::Display;
 use std::time::Instant;
 use std::{fmt, io};
 
-/// How many seconds lie between two lines at least.
+/// The minimum number of seconds between two lines.
 const PAUSE: u64 = 60;
 
 /// Why a connection was cut off.
@@ -28,7 +28,7 @@ pub(crate) enum Cut {
 /// Why a connection ends that no link serves.
 #[derive(Clone, Copy)]
 pub(crate) enum EndReason {
-    /// It is over: its client ended it, and nothing is to be sent.
+    /// It is over: its client shut it down, and nothing is left to be sent.
     Done,
     /// A call of its stream failed, or the wait for events did.
     Failed(io::Error),
@@ -36,11 +36,11 @@ pub(crate) enum EndReason {
     Late(Option<Instant>),
     /// It is cut off.
     CutOff(Cut),
-    /// Its door ends: at the second of these moments 30 seconds have passed since the first, at which accepting failed for good.
+    /// Its door ends. Accepting failed for good at the first moment, at least 30 seconds before the second.
     DoorEnds(Option<Instant>, Option<Instant>),
 }
 
-/// What is counted of a connection in this phase whose time is over: that a client asks nothing more is no cut.
+/// What is counted for a connection whose time is over in this phase. An idle client is not counted as cut off.
 fn late_cut(phase: Phase) -> Option<Cut>
     ensures { result ≡ late_cut phase }
 {
@@ -51,7 +51,7 @@ fn late_cut(phase: Phase) -> Option<Cut>
     }
 }
 
-/// What is counted of a connection that ends for this reason in this phase.
+/// What is counted for a connection that ends for this reason in this phase.
 pub(crate) fn cut_of(reason: EndReason, phase: Phase) -> Option<Cut>
     ensures { result ≡ cut_of reason phase }
 {
@@ -64,7 +64,7 @@ pub(crate) fn cut_of(reason: EndReason, phase: Phase) -> Option<Cut>
     }
 }
 
-/// How many connections were cut off, by why.
+/// How many connections were cut off, by cause.
 #[derive(Clone, Copy)]
 pub(crate) struct Cuts {
     slow_requests: u64,
@@ -74,7 +74,7 @@ pub(crate) struct Cuts {
 }
 
 impl Cuts {
-    /// None.
+    /// No connection was cut off yet.
     pub fn new() -> Self {
         Cuts {
             slow_requests: 0,
@@ -84,7 +84,7 @@ impl Cuts {
         }
     }
 
-    /// Counts one more, where there is one.
+    /// Counts a connection if it was cut off.
     pub fn count(&mut self, cut: Option<Cut>)
         ensures { self.new ≡ after_cut cut self.old }
     {
@@ -94,7 +94,7 @@ impl Cuts {
         }
     }
 
-    /// Counts one more.
+    /// Counts one connection that was cut off.
     fn count_one(&mut self, cut: Cut)
         ensures { self.new ≡ counted cut self.old }
     {
@@ -111,7 +111,7 @@ impl Cuts {
         self.memory = self.memory.saturating_add(count);
     }
 
-    /// How many were counted.
+    /// The sum of all counts.
     fn sum(&self) -> u64 {
         self.slow_requests
             .saturating_add(self.slow_readers)
@@ -143,7 +143,7 @@ pub(crate) struct EachMinute {
 }
 
 impl EachMinute {
-    /// Nothing was logged.
+    /// Nothing was logged yet.
     pub fn new() -> Self {
         EachMinute { last: None }
     }
@@ -157,7 +157,7 @@ impl EachMinute {
         is_due
     }
 
-    /// What was cut off since the last line, where a line is due.
+    /// The counts since the last line, if a line is due.
     pub fn due_cuts(&mut self, now: Option<Instant>, cuts: &mut Cuts) -> Option<Cuts> {
         if cuts.sum() == 0 || !self.is_due(now) {
             return None;

@@ -26,13 +26,13 @@ use unl_base::{Door, Failed};
 /// How many links are handed out before the door looks for further events.
 const MOST_IN_A_ROW: u64 = 32;
 
-/// How long the door waits for an event at most, in milliseconds.
+/// The longest wait for an event, in milliseconds.
 const SECOND: u64 = 1_000;
 
-/// The same while a connection is to be accepted for which there is no room yet.
+/// The same while a connection waits to be accepted and there is no room for it yet.
 const MOMENT: u64 = 10;
 
-/// A door over the network. It listens on all IPv6 and IPv4 addresses of this machine if one socket can do both, and else on all IPv4
+/// A door over the network. It listens on all IPv6 and IPv4 addresses of this machine if one socket can do both, otherwise on all IPv4
 /// addresses. It holds the connections that wait for their clients, and hands one out as a link once a whole request was received. A
 /// connection may be several links, one after another.
 #[derive(Drop)]
@@ -85,8 +85,7 @@ impl<N: Net + Clock + Eprint + Wait + Copy + Drop> RealDoor<N> {
 /// Waits for the next link, and returns whether it is the last one.
 ///
 /// # Errors
-/// Out of memory, or the error with which an accept or a wait for events failed for good, once the connections that were there are
-/// served.
+/// Out of memory, or the error with which accepting or waiting for events failed for good, once the existing connections are served.
 #[tactic(auto, using(crate::proofs::Accounting::unchanged, crate::proofs::Accounting::of_opened))]
 fn next_link<N: Net + Clock + Eprint + Wait + Copy + Drop>(
     alloc: Global,
@@ -158,7 +157,8 @@ fn next_of<N: Net + Clock + Eprint + Wait + Copy + Drop>(
         reports.new.arrived (with_link_if_any result (slab_len reactor.new.waiting + deque_len reactor.new.ready)) reactor.new.ended }
 {
     'turns: for _turn in 0..u64::MAX {
-        if let Some(next) = hand_out_next(alloc, net, reactor, accepting, reports)? {
+        take_back(&net, reactor, reports);
+        if let Some(next) = hand_out_in_a_row(alloc, net, reactor, accepting, reports)? {
             return Ok(Some(next));
         }
         if is_finished(&net, reactor, accepting, reports) {
@@ -169,29 +169,7 @@ fn next_of<N: Net + Clock + Eprint + Wait + Copy + Drop>(
     Err(io::Error::from(ErrorKind::NotConnected))
 }
 
-/// Takes back the connections that links gave back, and hands out one that is ready, unless as many were handed out in a row as may be.
-///
-/// # Errors
-/// Out of memory.
-#[tactic(auto, using(crate::proofs::Accounting::behind))]
-fn hand_out_next<N: Net + Clock + Eprint + Wait + Copy + Drop>(
-    alloc: Global,
-    net: N,
-    reactor: &mut Reactor<N::Stream>,
-    accepting: &Accepting,
-    reports: &mut Reports,
-) -> io::Result<Option<(RealLink<N::Stream, N>, bool)>>
-    ensures faultless { IfOk result (λ next. IfSome next (λ next. next.0.faults ≡ 0)) }
-    ensures last { IfOk result (λ next. IfSome next (λ next. next.1 ≡ true
-        → IsLast accepting.now reactor.new.waiting reactor.new.ready.items)) }
-    ensures accounts { LosesNone reports.old.arrived (slab_len reactor.old.waiting + deque_len reactor.old.ready) reactor.old.ended
-        reports.new.arrived (with_link_if_any result (slab_len reactor.new.waiting + deque_len reactor.new.ready)) reactor.new.ended }
-{
-    take_back(&net, reactor, reports);
-    hand_out_in_a_row(alloc, net, reactor, accepting, reports)
-}
-
-/// Hands out a connection that is ready, unless as many were handed out in a row as may be.
+/// Hands out a connection that is ready, unless `MOST_IN_A_ROW` were handed out since the door last looked for events.
 ///
 /// # Errors
 /// Out of memory.
@@ -239,7 +217,7 @@ fn take_back<N: Net + Clock + Eprint + Wait + Copy + Drop>(
     reports.count_arrived(count);
 }
 
-/// Accepts the connections that are to be accepted, and counts them.
+/// Accepts pending connections, and counts them.
 #[tactic(auto, using(crate::proofs::Accounting::arrived))]
 fn accept_more<N: Net + Clock + Eprint + Wait + Copy + Drop>(
     alloc: Global,
@@ -256,7 +234,8 @@ fn accept_more<N: Net + Clock + Eprint + Wait + Copy + Drop>(
     reports.count_arrived(count);
 }
 
-/// Whether no more connections are accepted, none waits or is ready, and none is waited for that a link may give back.
+/// Whether the door is finished: no more connections are accepted, none waits or is ready, and it need not wait for a link to give one
+/// back.
 #[tactic(auto, using(crate::proofs::Accounting::unchanged))]
 fn is_finished<N: Net + Clock + Eprint + Wait + Copy + Drop>(
     net: &N,
@@ -274,7 +253,7 @@ fn is_finished<N: Net + Clock + Eprint + Wait + Copy + Drop>(
     if !reactor.needs_no_link(moment(net)) {
         return false;
     }
-    // Links that ended before that gave their connections back.
+    // Links that have ended by now gave their connections back.
     take_back(net, reactor, reports);
     reactor.is_empty()
 }
@@ -425,11 +404,11 @@ impl<N: Net + Clock + Eprint + Wait + Copy + Drop> Door for RealDoor<N> {
         }
     }
 
-    /// Hands out a connection of which a whole request was received. The door closes only with the last link of the connections that
-    /// its bound allows. After an accept that failed for good, those that are there wait on, each is closed behind its answers, and the
-    /// door fails once none is left, after 30 seconds at most. After a wait for events that failed for good, it fails once those are
-    /// handed out of which a whole request was received. No connection is lost: of those that were there or arrived meanwhile, one is
-    /// the link, and each other one waits, is ready or was counted as ended.
+    /// Hands out a connection from which a whole request was received. The door closes only with the last link of the connections that
+    /// its bound allows. After accepting failed for good, the existing connections wait on, each is closed after its answers, and the
+    /// door fails once none is left, after 30 seconds at most. After waiting for events failed for good, it hands out the connections
+    /// from which a whole request was received, and then fails. No connection is lost: of those that were there or arrived meanwhile,
+    /// one is the link, and each other one waits, is ready or was counted as ended.
     #[tactic(auto, using(crate::proofs::Accounting::unchanged))]
     fn accept(&mut self) -> Result<Option<Self::L>, Failed>
         ensures accepts { IfOk result (λ link. Accepts link (door_state self.old.ports.items self.old.counts)

@@ -1,5 +1,5 @@
-//! Ends connections that wait: the largest where memory is short, the oldest where room is, and those whose time is over. Also what
-//! becomes of them once no more are accepted.
+//! Ends connections that wait: the one that has received most if memory is short, the oldest if room is short, and those whose time is
+//! over. Also decides what becomes of them once no more are accepted.
 ghost use Rattle.slab.specs.Slab.{slab_len};
 ghost use Rattle.std.specs.Prelude.{◌≡◌, ◌+◌, ◌&&◌, nat_le};
 ghost use Rattle.std.specs.VecDeque.{deque_len};
@@ -24,7 +24,7 @@ const MOST_RECEIVED: u64 = 67_108_864;
 /// How many connections are closed at once if the system gives no more descriptors.
 pub(crate) const CLOSED_AT_ONCE: usize = 8;
 
-/// For how many seconds after an accept that failed for good connections may wait at most.
+/// The longest time that connections may wait after accepting failed for good, in seconds.
 const LAST_SECONDS: u64 = 30;
 
 impl<S: Read + Write + OpenStream + AsRawFd + Drop> Reactor<S> {
@@ -39,7 +39,7 @@ impl<S: Read + Write + OpenStream + AsRawFd + Drop> Reactor<S> {
         }
     }
 
-    /// Cuts off the connection that has received most, if all together have received more than they may.
+    /// Cuts off the connection that has received most, if all connections together have received more than `MOST_RECEIVED` bytes.
     #[tactic(auto, using(crate::proofs::Accounting::same))]
     pub(crate) fn bound_received(&mut self)
         ensures accounts { Accounts 0 (slab_len self.old.waiting + deque_len self.old.ready) self.old.ended
@@ -117,7 +117,7 @@ impl<S: Read + Write + OpenStream + AsRawFd + Drop> Reactor<S> {
         }
     }
 
-    /// Counts a connection whose stream could not be set up, as ended.
+    /// Counts as ended a connection whose stream could not be set up.
     #[tactic(auto, using(crate::proofs::Accounting::ended))]
     pub fn note_unset(&mut self, _fault: io::Error)
         ensures accounts { Accounts 1 (slab_len self.old.waiting + deque_len self.old.ready) self.old.ended
@@ -126,7 +126,7 @@ impl<S: Read + Write + OpenStream + AsRawFd + Drop> Reactor<S> {
         self.ended = self.ended.saturating_add(1);
     }
 
-    /// Ends the connections whose time is over, once a second. If there is no memory to note all of them, the rest is ended later.
+    /// Ends the connections whose time is over, once a second. If there is no memory to note all of them, the rest end later.
     #[tactic(auto, using(crate::proofs::Accounting::same))]
     pub fn sweep(&mut self, now: Option<Instant>)
         ensures accounts { Accounts 0 (slab_len self.old.waiting + deque_len self.old.ready) self.old.ended
@@ -141,7 +141,7 @@ impl<S: Read + Write + OpenStream + AsRawFd + Drop> Reactor<S> {
         self.end_noted(now)
     }
 
-    /// Whether no connection may wait any longer at this moment: accepting failed for good 30 seconds before.
+    /// Whether no connection may wait any longer: at `now` at least 30 seconds have passed since accepting failed for good.
     pub(crate) fn is_over(&self, now: Option<Instant>) -> bool
         ensures exact { result ≡ (self.now.is_ending && nat_le 30 (seconds_between self.now.ending_since now)) }
     {
@@ -188,12 +188,12 @@ impl<S: Read + Write + OpenStream + AsRawFd + Drop> Reactor<S> {
         self.place(connection)
     }
 
-    /// Whether the door waits for no link at this moment: there is none, or the connection that it gives back could not wait any more.
+    /// Whether the door need not wait for a link: there is none, or a connection that it gives back could not wait any longer.
     pub(crate) fn needs_no_link(&self, now: Option<Instant>) -> bool {
         self.has_no_links() || self.wait_fault.is_some() || self.is_over(now)
     }
 
-    /// From now on each connection is closed behind its answers, or after 30 seconds, since accepting failed for good at this moment.
+    /// Notes that accepting failed for good: from this moment on each connection is closed after its answers, or after 30 seconds.
     pub fn begin_ending(&mut self, now: Option<Instant>)
         ensures accounts { Accounts 0 (slab_len self.old.waiting + deque_len self.old.ready) self.old.ended
             (slab_len self.new.waiting + deque_len self.new.ready) self.new.ended }
@@ -203,8 +203,7 @@ impl<S: Read + Write + OpenStream + AsRawFd + Drop> Reactor<S> {
         self.place_all()
     }
 
-    /// From now on no connection waits, since the wait for events failed for good: those that are ready for a link are served, and all
-    /// others end.
+    /// Notes that waiting for events failed for good: the connections that are ready for a link are served, and all others end.
     pub fn end_waiting(&mut self, fault: io::Error)
         ensures accounts { Accounts 0 (slab_len self.old.waiting + deque_len self.old.ready) self.old.ended
             (slab_len self.new.waiting + deque_len self.new.ready) self.new.ended }
@@ -214,9 +213,9 @@ impl<S: Read + Write + OpenStream + AsRawFd + Drop> Reactor<S> {
         self.place_all()
     }
 
-    /// From now on those connections of which a request may come are ready for a link, which serves them to their ends, and the door
-    /// closes with the last link. As many connections were accepted as may be. If there is no memory to note all of them, the rest is
-    /// served once a whole request was received.
+    /// Notes that as many connections were accepted as the bound allows. From now on each connection from which a request may still
+    /// come is ready for a link, which serves it to its end, and the door closes with the last link. If there is no memory to note all
+    /// of them, the rest are served once a whole request was received.
     pub fn call_last(&mut self)
         ensures accounts { Accounts 0 (slab_len self.old.waiting + deque_len self.old.ready) self.old.ended
             (slab_len self.new.waiting + deque_len self.new.ready) self.new.ended }
@@ -226,7 +225,7 @@ impl<S: Read + Write + OpenStream + AsRawFd + Drop> Reactor<S> {
         self.place_all()
     }
 
-    /// Places all connections that wait again, as far as there is memory to note them.
+    /// Places again all connections that wait, as far as there is memory to note them.
     fn place_all(&mut self)
         ensures accounts { Accounts 0 (slab_len self.old.waiting + deque_len self.old.ready) self.old.ended
             (slab_len self.new.waiting + deque_len self.new.ready) self.new.ended }
@@ -235,7 +234,7 @@ impl<S: Read + Write + OpenStream + AsRawFd + Drop> Reactor<S> {
         self.place_noted()
     }
 
-    /// Places the noted connections again.
+    /// Places again all noted connections.
     #[tactic(auto, using(crate::proofs::Accounting::same, crate::proofs::Accounting::step))]
     fn place_noted(&mut self)
         ensures accounts { Accounts 0 (slab_len self.old.waiting + deque_len self.old.ready) self.old.ended
@@ -246,7 +245,7 @@ impl<S: Read + Write + OpenStream + AsRawFd + Drop> Reactor<S> {
         }
     }
 
-    /// Places the noted connection at this index again.
+    /// Places again the noted connection at this index.
     #[tactic(auto, using(crate::proofs::Accounting::same))]
     fn place_again(&mut self, at: usize)
         ensures accounts { Accounts 0 (slab_len self.old.waiting + deque_len self.old.ready) self.old.ended
@@ -257,7 +256,7 @@ impl<S: Read + Write + OpenStream + AsRawFd + Drop> Reactor<S> {
         }
     }
 
-    /// Places a connection that waits again.
+    /// Places again a connection that waits.
     #[tactic(auto, using(crate::proofs::Accounting::same, crate::proofs::Accounting::placed))]
     fn place_key(&mut self, key: usize)
         ensures accounts { Accounts 0 (slab_len self.old.waiting + deque_len self.old.ready) self.old.ended

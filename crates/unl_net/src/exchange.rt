@@ -8,7 +8,7 @@ use std::time::Instant;
 /// How long an exchange may take, in seconds. How long the system takes to look up a name is not bounded.
 pub(crate) const MOST: u64 = 30;
 
-/// For how many seconds a server that used up its time is not asked.
+/// For how many seconds a server is not asked after it used up its time.
 const REST: u64 = 5;
 
 /// When an exchange began, and when the last one that used up its time ended. If the clock can't be read, no time counts as passed.
@@ -34,7 +34,7 @@ impl Exchange {
         self.begun = now;
     }
 
-    /// How many seconds of it are left.
+    /// The number of seconds left for the exchange.
     pub fn left(&self, now: Option<Instant>) -> u64
         ensures { result ≡ seconds_left self.now now }
     {
@@ -50,7 +50,7 @@ impl Exchange {
         }
     }
 
-    /// Whether the server is not to be asked now.
+    /// Whether the server must not be asked now.
     pub fn rests(&self, now: Option<Instant>) -> bool
         ensures { result ≡ rests self.now now }
     {

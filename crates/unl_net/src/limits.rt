@@ -26,7 +26,7 @@ pub(crate) fn most_connections() -> usize
     most_of(limit.rlim_cur)
 }
 
-/// The same for this limit of descriptors. If it is small, the door gets half of it.
+/// The same for this limit of descriptors. If it is below 128, the door gets half of it.
 fn most_of(limit: u64) -> usize
     ensures some { 0 < result }
     ensures most { result ≤ 16384 }

@@ -24,13 +24,13 @@ const MOST_AT_ONCE: u64 = 16;
 /// How long the door pauses before it tries again to accept, in milliseconds.
 const PAUSE: u64 = 10;
 
-/// Stands for an accept that failed.
+/// The logged state while accepting fails.
 const FAILS: u16 = 1;
 
-/// Linux's numbers of the errors that are permanent: the descriptor is invalid, or not that of a listening socket.
+/// The Linux error numbers of permanent errors: the descriptor is invalid, or not that of a listening socket.
 const LASTING: [i32; 5] = [9, 14, 22, 88, 95];
 
-/// Linux's numbers of the errors that say that there are no more descriptors, or no memory for one.
+/// The Linux error numbers that say that there are no more descriptors, or no memory for one.
 const SHORTAGES: [i32; 4] = [12, 23, 24, 105];
 
 /// Whether an error says that there are no more descriptors, or no memory for one.
@@ -107,7 +107,7 @@ impl Accepting {
         self.accepted += 1;
     }
 
-    /// The error with which an accept or a wait for events failed for good, or else that there is no connection.
+    /// The error with which an accept or a wait for events failed for good, or `NotConnected` if none did.
     pub fn end(&self) -> io::Error
         ensures { IfSome self.now.fault (λ fault. result ≡ fault) }
     {
@@ -138,9 +138,8 @@ impl Accepting {
     }
 }
 
-/// Accepts the connections that are to be accepted, up to a number in a row, and returns how many these were. Each of them waits, is
-/// ready or has ended. If accepting fails for good, the error is noted and no more are accepted: the connections that are there are
-/// served.
+/// Accepts pending connections, at most `MOST_AT_ONCE`, and returns how many. Each of them waits, is ready or has ended. If accepting
+/// fails for good, the error is noted and no more are accepted: the existing connections are served.
 #[tactic(auto, using(crate::proofs::Accounting::accept_rules))]
 pub(crate) fn accept_some<N: Net + Clock + Eprint + Wait + Copy + Drop>(
     alloc: Global,
@@ -161,7 +160,7 @@ pub(crate) fn accept_some<N: Net + Clock + Eprint + Wait + Copy + Drop>(
     MOST_AT_ONCE
 }
 
-/// Accepts a connection, if one is to be accepted and is there.
+/// Accepts a connection, if one may be accepted and one is pending.
 #[tactic(auto, using(crate::proofs::Accounting::step, crate::proofs::Conditions::if_any))]
 fn accept_one<N: Net + Clock + Eprint + Wait + Copy + Drop>(
     net: N,
@@ -179,7 +178,8 @@ fn accept_one<N: Net + Clock + Eprint + Wait + Copy + Drop>(
     stream_of(net, listener.accept(), reactor, accepting)
 }
 
-/// Whether a connection is to be accepted. If so, this makes room for it.
+/// Whether a connection may be accepted. If there is no room, this closes one that waits. If none waits, it returns false only while
+/// others are ready.
 #[tactic(auto, using(crate::proofs::Accounting::same))]
 fn may_accept<S: Read + Write + OpenStream + AsRawFd + Drop>(
     reactor: &mut Reactor<S>,
@@ -199,7 +199,7 @@ fn may_accept<S: Read + Write + OpenStream + AsRawFd + Drop>(
     has_room || !reactor.has_ready()
 }
 
-/// The stream of an accept, if it succeeded. Else its error is dealt with.
+/// Returns the stream of a successful accept. Otherwise handles the error and returns `None`.
 #[tactic(auto, using(crate::proofs::Accounting::same))]
 fn stream_of<N: Net + Clock + Eprint + Wait + Copy + Drop>(
     net: N,
@@ -224,7 +224,7 @@ fn stream_of<N: Net + Clock + Eprint + Wait + Copy + Drop>(
     }
 }
 
-/// Deals with an accept that failed, since no connection is there, for now, or for good.
+/// Handles a failed accept: no connection is pending, or the error is temporary or permanent.
 #[tactic(auto, using(crate::proofs::Accounting::same))]
 fn note_failed<N: Net + Clock + Eprint + Wait + Copy + Drop>(
     net: N,
@@ -250,7 +250,7 @@ fn note_failed<N: Net + Clock + Eprint + Wait + Copy + Drop>(
     accepting.note_fault(&net, &fault);
 }
 
-/// Deals with a shortage of descriptors or memory: closes connections that wait, or if there are none, pauses.
+/// Handles a shortage of descriptors or memory: closes connections that wait, or pauses if there are none.
 #[tactic(auto, using(crate::proofs::Accounting::same))]
 fn note_shortage<N: Net + Clock + Eprint + Wait + Copy + Drop>(
     net: N,
@@ -304,7 +304,7 @@ fn take_in_counted<N: Net + Clock + Eprint + Wait + Copy + Drop>(
     reactor.take_in(&net, connection);
 }
 
-/// Calls the last connections if as many were accepted as the bound allows.
+/// Begins to serve the last connections if as many were accepted as the bound allows.
 #[tactic(auto, using(crate::proofs::Accounting::same))]
 fn call_last_if_full<S: Read + Write + OpenStream + AsRawFd + Drop>(
     reactor: &mut Reactor<S>,
@@ -318,7 +318,8 @@ fn call_last_if_full<S: Read + Write + OpenStream + AsRawFd + Drop>(
     }
 }
 
-/// Listens at a port, on IPv6 and IPv4 if the first socket does both. It does if the port is taken for a second one.
+/// Listens at a port: on IPv6 and IPv4 if one IPv6 socket does both, otherwise on IPv4. It does both if no IPv4 socket can be bound at
+/// the same port.
 pub(crate) fn bind_all<N: Net>(net: &N, port: u16) -> io::Result<N::Listener> {
     let Ok(both) = TcpListener::bind(net, (Ipv6Addr::UNSPECIFIED, port)) else {
         return bind_four(net, port);
@@ -358,7 +359,7 @@ pub(crate) fn log_open<N: Eprint, L: OpenListener>(net: &N, listener: &L, log: &
 /// Opens a listener at a port, which is then one more of `ports`.
 ///
 /// # Errors
-/// The port can't be listened at, or out of memory. `ports` stays as it is.
+/// The port can't be listened at, or out of memory. `ports` is unchanged.
 pub(crate) fn open_one_more<N: Net>(
     alloc: Global,
     net: &N,

@@ -54,7 +54,7 @@ pub struct Log {
 }
 
 impl Log {
-    /// No line was dropped.
+    /// A log that has dropped no line.
     pub fn new() -> Self {
         Log { dropped: 0 }
     }

@@ -2,7 +2,7 @@
 ghost use Rattle.std.specs.Prelude.{◌≡◌, ◌<◌, ◌≤◌, length, IfOk, None};
 ghost use Rattle.std.specs.Io.{ReadsAtMost, WritesAtMost};
 ghost use Rattle.std.specs.Io.KnownBytes.{ReadConsumes, WriteAppends};
-ghost use Rattle.unl_base.specs.Faults.{HasExactCause};
+ghost use Rattle.unl_base.specs.Faults.{HasExactCause, Rose};
 ghost use Rattle.unl_base.specs.Peers.{ReadsConnection, WritesConnection};
 
 use crate::exchange::Exchange;
@@ -17,7 +17,7 @@ use std::net::{Net, OpenStream, TcpStream, ToSocketAddrs};
 use std::time::{Clock, Duration};
 use unl_base::{Failed, Link, Peer, Sink, Source};
 
-/// Stands for a peer that can't be reached.
+/// The logged state of a peer that can't be reached.
 const UNREACHABLE: u16 = 1;
 
 /// A peer over the network. Each connect makes a new connection, to the first of its addresses that accepts one. An exchange takes 30
@@ -54,12 +54,29 @@ impl<N: Net + Clock + Eprint + Drop, A: ToSocketAddrs + Display> RealPeer<N, A> 
             faults: 0,
         }
     }
+
+    /// Notes that a read or a write failed, logs that if it is news, and counts it.
+    fn note_failed_call(&mut self)
+        ensures stream { self.new.stream ≡ self.old.stream }
+        ensures rises { (self.old.faults ≤ self.new.faults) × Rose self.old.faults self.new.faults }
+    {
+        self.exchange.note_fault(moment(&self.net));
+        let answer = self.statuses.note_read(b"");
+        log_answer(
+            &self.net,
+            &self.address,
+            &self.statuses,
+            &mut self.log,
+            answer,
+        );
+        self.faults = self.faults.saturating_add(1);
+    }
 }
 
-/// Sets the time limit of a stream's calls to the seconds that are left, if it is another.
+/// Sets the time limit of a stream's calls to the seconds that are left, if it differs.
 ///
 /// # Errors
-/// No second is left, or that of the stream.
+/// No second is left, or the error of the stream.
 fn set_limit<S: OpenStream>(stream: &S, left: u64, limit: &mut u64) -> io::Result<()> {
     if left == 0 {
         return Err(io::Error::from(ErrorKind::TimedOut));
@@ -87,7 +104,7 @@ fn connected<N: Net + Clock, A: ToSocketAddrs>(
         }
         match TcpStream::connect_timeout(net, &address, Duration::from_secs(left)) {
             Ok(stream) => {
-                // A request is written as a whole, so no byte is to be delayed to be sent with others.
+                // A request is written as a whole, so no byte should wait for further ones (Nagle's algorithm).
                 let _ = stream.set_nodelay(true);
                 return Ok(stream);
             }
@@ -196,16 +213,7 @@ impl<N: Net + Clock + Eprint + Drop, A: ToSocketAddrs + Display> Source for Real
                 Ok(count)
             }
             Err(_) => {
-                self.exchange.note_fault(moment(&self.net));
-                let answer = self.statuses.note_read(b"");
-                log_answer(
-                    &self.net,
-                    &self.address,
-                    &self.statuses,
-                    &mut self.log,
-                    answer,
-                );
-                self.faults = self.faults.saturating_add(1);
+                self.note_failed_call();
                 Err(Failed)
             }
         }
@@ -245,16 +253,7 @@ impl<N: Net + Clock + Eprint + Drop, A: ToSocketAddrs + Display> Sink for RealPe
         match write_in_time(&self.net, stream, &self.exchange, &mut self.limit, piece) {
             Ok(count) if count > 0 => Ok(count),
             _ => {
-                self.exchange.note_fault(moment(&self.net));
-                let answer = self.statuses.note_read(b"");
-                log_answer(
-                    &self.net,
-                    &self.address,
-                    &self.statuses,
-                    &mut self.log,
-                    answer,
-                );
-                self.faults = self.faults.saturating_add(1);
+                self.note_failed_call();
                 Err(Failed)
             }
         }

@@ -14,7 +14,7 @@ pub(crate) enum Phase {
     Ready,
     /// The client, to take the rest of an answer.
     Sending,
-    /// The client's end, after the last answer.
+    /// The client to shut down its side, after the last answer.
     Draining,
     /// Nothing: the connection is over.
     Over,
@@ -31,7 +31,7 @@ pub(crate) struct Facts {
     pub owes: bool,
     /// The connection is to be closed once all bytes are sent.
     pub closing: bool,
-    /// The client has ended its side.
+    /// The client has shut down its side.
     pub ended: bool,
 }
 
@@ -39,7 +39,7 @@ pub(crate) struct Facts {
 pub(crate) fn phase_of(known: Facts) -> Phase
     ensures exact { result ≡ phase_of known }
 
-    // No client is cut off: a connection is over only if its client has ended its side and no answer is on its way.
+    // No client is cut off: a connection is over only if its client has shut down its side and no answer is on its way.
     ensures over { result ≡ Over → (known.ended ≡ true) × (known.owes ≡ false) }
 
     // A whole request is served, whatever the client does after it.

@@ -42,39 +42,40 @@ pub(crate) struct Reactor<S: Read + Write + OpenStream + AsRawFd + Drop> {
     alloc: Global,
     poll: Poll,
     events: Events,
-    /// The keys of the connections that are dealt with next.
+    /// The keys of the connections that are handled next.
     pub(crate) keys: Vec<usize>,
     pub shared: Arc<Shared<S>>,
     pub(crate) waiting: Slab<Connection<S>>,
     pub(crate) ready: VecDeque<Connection<S>>,
     room: [u8; PIECE],
-    /// When the connections whose time is over were last ended.
+    /// When `sweep` last ended the connections whose time is over.
     pub(crate) swept: Option<Instant>,
     /// How many bytes the connections that wait have received.
     pub(crate) received: u64,
-    /// How many connections there may be, with those of links.
+    /// The maximum number of connections, including those of links. It is exceeded only if links hold all of them.
     most: usize,
-    /// How many connections have ended here. It stops at the largest number.
+    /// How many connections have ended here. It stops at 2^64 - 1.
     pub(crate) ended: u64,
     /// Whether the door closes with the last connection that is served.
     pub(crate) closes: bool,
-    /// Whether accepting failed for good: each connection is then closed behind its answers.
+    /// Whether accepting failed for good: each connection is then closed after its answers.
     pub(crate) is_ending: bool,
-    /// When it did.
+    /// When accepting failed for good.
     pub(crate) ending_since: Option<Instant>,
     /// The error with which a wait for events failed for good: no connection waits any more.
     pub(crate) wait_fault: Option<io::Error>,
-    /// Whether a connection may be there to be accepted.
+    /// Whether a connection may be pending at the listener.
     pub may_accept: bool,
     /// The counts of the connections that were cut off and not logged yet.
     pub cuts: Cuts,
 }
 
 impl<S: Read + Write + OpenStream + AsRawFd + Drop> Reactor<S> {
-    /// The reactor of a listener, without connections. At most `most` may be there at once.
+    /// The reactor of a listener, without connections. With `most` connections, including those of links, one that waits is closed
+    /// before another is accepted.
     ///
     /// # Errors
-    /// That of the system, or out of memory.
+    /// The error of the system, or out of memory.
     pub fn new<R: std::net::Net, L: AsRawFd>(
         alloc: Global,
         net: &R,
@@ -138,7 +139,7 @@ impl<S: Read + Write + OpenStream + AsRawFd + Drop> Reactor<S> {
         Arc::strong_count(&self.shared) <= 1
     }
 
-    /// Whether there are as many connections as may be.
+    /// Whether there are as many connections as allowed.
     pub fn is_full(&self) -> bool {
         self.live() >= self.most
     }
@@ -155,7 +156,7 @@ impl<S: Read + Write + OpenStream + AsRawFd + Drop> Reactor<S> {
         self.close_oldest()
     }
 
-    /// How many connections there are, with those of links.
+    /// How many connections there are, including those of links, and 1 for the door.
     fn live(&self) -> usize {
         self.waiting
             .len()
@@ -163,7 +164,7 @@ impl<S: Read + Write + OpenStream + AsRawFd + Drop> Reactor<S> {
             .saturating_add(Arc::strong_count(&self.shared))
     }
 
-    /// Notes that the system gives no more descriptors: some connections are closed, and fewer may be there from now on. Returns false
+    /// Notes that the system gives no more descriptors: some connections are closed, and fewer are allowed from now on. Returns false
     /// if none waits that could be closed.
     pub fn note_shortage(&mut self) -> bool
         ensures accounts { Accounts 0 (slab_len self.old.waiting + deque_len self.old.ready) self.old.ended
@@ -200,7 +201,7 @@ impl<S: Read + Write + OpenStream + AsRawFd + Drop> Reactor<S> {
         u64::MAX
     }
 
-    /// Places a connection that a link gave back. Only one that is to be closed is read at once.
+    /// Places a connection that a link gave back. It is read at once only if it is to be closed.
     fn place_back<C: Clock>(&mut self, clock: &C, connection: Connection<S>)
         ensures accounts { Accounts 1 (slab_len self.old.waiting + deque_len self.old.ready) self.old.ended
             (slab_len self.new.waiting + deque_len self.new.ready) self.new.ended }
@@ -221,7 +222,7 @@ impl<S: Read + Write + OpenStream + AsRawFd + Drop> Reactor<S> {
         }
     }
 
-    /// Does what is to be done for a connection, and places it.
+    /// Advances a connection, and places it by its new phase.
     fn advance_and_place<C: Clock>(&mut self, clock: &C, connection: Connection<S>)
         ensures accounts { Accounts 1 (slab_len self.old.waiting + deque_len self.old.ready) self.old.ended
             (slab_len self.new.waiting + deque_len self.new.ready) self.new.ended }
@@ -255,8 +256,8 @@ impl<S: Read + Write + OpenStream + AsRawFd + Drop> Reactor<S> {
         }
     }
 
-    /// Whether a connection in this phase is handed out as a link. Once as many were accepted as may be, one without a whole request is
-    /// too.
+    /// Whether a connection in this phase is handed out as a link. Once as many were accepted as the bound allows, one without a whole
+    /// request is handed out too.
     fn is_served(&self, phase: Phase) -> bool {
         phase == Phase::Ready
             || (self.shared.is_last_call() && (phase == Phase::Idle || phase == Phase::Receiving))
@@ -329,7 +330,7 @@ impl<S: Read + Write + OpenStream + AsRawFd + Drop> Reactor<S> {
         }
     }
 
-    /// Registers a connection that waits, and keeps to the bound of what all have received.
+    /// Registers a connection that waits, and enforces the bound on the bytes that all connections have received.
     #[tactic(auto, using(crate::proofs::Accounting::step))]
     fn watch(&mut self, key: usize, fd: RawFd, interest: Interest)
         ensures accounts { Accounts 0 (slab_len self.old.waiting + deque_len self.old.ready) self.old.ended
@@ -374,7 +375,7 @@ impl<S: Read + Write + OpenStream + AsRawFd + Drop> Reactor<S> {
     /// [`Shared::note_sleep`] was called before.
     ///
     /// # Errors
-    /// That of the system.
+    /// The error of the system.
     #[tactic(auto, using(crate::proofs::Accounting::same))]
     pub fn wait<C: Clock>(&mut self, clock: &C, most: u64) -> io::Result<()>
         ensures accounts { Accounts 0 (slab_len self.old.waiting + deque_len self.old.ready) self.old.ended

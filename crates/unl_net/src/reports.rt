@@ -14,7 +14,7 @@ pub(crate) struct Reports {
     failed: u64,
     /// How many links were handed out since the door last looked for events.
     pub in_a_row: u64,
-    /// How many connections were accepted, or given back by links. It never falls, and stops at the largest number.
+    /// How many connections were accepted, or returned by links. It never falls, and stops at 2^64 - 1.
     arrived: u64,
 }
 
@@ -30,7 +30,7 @@ impl Reports {
         }
     }
 
-    /// Counts connections that were accepted or given back by links.
+    /// Counts connections that were accepted or returned by links.
     pub fn count_arrived(&mut self, count: u64)
         ensures { self.new.arrived ≡ min (self.old.arrived + count) (2 ^ 64 - 1) }
     {

@@ -13,16 +13,16 @@ use std::net::OpenStream;
 use std::sync::{Arc, Wait};
 use std::time::Clock;
 
-/// How many times a read or a write waits for 10 milliseconds at most: 30 seconds in all.
+/// The maximum number of waits of 10 milliseconds in a read or a write: 30 seconds in all.
 const MOST_WAITS: u64 = 3_000;
 
-/// How many times such a read waits at most while other links wait for a worker.
+/// The same for a read while other links wait for a worker.
 const FEW_WAITS: u64 = 10;
 
 /// How many times a link waits for a further request while its door waits for it.
 const MOST_HELD: u64 = 64;
 
-/// How many pieces are read of an unfinished request.
+/// The maximum number of pieces that are read of an unfinished request.
 const MOST_LOOKS: u64 = 300;
 
 /// The stage of a link.
@@ -77,7 +77,7 @@ impl<S: Read + Write + OpenStream + Drop, C: Clock + Wait + Drop> Served<S, C> {
     /// Reads once. Returns 0 once the link has ended.
     ///
     /// # Errors
-    /// That of the stream, or that no byte came in time.
+    /// The error of the stream, or no byte came in time.
     pub fn read(&mut self, room: &mut [u8]) -> io::Result<usize>
         ensures fits { IfOk result (λ n. n ≤ length room.new) }
         ensures gives { Gives (coming self.old.connection.received (S.remaining self.old.connection.stream))
@@ -93,7 +93,7 @@ impl<S: Read + Write + OpenStream + Drop, C: Clock + Wait + Drop> Served<S, C> {
     /// Writes once.
     ///
     /// # Errors
-    /// That of the stream, or that no room came in time.
+    /// The error of the stream, or no room came in time.
     pub fn write(&mut self, piece: &[u8]) -> io::Result<usize>
         ensures fits { IfOk result (λ n. n ≤ length piece.now) }
         ensures appends { WriteAppends (outgoing (S.contents self.old.connection.stream) self.old.connection.to_send)
@@ -140,7 +140,7 @@ impl<S: Read + Write + OpenStream + Drop, C: Clock + Wait + Drop> Served<S, C> {
     /// Whether there is something to read. If all requests are answered, this opens the next one.
     ///
     /// # Errors
-    /// That of the stream, or out of memory.
+    /// The error of the stream, or out of memory.
     #[tactic(auto, using(crate::proofs::Trying::stays))]
     fn may_read(&mut self) -> io::Result<bool>
         ensures { Keeps (coming self.old.connection.received (S.remaining self.old.connection.stream))
@@ -169,7 +169,7 @@ impl<S: Read + Write + OpenStream + Drop, C: Clock + Wait + Drop> Served<S, C> {
     /// Opens the next request, and returns whether there is one.
     ///
     /// # Errors
-    /// That of the stream, or out of memory.
+    /// The error of the stream, or out of memory.
     #[tactic(auto, using(crate::proofs::Trying::stays, crate::proofs::Trying::stays_on))]
     fn next_request(&mut self) -> io::Result<bool>
         ensures { Keeps (coming self.old.connection.received (S.remaining self.old.connection.stream))
@@ -198,7 +198,7 @@ impl<S: Read + Write + OpenStream + Drop, C: Clock + Wait + Drop> Served<S, C> {
     /// Reads a piece that is there, or comes in time if the link may wait. Returns whether there was one.
     ///
     /// # Errors
-    /// That of the stream, or out of memory.
+    /// The error of the stream, or out of memory.
     #[tactic(auto, using(crate::proofs::Trying::stays))]
     fn look(&mut self) -> io::Result<bool>
         ensures { Keeps (coming self.old.connection.received (S.remaining self.old.connection.stream))
@@ -209,7 +209,7 @@ impl<S: Read + Write + OpenStream + Drop, C: Clock + Wait + Drop> Served<S, C> {
         self.connection.receive(&mut room)
     }
 
-    /// Sets the stream to blocking for a moment if the link may wait, and else to non-blocking.
+    /// Sets the stream to blocking for a moment if the link may wait, otherwise to non-blocking.
     fn set_pace(&mut self) -> io::Result<()>
         ensures received { self.new.connection.received ≡ self.old.connection.received }
         ensures stream { self.new.connection.stream ≡ self.old.connection.stream }
@@ -225,7 +225,7 @@ impl<S: Read + Write + OpenStream + Drop, C: Clock + Wait + Drop> Served<S, C> {
     /// Reads the received bytes, and then what comes. While other links wait for a worker, the link ends once nothing came for a while.
     ///
     /// # Errors
-    /// That of the stream, or that no byte came in time.
+    /// The error of the stream, or no byte came in time.
     #[tactic(auto, using(crate::proofs::Moving::handed_out, crate::proofs::Moving::none_read, crate::proofs::Moving::read_behind))]
     fn read_open(&mut self, room: &mut [u8]) -> io::Result<usize>
         ensures fits { IfOk result (λ n. n ≤ length room.new) }
@@ -349,7 +349,7 @@ impl<S: Read + Write + OpenStream + Drop, C: Clock + Wait + Drop> Served<S, C> {
     /// Sends a piece after the bytes that are kept. While other links wait for a worker, this fails.
     ///
     /// # Errors
-    /// That of the stream, or that no room came in time.
+    /// The error of the stream, or no room came in time.
     #[tactic(auto, using(crate::proofs::Moving::write_rules))]
     fn write_waiting(&mut self, piece: &[u8]) -> io::Result<usize>
         ensures fits { IfOk result (λ n. n ≤ length piece.now) }
@@ -406,7 +406,7 @@ fn is_fault(answer: &[u8]) -> bool {
 enum Fate {
     /// The connection goes back to the door, which waits for its next request.
     Continues,
-    /// The connection goes back to the door, which closes it once all bytes are sent and the client has ended its side.
+    /// The connection goes back to the door, which closes it once all bytes are sent and the client has shut down its side.
     Ends,
     /// The connection is closed at once.
     Closed,

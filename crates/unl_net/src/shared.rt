@@ -18,9 +18,9 @@ pub(crate) struct Shared<S: Read + Write + OpenStream + Drop> {
     /// The connections that links gave back.
     returned: Mutex<VecDeque<Connection<S>>>,
     waker: Waker,
-    /// Whether the door waits, and is to be woken.
+    /// Whether the door waits for events and must be woken.
     sleeps: AtomicBool,
-    /// Whether as many connections were accepted as may be: each is then served to its end by one link.
+    /// Whether as many connections were accepted as the bound allows: each is then served to its end by one link.
     is_last_call: AtomicBool,
     /// Whether answers may be kept to be sent later.
     keeps_answers: AtomicBool,
@@ -65,22 +65,22 @@ impl<S: Read + Write + OpenStream + Drop> Shared<S> {
         }
     }
 
-    /// Takes a connection that was given back.
+    /// Takes a connection that was returned.
     pub fn take<R: Wait>(&self, rt: &R) -> Option<Connection<S>> {
         self.returned.lock(rt).pop_front()
     }
 
-    /// Notes whether the door waits, so that a link wakes it that gives a connection back.
+    /// Notes whether the door waits. If so, a link that gives a connection back wakes it.
     pub fn note_sleep(&self, sleeps: bool) {
         self.sleeps.store(sleeps, Ordering::SeqCst);
     }
 
-    /// Notes that as many connections were accepted as may be.
+    /// Notes that as many connections were accepted as the bound allows.
     pub fn call_last(&self) {
         self.is_last_call.store(true, Ordering::SeqCst);
     }
 
-    /// Whether as many connections were accepted as may be.
+    /// Whether as many connections were accepted as the bound allows.
     pub fn is_last_call(&self) -> bool {
         self.is_last_call.load(Ordering::SeqCst)
     }
@@ -115,12 +115,12 @@ impl<S: Read + Write + OpenStream + Drop> Shared<S> {
         self.faults.fetch_add(1, Ordering::SeqCst);
     }
 
-    /// How many answers had a status of 500 or more since this was last asked.
+    /// How many answers had a status of 500 or more since the last call.
     pub fn take_faults(&self) -> u64 {
         self.faults.swap(0, Ordering::SeqCst)
     }
 
-    /// How many connections were closed as links gave them back, since this was last asked.
+    /// How many connections were closed as links gave them back, since the last call.
     pub fn take_lost(&self) -> u64 {
         self.lost.swap(0, Ordering::SeqCst)
     }

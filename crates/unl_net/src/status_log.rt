@@ -13,10 +13,10 @@ use std::fmt::Display;
 /// How many kinds of requests are distinguished: more than are used, one for the book and two for each of eight tokens.
 const MOST_KINDS: usize = 32;
 
-/// Stands for a reply without a status.
+/// The logged status of a reply without a status.
 const NO_ANSWER: u16 = 1;
 
-/// Stands for a feed with status 200 that was not taken: the next request for it has no tag.
+/// The logged status of a feed with status 200 that was not taken: the next request for it has no tag.
 const NOT_TAKEN: u16 = 1_000;
 
 /// Whether a byte is a digit.
@@ -83,7 +83,7 @@ impl Display for Answer {
     }
 }
 
-/// A kind that was asked, by its number, and the class last logged for it. The number 0 stands for no kind.
+/// A kind that was asked, by its number, and the class last logged for it. The number 0 means no kind.
 #[derive(Clone, Copy)]
 struct Known {
     key: u64,
@@ -112,7 +112,7 @@ pub(crate) struct StatusLog {
 }
 
 impl StatusLog {
-    /// Nothing was asked.
+    /// A log of a peer that was asked nothing yet.
     pub fn new() -> Self
         ensures stage { result.stage ≡ Fresh }
         ensures known { result.known ≡ replicate 32 nothing_known }
@@ -248,7 +248,7 @@ fn taken_class(is_taken: bool) -> u16
     if is_taken { WELL } else { NOT_TAKEN }
 }
 
-/// The status that is logged for it.
+/// The status that is logged for a feed that was taken, or not.
 fn taken_status(is_taken: bool) -> u16
     ensures { result ≡ taken_status is_taken }
 {
