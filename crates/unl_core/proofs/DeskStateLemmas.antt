@@ -28,8 +28,8 @@ versions_at : (slots : List Slot) → versions (map place_at slots) ≡ snapshot
 versions_at [] = refl
 versions_at (slot ∷ slots) = ap (λ vs. slot.snapshot ∷ vs) (versions_at slots)
 
-abbrev standing : Board → List Place → ℕ → DeskState
-standing board places front = record { board = board; places = places; front = front }
+abbrev state_of_desk : Board → List Place → ℕ → DeskState
+state_of_desk board places front = record { board = board; places = places; front = front }
 
 -- The initial places of a board's slots.
 pub places_match_begun : (board : Board) (places : List Place) → AreSlots board.slots → places ≡ map place_at board.slots → All IsValidPlace places → PlacesMatch board places
@@ -43,14 +43,14 @@ snapshots_taking (suc slot) version (x ∷ xs) = ap (λ vs. x.snapshot ∷ vs) (
 -- A version is put at a slot and at its place.
 pub places_match_taking : (board : Board) (places : List Place) (slot : ℕ) (version : EnvVersion) (place : Place) → PlacesMatch board places → place.version ≡ Some version → IsValidVersion version
     → PlacesMatch (with_snapshot slot version board) (set places slot place)
-places_match_taking board places slot version place standing there valid =
+places_match_taking board places slot version place matched there valid =
     let sound : IsValidPlace place = subst (λ (v : Option EnvVersion). IfSome v IsValidVersion) (sym there) valid in
     record {
-      slots = slots_kept slot version board.slots standing.slots;
+      slots = slots_kept slot version board.slots matched.slots;
       versions =
           map-set (λ p. p.version) places slot place ∙ ap (λ v. set (versions places) slot v) there
-          ∙ ap (λ vs. set vs slot (Some version)) standing.versions ∙ sym (snapshots_taking slot version board.slots);
-      valid = All-set IsValidPlace places slot place sound standing.valid;
+          ∙ ap (λ vs. set vs slot (Some version)) matched.versions ∙ sym (snapshots_taking slot version board.slots);
+      valid = All-set IsValidPlace places slot place sound matched.valid;
     }
 
 joined : {T V : Type 0} (f : T → Option V) (o : Option T) → unwrap_or (option_map f o) None ≡ option_and_then f o
@@ -60,39 +60,39 @@ joined f (Some x) = refl
 -- The version of a place is that of its slot.
 pub place_version : (board : Board) (places : List Place) (slot : ℕ) (p : Place) → PlacesMatch board places → slot < length places → p ≡ get_or places slot p
     → p.version ≡ snapshot_at board.slots slot
-place_version board places slot p standing low is =
+place_version board places slot p matched low is =
     ap (λ (q : Place). q.version) is
     ∙ ap (λ (o : Option Place). unwrap_or (option_map (λ q. q.version) o) None) (sym (slice_get-get_or places slot p low))
     ∙ ap (λ (o : Option (Option EnvVersion)). unwrap_or o None) (sym (slice_get-map (λ q. q.version) places slot))
-    ∙ ap (λ (vs : List (Option EnvVersion)). unwrap_or (slice_get vs slot) None) standing.versions
+    ∙ ap (λ (vs : List (Option EnvVersion)). unwrap_or (slice_get vs slot) None) matched.versions
     ∙ ap (λ (o : Option (Option EnvVersion)). unwrap_or o None) (slice_get-map (λ s. s.snapshot) board.slots slot)
     ∙ joined (λ (s : Slot). s.snapshot) (slice_get board.slots slot)
 
 -- A place is held or released, and keeps its version.
 pub places_match_held : (board : Board) (places : List Place) (slot : ℕ) (place : Place) (d : Place) → PlacesMatch board places → slot < length places
     → place.version ≡ (get_or places slot d).version → PlacesMatch board (set places slot place)
-places_match_held board places slot place d standing low same =
+places_match_held board places slot place d matched low same =
     let sound : IsValidPlace place =
-    subst (λ (v : Option EnvVersion). IfSome v IsValidVersion) (sym same) (All-get_or IsValidPlace places slot d low standing.valid) in
+    subst (λ (v : Option EnvVersion). IfSome v IsValidVersion) (sym same) (All-get_or IsValidPlace places slot d low matched.valid) in
     record {
-      slots = standing.slots;
-      versions = map-set_same (λ p. p.version) places slot place d same ∙ standing.versions;
-      valid = All-set IsValidPlace places slot place sound standing.valid;
+      slots = matched.slots;
+      versions = map-set_same (λ p. p.version) places slot place d same ∙ matched.versions;
+      valid = All-set IsValidPlace places slot place sound matched.valid;
     }
 
 -- A slot is added for a new name, with an empty place.
 pub places_match_more : (board grown : Board) (places : List Place) (environment : List ℕ) (slot : Slot) → PlacesMatch board places → length board.slots < 8
     → None ≡ place_in environment board.slots → slot ≡ empty_slot environment → grown.slots ≡ board.slots ++ slot ∷ []
     → PlacesMatch grown (places ++ empty_place ∷ [])
-places_match_more board grown places environment slot standing room none made pushed = record {
-  slots = slots_more environment board.slots grown.slots slot standing.slots room none (ap (λ (x : Slot). x.environment) made) pushed;
+places_match_more board grown places environment slot matched room none made pushed = record {
+  slots = slots_more environment board.slots grown.slots slot matched.slots room none (ap (λ (x : Slot). x.environment) made) pushed;
   versions =
       map-append (λ p. p.version) places (empty_place ∷ [])
-      ∙ ap (λ vs. vs ++ None ∷ []) standing.versions
+      ∙ ap (λ vs. vs ++ None ∷ []) matched.versions
       ∙ ap (λ v. snapshots board.slots ++ v ∷ []) (sym (ap (λ (x : Slot). x.snapshot) made))
       ∙ sym (map-append (λ (x : Slot). x.snapshot) board.slots (slot ∷ []))
       ∙ ap snapshots (sym pushed);
-  valid = All-append IsValidPlace places (empty_place ∷ []) standing.valid (All-cons IsValidPlace empty_place [] tt (All-nil IsValidPlace));
+  valid = All-append IsValidPlace places (empty_place ∷ []) matched.valid (All-cons IsValidPlace empty_place [] tt (All-nil IsValidPlace));
 }
 
 -- The place at an index.
@@ -104,7 +104,7 @@ place_is board places front slot p low is = ap (λ o. unwrap_or o empty_place) (
 pub hold_is : (board : Board) (places : List Place) (front slot : ℕ) (p : Place) (s : DeskState) → record { board = board; places = places; front = front } ≡ s → slot < length places
     → p ≡ get_or places slot p → record { board = board; places = set places slot (record { version = p.version; held = true }); front = front } ≡ with_hold slot s
 hold_is board places front slot p s same low is =
-    ap (λ (v : Option EnvVersion). standing board (set places slot (record { version = v; held = true })) front) (ap (λ (q : Place). q.version) (sym (place_is board places front slot p low is)))
+    ap (λ (v : Option EnvVersion). state_of_desk board (set places slot (record { version = v; held = true })) front) (ap (λ (q : Place). q.version) (sym (place_is board places front slot p low is)))
     ∙ ap (with_hold slot) same
 
 -- A desk after a batch.
@@ -113,12 +113,12 @@ pub install_is : (board new : Board) (places : List Place) (front slot : ℕ) (b
     → v ≡ next_version p batch → shared ≡ v → kept ≡ v → new ≡ with_snapshot slot shared board
     → record { board = new; places = set places slot (record { version = Some kept; held = false }); front = front + 1 } ≡ with_batch slot batch s
 install_is board new places front slot batch p v kept shared s same low is next shared_is kept_is changed =
-    let made : v ≡ next_version (place_of (installed_by (standing board places front)) slot) batch =
+    let made : v ≡ next_version (place_of (installed_by (state_of_desk board places front)) slot) batch =
     next ∙ ap (λ (q : Place). next_version q batch) (sym (place_is board places front slot p low is)) in
-    let represents : new ≡ with_snapshot slot (next_version (place_of (installed_by (standing board places front)) slot) batch) board =
+    let represents : new ≡ with_snapshot slot (next_version (place_of (installed_by (state_of_desk board places front)) slot) batch) board =
     changed ∙ ap (λ (w : EnvVersion). with_snapshot slot w board) (shared_is ∙ made) in
-    ap (λ (b : Board). standing b (set places slot (record { version = Some kept; held = false })) (front + 1)) represents
-    ∙ ap (λ (w : EnvVersion). standing (with_snapshot slot (next_version (place_of (installed_by (standing board places front)) slot) batch) board)
+    ap (λ (b : Board). state_of_desk b (set places slot (record { version = Some kept; held = false })) (front + 1)) represents
+    ∙ ap (λ (w : EnvVersion). state_of_desk (with_snapshot slot (next_version (place_of (installed_by (state_of_desk board places front)) slot) batch) board)
     (set places slot (record { version = Some w; held = false })) (front + 1)) (kept_is ∙ made)
     ∙ ap (with_batch slot batch) same
 

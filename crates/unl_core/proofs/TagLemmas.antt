@@ -62,12 +62,12 @@ whole_is n small =
     ap (λ o. option_and_then as_u64 (option_and_then as_number o))
     (spelled_json (decimal n) (number (unsigned n)) (IsUtf8-from_ascii (decimal n) (IsAscii-decimal n small)) (read_is n small))
 
-part_is : (front digits : List ℕ) (quote : ℕ) → number_part (length front) (front ++ (digits ++ quote ∷ [])) ≡ digits
-part_is front digits quote =
-    let count : length (front ++ (digits ++ quote ∷ [])) - (length front + 1) ≡ length digits =
-    omega (arith, length-append front (digits ++ quote ∷ []), length-append digits (quote ∷ [])) in
-    ap (λ k. take k (drop (length front) (front ++ (digits ++ quote ∷ [])))) count
-    ∙ ap (take (length digits)) (drop-append_seam front (digits ++ quote ∷ []))
+part_is : (prefix digits : List ℕ) (quote : ℕ) → number_part (length prefix) (prefix ++ (digits ++ quote ∷ [])) ≡ digits
+part_is prefix digits quote =
+    let count : length (prefix ++ (digits ++ quote ∷ [])) - (length prefix + 1) ≡ length digits =
+    omega (arith, length-append prefix (digits ++ quote ∷ []), length-append digits (quote ∷ [])) in
+    ap (λ k. take k (drop (length prefix) (prefix ++ (digits ++ quote ∷ [])))) count
+    ∙ ap (take (length digits)) (drop-append_seam prefix (digits ++ quote ∷ []))
     ∙ take-append_seam digits (quote ∷ [])
 
 itself : (text : List ℕ) → bytes_eq text text ≡ true

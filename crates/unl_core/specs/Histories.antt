@@ -13,7 +13,7 @@ use Rattle.unl_core.specs.declared.board.Slot.{Slot}
 use Rattle.unl_core.specs.Answer.{seen}
 use Rattle.unl_core.specs.Shown.{Ready, ready_by}
 
--- The line of histories of each environment, and the projects that are seen of it.
+-- The line of histories of each environment, and the projects that are visible in it.
 pub record Histories : Type 0 where
   pub line : List ℕ → List Era
   pub sees : List ℕ → Sees

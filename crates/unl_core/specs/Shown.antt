@@ -30,10 +30,13 @@ is_kind Client Frontend = false
 is_kind Frontend Client = false
 is_kind Frontend Frontend = true
 
+-- The token at a position, with the position.
+abbrev pub shown_at : List Token → ℕ → Option Shown
+shown_at book place = option_map (λ token. record { place = place; token = token }) (slice_get book place)
+
 -- The token of a text, with its position.
 abbrev pub entry_of : List ℕ → List Token → Option Shown
-entry_of text book =
-    option_and_then (λ place. option_map (λ token. record { place = place; token = token }) (slice_get book place)) (place_of text book)
+entry_of text book = option_and_then (shown_at book) (place_of text book)
 
 -- A known token, if it is of this kind.
 abbrev pub of_kind : Kind → Option Shown → Result Shown TokenRefusal

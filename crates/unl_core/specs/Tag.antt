@@ -36,9 +36,9 @@ tag_text = marked_tag []
 abbrev pub inlined_tag : Board → ℕ → Revision → List ℕ
 inlined_tag = marked_tag (codes "i")
 
--- The digits of a tag whose number comes after `front` bytes.
+-- The digits of a tag whose number comes after `prefix_length` bytes.
 abbrev pub number_part : ℕ → List ℕ → List ℕ
-number_part front tag = take (length tag - (front + 1)) (drop front tag)
+number_part prefix_length tag = take (length tag - (prefix_length + 1)) (drop prefix_length tag)
 
 -- The whole number that is written in JSON.
 abbrev pub whole_in : List ℕ → Option ℕ

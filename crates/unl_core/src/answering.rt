@@ -394,12 +394,12 @@ fn changes_for(
 ) -> Result<Reply, Memory>
     ensures { IfOk result (λ r. r ≡ delta_reply board.now request.now (Ok ready.now)) }
 {
-    let epoch = ready.snapshot.version().epoch;
-    let since = since_of(alloc, board, ready.place, epoch, &request.tag)?;
+    let since = since_of(alloc, board, ready.place, epoch_of(ready), &request.tag)?;
     news_since(alloc, board, ready, since)
 }
 
-/// The changes since a number, or since nothing, as the token sees them, or that there are none.
+/// Replies with the changes since a number, or with a hydration if there is no number, as the token sees them. Status 304 if nothing is
+/// new.
 fn news_since(
     alloc: Global,
     board: &Board,
@@ -445,8 +445,14 @@ fn not_modified_at(
 fn tag_at(alloc: Global, board: &Board, ready: &Ready, number: u64) -> Result<Text, Memory>
     ensures { IfOk result (λ tag. tag ≡ tag_at board.now ready.now number) }
 {
-    let epoch = ready.snapshot.version().epoch;
-    tag_of(alloc, board, ready.place, epoch, number)
+    tag_of(alloc, board, ready.place, epoch_of(ready), number)
+}
+
+/// The epoch of the environment's version.
+fn epoch_of(ready: &Ready) -> u64
+    ensures { result ≡ ready.now.version.epoch }
+{
+    ready.snapshot.version().epoch
 }
 
 /// Whether the request has this tag.

@@ -1,7 +1,7 @@
 //! The token of a request, and the version of its environment.
 ghost use Rattle.std.specs.Prelude.{◌≡◌};
 ghost use Rattle.unl_core.specs.Board.{snapshot_in};
-ghost use Rattle.unl_core.specs.Shown.{entry_of, is_kind, ready_by, shown_by, with_its_version};
+ghost use Rattle.unl_core.specs.Shown.{entry_of, is_kind, ready_by, shown_at, shown_by, with_its_version};
 
 use crate::board::Board;
 use std::marker::Model;
@@ -78,9 +78,20 @@ fn is_kind(found: Kind, kind: Kind) -> bool
 fn entry_of<'b>(book: &'b Book, text: &[u8]) -> Option<Shown<'b>>
     ensures { result ≡ entry_of text.now book.now }
 {
-    let place = book.find(text)?;
-    let token = book.get(place)?;
-    Some(Shown { place, token })
+    match book.find(text) {
+        None => None,
+        Some(place) => shown_at(book, place),
+    }
+}
+
+/// The token at a position, with the position.
+fn shown_at<'b>(book: &'b Book, place: u32) -> Option<Shown<'b>>
+    ensures { result ≡ shown_at book.now place }
+{
+    match book.get(place) {
+        None => None,
+        Some(token) => Some(Shown { place, token }),
+    }
 }
 
 /// The token of a request, if the book has it and it is of this kind.

@@ -1,6 +1,6 @@
 //! The entity tags of answers.
-ghost use Rattle.std.specs.Prelude.{◌≡◌, ◌++◌, codes, decimal, length, IfOk, string_bytes};
-ghost use Rattle.unl_core.specs.Tag.{hex_16, if_spelled, inlined_tag, number_of_tag, number_part, since_of, tag_prefix, tag_text, whole_in};
+ghost use Rattle.std.specs.Prelude.{◌≡◌, [], length, IfOk, string_bytes};
+ghost use Rattle.unl_core.specs.Tag.{if_spelled, inlined_tag, number_of_tag, number_part, since_of, tag_prefix, tag_text, whole_in, with_epoch};
 
 use crate::board::Board;
 use serde_json::Value;
@@ -19,8 +19,8 @@ pub(crate) fn tag_of(
 ) -> Result<Text, Memory>
     ensures { IfOk result (λ tag. tag ≡ tag_text board.now place (record { epoch = epoch; number = number })) }
 {
-    let front = tag_prefix(alloc, board, place, epoch)?;
-    Ok(Text::from(format!(in alloc; "{front}{number}\"")?))
+    let prefix = tag_prefix(alloc, board, place, epoch)?;
+    Ok(Text::from(format!(in alloc; "{prefix}{number}\"")?))
 }
 
 /// The tag of a feed whose segments are inlined.
@@ -33,8 +33,8 @@ pub(crate) fn inlined_tag_of(
 ) -> Result<Text, Memory>
     ensures { IfOk result (λ tag. tag ≡ inlined_tag board.now place (record { epoch = epoch; number = number })) }
 {
-    let front = tag_prefix(alloc, board, place, epoch)?;
-    Ok(Text::from(format!(in alloc; "{front}{number}i\"")?))
+    let prefix = tag_prefix(alloc, board, place, epoch)?;
+    Ok(Text::from(format!(in alloc; "{prefix}{number}i\"")?))
 }
 
 /// The part of a tag before its number, for the token at `place` and an epoch.
@@ -44,10 +44,18 @@ fn tag_prefix(alloc: Global, board: &Board, place: u32, epoch: u64) -> Result<St
 {
     let boot = board.boot;
     let generation = board.generation;
+    let epoch = epoch_mark(alloc, epoch)?;
+    format!(in alloc; "\"{boot:016x}-{generation}-{place}-{epoch}")
+}
+
+/// The epoch and a point. Empty if the epoch is 0.
+fn epoch_mark(alloc: Global, epoch: u64) -> Result<String, AllocError>
+    ensures { IfOk result (λ s. string_bytes s ≡ with_epoch epoch []) }
+{
     if epoch == 0 {
-        return format!(in alloc; "\"{boot:016x}-{generation}-{place}-");
+        return Ok(String::new(alloc));
     }
-    format!(in alloc; "\"{boot:016x}-{generation}-{place}-{epoch}.")
+    format!(in alloc; "{epoch}.")
 }
 
 /// The number in a request's tag. `None` if there is no tag, or if it isn't exactly the tag of some number for this token
@@ -77,8 +85,8 @@ fn number_of_tag(
 ) -> Result<Option<u64>, Memory>
     ensures { IfOk result (λ since. since ≡ number_of_tag board.now place epoch tag.now) }
 {
-    let front = tag_prefix_length(alloc, board, place, epoch)?;
-    match whole_in(alloc, number_part(front, tag))? {
+    let prefix_length = tag_prefix_length(alloc, board, place, epoch)?;
+    match whole_in(alloc, number_part(prefix_length, tag))? {
         None => Ok(None),
         Some(number) => if_spelled(alloc, board, place, epoch, tag, number),
     }
@@ -105,20 +113,20 @@ fn if_spelled(
 
 /// The length of the part before the number, in bytes.
 fn tag_prefix_length(alloc: Global, board: &Board, place: u32, epoch: u64) -> Result<usize, Memory>
-    ensures { IfOk result (λ front. front ≡ length (tag_prefix board.now place epoch)) }
+    ensures { IfOk result (λ count. count ≡ length (tag_prefix board.now place epoch)) }
 {
-    let front = tag_prefix(alloc, board, place, epoch)?;
-    Ok(front.len())
+    let prefix = tag_prefix(alloc, board, place, epoch)?;
+    Ok(prefix.len())
 }
 
-/// The digits of a tag whose number comes after `front` bytes. Empty if the tag is too short.
-fn number_part(front: usize, tag: &[u8]) -> &[u8]
-    ensures { result.now ≡ number_part front tag.now }
+/// The digits of a tag whose number comes after `prefix_length` bytes. Empty if the tag is too short.
+fn number_part(prefix_length: usize, tag: &[u8]) -> &[u8]
+    ensures { result.now ≡ number_part prefix_length tag.now }
 {
-    if tag.len() <= front {
+    if tag.len() <= prefix_length {
         return &tag[tag.len()..];
     }
-    &tag[front..tag.len() - 1]
+    &tag[prefix_length..tag.len() - 1]
 }
 
 /// The whole number that is written in JSON.

@@ -44,9 +44,9 @@ turned : (a b : List ℕ) → is_lt (slice_cmp nat_cmp a b) ≡ false → a ≢ 
 turned a b not other = nat_list_cmp_total.antisymm b a ∙ by (slice_cmp nat_cmp a b) (is_eq-slice_cmp a b) not
   where
     by : (o : Ordering) → is_eq o ≡ bytes_eq a b → is_lt o ≡ false → ordering_reverse o ≡ Less
-    by Less told not = absurd (cc)
-    by Equal told not = absurd (other (same_text a b told))
-    by Greater told not = refl
+    by Less known not = absurd (cc)
+    by Equal known not = absurd (other (same_text a b known))
+    by Greater known not = refl
 
 -- ---- the text at a position
 
@@ -98,17 +98,17 @@ found_there tokens text places at place index point lt same =
     let listed = index.whole place lt in
     let there : listed.0 ≡ at = only_there tokens text places at listed.0 place index.rising point listed.1 same in
     let represents : slice_get places at ≡ Some place = ap (slice_get places) (sym there) ∙ listed.1 in
-    let told : bytes_eq (text_at tokens place) text ≡ true = rw same (text_refl text) in
-    rw (represents, told) refl
+    let known : bytes_eq (text_at tokens place) text ≡ true = rw same (text_refl text) in
+    rw (represents, known) refl
 
 -- a position that the lookup returns was at the point, and its token has the text
-picked : (tokens : List Token) (text : List ℕ) (stood : Option ℕ) (place : ℕ) → option_and_then (if_text tokens text) stood ≡ Some place → (stood ≡ Some place) × (text_at tokens place ≡ text)
+picked : (tokens : List Token) (text : List ℕ) (held : Option ℕ) (place : ℕ) → option_and_then (if_text tokens text) held ≡ Some place → (held ≡ Some place) × (text_at tokens place ≡ text)
 picked tokens text None place is = absurd (cc)
 picked tokens text (Some other) place is = by (bytes_eq (text_at tokens other) text) refl is
   where
     by : (b : Bool) → bytes_eq (text_at tokens other) text ≡ b → (if b then Some other else None) ≡ Some place → (Some other ≡ Some place) × (text_at tokens place ≡ text)
-    by true told is = let same : other ≡ place = cc in (is, ap (text_at tokens) (sym same) ∙ same_text _ _ (sym told))
-    by false told is = absurd (cc)
+    by true known is = let same : other ≡ place = cc in (is, ap (text_at tokens) (sym same) ∙ same_text _ _ (sym known))
+    by false known is = absurd (cc)
 
 none_there : (tokens : List Token) (text : List ℕ) (places : List ℕ) (at : ℕ) (found : Option ℕ) → IsTextIndex tokens places → place_of text tokens ≡ None → option_and_then (if_text tokens text) (slice_get places at) ≡ found → found ≡ None
 none_there tokens text places at None index none is = refl
@@ -138,11 +138,11 @@ insert_all P (x ∷ xs) (suc at) y le each new = All-cons P x (insert xs at y) (
 
 insert_pairs : {X : Type 0} (R : X → X → Type 0) (xs : List X) (at : ℕ) (y : X) → at ≤ length xs → AllPairs R xs → ((k : ℕ) (d : X) → k < at → R (get_or xs k d) y) → ((k : ℕ) (d : X) → at ≤ k → k < length xs → R y (get_or xs k d))
     → AllPairs R (insert xs at y)
-insert_pairs R xs zero y le pairs front back = AllPairs-cons R y xs (λ k d lt. back k d (omega arith) lt) pairs
-insert_pairs R [] (suc at) y le pairs front back = absurd (omega arith)
-insert_pairs R (x ∷ xs) (suc at) y le pairs front back =
-    AllPairs-cons R x (insert xs at y) (insert_all (R x) xs at y (omega arith) (λ k d lt. pairs 0 (suc k) d (omega arith) (omega arith)) (front 0 x (omega arith)))
-    (insert_pairs R xs at y (omega arith) (λ i j d before lt. pairs (suc i) (suc j) d (omega arith) (omega arith)) (λ k d lt. front (suc k) d (omega arith)) (λ k d from lt. back (suc k) d (omega arith) (omega arith)))
+insert_pairs R xs zero y le pairs earlier back = AllPairs-cons R y xs (λ k d lt. back k d (omega arith) lt) pairs
+insert_pairs R [] (suc at) y le pairs earlier back = absurd (omega arith)
+insert_pairs R (x ∷ xs) (suc at) y le pairs earlier back =
+    AllPairs-cons R x (insert xs at y) (insert_all (R x) xs at y (omega arith) (λ k d lt. pairs 0 (suc k) d (omega arith) (omega arith)) (earlier 0 x (omega arith)))
+    (insert_pairs R xs at y (omega arith) (λ i j d before lt. pairs (suc i) (suc j) d (omega arith) (omega arith)) (λ k d lt. earlier (suc k) d (omega arith)) (λ k d from lt. back (suc k) d (omega arith) (omega arith)))
 
 still_listed : (places : List ℕ) (at new place : ℕ) → at ≤ length places → IsListed place places → IsListed place (insert places at new)
 still_listed places at new place inside listed =

@@ -69,8 +69,8 @@ no_more text before texts represents =
     each : (s : List ℕ) → not (is_one_of s before) ≡ (not (bytes_eq text s) && not (is_one_of s before))
     each s =
         elim (cases_Bool (bytes_eq text s)) [
-          | inl told ↦ let here : is_one_of s before ≡ true = rw ((bytes_eq-Decides text s).0 told) at represents in rw (told, here) refl
-          | inr told ↦ rw told refl
+          | inl decided ↦ let here : is_one_of s before ≡ true = rw ((bytes_eq-Decides text s).0 decided) at represents in rw (decided, here) refl
+          | inr decided ↦ rw decided refl
         ]
 
 map_same : (f g : List ℕ → Option Token) → ((text : List ℕ) → f text ≡ g text) → (texts : Texts) → filter_map f texts ≡ filter_map g texts
@@ -110,8 +110,8 @@ put_next true n a x book =
     rw here refl
 put_next false n a x book =
     elim (cases_Bool (nat_lt n (length book))) [
-      | inl told ↦ let here : nat_lt (1 + n) (suc (length book)) ≡ true = grind (arith, nat_tests) in let one : 1 + n ≡ suc n = omega arith in rw (here, told, one) refl
-      | inr told ↦ let here : nat_lt (1 + n) (suc (length book)) ≡ false = grind (arith, nat_tests) in rw (here, told) refl
+      | inl decided ↦ let here : nat_lt (1 + n) (suc (length book)) ≡ true = grind (arith, nat_tests) in let one : 1 + n ≡ suc n = omega arith in rw (here, decided, one) refl
+      | inr decided ↦ let here : nat_lt (1 + n) (suc (length book)) ≡ false = grind (arith, nat_tests) in rw (here, decided) refl
     ]
 
 with_next : (a : Token) (book : List Token) (x : Token) → with_token (a ∷ book) x ≡ cond (bytes_eq a.text x.text) (x ∷ book) (a ∷ with_token book x)
@@ -126,8 +126,8 @@ texts_put : (book : List Token) (x : Token) → texts_of (with_token book x) ≡
 texts_put [] x = rw (with_first x) refl
 texts_put (a ∷ book) x =
     ap texts_of (with_next a book x) ∙ elim (cases_Bool (bytes_eq a.text x.text)) [
-      | inl told ↦ let same : a.text ≡ x.text = (bytes_eq-Decides a.text x.text).0 told in rw told (ap (λ (t : List ℕ). t ∷ texts_of book) (sym same))
-      | inr told ↦ rw (told, texts_put book x) (by (is_one_of x.text (texts_of book)))
+      | inl decided ↦ let same : a.text ≡ x.text = (bytes_eq-Decides a.text x.text).0 decided in rw decided (ap (λ (t : List ℕ). t ∷ texts_of book) (sym same))
+      | inr decided ↦ rw (decided, texts_put book x) (by (is_one_of x.text (texts_of book)))
     ]
   where
     by : (b : Bool) → a.text ∷ (if b then texts_of book else texts_of book ++ x.text ∷ []) ≡ (if b then a.text ∷ texts_of book else a.text ∷ texts_of book ++ x.text ∷ [])
@@ -138,8 +138,8 @@ token_put : (t : List ℕ) (book : List Token) (x : Token) → token_of t (with_
 token_put t [] x = rw (with_first x) refl
 token_put t (a ∷ book) x =
     ap (token_of t) (with_next a book x) ∙ elim (cases_Bool (bytes_eq a.text x.text)) [
-      | inl told ↦ let same : bytes_eq a.text t ≡ bytes_eq x.text t = ap (λ (s : List ℕ). bytes_eq s t) ((bytes_eq-Decides a.text x.text).0 told) in rw (told, same) (skip (bytes_eq x.text t))
-      | inr told ↦ rw (told, token_put t book x) (either (bytes_eq a.text t) (bytes_eq x.text t) (not_both told))
+      | inl decided ↦ let same : bytes_eq a.text t ≡ bytes_eq x.text t = ap (λ (s : List ℕ). bytes_eq s t) ((bytes_eq-Decides a.text x.text).0 decided) in rw (decided, same) (skip (bytes_eq x.text t))
+      | inr decided ↦ rw (decided, token_put t book x) (either (bytes_eq a.text t) (bytes_eq x.text t) (not_both decided))
     ]
   where
     skip : (b : Bool) → (if b then Some x else token_of t book) ≡ (if b then Some x else (if b then Some a else token_of t book))
@@ -165,8 +165,8 @@ fold_texts [] book = sym (append-nil (texts_of book))
 fold_texts (x ∷ tokens) book =
     fold_texts tokens (with_token book x) ∙ ap (λ (ts : Texts). ts ++ others ts (each_once (texts_of tokens))) (texts_put book x) ∙
     elim (cases_Bool (is_one_of x.text (texts_of book))) [
-      | inl told ↦ rw told (ap (λ (ts : Texts). texts_of book ++ ts) (no_more x.text (texts_of book) (each_once (texts_of tokens)) told))
-      | inr told ↦ rw told (append_assoc (texts_of book) (x.text ∷ []) _ ∙ ap (λ (ts : Texts). texts_of book ++ x.text ∷ ts) (one_more x.text (texts_of book) (each_once (texts_of tokens))))
+      | inl decided ↦ rw decided (ap (λ (ts : Texts). texts_of book ++ ts) (no_more x.text (texts_of book) (each_once (texts_of tokens)) decided))
+      | inr decided ↦ rw decided (append_assoc (texts_of book) (x.text ∷ []) _ ∙ ap (λ (ts : Texts). texts_of book ++ x.text ∷ ts) (one_more x.text (texts_of book) (each_once (texts_of tokens))))
     ]
 
 or_assoc : (a b c : Option Token) → option_or (option_or a b) c ≡ option_or a (option_or b c)
@@ -194,29 +194,29 @@ same_later : (x : Token) (book tokens : List Token) → All (λ (t : Token). x.t
 same_later x book [] other = refl
 same_later x book (t ∷ tokens) other =
     let differs : x.text ≢ t.text = All-head (λ (t : Token). x.text ≢ t.text) t tokens other in
-    let no : bytes_eq x.text t.text ≡ false = untold differs in
+    let no : bytes_eq x.text t.text ≡ false = unequal differs in
     let later = same_later x book tokens (All-tail (λ (t : Token). x.text ≢ t.text) t tokens other) in
     rw (no, later) refl
   where
-    untold : x.text ≢ t.text → bytes_eq x.text t.text ≡ false
-    untold differs =
+    unequal : x.text ≢ t.text → bytes_eq x.text t.text ≡ false
+    unequal differs =
         elim (cases_Bool (bytes_eq x.text t.text)) [
-          | inl told ↦ absurd (differs ((bytes_eq-Decides x.text t.text).0 told))
-          | inr told ↦ told
+          | inl decided ↦ absurd (differs ((bytes_eq-Decides x.text t.text).0 decided))
+          | inr decided ↦ decided
         ]
 
-told_by_texts : (book : List Token) → HaveDistinctTexts book → filter_map (λ text. token_of text book) (texts_of book) ≡ book
-told_by_texts [] different = refl
-told_by_texts (x ∷ book) different =
+found_by_texts : (book : List Token) → HaveDistinctTexts book → filter_map (λ text. token_of text book) (texts_of book) ≡ book
+found_by_texts [] different = refl
+found_by_texts (x ∷ book) different =
     let later = same_later x book book (λ k d lt. different 0 (suc k) d (omega arith) (omega arith)) in
-    let rest = told_by_texts book (λ i j d before below. different (suc i) (suc j) d (omega arith) (omega arith)) in
+    let rest = found_by_texts book (λ i j d before below. different (suc i) (suc j) d (omega arith) (omega arith)) in
     rw (text_refl x.text, later) (ap (λ (ts : List Token). x ∷ ts) rest)
 
 pub gathered_latest : LatestAreGathered
 gathered_latest tokens =
     let texts : texts_of (gathered tokens) ≡ each_once (texts_of tokens) = fold_texts tokens [] ∙ nothing_before (each_once (texts_of tokens)) in
     let each : (text : List ℕ) → token_of text (gathered tokens) ≡ last_of text tokens = λ text. fold_token text tokens [] ∙ or_none (last_of text tokens) in
-    sym (told_by_texts (gathered tokens) (stays_different tokens [] nothing_differs))
+    sym (found_by_texts (gathered tokens) (stays_different tokens [] nothing_differs))
     ∙ ap (filter_map (λ text. token_of text (gathered tokens))) texts ∙ map_same (λ text. token_of text (gathered tokens)) (λ text. last_of text tokens) each (each_once (texts_of tokens))
 
 pub latest_read : LatestAreRead

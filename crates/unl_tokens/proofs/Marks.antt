@@ -50,8 +50,8 @@ other_text a b differ =
 as_before : (text asked : List ℕ) (before : List (List ℕ)) → text ≢ asked → is_one_of text (before ++ asked ∷ []) ≡ is_one_of text before
 as_before text asked before other = list_any-append (λ (t : List ℕ). bytes_eq t text) before (asked ∷ []) ∙ or_false (is_one_of text before) (bytes_eq asked text) (other_text text asked other)
 
-stands_now : (text asked : List ℕ) (before : List (List ℕ)) → text ≡ asked → is_one_of text (before ++ asked ∷ []) ≡ true
-stands_now text asked before same = list_any-append (λ (t : List ℕ). bytes_eq t text) before (asked ∷ []) ∙ or_true (is_one_of text before) (bytes_eq asked text) (rw same (text_refl asked))
+listed_now : (text asked : List ℕ) (before : List (List ℕ)) → text ≡ asked → is_one_of text (before ++ asked ∷ []) ≡ true
+listed_now text asked before same = list_any-append (λ (t : List ℕ). bytes_eq t text) before (asked ∷ []) ∙ or_true (is_one_of text before) (bytes_eq asked text) (rw same (text_refl asked))
 
 other_place : (tokens : List Token) (place k : ℕ) (d : Token) (text : List ℕ) → HaveDistinctTexts tokens → place < length tokens → k < length tokens → k ≢ place → (get_or tokens place d).text ≡ text → (get_or tokens k d).text ≢ text
 other_place tokens place k d text different within below apart same = λ equal.
@@ -65,7 +65,7 @@ mark_found place tokens before marks text at different old k d e lt =
     let found = position-Some (has_text text) tokens place d at in
     let same : (get_or tokens place d).text ≡ text = same_text _ _ (sym found.1) in
     elim (cases_eq k place) [
-      | inl here ↦ rw here (get_or-set_same marks place true e (rw old.count found.0) ∙ sym (stands_now (get_or tokens place d).text text before same))
+      | inl here ↦ rw here (get_or-set_same marks place true e (rw old.count found.0) ∙ sym (listed_now (get_or tokens place d).text text before same))
       | inr apart ↦ get_or-set_other marks place k true e apart ∙ old.each k d e lt ∙ sym (as_before (get_or tokens k d).text text before (other_place tokens place k d text different found.0 lt apart same))
     ]
 
@@ -120,19 +120,19 @@ marks_go_on tokens before marks text different old = (
 tokens_apart : (one rest : List Token) → token_tokens (one ++ rest) ≡ token_tokens one ++ token_tokens rest
 tokens_apart one rest = ap all_tokens (map-append token_data one rest) ∙ flat_map-append tokens_of (map token_data one) (map token_data rest)
 
-regrouped : (front : List JsonToken) (one rest : List Token) → front ++ token_tokens (one ++ rest) ≡ (front ++ token_tokens one) ++ token_tokens rest
-regrouped front one rest = ap (λ ts. front ++ ts) (tokens_apart one rest) ∙ sym (append_assoc front (token_tokens one) (token_tokens rest))
+regrouped : (prefix : List JsonToken) (one rest : List Token) → prefix ++ token_tokens (one ++ rest) ≡ (prefix ++ token_tokens one) ++ token_tokens rest
+regrouped prefix one rest = ap (λ ts. prefix ++ ts) (tokens_apart one rest) ∙ sym (append_assoc prefix (token_tokens one) (token_tokens rest))
 
-pub prints_on : (tokens : List Token) (asked : List (List ℕ)) (i : ℕ) (text : List ℕ) (front : List JsonToken) (marks : List Bool) → i < length asked → text ≡ get_or asked i text → HaveDistinctTexts tokens → Marked tokens (take i asked) marks → (front ++ token_tokens (option_to_list (unmarked tokens marks text))) ++ token_tokens (known_after tokens (take (i + 1) asked) (drop (i + 1) asked)) ≡ front ++ token_tokens (known_after tokens (take i asked) (drop i asked))
-prints_on tokens asked i text front marks lt at different old =
+pub prints_on : (tokens : List Token) (asked : List (List ℕ)) (i : ℕ) (text : List ℕ) (prefix : List JsonToken) (marks : List Bool) → i < length asked → text ≡ get_or asked i text → HaveDistinctTexts tokens → Marked tokens (take i asked) marks → (prefix ++ token_tokens (option_to_list (unmarked tokens marks text))) ++ token_tokens (known_after tokens (take (i + 1) asked) (drop (i + 1) asked)) ≡ prefix ++ token_tokens (known_after tokens (take i asked) (drop i asked))
+prints_on tokens asked i text prefix marks lt at different old =
     let before = take i asked in
     let later = drop (i + 1) asked in
     let more : take (i + 1) asked ≡ before ++ text ∷ [] = take_more asked i text lt ∙ ap (λ (t : List ℕ). before ++ t ∷ []) (sym at) in
     let whole : drop i asked ≡ text ∷ later = drop_more asked i text lt ∙ ap (λ (t : List ℕ). t ∷ later) (sym at) in
     let same = (marks_go_on tokens before marks text different old).0 in
-    rw same (rw more (rw whole (sym (regrouped front (option_to_list (answered tokens before text)) (known_after tokens (before ++ text ∷ []) later)))))
+    rw same (rw more (rw whole (sym (regrouped prefix (option_to_list (answered tokens before text)) (known_after tokens (before ++ text ∷ []) later)))))
 
 pub marks_on : (tokens : List Token) (asked : List (List ℕ)) (i : ℕ) (text : List ℕ) (marks : List Bool) → i < length asked → text ≡ get_or asked i text → HaveDistinctTexts tokens → Marked tokens (take i asked) marks → Marked tokens (take (i + 1) asked) (marked tokens marks text)
 marks_on tokens asked i text marks lt at different old =
-    let front : take (i + 1) asked ≡ take i asked ++ text ∷ [] = take_more asked i text lt ∙ ap (λ (t : List ℕ). take i asked ++ t ∷ []) (sym at) in
-    rw front ((marks_go_on tokens (take i asked) marks text different old).1)
+    let prefix : take (i + 1) asked ≡ take i asked ++ text ∷ [] = take_more asked i text lt ∙ ap (λ (t : List ℕ). take i asked ++ t ∷ []) (sym at) in
+    rw prefix ((marks_go_on tokens (take i asked) marks text different old).1)

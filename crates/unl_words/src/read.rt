@@ -1,11 +1,12 @@
 //! Reads the arguments of the command line.
-ghost use Rattle.std.specs.Prelude.{◌≡◌, Some, IfOk, map, string_bytes};
-ghost use Rattle.clap.specs.Words.{found_of, rows_of};
+ghost use Rattle.std.specs.Prelude.{◌≡◌, ◌<◌, ◌^◌, Some, IfOk, codes, map, string_bytes};
+ghost use Rattle.clap.specs.Words.{first_of, found_of, rows_of};
 ghost use Rattle.unl_documents.specs.Results.{Gives};
 ghost use Rattle.unl_words.specs.Commands.{command_by};
-ghost use Rattle.unl_words.specs.Ranges.{IsInRange};
+ghost use Rattle.unl_words.specs.Ranges.{IsInRange, IsWithin};
+ghost use Rattle.unl_words.specs.Values.{number_or};
 ghost use Rattle.unl_words.specs.Words.{DecidedByRanges, Command, asked_of, asks_check, asks_edge, asks_follow, asks_load, asks_upstream};
-ghost use Rattle.unl_words.specs.Words.{command_of, words_of};
+ghost use Rattle.unl_words.specs.Words.{command_of, last_number, words_of};
 ghost use Rattle.unl_words.specs.declared.refusal.WordsRefusal.TheVariants.{Memory};
 
 use crate::name::{CommandName, first_name};
@@ -104,7 +105,7 @@ fn asked_check(matches: &ArgMatches<'_>) -> Result<Words, WordsRefusal>
     ensures valid { IfOk result IsInRange }
 {
     let now = number_or(given(matches, "now"), 0, 0, LAST_MOMENT)?;
-    let word = number_or(given(matches, "word"), 0, 0, u64::MAX)?;
+    let word = any_number(matches, "word")?;
     Ok(Words::Check { now, word })
 }
 
@@ -114,23 +115,23 @@ fn asked_edge(alloc: Global, matches: &ArgMatches<'_>) -> Result<Words, WordsRef
     ensures gives { Gives Memory result (asks_edge (rows_of (found_of matches.now))) }
     ensures valid { IfOk result IsInRange }
 {
-    let port = number_or(given(matches, "port"), 3063, 1, 65_535)?;
-    let workers = number_or(given(matches, "workers"), 4, 1, 16)?;
-    let interval = number_or(given(matches, "interval"), 15, 1, 3600)?;
-    let connections = number_or(given(matches, "connections"), 0, 0, u64::MAX)?;
+    let port = port_or(matches, 3063)?;
+    let workers = short_number(matches, "workers", 4, 1, 16)?;
+    let interval = short_number(matches, "interval", 15, 1, 3600)?;
+    let connections = any_number(matches, "connections")?;
     let delta = value::mode_or_delta(given(matches, "mode"))?;
     let upstream = value::address(alloc, given(matches, "upstream"))?;
     let upstream_tokens = items::upstream_tokens(alloc, given(matches, "upstream-tokens"))?;
     let tokens = items::tokens(alloc, given(matches, "tokens"))?;
     let host = value::line_or_empty(alloc, given(matches, "host"))?;
     Ok(Words::Edge(EdgeArguments {
-        port: port as u16,
+        port,
         upstream,
         upstream_tokens,
         tokens,
         host,
-        workers: workers as u32,
-        interval: interval as u32,
+        workers,
+        interval,
         connections,
         delta,
     }))
@@ -142,9 +143,9 @@ fn asked_upstream(alloc: Global, matches: &ArgMatches<'_>) -> Result<Words, Word
     ensures gives { Gives Memory result (asks_upstream (rows_of (found_of matches.now))) }
     ensures valid { IfOk result IsInRange }
 {
-    let port = number_or(given(matches, "port"), 4242, 1, 65_535)?;
-    let connections = number_or(given(matches, "connections"), 0, 0, u64::MAX)?;
-    let epoch = number_or(given(matches, "epoch"), 0, 0, u64::MAX)?;
+    let port = port_or(matches, 4242)?;
+    let connections = any_number(matches, "connections")?;
+    let epoch = any_number(matches, "epoch")?;
     let sqlite = value::sqlite_or_memory(given(matches, "keep"))?;
     let secret = value::secret(alloc, given(matches, "secret"))?;
     let environments = items::environments(alloc, given(matches, "environments"))?;
@@ -154,7 +155,7 @@ fn asked_upstream(alloc: Global, matches: &ArgMatches<'_>) -> Result<Words, Word
         return Err(WordsRefusal::Bad);
     }
     Ok(Words::Upstream(UpstreamArguments {
-        port: port as u16,
+        port,
         secret,
         environments,
         client_tokens,
@@ -172,8 +173,8 @@ fn asked_follow(alloc: Global, matches: &ArgMatches<'_>) -> Result<Words, WordsR
     ensures valid { IfOk result IsInRange }
 {
     let delta = value::mode_or_delta(given(matches, "mode"))?;
-    let turns = number_or(given(matches, "turns"), 1, 1, 1_000_000)?;
-    let interval = number_or(given(matches, "interval"), 15, 1, 3600)?;
+    let turns = short_number(matches, "turns", 1, 1, 1_000_000)?;
+    let interval = short_number(matches, "interval", 15, 1, 3600)?;
     let upstream = value::address(alloc, given(matches, "upstream"))?;
     let token = value::token(alloc, given(matches, "token"))?;
     let feature = value::name(alloc, given(matches, "feature"))?;
@@ -185,8 +186,8 @@ fn asked_follow(alloc: Global, matches: &ArgMatches<'_>) -> Result<Words, WordsR
         feature,
         context,
         delta,
-        turns: turns as u32,
-        interval: interval as u32,
+        turns,
+        interval,
     }))
 }
 
@@ -199,4 +200,38 @@ fn asked_load(matches: &ArgMatches<'_>) -> Result<Words, WordsRefusal>
     let seed = required_number(given(matches, "seed"), 0, u64::MAX)?;
     let count = required_number(given(matches, "count"), 1, 1_000_000)?;
     Ok(Words::Load { seed, count })
+}
+
+/// Reads the port in an option, which isn't 0. Returns the default if the option is absent.
+fn port_or(matches: &ArgMatches<'_>, default: u64) -> Result<u16, WordsRefusal>
+    requires { IsWithin 1 65535 default }
+    ensures gives { result ≡ number_or default 1 65535 (first_of (codes "port") (rows_of (found_of matches.now))) }
+    ensures range { IfOk result (IsWithin 1 65535) }
+{
+    let port = number_or(given(matches, "port"), default, 1, 65_535)?;
+    Ok(port as u16)
+}
+
+/// Reads the number in an option, within two bounds of 32 bits. Returns the default if the option is absent.
+fn short_number(
+    matches: &ArgMatches<'_>,
+    name: &str,
+    default: u64,
+    least: u64,
+    most: u64,
+) -> Result<u32, WordsRefusal>
+    requires default { IsWithin least most default }
+    requires short { most < 2 ^ 32 }
+    ensures gives { result ≡ number_or default least most (first_of name.now (rows_of (found_of matches.now))) }
+    ensures range { IfOk result (IsWithin least most) }
+{
+    let number = number_or(given(matches, name), default, least, most)?;
+    Ok(number as u32)
+}
+
+/// Reads the unsigned 64-bit number in an option. Returns 0 if the option is absent.
+fn any_number(matches: &ArgMatches<'_>, name: &str) -> Result<u64, WordsRefusal>
+    ensures { result ≡ number_or 0 0 last_number (first_of name.now (rows_of (found_of matches.now))) }
+{
+    number_or(given(matches, name), 0, 0, u64::MAX)
 }
