@@ -91,9 +91,9 @@ took {S} gives bytes back before coming end count after coming_after left_after 
     draws : asked.reached.coming ≡ draws_after (length asked.requests) coming
     draws = answered_draws gives 0 asked.requests asked.text (handler_state before 0 coming) asked.reached asked.answered
 
-    so_many : (taken : ℕ) → after ≡ asked.reached.state → count ≡ asked.reached.count → coming_after ≡ draws_after taken coming
+    draw_count : (taken : ℕ) → after ≡ asked.reached.state → count ≡ asked.reached.count → coming_after ≡ draws_after taken coming
         → (taken ≡ count) ⊎ ((end ≡ ends.Memory) × (taken ≡ count + 1)) → Took gives bytes before coming end count after coming_after
-    so_many taken state notes come takes = record {
+    draw_count taken state notes come takes = record {
       requests = asked.requests;
       rest = asked.rest;
       reads = asked.reads;
@@ -112,9 +112,9 @@ took {S} gives bytes back before coming end count after coming_after left_after 
         → Took gives bytes before coming end count after coming_after
     by_next (inl same) =
         let notes : count ≡ asked.reached.count = ap (λ (s : HandlerState S). s.count) same in
-        so_many (length asked.requests) (ap (λ (s : HandlerState S). s.state) same) notes (ap (λ (s : HandlerState S). s.coming) same ∙ draws) (inl (omega (arith, notes, counts)))
+        draw_count (length asked.requests) (ap (λ (s : HandlerState S). s.state) same) notes (ap (λ (s : HandlerState S). s.coming) same ∙ draws) (inl (omega (arith, notes, counts)))
     by_next (inr lacks) =
         let notes : count ≡ asked.reached.count = lacks.2.counted in
-        so_many (length asked.requests + 1) lacks.2.given_up notes
+        draw_count (length asked.requests + 1) lacks.2.given_up notes
         (draws_one asked.reached.coming lacks.2.draw coming_after lacks.2.taken ∙ ap (draws_after 1) draws ∙ draws_both 1 (length asked.requests) coming)
         (inr (lacks.0, omega (arith, notes, counts)))

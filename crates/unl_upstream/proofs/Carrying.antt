@@ -8,7 +8,6 @@ use Rattle.unl_keeper.specs.declared.refusal.KeepRefusal.TheVariants as fault
 use Rattle.unl_keeper.specs.Rows.{with_row}
 use Rattle.unl_keeper.specs.State.{HasKept, IsFailed, IsWritten, KeeperState, kept_rows}
 use Rattle.unl_keeper.proofs.Kept.{has_failed, has_written, past_failed, past_written, rows_failed, rows_written}
-use Rattle.unl_documents.specs.Results.{◌>>=◌}
 use Rattle.unl_upstream.specs.declared.command.Command.{Command}
 use Rattle.unl_upstream.specs.declared.refusal.CommandRefusal.{CommandRefusal}
 use Rattle.unl_upstream.specs.declared.refusal.CommandRefusal.TheVariants as command_refusal
@@ -17,21 +16,18 @@ use Rattle.unl_upstream.specs.declared.refusal.KeepCommandRefusal.TheVariants.{N
 use Rattle.unl_upstream.specs.Command.{command_in}
 use Rattle.unl_upstream.specs.History.{accepted, after_commands, if_accepted, up_after}
 use Rattle.unl_upstream.specs.Kept.{Acknowledges, AreLeft, Carries, FailsToKeep, AttemptsPreserve, IsLeft, IsPending, Keeps, AttemptsInOrder, SomeAttempts, KeptState, ResultIn, LeavesOne, Moves, Puts, KeepAttempt, acknowledged, commands_in, failed_after, faults_among, if_kept, keepable, kept_commands, most_rows, past_rows, with_room}
-use Rattle.unl_upstream.specs.Upstream.{AppliedCommand, CommandResult, Prepared, UpstreamState, apply_command, committed, prepared, refused_as}
+use Rattle.unl_upstream.specs.Upstream.{AppliedCommand, CommandResult, Prepared, UpstreamState, apply_command, prepared, refused_as}
 use Rattle.unl_upstream.specs.Writing.{command_text}
+use Rattle.unl_upstream.proofs.Applying.{applied_by, applied_with, applies, refuses_command}
 use Rattle.unl_upstream.proofs.Leading.{command_one, commands_both, results_more}
 use Rattle.unl_upstream.proofs.Served.{after_both}
 use Rattle.unl_upstream.proofs.VersionLemmas.{accepted_both, are_added}
 
 -- ---- prepared commands
 
--- the result of committing a prepared command
-abbrev applied_with : Prepared → UpstreamState → AppliedCommand
-applied_with ready up = record { up = committed ready up; number = ready.number }
-
 -- a prepared command for which there is room is accepted with this result
 room_applied : (count : ℕ) (r : CommandResult Prepared) (up : UpstreamState) (ready : Prepared) → with_room count r ≡ Ok ready
-    → with_room count (r >>= λ made. Ok (applied_with made up)) ≡ Ok (applied_with ready up)
+    → with_room count (applied_by up r) ≡ Ok (applied_with ready up)
 room_applied count (Err refusal) up ready is = absurd cc
 room_applied count (Ok made) up ready is = decided (nat_lt count most_rows) is
   where
@@ -41,9 +37,10 @@ room_applied count (Ok made) up ready is = decided (nat_lt count most_rows) is
     decided false is = absurd cc
 
 keepable_is : (command : Command) (before : KeptState) (ready : Prepared) → with_room before.keeper.count (prepared command before.up) ≡ Ok ready
-    → keepable command before ≡ Ok (record { up = committed ready before.up; number = ready.number })
-unfolding apply_command
-keepable_is command before ready is = room_applied before.keeper.count (prepared command before.up) before.up ready is
+    → keepable command before ≡ Ok (applied_with ready before.up)
+keepable_is command before ready is =
+    ap (with_room before.keeper.count) (applies command before.up (prepared command before.up) refl)
+    ∙ room_applied before.keeper.count (prepared command before.up) before.up ready is
 
 -- below the maximum there is room
 room : {T : Type 0} (count : ℕ) (x : T) → count < 10000000 → with_room count (Ok x) ≡ Ok x
@@ -59,16 +56,13 @@ room_left count command up ready is low = ap (with_room count) is ∙ room count
 
 pub full : (count : ℕ) (command : Command) (up : UpstreamState) (ready : Prepared) → prepared command up ≡ Ok ready → 10000000 ≤ count
     → with_room count (apply_command command up) ≡ Err (KeeperFull count)
-unfolding apply_command
-full count command up ready is high =
-    ap (λ (r : CommandResult Prepared). with_room count (r >>= λ made. Ok (applied_with made up))) is ∙ no_room count (applied_with ready up) high
+full count command up ready is high = ap (with_room count) (applies command up (Ok ready) is) ∙ no_room count (applied_with ready up) high
 
 pub refused_for : (count : ℕ) (command : Command) (up : UpstreamState) (refusal : CommandRefusal) (e : KeepCommandRefusal) → e ≡ refused_as refusal
     → (refusal ≢ command_refusal.Memory → prepared command up ≡ Err refusal) → e ≢ Memory → with_room count (apply_command command up) ≡ Err e
-unfolding apply_command
 refused_for count command up refusal e is refused some =
     let here : prepared command up ≡ Err refusal = refused (λ failure. some (is ∙ ap refused_as failure)) in
-    ap (λ (r : CommandResult Prepared). with_room count (r >>= λ made. Ok (applied_with made up))) here ∙ ap Err (sym is)
+    ap (with_room count) (refuses_command command up refusal here) ∙ ap Err (sym is)
 
 -- the same for a refusal that was converted and returned
 pub refused_by : {T : Type 0} (r : Result T KeepCommandRefusal) (count : ℕ) (command : Command) (up : UpstreamState) (refusal : CommandRefusal)

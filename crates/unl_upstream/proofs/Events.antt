@@ -10,7 +10,7 @@ use Rattle.unl_delta.specs.History.{IsHistory, FitsState, Represents, everything
 use Rattle.unl_delta.specs.State.{empty_state, fold_events, is_change, later, number_of, project_of, step, up_to}
 use Rattle.unl_delta.specs.Valid.{NeverFall}
 use Rattle.unl_delta.proofs.Every.{every_weaker}
-use Rattle.unl_delta.proofs.Growth.{stands_after_one}
+use Rattle.unl_delta.proofs.Growth.{represents_after_one}
 use Rattle.unl_delta.proofs.Numbers.{never_fall_lower, up_to_all}
 use Rattle.unl_documents.specs.declared.feature.Feature.{Feature}
 use Rattle.unl_documents.specs.declared.segment.Segment.{Segment}
@@ -22,6 +22,7 @@ use Rattle.unl_upstream.specs.declared.refusal.CommandRefusal.{CommandRefusal}
 use Rattle.unl_upstream.specs.declared.refusal.CommandRefusal.TheVariants.{NoSuchFeature, NoSuchSegment, TooMany}
 use Rattle.unl_upstream.specs.Upstream.{CommandResult, event_of, feature_put, feature_removed, has_feature, has_segment, last_number, most_features, most_segments, number_after, segment_put, segment_removed, version_after}
 use Rattle.unl_upstream.specs.History.{IsHistoryOf, event_at, events_from, history_of}
+use Rattle.unl_upstream.proofs.Constructors.{err_is_no_ok, ok_same}
 
 -- ---- one event
 
@@ -37,13 +38,13 @@ numbered : (n : ℕ) (event : ℕ → Event) (e : Event) → (number_after n >>=
 numbered n event e is = decided (n == last_number) is
   where
     decided : (t : Bool) → ((cond t (Err (TooMany n)) (Ok (n + 1))) >>= λ (m : ℕ). Ok (event m)) ≡ Ok e → e ≡ event (n + 1)
-    decided true refused = absurd cc
-    decided false is_event = cc
+    decided true refused = err_is_no_ok (TooMany n) e refused
+    decided false is_event = sym (ok_same (event (n + 1)) e is_event)
 
 -- the result after a test that passed
 after_test : (t : Bool) (refusal : CommandRefusal) (rest : CommandResult Event) (e : Event) → (cond t (Ok tt) (Err refusal) >>= λ (u : Unit {0}). rest) ≡ Ok e → rest ≡ Ok e
 after_test true refusal rest e is = is
-after_test false refusal rest e is = absurd cc
+after_test false refusal rest e is = err_is_no_ok refusal e is
 
 put_feature_event : (environment : List ℕ) (feature : Feature) (v : EnvVersion) (e : Event) → feature_put feature v ≡ Ok e → IsEventOf v (PutFeature environment feature) e
 unfolding feature_put
@@ -73,7 +74,7 @@ remove_feature_event environment name v e is = decided (project_of name v.state.
     decided : (o : Option (List ℕ)) → project_of name v.state.features ≡ o
         → (ok_or o NoSuchFeature >>= λ (project : List ℕ). number_after v.number >>= λ (n : ℕ). Ok (FeatureRemoved n name project)) ≡ Ok e
         → IsEventOf v (RemoveFeature environment name) e
-    decided None none refused = absurd cc
+    decided None none refused = err_is_no_ok NoSuchFeature e refused
     decided (Some project) represents more =
         let is_event : e ≡ FeatureRemoved (v.number + 1) name project = numbered v.number (λ n. FeatureRemoved n name project) e more in
         subst (IsEventOf v (RemoveFeature environment name)) (sym is_event) (record { is = rw represents refl; change = refl; number = refl; is_true = represents })
@@ -172,7 +173,7 @@ one_more_is_history epoch commands c v e is is_event =
     let news : v.number < number_of e = omega (arith, comes.number) in
     let whole : IsHistory (history_of commands ++ e ∷ []) = subst IsHistory grown (is_history (commands ++ c ∷ [])) in
     let represents : Represents (history_of commands ++ e ∷ []) everything (go_on v (e ∷ [])) =
-    stands_after_one (history_of commands) v e whole is.represents (none_later epoch commands v is) news comes.is_true in
+    represents_after_one (history_of commands) v e whole is.represents (none_later epoch commands v is) news comes.is_true in
     subst (IsHistoryOf epoch (commands ++ c ∷ [])) (sym (version_after_change v e comes.change)) (record {
       era = is.era;
       represents = subst (λ (h : List Event). Represents h everything (go_on v (e ∷ []))) (sym grown) represents;

@@ -4,7 +4,7 @@ use Rattle.unl_server.specs.Handling.{Coming}
 use Rattle.unl_upstream.specs.declared.command.Command.{Command}
 use Rattle.unl_upstream.specs.History.{after_commands}
 use Rattle.unl_upstream.specs.Kept.{AttemptsInOrder, KeptState, Moves, KeepAttempt, acknowledged, faults_among}
-use Rattle.unl_upstream.specs.KeptHosting.{IsNamed, KeptLinksNameCommands, LinkEffect, LinkServed, Linked, AllLinksEffect}
+use Rattle.unl_upstream.specs.KeptLinks.{IsNamed, KeptLinksNameCommands, LinkEffect, LinkServed, Linked, AllLinksEffect}
 use Rattle.unl_upstream.specs.KeptServing.{Gives, NoKeeperFault, serving, tried_in}
 use Rattle.unl_upstream.specs.Served.{draws_after}
 use Rattle.unl_upstream.specs.Upstream.{UpstreamState}

@@ -22,6 +22,7 @@ use Rattle.unl_upstream.specs.Kept.{AttemptsInOrder, IsPending, KeptState, Puts,
 use Rattle.unl_upstream.specs.KeptServing.{CarriesAnswer, Gives, GivesUp, ServesKept, KeptServing, RunsOutAtRequest, NoKeeperFault, RepliesTo, Step, RepliesByCommand, tried_in, tried_of}
 use Rattle.unl_upstream.specs.Requests.{command_given}
 use Rattle.unl_upstream.specs.Upstream.{Prepared}
+use Rattle.unl_upstream.proofs.Constructors.{err_same, ok_is_no_err}
 use Rattle.unl_upstream.proofs.Given.{order_has, ordered}
 use Rattle.unl_upstream.proofs.Carrying.{carries_all, faults_both, keeps_by_put, refuses}
 use Rattle.unl_upstream.proofs.Statuses.{answered_without_fault, answered_status, kept_without_fault, kept_status}
@@ -70,10 +71,10 @@ shows seen before after = record {
 
 -- the attempts of one request come before those of the others
 keeps_first : (given : Option Command) (before middle after : KeptState) (q : Request) (draw : Draw) (reply : Reply) (others : List KeepAttempt)
-    → (tells : RepliesByCommand given before q draw reply middle) → AttemptsInOrder others middle after
-    → AttemptsInOrder (tried_of given before q draw reply middle tells ++ others) before after
-keeps_first None before middle after q draw reply others tells more = subst (λ (s : KeptState). AttemptsInOrder others s after) tells.0 more
-keeps_first (Some command) before middle after q draw reply others tells more = (middle, tells.keeps, more)
+    → (by_command : RepliesByCommand given before q draw reply middle) → AttemptsInOrder others middle after
+    → AttemptsInOrder (tried_of given before q draw reply middle by_command ++ others) before after
+keeps_first None before middle after q draw reply others by_command more = subst (λ (s : KeptState). AttemptsInOrder others s after) by_command.0 more
+keeps_first (Some command) before middle after q draw reply others by_command more = (middle, by_command.keeps, more)
 
 pub keeps_in : (count : ℕ) (qs : List Request) (text : List ℕ) (before after : KeptServing) (answered : AnsweredAll Step count before qs text after)
     → AttemptsInOrder (tried_in count before qs text after answered) before.state after.state
@@ -83,10 +84,10 @@ keeps_in count (q ∷ qs) text before after (reply, middle, more, step, split, r
     step.given (keeps_in (count + 1) qs more middle after rest)
 
 -- a reply is 503 `KeeperFault` only if the keeper failed at the command of its request
-tells_without_fault : (given : Option Command) (before after : KeptState) (q : Request) (draw : Draw) (reply : Reply) (tells : RepliesByCommand given before q draw reply after)
-    → faults_among (tried_of given before q draw reply after tells) ≡ 0 → reply ≢ refused KeeperFault
-tells_without_fault None before after q draw reply tells none = answered_without_fault reply before.up before.up q draw tells.1
-tells_without_fault (Some command) before after q draw reply tells none = λ is. kept_without_fault tells.result (omega (arith, none)) (sym tells.is ∙ is)
+replies_without_fault : (given : Option Command) (before after : KeptState) (q : Request) (draw : Draw) (reply : Reply) (by_command : RepliesByCommand given before q draw reply after)
+    → faults_among (tried_of given before q draw reply after by_command) ≡ 0 → reply ≢ refused KeeperFault
+replies_without_fault None before after q draw reply by_command none = answered_without_fault reply before.up before.up q draw by_command.1
+replies_without_fault (Some command) before after q draw reply by_command none = λ is. kept_without_fault by_command.result (omega (arith, none)) (sym by_command.is ∙ is)
 
 -- so no reply is, if the keeper failed at none of them
 pub without_fault_in : (count : ℕ) (qs : List Request) (text : List ℕ) (before after : KeptServing) (answered : AnsweredAll Step count before qs text after)
@@ -97,7 +98,7 @@ without_fault_in count (q ∷ qs) text before after (reply, middle, more, step, 
     let first : List KeepAttempt = tried_of given before.state q step.draw reply middle.state step.given in
     let others : List KeepAttempt = tried_in (count + 1) middle qs more after rest in
     let both : faults_among (first ++ others) ≡ faults_among first + faults_among others = faults_both first others in (
-      tells_without_fault given before.state middle.state q step.draw reply step.given (omega (arith, none, both)),
+      replies_without_fault given before.state middle.state q step.draw reply step.given (omega (arith, none, both)),
       without_fault_in (count + 1) qs more middle after rest (omega (arith, none, both)),
     )
 
@@ -122,6 +123,10 @@ keeps_on before after end count has reaches =
 
 -- ---- one reply
 
+-- a fault of the keeper is no lack of memory
+no_other_failure : ◌≢◌ {A = Result ℕ KeepCommandRefusal} (Err KeeperFault) (Err Memory)
+no_other_failure is = cc
+
 -- the reply if its text was stored
 pub replies_kept : (command : Command) (before after : KeptState) (ready : Prepared) (text : List ℕ) (number made : ℕ) (reply : Reply)
     → IsPending command before ready text → made ≡ ready.number → reply ≡ numbered made → Puts ready text before (Ok number) after
@@ -129,7 +134,7 @@ pub replies_kept : (command : Command) (before after : KeptState) (ready : Prepa
 replies_kept command before after ready text number made reply pending counted is puts = record {
   result = Ok number;
   keeps = keeps_by_put command before after ready text (Ok number) pending puts;
-  found = λ failure. cc;
+  found = ok_is_no_err number Memory;
   is = is ∙ ap numbered (counted ∙ sym puts.is);
 }
 
@@ -140,7 +145,7 @@ pub replies_failed : (command : Command) (before after : KeptState) (ready : Pre
 replies_failed command before after ready text reply pending is puts = record {
   result = Err KeeperFault;
   keeps = keeps_by_put command before after ready text (Err fault.Fault) pending puts;
-  found = λ failure. cc;
+  found = no_other_failure;
   is = is;
 }
 
@@ -152,7 +157,7 @@ replies_refused command state refusal (Err failure) is other because = tt
 replies_refused command state refusal (Ok reply) is other because = record {
   result = Err refusal;
   keeps = refuses command state refusal because;
-  found = λ failure. other cc;
+  found = λ failure. other (err_same refusal Memory failure);
   is = is;
 }
 
@@ -177,10 +182,10 @@ replies_with_command before after q draw reply command is replies =
     subst (λ (o : Option Command). RepliesByCommand o before q draw reply after) given replies
 
 -- the attempts of one answered request lead from its state before to that after
-keeps_given : (given : Option Command) (before after : KeptState) (q : Request) (draw : Draw) (reply : Reply) → (tells : RepliesByCommand given before q draw reply after)
-    → AttemptsInOrder (tried_of given before q draw reply after tells) before after
-keeps_given None before after q draw reply tells = tells.0
-keeps_given (Some command) before after q draw reply tells = (after, tells.keeps, refl)
+keeps_given : (given : Option Command) (before after : KeptState) (q : Request) (draw : Draw) (reply : Reply) → (by_command : RepliesByCommand given before q draw reply after)
+    → AttemptsInOrder (tried_of given before q draw reply after by_command) before after
+keeps_given None before after q draw reply by_command = by_command.0
+keeps_given (Some command) before after q draw reply by_command = (after, by_command.keeps, refl)
 
 pub carries_answer : (before after : KeptState) (q : Request) (draw : Draw) (reply : Reply) → HasKept before.keeper → Gives before q draw reply after
     → CarriesAnswer before q draw reply after
@@ -191,14 +196,14 @@ carries_answer before after q draw reply has gives =
       tried = tried;
       are = refl;
       carries = carries_all tried before after has (keeps_given given before after q draw reply gives);
-      no_faults = tells_without_fault given before after q draw reply gives;
+      no_faults = replies_without_fault given before after q draw reply gives;
     }
 
 replies_status : (given : Option Command) (before after : KeptState) (q : Request) (draw : Draw) (reply : Reply) → RepliesByCommand given before q draw reply after
     → IsStatusCode reply.status
-replies_status None before after q draw reply tells = answered_status reply before.up before.up q draw tells.1
-replies_status (Some command) before after q draw reply tells =
-    subst (λ (r : Reply). IsStatusCode r.status) (sym tells.is) (kept_status tells.result)
+replies_status None before after q draw reply by_command = answered_status reply before.up before.up q draw by_command.1
+replies_status (Some command) before after q draw reply by_command =
+    subst (λ (r : Reply). IsStatusCode r.status) (sym by_command.is) (kept_status by_command.result)
 
 pub gives_status : (before after : KeptState) (q : Request) (draw : Draw) (reply : Reply) → Gives before q draw reply after → IsStatusCode reply.status
 gives_status before after q draw reply gives = replies_status (command_given before.up.secret q) before after q draw reply gives

@@ -1,6 +1,7 @@
 -- Rows that are applied to an upstream, and the commands that they spell.
 use Rattle.std.proofs.Common.{◌≡◌, ℕ, zero, suc, ◌≤◌, List, [], ◌∷◌, ◌++◌, length, map, take, slice_get, Option, Some, None, Ok, Err, option_and_then, refl, sym, ap, ◌∙◌, subst, arith}
 use Rattle.std.specs.List.{cons_option}
+use Rattle.std.proofs.lemmas.Option.{none-some}
 use Rattle.unl_documents.specs.declared.fault.BadDocument.{BadDocument}
 use Rattle.unl_documents.specs.Reading.{Reading}
 use Rattle.unl_upstream.specs.declared.command.Command.{Command}
@@ -30,11 +31,11 @@ row_applied text up after is = decided (command_in text) refl is
   where
     obeys : (command : Command) (o : CommandResult AppliedCommand) → command_in text ≡ Ok command → apply_command command up ≡ o → if_obeyed o ≡ Some after → IsApplied text up after
     obeys command (Ok obeyed) spelled accepts is = record { command = command; obeyed = obeyed; spelled = spelled; accepts = accepts; is = same_some obeyed.up after is }
-    obeys command (Err refusal) spelled accepts is = absurd cc
+    obeys command (Err refusal) spelled accepts is = absurd (none-some after is)
 
     decided : (r : Reading Command) → command_in text ≡ r → after_reading up r ≡ Some after → IsApplied text up after
     decided (Ok command) spelled is = obeys command (apply_command command up) spelled refl is
-    decided (Err fault) spelled is = absurd cc
+    decided (Err fault) spelled is = absurd (none-some after is)
 
 pub row_applies : (text : List ℕ) (up : UpstreamState) (command : Command) (obeyed : AppliedCommand) → command_in text ≡ Ok command → apply_command command up ≡ Ok obeyed
     → row_after text up ≡ Some obeyed.up
@@ -69,7 +70,7 @@ pub begins : (text : List ℕ) (texts : List (List ℕ)) (up after : UpstreamSta
 begins text texts up after is = next (row_after text up) refl is
   where
     next : (o : Option UpstreamState) → row_after text up ≡ o → option_and_then (rows_after texts) o ≡ Some after → Begins text texts up after
-    next None first is = absurd cc
+    next None first is = absurd (none-some after is)
     next (Some middle) first is = record { middle = middle; first = first; others = is }
 
 -- ---- rows and the commands that they spell
@@ -172,14 +173,14 @@ command_one text command spelled = ap (λ (r : Reading Command). cons_option (if
 -- if all rows can be applied, none of them is refused in its turn
 pub no_stop : (rows : List (List ℕ)) (count : ℕ) (text : List ℕ) (opening up last : UpstreamState) → rows_after rows opening ≡ Some last
     → slice_get rows count ≡ Some text → rows_after (take count rows) opening ≡ Some up → row_after text up ≡ None → ⊥
-no_stop [] count text opening up last whole here before stops = cc
+no_stop [] count text opening up last whole here before stops = none-some text here
 no_stop (row ∷ rows) zero text opening up last whole here before stops =
     let b : Begins row rows opening last = begins row rows opening last whole in
     let same : row ≡ text = same_some row text here in
     let start : opening ≡ up = same_some opening up before in
     let first : row_after text up ≡ Some b.middle =
     subst (λ (u : UpstreamState). row_after text u ≡ Some b.middle) start (subst (λ (t : List ℕ). row_after t opening ≡ Some b.middle) same b.first) in
-    cc
+    none-some b.middle (sym stops ∙ first)
 no_stop (row ∷ rows) (suc count) text opening up last whole here before stops =
     let b : Begins row rows opening last = begins row rows opening last whole in
     let c : Begins row (take count rows) opening up = begins row (take count rows) opening up before in

@@ -1,5 +1,7 @@
 pub mod Slots
 pub mod Next
+pub mod Constructors
+pub mod Applying
 pub mod Events
 pub mod VersionLemmas
 pub mod Given

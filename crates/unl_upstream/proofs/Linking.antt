@@ -7,7 +7,7 @@ use Rattle.unl_server.specs.ServingDoor.{ServerAndDoor, ServesDoor, ServesDoorLi
 use Rattle.unl_server.specs.Linked.{HandsBack, linking}
 use Rattle.unl_server.specs.Links.{LinkState}
 use Rattle.unl_server.proofs.DoorLemmas.{Observable, hands_back, sent_observable}
-use Rattle.unl_upstream.specs.Served.{Changing, HostsAllBy, LinkServedBy, RunsOut, ServesLinkBy, Steps}
+use Rattle.unl_upstream.specs.Served.{Changing, ServesAllLinksBy, LinkServedBy, RunsOut, ServesLinkBy, Steps}
 
 -- serving a link, seen from the door: the bytes given, the bytes sent, and the faults
 link_observable : {S : Type 0} (Step : Steps S) (RunsOutAtRequest : RunsOut S) (Changes : Changing S) → Observable (ServesLinkBy Step RunsOutAtRequest Changes) (LinkServedBy Step RunsOutAtRequest Changes)
@@ -59,7 +59,7 @@ door_links_seen Serves seen (suc n) before after links =
 -- the links of a door were served; what this says depends on what is observable of it
 pub door_links_served : {S T : Type 0} (Step : Steps T) (RunsOutAtRequest : RunsOut T) (Changes : Changing T) (seen : S → T) (result : Result ℕ Failed) (before after : ServerAndDoor S)
     → ServesDoor (Over (ServesLinkBy Step RunsOutAtRequest Changes) seen) result before after
-    → HostsAllBy (LinkServedBy Step RunsOutAtRequest Changes) result (linking (seen before.server) before.coming before.door) (linking (seen after.server) after.coming after.door)
+    → ServesAllLinksBy (LinkServedBy Step RunsOutAtRequest Changes) result (linking (seen before.server) before.coming before.door) (linking (seen after.server) after.coming after.door)
 door_links_served {S} {T} Step RunsOutAtRequest Changes seen result before after = by_result result
   where
     served_many : (n : ℕ) → ServesDoorLinks (Over (ServesLinkBy Step RunsOutAtRequest Changes) seen) n before after
@@ -69,6 +69,6 @@ door_links_served {S} {T} Step RunsOutAtRequest Changes seen result before after
         (door_links_seen (ServesLinkBy Step RunsOutAtRequest Changes) seen n before after links)
 
     by_result : (result : Result ℕ Failed) → ServesDoor (Over (ServesLinkBy Step RunsOutAtRequest Changes) seen) result before after
-        → HostsAllBy (LinkServedBy Step RunsOutAtRequest Changes) result (linking (seen before.server) before.coming before.door) (linking (seen after.server) after.coming after.door)
+        → ServesAllLinksBy (LinkServedBy Step RunsOutAtRequest Changes) result (linking (seen before.server) before.coming before.door) (linking (seen after.server) after.coming after.door)
     by_result (Ok served) links = served_many served links
     by_result (Err failed) links = (links.0, served_many links.0 links.1)

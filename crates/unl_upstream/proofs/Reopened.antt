@@ -10,6 +10,7 @@ use Rattle.unl_upstream.specs.declared.reopening.ReopenFault.TheVariants.{BadRow
 use Rattle.unl_upstream.specs.Kept.{AreLeft, KeptState, ResultIn, commands_in, kept_state}
 use Rattle.unl_upstream.specs.Reopening.{Applies, GivesBack, IsAtMostOne, Reopened, ReopeningGivesBack, Reopens, TakesRow, rows_after}
 use Rattle.unl_upstream.specs.Upstream.{AppliedCommand, UpstreamState, apply_command}
+use Rattle.unl_upstream.proofs.Constructors.{err_is_no_success}
 use Rattle.unl_upstream.proofs.Elsewhere.{ResultsThere, Obeys, obeys, rows_result_there}
 use Rattle.unl_upstream.proofs.Leading.{command_one, commands_both, results_rows, no_stop, rows_result, rows_more, row_applies}
 
@@ -32,7 +33,7 @@ first_more : (rows : Option (List (List ℕ))) (count : ℕ) (texts : List (List
 first_more None count texts text first there = tt
 first_more (Some list) count texts text first there =
     let more : suc count ≡ count + 1 = omega arith in
-    ap (λ front. front ++ text ∷ []) first ∙ sym (one_longer list count text there) ∙ ap (λ n. take n list) more
+    ap (λ prefix. prefix ++ text ∷ []) first ∙ sym (one_longer list count text there) ∙ ap (λ n. take n list) more
 
 pub applies_more : (opening : UpstreamState) (rows : Option (List (List ℕ))) (count : ℕ) (up after : UpstreamState) → Applies opening rows count up
     → TakesRow count rows up after → Applies opening rows (count + 1) after
@@ -74,38 +75,38 @@ reopened before after count opened counted whole applies = record {
 -- ---- reopening what was kept
 
 -- applying all rows of a keeper succeeds, and they spell the kept commands and at most one more
-record Whole (fresh : UpstreamState) (front rows : List (List ℕ)) (failed : List Command) : Type 0 where
+record Whole (fresh : UpstreamState) (prefix rows : List (List ℕ)) (failed : List Command) : Type 0 where
   last : UpstreamState
   leads : rows_after rows fresh ≡ Some last
   more : List Command
   few : IsAtMostOne more failed
-  commands : commands_in rows ≡ commands_in front ++ more
+  commands : commands_in rows ≡ commands_in prefix ++ more
 
-whole_of : (opening fresh up : UpstreamState) (front past : List (List ℕ)) (failed : List Command) → fresh.board.slots ≡ opening.board.slots
-    → ResultIn opening front up → AreLeft up failed past → Whole fresh front (front ++ past) failed
-whole_of opening fresh up front [] failed same lead left =
-    let there : ResultsThere front up fresh = rows_result_there front opening up fresh same (results_rows front opening up lead) in record {
+whole_of : (opening fresh up : UpstreamState) (prefix past : List (List ℕ)) (failed : List Command) → fresh.board.slots ≡ opening.board.slots
+    → ResultIn opening prefix up → AreLeft up failed past → Whole fresh prefix (prefix ++ past) failed
+whole_of opening fresh up prefix [] failed same lead left =
+    let there : ResultsThere prefix up fresh = rows_result_there prefix opening up fresh same (results_rows prefix opening up lead) in record {
       last = there.last;
-      leads = ap (λ (list : List (List ℕ)). rows_after list fresh) (append-nil front) ∙ there.leads;
+      leads = ap (λ (list : List (List ℕ)). rows_after list fresh) (append-nil prefix) ∙ there.leads;
       more = [];
       few = tt;
-      commands = ap commands_in (append-nil front) ∙ sym (append-nil (commands_in front));
+      commands = ap commands_in (append-nil prefix) ∙ sym (append-nil (commands_in prefix));
     }
-whole_of opening fresh up front (text ∷ []) failed same lead left =
-    let there : ResultsThere front up fresh = rows_result_there front opening up fresh same (results_rows front opening up lead) in
+whole_of opening fresh up prefix (text ∷ []) failed same lead left =
+    let there : ResultsThere prefix up fresh = rows_result_there prefix opening up fresh same (results_rows prefix opening up lead) in
     by_obeyed there (apply_command left.command up) refl left.accepts
   where
-    by_obeyed : ResultsThere front up fresh → (r : Result AppliedCommand CommandRefusal) → apply_command left.command up ≡ r → IsOk r → Whole fresh front (front ++ text ∷ []) failed
-    by_obeyed there (Err refusal) is accepts = absurd cc
+    by_obeyed : ResultsThere prefix up fresh → (r : Result AppliedCommand CommandRefusal) → apply_command left.command up ≡ r → IsOk r → Whole fresh prefix (prefix ++ text ∷ []) failed
+    by_obeyed there (Err refusal) is accepts = err_is_no_success AppliedCommand refusal accepts
     by_obeyed there (Ok obeyed) is accepts =
         let o : Obeys left.command up obeyed.up there.last = obeys left.command up there.last obeyed there.same is in record {
           last = o.obeyed.up;
-          leads = rows_more front text fresh there.last o.obeyed.up there.leads (row_applies text there.last left.command o.obeyed left.spelled o.accepts);
+          leads = rows_more prefix text fresh there.last o.obeyed.up there.leads (row_applies text there.last left.command o.obeyed left.spelled o.accepts);
           more = left.command ∷ [];
           few = left.one;
-          commands = commands_both front (text ∷ []) ∙ ap (λ (cs : List Command). commands_in front ++ cs) (command_one text left.command left.spelled);
+          commands = commands_both prefix (text ∷ []) ∙ ap (λ (cs : List Command). commands_in prefix ++ cs) (command_one text left.command left.spelled);
         }
-whole_of opening fresh up front (text ∷ other ∷ texts) failed same lead left = absurd left
+whole_of opening fresh up prefix (text ∷ other ∷ texts) failed same lead left = absurd left
 
 gives_back_of : (fresh : UpstreamState) (before reopened : KeptState) (keeper : KeeperState) (failed : List Command) (rows : List (List ℕ)) (result : Result ℕ ReopenFault)
     → Whole fresh (take before.keeper.count rows) rows failed → before.keeper.rows ≡ Some rows → reopened.keeper.rows ≡ Some rows
@@ -137,13 +138,13 @@ gives_back_of fresh before reopened keeper failed rows (Err Memory) whole were a
 
 pub gives_back : ReopeningGivesBack
 gives_back opening fresh before reopened keeper failed rows result same were holds left as_before still opens fault memory =
-    let front : List (List ℕ) = take before.keeper.count rows in
+    let prefix : List (List ℕ) = take before.keeper.count rows in
     let past : List (List ℕ) = drop before.keeper.count rows in
-    let lead : ResultIn opening front before.up =
+    let lead : ResultIn opening prefix before.up =
     subst (λ (o : Option (List (List ℕ))). IfSome (kept before.keeper.count o) (λ texts. ResultIn opening texts before.up)) were holds in
     let one : AreLeft before.up failed past =
     subst (λ (o : Option (List (List ℕ))). IfSome (option_map (λ list. drop before.keeper.count list) o) (AreLeft before.up failed)) were left in
-    let whole : Whole fresh front rows failed =
-    subst (λ (list : List (List ℕ)). Whole fresh front list failed) (take-append-drop before.keeper.count rows)
-    (whole_of opening fresh before.up front past failed same lead one) in
+    let whole : Whole fresh prefix rows failed =
+    subst (λ (list : List (List ℕ)). Whole fresh prefix list failed) (take-append-drop before.keeper.count rows)
+    (whole_of opening fresh before.up prefix past failed same lead one) in
     gives_back_of fresh before reopened keeper failed rows result whole were (still ∙ as_before ∙ were) opens fault memory

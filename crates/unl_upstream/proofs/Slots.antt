@@ -7,7 +7,8 @@ use Rattle.std.proofs.lemmas.List.{length-map}
 use Rattle.std.proofs.lemmas.List.Elements.{All-cons, All-head, All-nil, All-tail}
 use Rattle.unl_core.specs.declared.board.Slot.{Slot}
 use Rattle.unl_core.specs.Board.{AreDifferent, AreSlots, is_named, names_of, same_text, place_in, snapshot_in, taking}
-use Rattle.unl_core.proofs.Same.{and_parts, text_same}
+use Rattle.unl_core.proofs.Same.{text_same}
+use Rattle.unl_tokens.proofs.Same.{and_parts}
 use Rattle.unl_delta.specs.declared.version.EnvVersion.{EnvVersion}
 use Rattle.unl_delta.specs.Batch.{empty_at}
 use Rattle.unl_documents.specs.Limits.{IsName}

@@ -3,12 +3,13 @@ use Rattle.std.proofs.Common.{◌≡◌, ℕ, List, [], ◌∷◌, ◌++◌, Boo
 use Rattle.std.specs.Prelude.{is_some, ok_or}
 use Rattle.std.proofs.lemmas.List.{append-nil}
 use Rattle.std.proofs.lemmas.List.Elements.{filter-append}
+use Rattle.std.proofs.lemmas.Option.{same_Some}
 use Rattle.unl_core.specs.declared.board.Slot.{Slot}
 use Rattle.unl_core.specs.Board.{same_text, place_in, snapshot_in}
 use Rattle.unl_core.proofs.Same.{text_same}
 use Rattle.unl_delta.specs.declared.event.Event.{Event}
 use Rattle.unl_delta.specs.declared.version.EnvVersion.{EnvVersion}
-use Rattle.unl_delta.proofs.Growth.{stands_alone}
+use Rattle.unl_delta.proofs.Growth.{represents_alone}
 use Rattle.unl_delta.specs.History.{IsLine, RepresentsLine, everything}
 use Rattle.unl_delta.specs.State.{number_of}
 use Rattle.unl_documents.specs.Results.{◌>>=◌}
@@ -20,6 +21,7 @@ use Rattle.unl_upstream.specs.Command.{environment_of}
 use Rattle.unl_upstream.specs.Upstream.{AppliedCommand, CommandResult, Prepared, UpstreamState, apply_command, committed, event_of, opening, prepared, version_after}
 use Rattle.unl_upstream.specs.History.{AreAdded, AreHistories, IsHistoryOf, accepted, after_command, after_commands, for_environment, history_of, if_accepted, up_after}
 use Rattle.unl_upstream.specs.Laws.{EnvironmentsStay, VersionsMatchHistory, VersionsBelongToLines, line_of}
+use Rattle.unl_upstream.proofs.Constructors.{err_is_no_ok, ok_same}
 use Rattle.unl_upstream.proofs.Events.{is_history, empty_is_history, one_more_is_history}
 use Rattle.unl_upstream.proofs.Slots.{opened_empty, opened_names, other_slot_same, slot_replaced}
 
@@ -49,17 +51,18 @@ obeyed_by command up obeyed is = at_slot (place_in (environment_of command) up.b
         → snapshot_in (environment_of command) up.board.slots ≡ Some version → event_of command version ≡ r
         → ((r >>= λ (event : Event). Ok (ready_with slot version event up.board.slots)) >>= λ (ready : Prepared). Ok (obeyed_with ready up)) ≡ Ok obeyed
         → IsObeyed command up obeyed
-    at_event slot version (Err refusal) at version_is event_is none = absurd cc
+    at_event slot version (Err refusal) at version_is event_is none = err_is_no_ok refusal obeyed none
     at_event slot version (Ok event) at version_is event_is all =
-        let same : obeyed_with (ready_with slot version event up.board.slots) up ≡ obeyed = cc in
+        let same : obeyed_with (ready_with slot version event up.board.slots) up ≡ obeyed =
+        ok_same (obeyed_with (ready_with slot version event up.board.slots) up) obeyed all in
         record { slot = slot; version = version; event = event; at = at; version_is = version_is; event_is = event_is; is = sym (ap (λ (o : AppliedCommand). o.up) same) }
 
     at_slot : (o : Option ℕ) (w : Option EnvVersion) → place_in (environment_of command) up.board.slots ≡ o → snapshot_in (environment_of command) up.board.slots ≡ w
         → ((ok_or o NoSuchEnvironment >>= λ (slot : ℕ). ok_or w NoSuchEnvironment >>= λ (version : EnvVersion).
         event_of command version >>= λ (event : Event). Ok (ready_with slot version event up.board.slots)) >>= λ (ready : Prepared). Ok (obeyed_with ready up)) ≡ Ok obeyed
         → IsObeyed command up obeyed
-    at_slot None w at version_is none = absurd cc
-    at_slot (Some slot) None at version_is none = absurd cc
+    at_slot None w at version_is none = err_is_no_ok NoSuchEnvironment obeyed none
+    at_slot (Some slot) None at version_is none = err_is_no_ok NoSuchEnvironment obeyed none
     at_slot (Some slot) (Some version) at version_is all = at_event slot version (event_of command version) at version_is refl all
 
 -- the command's environment has the new version
@@ -98,7 +101,7 @@ unfolding Holds
 holds_here epoch environment before command up obeyed o here holds v is =
     let version_is : snapshot_in environment up.board.slots ≡ Some o.version = subst (λ (name : List ℕ). snapshot_in name up.board.slots ≡ Some o.version) here o.version_is in
     let same : Some (version_after o.version o.event) ≡ Some v = sym (new_here command up obeyed o environment here) ∙ is in
-    let this : version_after o.version o.event ≡ v = cc in
+    let this : version_after o.version o.event ≡ v = same_Some (version_after o.version o.event) v same in
     subst (IsHistoryOf epoch (before ++ command ∷ [])) this (one_more_is_history epoch before command o.version o.event (holds o.version version_is) o.event_is)
 
 -- a command for another environment does not
@@ -168,7 +171,7 @@ versions_follow boot secret environments book epoch commands =
 pub versions_belong_to_lines : VersionsBelongToLines
 versions_belong_to_lines epoch commands v is =
     subst (λ (g : ℕ). IsLine (line_of g commands) × RepresentsLine (line_of g commands) everything v) is.era
-    (stands_alone (history_of commands) everything v (is_history commands) is.represents)
+    (represents_alone (history_of commands) everything v (is_history commands) is.represents)
 
 -- ---- environments
 

@@ -11,7 +11,8 @@ use Rattle.unl_upstream.specs.declared.refusal.KeepCommandRefusal.TheVariants.{N
 use Rattle.unl_upstream.specs.Command.{command_in}
 use Rattle.unl_upstream.specs.History.{AreAdded, accepted, after_commands}
 use Rattle.unl_upstream.specs.Requests.{if_read}
-use Rattle.unl_upstream.specs.Upstream.{AppliedCommand, CommandResult, Prepared, UpstreamState, apply_command, committed, prepared, refused_as}
+use Rattle.unl_upstream.specs.Upstream.{AppliedCommand, CommandResult, Prepared, UpstreamState}
+use Rattle.unl_upstream.specs.Upstream.{apply_command, committed, prepared, refused_as}
 use Rattle.unl_upstream.specs.Writing.{command_text}
 
 -- ---- an upstream and its keeper

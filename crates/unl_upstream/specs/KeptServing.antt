@@ -53,8 +53,8 @@ GivesUp before q draw after = after ≡ before
 -- the attempt to keep the command of one request, if it gives one
 abbrev pub tried_of : (given : Option Command) (before : KeptState) (q : Request) (draw : Draw) (reply : Reply) (after : KeptState)
     → RepliesByCommand given before q draw reply after → List KeepAttempt
-tried_of None before q draw reply after tells = []
-tried_of (Some command) before q draw reply after tells = record { command = command; result = tells.result } ∷ []
+tried_of None before q draw reply after by_command = []
+tried_of (Some command) before q draw reply after by_command = record { command = command; result = by_command.result } ∷ []
 
 -- A request is answered, and what held for the upstream and its keeper still holds. Unless the keeper failed at its command,
 -- the reply is not 503 `KeeperFault`.

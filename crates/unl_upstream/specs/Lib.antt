@@ -9,5 +9,5 @@ pub mod Requests
 pub mod Kept
 pub mod Reopening
 pub mod KeptServing
-pub mod KeptHosting
+pub mod KeptLinks
 pub mod Laws

@@ -48,14 +48,15 @@ pub record LinkServedBy
   pub conversation : Concludes Step bytes (Some []) (handler_state before 0 coming) end (handler_state after count coming_after) left_after
       (Some back.0)
   pub memory : end ≡ Memory
-      → GivesUp Step RunsOutAtRequest bytes (Some []) 0 (handler_state before 0 coming) (handler_state after count coming_after) (Some back.0) back.1
+      → GivesUp Step RunsOutAtRequest bytes (Some []) 0 (handler_state before 0 coming)
+      (handler_state after count coming_after) (Some back.0) back.1
   pub changes : Changes (handler_state before 0 coming) end count (handler_state after count coming_after)
   pub read_cause : end ≡ ReadFault → Rose 0 back.1
   pub write_cause : end ≡ WriteFault → Rose 0 back.1
 
--- On success the returned number of links were handed out, and as many handed back; if the door failed, some number of them.
+-- On success the returned number of links were handed out, and as many returned; if the door failed, some number of them.
 -- If the door's links are observable, each was served as `LinkServed` says.
-abbrev pub HostsAllBy :
+abbrev pub ServesAllLinksBy :
     {S : Type 0} → (S → Coming → List ℕ → List ℕ × ℕ → S → Coming → Type 0) → Result ℕ Failed → Linking S → Linking S → Type 0
-HostsAllBy LinkServed (Ok served) before after = HandsBack LinkServed before after served
-HostsAllBy LinkServed (Err failed) before after = (served : ℕ) × HandsBack LinkServed before after served
+ServesAllLinksBy LinkServed (Ok served) before after = HandsBack LinkServed before after served
+ServesAllLinksBy LinkServed (Err failed) before after = (served : ℕ) × HandsBack LinkServed before after served

@@ -93,7 +93,6 @@ impl Upstream {
     }
 
     /// Applies a command. The reply is built before the command is committed, so that running out of memory changes nothing.
-    #[tactic(auto, unfolding(crate::specs::Upstream::apply_command))]
     fn apply_and_reply(&mut self, alloc: Global, command: &Command) -> Result<Reply, Memory>
         requires { IsValidCommand command.now }
         ensures answer { IfOk result (λ reply. replied self.old (apply_command command.now self.old)
@@ -106,8 +105,10 @@ impl Upstream {
                 self.commit(ready);
                 Ok(reply)
             }
-            Err(CommandRefusal::Memory) => Err(Memory),
-            Err(refusal) => refused(alloc, KeepCommandRefusal::from(refusal)),
+            Err(refusal) => match refusal {
+                CommandRefusal::Memory => Err(Memory),
+                _ => refused(alloc, KeepCommandRefusal::from(refusal)),
+            },
         }
     }
 }

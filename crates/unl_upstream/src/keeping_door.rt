@@ -4,7 +4,7 @@ ghost use Rattle.unl_base.specs.Doors.{IsClosed, IsListening};
 ghost use Rattle.unl_base.specs.Faults.{HasCause};
 ghost use Rattle.unl_server.specs.Linked.{linking};
 ghost use Rattle.unl_upstream.specs.Kept.{AttemptsPreserve, kept_state};
-ghost use Rattle.unl_upstream.specs.KeptHosting.{HostsAll};
+ghost use Rattle.unl_upstream.specs.KeptLinks.{ServesAllKeptLinks};
 
 use crate::keeping_server::{DurableUpstream, serve_kept};
 use crate::upstream::Upstream;
@@ -17,7 +17,7 @@ use unl_server::{Server, serve_door};
 impl<'a, K: Keeper> Server for DurableUpstream<'a, K> {
     ghost use Rattle.std.specs.Prelude.{◌≡◌, true};
     ghost use Rattle.std.proofs.Common.{◌∙◌, refl};
-    ghost use Rattle.unl_upstream.specs.KeptHosting.{ExtendsAttempts};
+    ghost use Rattle.unl_upstream.specs.KeptLinks.{ExtendsAttempts};
     ghost use Rattle.unl_upstream.specs.KeptServing.{ServesLink, kept_in};
 
     ghost fits = { λ server. (K.state server.keeper.now).opened ≡ true };
@@ -59,7 +59,7 @@ pub fn serve_kept_door<K: Keeper, D: Door, R: Draws, W: Wait>(
     requires listening { IsListening (D.state door.old) }
     requires opened { (K.state keeper.old).opened ≡ true }
     ensures stays { (K.state keeper.new).opened ≡ true }
-    ensures hosts { HostsAll result
+    ensures serves_links { ServesAllKeptLinks result
         (linking (kept_state up.old (K.state keeper.old)) (R.coming draws.old) (D.state door.old))
         (linking (kept_state up.new (K.state keeper.new)) (R.coming draws.new) (D.state door.new)) }
 

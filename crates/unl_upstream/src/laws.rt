@@ -10,7 +10,7 @@ ghost use Rattle.unl_upstream.specs.Answer.{upstream_answer};
 ghost use Rattle.unl_upstream.specs.Requests.{command_given};
 ghost use Rattle.unl_upstream.specs.History.{accepted, after_command, after_commands, history_of};
 ghost use Rattle.unl_upstream.specs.Kept.{KeepingCarries, KeepingContinues};
-ghost use Rattle.unl_upstream.specs.KeptHosting.{KeptLinksNameCommands};
+ghost use Rattle.unl_upstream.specs.KeptLinks.{KeptLinksNameCommands};
 ghost use Rattle.unl_upstream.specs.Reopening.{ReopeningGivesBack};
 ghost use Rattle.unl_upstream.specs.Laws.{EnvironmentsStay, VersionsMatchHistory};
 ghost use Rattle.unl_upstream.specs.Laws.{VersionsBelongToLines};

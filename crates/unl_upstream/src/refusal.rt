@@ -1,7 +1,7 @@
 //! Why a command is refused, or is not kept.
 ghost use Rattle.std.specs.Prelude.{◌≡◌};
 ghost use Rattle.unl_upstream.specs.declared.refusal.CommandRefusal.TheVariants.{Memory as memory};
-ghost use Rattle.unl_upstream.specs.declared.refusal.KeepCommandRefusal.TheVariants.{Memory as want};
+ghost use Rattle.unl_upstream.specs.declared.refusal.KeepCommandRefusal.TheVariants.{Memory as out_of_memory};
 ghost use Rattle.unl_upstream.specs.Upstream.{refused_as};
 
 use std::alloc::AllocError;
@@ -87,7 +87,7 @@ impl From<CommandRefusal> for KeepCommandRefusal {
 }
 
 impl From<Memory> for KeepCommandRefusal {
-    ghost from_gives = { λ _ e. e ≡ want };
+    ghost from_gives = { λ _ e. e ≡ out_of_memory };
 
     fn from(_e: Memory) -> KeepCommandRefusal {
         KeepCommandRefusal::Memory

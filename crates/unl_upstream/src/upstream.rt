@@ -100,15 +100,16 @@ impl Upstream {
     }
 
     /// Applies a command.
-    #[tactic(auto, unfolding(crate::specs::Upstream::apply_command))]
     fn apply_one(&mut self, alloc: Global, command: &Command) -> Result<u64, CommandRefusal>
         requires { IsValidCommand command.now }
         ensures applied { IfOk result (λ number. apply_command command.now self.old ≡ Ok (record { up = self.new; number = number })) }
         ensures refused { IfErr result (λ refusal. refusal ≢ memory → apply_command command.now self.old ≡ Err refusal) }
         ensures same { OnErr result (self.new ≡ self.old) }
     {
-        let ready = self.prepare(alloc, command)?;
-        Ok(self.commit(ready))
+        match self.prepare(alloc, command) {
+            Ok(ready) => Ok(self.commit(ready)),
+            Err(refusal) => Err(refusal),
+        }
     }
 
     /// Prepares a command: computes the new version of its environment without publishing it. On success the command names an

@@ -13,7 +13,7 @@ use Rattle.unl_upstream.specs.History.{after_commands}
 use Rattle.unl_upstream.specs.Kept.{AttemptsInOrder, SomeAttempts, KeptState, KeepAttempt, acknowledged, faults_among}
 use Rattle.unl_upstream.specs.KeptServing.{ServesKept, KeptServing, RunsOutAtRequest, NoKeeperFault, Step, serving, tried_in}
 use Rattle.unl_upstream.specs.Served.{draws_after}
-use Rattle.unl_upstream.specs.Served.{HostsAllBy, LinkServedBy}
+use Rattle.unl_upstream.specs.Served.{ServesAllLinksBy, LinkServedBy}
 use Rattle.unl_upstream.specs.Upstream.{UpstreamState}
 
 -- A link that gave these bytes was served; the pair is what it had sent, and its fault count. A number of its requests were
@@ -32,16 +32,16 @@ abbrev pub Linked : KeptState → Coming → List (List ℕ) → List (List ℕ 
 Linked = LinkedBy LinkServed
 
 -- the state while links are served: the upstream and its keeper, the upcoming draws, and the door's links
-abbrev pub Hosting : Type 0
-Hosting = Linking KeptState
+abbrev pub KeptLinking : Type 0
+KeptLinking = Linking KeptState
 
--- This number of links were handed out, and as many handed back. If the door's links are observable, each was served.
-abbrev pub Hosts : Hosting → Hosting → ℕ → Type 0
-Hosts = HandsBack LinkServed
+-- This number of links were handed out, and as many returned. If the door's links are observable, each was served.
+abbrev pub ServesKeptLinks : KeptLinking → KeptLinking → ℕ → Type 0
+ServesKeptLinks = HandsBack LinkServed
 
 -- on success the returned number of links were served; if the door failed, some number of them
-abbrev pub HostsAll : Result ℕ Failed → Hosting → Hosting → Type 0
-HostsAll = HostsAllBy LinkServed
+abbrev pub ServesAllKeptLinks : Result ℕ Failed → KeptLinking → KeptLinking → Type 0
+ServesAllKeptLinks = ServesAllLinksBy LinkServed
 
 -- ---- the state, described by the kept commands and by the number of draws taken
 
