@@ -90,7 +90,7 @@ decided_by_item_at key k x xs Greater is above others =
     let none = none_later key k (key x) xs is above in
     (rw (is, not, none.0) refl, rw (is, not, none.1) refl)
 
-pub told : {X : Type 0} (key : X → List ℕ) (k : List ℕ) (xs : List X) → IsStrictlySortedBy (slice_cmp nat_cmp) (map key xs) → IsDecidedByItem key k xs
+pub decided_by_search : {X : Type 0} (key : X → List ℕ) (k : List ℕ) (xs : List X) → IsStrictlySortedBy (slice_cmp nat_cmp) (map key xs) → IsDecidedByItem key k xs
 unfolding IsStrictlySortedBy
-told key k [] rising = (refl, refl)
-told key k (x ∷ xs) rising = decided_by_item_at key k x xs (slice_cmp nat_cmp (key x) k) refl rising.0 (told key k xs rising.1)
+decided_by_search key k [] rising = (refl, refl)
+decided_by_search key k (x ∷ xs) rising = decided_by_item_at key k x xs (slice_cmp nat_cmp (key x) k) refl rising.0 (decided_by_search key k xs rising.1)

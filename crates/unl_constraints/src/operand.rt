@@ -7,7 +7,8 @@ ghost use Rattle.unl_documents.specs.declared.constraint.Constraint.{Constraint}
 ghost use Rattle.unl_context.specs.Known.{known_by};
 ghost use Rattle.unl_constraints.specs.Decimal.{number_of, IsRead};
 ghost use Rattle.unl_constraints.specs.Instant.{instant_of};
-ghost use Rattle.unl_constraints.specs.Operands.{kind_of as kind_by, is_folded as is_folded_by, compared_values, IsScalarOperand, IsOperand};
+ghost use Rattle.unl_constraints.specs.Operands.{kind_of as kind_by, is_folded as is_folded_by, compared_values};
+ghost use Rattle.unl_constraints.specs.Operands.{IsScalarOperand, IsOperand};
 ghost use Rattle.unl_constraints.specs.Texts.{compared as compared_by, is_among as among, has_some_part_at as some_there};
 ghost use Rattle.unl_constraints.specs.Version.{version_of};
 ghost use Rattle.unl_constraints.specs.declared.operand.Kind.TheVariants as kind;

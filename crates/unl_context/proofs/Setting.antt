@@ -35,8 +35,8 @@ Sets k c value key = known_field k (set_plain c (key, value)) ≡ (if is_key k k
 decided : (P : List ℕ → Type 0) (literal key : List ℕ) → P literal → (bytes_eq key literal ≡ false → P key) → P key
 decided P literal key here other =
     elim (cases_Bool (bytes_eq key literal)) [
-      | inl told ↦ subst P (sym ((bytes_eq-Decides key literal).0 told)) here
-      | inr told ↦ other told
+      | inl equal ↦ subst P (sym ((bytes_eq-Decides key literal).0 equal)) here
+      | inr equal ↦ other equal
     ]
 
 -- Any other key does not change this field.

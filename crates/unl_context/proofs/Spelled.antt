@@ -16,6 +16,6 @@ pub unspelled : (bytes : List ℕ) → (IsUtf8 bytes → read bytes ≡ None) �
 unfolding json_of
 unspelled bytes none =
     elim (cases_Bool (is_utf8 bytes)) [
-      | inl told ↦ rw told (none (IsUtf8-from_is_utf8 bytes told))
-      | inr told ↦ rw told refl
+      | inl known ↦ rw known (none (IsUtf8-from_is_utf8 bytes known))
+      | inr known ↦ rw known refl
     ]

@@ -7,7 +7,7 @@ use Rattle.std.proofs.lemmas.Bool.{eqb-true}
 use Rattle.std.proofs.lemmas.List.Recursion.{is_count_by}
 use Rattle.std.proofs.lemmas.List.Sums.{sum_by-append, passes_at_first, prefix_len-le-length}
 use Rattle.std.proofs.lemmas.List.Folds.{list_any-append}
-use Rattle.unl_base.specs.Streams.{Takes, Sends, SendsFront}
+use Rattle.unl_base.specs.Streams.{Takes, Sends, SendsPrefix}
 use Rattle.unl_input.specs.Lines.{is_end, has_end, lines, begun_with, ended_lines}
 use Rattle.unl_input.specs.Reading.{Gets, IsAtEnd, IsLine, EndsLine, GrowsLine, Begins, BeginsLong, longest_line}
 
@@ -52,7 +52,7 @@ pub sends_trans : (r s t : Option (List ℕ)) (xs ys : List ℕ) → Sends r xs 
 sends_trans r s t xs ys one two = two ∙ ap (option_map (λ sent. sent ++ ys)) one ∙ sent_then xs ys r
 
 -- a whole text, and then a prefix of another
-pub sends_then_prefix : (r s t : Option (List ℕ)) (xs ys : List ℕ) → Sends r xs s → SendsFront s ys t → SendsFront r (xs ++ ys) t
+pub sends_then_prefix : (r s t : Option (List ℕ)) (xs ys : List ℕ) → Sends r xs s → SendsPrefix s ys t → SendsPrefix r (xs ++ ys) t
 sends_then_prefix r s t xs ys one prefix = record {
   part = xs ++ prefix.part;
   after = prefix.after;
@@ -61,7 +61,7 @@ sends_then_prefix r s t xs ys one prefix = record {
 }
 
 -- a prefix of a text is a prefix of a longer text
-pub prefix_of_longer : (s t : Option (List ℕ)) (xs ys whole : List ℕ) → SendsFront s xs t → whole ≡ xs ++ ys → SendsFront s whole t
+pub prefix_of_longer : (s t : Option (List ℕ)) (xs ys whole : List ℕ) → SendsPrefix s xs t → whole ≡ xs ++ ys → SendsPrefix s whole t
 prefix_of_longer s t xs ys whole prefix longer = record {
   part = prefix.part;
   after = prefix.after ++ ys;

@@ -3,7 +3,7 @@ use Rattle.std.proofs.Common.{◌≡◌, ◌<◌, ◌≤◌, ℕ, List, [], ◌+
 use Rattle.std.proofs.lemmas.Bool.{lt-ltb}
 use Rattle.std.proofs.lemmas.Bool.Decides.{nat_tests}
 use Rattle.std.specs.Prelude.{Ok, Err, IfSome, unwrap_or}
-use Rattle.unl_base.specs.Streams.{HasEnded, Sends, SendsFront, Takes}
+use Rattle.unl_base.specs.Streams.{HasEnded, Sends, SendsPrefix, Takes}
 use Rattle.unl_documents.specs.declared.fault.BadDocument.{BadDocument}
 use Rattle.unl_documents.specs.Reading.{Reading}
 use Rattle.unl_input.specs.declared.answering.AnswerFault.TheVariants.{Refused, WriteFault}
@@ -52,7 +52,7 @@ ends_answered answer reads says left left_after old new bytes read is sent = rec
 
 -- The case that a prefix of the text was sent.
 pub ends_broken : {T : Type 0} (answer : T) (reads : List ℕ → Reading T) (says : T → List ℕ) (left left_after old new : Option (List ℕ)) (bytes : List ℕ)
-    → HasRead (Ok bytes) left left_after → reads bytes ≡ Ok answer → SendsFront old (says answer) new → Answers reads says (Err WriteFault) left left_after old new
+    → HasRead (Ok bytes) left left_after → reads bytes ≡ Ok answer → SendsPrefix old (says answer) new → Answers reads says (Err WriteFault) left left_after old new
 ends_broken answer reads says left left_after old new bytes read is sent = record {
   answer = answer;
   prefix = record { comes = record { bytes = bytes; read = read.0; is = within reads bytes (Ok answer) read.1 is }; sent = sent };

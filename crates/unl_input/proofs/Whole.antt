@@ -3,7 +3,7 @@ use Rattle.std.proofs.Common.{◌≡◌, ℕ, ◌+◌, ◌<◌, ◌≤◌, List,
 use Rattle.std.specs.Prelude.{codes, take}
 use Rattle.std.proofs.lemmas.Bool.{lt-ltb}
 use Rattle.std.proofs.lemmas.Bool.Decides.{nat_tests}
-use Rattle.unl_base.specs.Streams.{HasEnded, Sends, SendsFront}
+use Rattle.unl_base.specs.Streams.{HasEnded, Sends, SendsPrefix}
 use Rattle.unl_base.specs.Streams as stream
 use Rattle.unl_input.specs.declared.taking.LinesFault.{LinesFault}
 use Rattle.unl_input.specs.declared.taking.LinesFault.TheVariants.{Bad, ReadFault, WriteFault, Memory}
@@ -76,8 +76,8 @@ errs taking WriteFault k before after out comes desk prints got heads = record {
   out = out;
   text = printed k comes;
   got = got;
-  is = λ rest may. let told = headed taking k before.desk out rest after comes heads may in
-      subst (BeginsWith (printed k comes)) (sym told.1) (prints_first k before.desk comes (λ next. take_from taking (k + 1) next told.0));
+  is = λ rest may. let headed_is = headed taking k before.desk out rest after comes heads may in
+      subst (BeginsWith (printed k comes)) (sym headed_is.1) (prints_first k before.desk comes (λ next. take_from taking (k + 1) next headed_is.0));
   sent = prints;
 }
 errs taking Memory k before after out comes desk prints got heads = record { out = out; got = got; sent = prints }
@@ -182,7 +182,7 @@ ends_refused {D = D} taking first start sent k before after sofar now =
 
 pub ends_broken : {D : Type 0} (taking : Taking D) (first : D) (start sent : Option (List ℕ)) (k : ℕ) (before after : Scene D)
     → Sofar taking first start sent k before → BreaksOff taking k before after
-    → HoldsOfRead start after.left (λ bytes. SendsFront sent (whole_text (outcome_of taking first bytes)) after.sent)
+    → HoldsOfRead start after.left (λ bytes. SendsPrefix sent (whole_text (outcome_of taking first bytes)) after.sent)
 ends_broken taking first start sent k before after sofar now =
     let all = gets_trans [] before.held after.held start before.left after.left sofar.taken now.out sofar.got now.got in
     let prefix = sends_then_prefix sent before.sent after.sent sofar.text now.text sofar.sends now.sent in

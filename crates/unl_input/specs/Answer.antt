@@ -1,6 +1,6 @@
 -- How a whole input is answered, and what is sent.
 use Rattle.std.specs.Prelude.{◌≡◌, ℕ, List, Option, Result, Ok, Err, nat_lt, length, if◌then◌else◌}
-use Rattle.unl_base.specs.Streams.{Sends, SendsFront}
+use Rattle.unl_base.specs.Streams.{Sends, SendsPrefix}
 use Rattle.unl_documents.specs.Reading.{Reading}
 use Rattle.unl_input.specs.declared.answering.AnswerFault.{AnswerFault}
 use Rattle.unl_input.specs.declared.answering.AnswerFault.TheVariants.{Refused, ReadFault, WriteFault, Memory}
@@ -49,7 +49,7 @@ pub record Says {T : Type 0} (reads : List ℕ → Reading T) (says : T → List
 pub record SaysPrefix {T : Type 0} (reads : List ℕ → Reading T) (says : T → List ℕ) (outcome : Outcome T)
     (left left_after old new : Option (List ℕ)) : Type 0 where
   pub comes : HasOutcome reads outcome left left_after
-  pub sent : SendsFront old (said says outcome) new
+  pub sent : SendsPrefix old (said says outcome) new
 
 -- An input was read that is refused for this reason, and nothing was sent.
 pub record IsRefused {T : Type 0} (reads : List ℕ → Reading T) (refusal : InputRefusal)

@@ -1,6 +1,6 @@
 -- One turn: the bytes consumed, and the text sent.
 use Rattle.std.specs.Prelude.{◌≡◌, ℕ, ◌+◌, ◌≤◌, List, [], ◌∷◌, ◌++◌, Option, Result, Ok, Err, false}
-use Rattle.unl_base.specs.Streams.{Sends, SendsFront}
+use Rattle.unl_base.specs.Streams.{Sends, SendsPrefix}
 use Rattle.unl_input.specs.declared.taking.LinesFault.{LinesFault}
 use Rattle.unl_input.specs.declared.taking.LinesFault.TheVariants.{Bad, ReadFault, WriteFault, Memory}
 use Rattle.unl_input.specs.declared.taking.Progress.{Progress}
@@ -13,7 +13,7 @@ use Rattle.unl_input.specs.Taken.{LineResult, Outcome, Taking, done, refused, ta
 abbrev pub Refuses : LinesFault → ℕ → List ℕ → Option (List ℕ) → Option (List ℕ) → Type 0
 Refuses Bad k cause old new = Sends old (refused_text k cause) new
 Refuses ReadFault k cause old new = ⊥
-Refuses WriteFault k cause old new = SendsFront old (refused_text k cause) new
+Refuses WriteFault k cause old new = SendsPrefix old (refused_text k cause) new
 Refuses Memory k cause old new = new ≡ old
 
 -- The result of a line was printed, as far as the result of the call implies.
@@ -21,7 +21,7 @@ abbrev pub Prints : {D : Type 0} → Result (Unit {0}) LinesFault → ℕ → Li
 Prints (Ok u) k comes desk old new = (text : List ℕ) × (comes ≡ Ok (record { text = text; desk = desk })) × Sends old text new
 Prints (Err Bad) k comes desk old new = (cause : List ℕ) × (comes ≡ Err cause) × Sends old (refused_text k cause) new
 Prints (Err ReadFault) k comes desk old new = ⊥
-Prints (Err WriteFault) k comes desk old new = SendsFront old (printed k comes) new
+Prints (Err WriteFault) k comes desk old new = SendsPrefix old (printed k comes) new
 Prints (Err Memory) k comes desk old new = new ≡ old
 
 -- The state has room for the next line or, at the end of the input, for some line up to that one.
@@ -81,7 +81,7 @@ pub record BreaksOff {D : Type 0} (taking : Taking D) (k : ℕ) (before after : 
   pub text : List ℕ
   pub got : Takes before out after
   pub is : (rest : List ℕ) → MayFollow after rest → BeginsWith text (take_from taking k before.desk (lines (out ++ rest)))
-  pub sent : SendsFront before.sent text after.sent
+  pub sent : SendsPrefix before.sent text after.sent
 
 -- nothing was printed, and at most part of a line was read
 pub record StopsReading {D : Type 0} (before after : Scene D) : Type 0 where

@@ -1,6 +1,6 @@
 -- How the lines of a whole input end: what was read from the source, and what was sent.
 use Rattle.std.specs.Prelude.{◌≡◌, List, [], ◌++◌, ℕ, Option, Result, Ok, Err}
-use Rattle.unl_base.specs.Streams.{Takes, HasEnded, Sends, SendsFront}
+use Rattle.unl_base.specs.Streams.{Takes, HasEnded, Sends, SendsPrefix}
 use Rattle.unl_input.specs.declared.taking.LinesFault.{LinesFault}
 use Rattle.unl_input.specs.declared.taking.LinesFault.TheVariants.{Bad, ReadFault, WriteFault, Memory}
 use Rattle.unl_input.specs.Taken.{Outcome, Taking, done, IsRefused, whole_text, outcome_of, outcome_of_ended, outcome_of_first}
@@ -31,7 +31,7 @@ pub record HoldsOfRead (left left_after : Option (List ℕ)) (P : List ℕ → T
 pub record AnswersFirst {D : Type 0} (taking : Taking D) (desk : D) (bytes : List ℕ) (old new : Option (List ℕ)) : Type 0 where
   pub count : ℕ
   pub answered : IsAnswered (outcome_of_first taking desk count bytes) old new
-  pub prefix : SendsFront old (whole_text (outcome_of taking desk bytes)) new
+  pub prefix : SendsPrefix old (whole_text (outcome_of taking desk bytes)) new
 
 -- the input was read to its end, every line was processed, and all output was sent
 pub record AnswersInput {D : Type 0} (taking : Taking D) (desk : D) (left left_after old new : Option (List ℕ)) : Type 0 where
@@ -57,6 +57,6 @@ TakesLines taking desk (Err Bad) left left_after old new =
     HoldsOfRead left left_after (λ bytes. IsRefusing (outcome_of taking desk bytes) old new)
 TakesLines taking desk (Err ReadFault) left left_after old new = AnswersRead taking desk left left_after old new
 TakesLines taking desk (Err WriteFault) left left_after old new =
-    HoldsOfRead left left_after (λ bytes. SendsFront old (whole_text (outcome_of taking desk bytes)) new)
+    HoldsOfRead left left_after (λ bytes. SendsPrefix old (whole_text (outcome_of taking desk bytes)) new)
 TakesLines taking desk (Err Memory) left left_after old new =
     HoldsOfRead left left_after (λ bytes. AnswersFirst taking desk bytes old new)

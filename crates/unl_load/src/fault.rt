@@ -1,6 +1,6 @@
 //! The errors of a load.
 ghost use Rattle.std.specs.Prelude.{◌≡◌};
-ghost use Rattle.unl_load.specs.declared.fault.LoadFault.TheVariants.{Memory as want, WriteFault as write_fault};
+ghost use Rattle.unl_load.specs.declared.fault.LoadFault.TheVariants.{Memory as out_of_memory, WriteFault as write_fault};
 
 use std::alloc::AllocError;
 use thiserror::Error;
@@ -27,7 +27,7 @@ impl From<Failed> for LoadFault {
 }
 
 impl From<documents::Memory> for LoadFault {
-    ghost from_gives = { λ _ fault. fault ≡ want };
+    ghost from_gives = { λ _ fault. fault ≡ out_of_memory };
 
     fn from(_: documents::Memory) -> LoadFault {
         LoadFault::Memory
@@ -35,7 +35,7 @@ impl From<documents::Memory> for LoadFault {
 }
 
 impl From<AllocError> for LoadFault {
-    ghost from_gives = { λ _ fault. fault ≡ want };
+    ghost from_gives = { λ _ fault. fault ≡ out_of_memory };
 
     fn from(_: AllocError) -> LoadFault {
         LoadFault::Memory

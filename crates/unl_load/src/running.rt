@@ -1,7 +1,7 @@
 //! The load, from its seed to its line.
 ghost use Rattle.std.specs.Prelude.{◌≡◌, ◌≤◌, IfOk, IsErrOf, OnOk, string_bytes};
 ghost use Rattle.unl_base.specs.Faults.{Rose};
-ghost use Rattle.unl_base.specs.Streams.{Sends, SendsFront};
+ghost use Rattle.unl_base.specs.Streams.{Sends, SendsPrefix};
 ghost use Rattle.unl_load.specs.Line.{line_of, load_line};
 
 use crate::asking::count_on;
@@ -23,7 +23,7 @@ use unl_documents::Memory;
 /// `WriteFault` if the sink fails: a prefix of the line was written. `Memory` if out of memory: nothing was written.
 pub fn load<K: Sink>(alloc: Global, seed: u64, count: u64, sink: &mut K) -> Result<(), LoadFault>
     ensures ok { OnOk result (Sends (K.sent sink.old) (load_line seed count) (K.sent sink.new)) }
-    ensures broken { IsErrOf result LoadFault.WriteFault → SendsFront (K.sent sink.old) (load_line seed count) (K.sent sink.new) }
+    ensures broken { IsErrOf result LoadFault.WriteFault → SendsPrefix (K.sent sink.old) (load_line seed count) (K.sent sink.new) }
     ensures unsent { IsErrOf result LoadFault.Memory → K.sent sink.new ≡ K.sent sink.old }
     ensures write { IsErrOf result LoadFault.WriteFault → Rose (K.faults sink.old) (K.faults sink.new) }
     ensures later { K.faults sink.old ≤ K.faults sink.new }

@@ -66,8 +66,8 @@ prefix_is p (x ∷ xs) (suc i) le h =
 -- ---- insertion at a key
 
 -- Whether the key is at the position where it would be inserted.
-abbrev pub stands : {K X : Type 0} → (K → K → Ordering) → K → List (K × X) → Bool
-stands R k es = option_map_or (λ e. is_eq (R e.0 k)) (slice_get es (place R k es)) false
+abbrev pub is_present : {K X : Type 0} → (K → K → Ordering) → K → List (K × X) → Bool
+is_present R k es = option_map_or (λ e. is_eq (R e.0 k)) (slice_get es (place R k es)) false
 
 step_new : {Y : Type 0} (r : Ordering) (y e replaced : Y) (es rest : List Y) (n : ℕ) (test : Y → Bool) → test e ≡ is_eq r → (option_map_or test (slice_get es n) false ≡ false → rest ≡ insert es n y)
     → option_map_or test (slice_get (e ∷ es) (cond (is_lt r) (1 + n) 0)) false ≡ false → by_order (ordering_reverse r) (y ∷ e ∷ es) (replaced ∷ es) (e ∷ rest) ≡ insert (e ∷ es) (cond (is_lt r) (1 + n) 0) y
@@ -77,7 +77,7 @@ step_new Less y e replaced es rest n test is more h =
 step_new Equal y e replaced es rest n test is more h = absurd (subst T (sym is ∙ h) tt)
 step_new Greater y e replaced es rest n test is more h = refl
 
-pub put_new : {K X : Type 0} (R : K → K → Ordering) → IsTotalOrder R → (k : K) (x : X) (es : List (K × X)) → stands R k es ≡ false → put R k x es ≡ insert es (place R k es) (k, x)
+pub put_new : {K X : Type 0} (R : K → K → Ordering) → IsTotalOrder R → (k : K) (x : X) (es : List (K × X)) → is_present R k es ≡ false → put R k x es ≡ insert es (place R k es) (k, x)
 put_new R o k x [] h = refl
 put_new R o k x (e ∷ es) h = rw (o.antisymm k e.0) (step_new (R e.0 k) (k, x) e (e.0, x) es (put R k x es) (place R k es) (λ f. is_eq (R f.0 k)) refl (put_new R o k x es) h)
 
@@ -89,7 +89,7 @@ step_old Less y e d replaced es rest n test with is same more h =
 step_old Equal y e d replaced es rest n test with is same more h = ap (λ z. z ∷ es) same
 step_old Greater y e d replaced es rest n test with is same more h = absurd (subst T (sym h ∙ is) tt)
 
-pub put_old : {K X : Type 0} (R : K → K → Ordering) → IsTotalOrder R → (k : K) (x : X) (es : List (K × X)) (d : K × X) → stands R k es ≡ true → put R k x es ≡ slice_set es (place R k es) ((get_or es (place R k es) d).0, x)
+pub put_old : {K X : Type 0} (R : K → K → Ordering) → IsTotalOrder R → (k : K) (x : X) (es : List (K × X)) (d : K × X) → is_present R k es ≡ true → put R k x es ≡ slice_set es (place R k es) ((get_or es (place R k es) d).0, x)
 put_old R o k x [] d h = absurd (subst T (sym h) tt)
 put_old R o k x (e ∷ es) d h = rw (o.antisymm k e.0) (step_old (R e.0 k) (k, x) e d (e.0, x) es (put R k x es) (place R k es) (λ f. is_eq (R f.0 k)) (λ f. (f.0, x)) refl refl (put_old R o k x es d) h)
 
@@ -107,7 +107,7 @@ step_none Less e es n test z rest is more below h =
 step_none Equal e es n test z rest is more below h = absurd (subst T (sym is ∙ h) tt)
 step_none Greater e es n test z rest is more below h = below refl
 
-pub find_new : {K X : Type 0} (R : K → K → Ordering) → IsTotalOrder R → (k : K) (es : List (K × X)) → T (is_sorted R es) → stands R k es ≡ false → find R k es ≡ None
+pub find_new : {K X : Type 0} (R : K → K → Ordering) → IsTotalOrder R → (k : K) (es : List (K × X)) → T (is_sorted R es) → is_present R k es ≡ false → find R k es ≡ None
 find_new R o k [] s h = refl
 find_new R o k (e ∷ es) s h =
     rw (o.antisymm k e.0) (step_none (R e.0 k) e es (place R k es) (λ f. is_eq (R f.0 k)) e.1 (find R k es) refl (find_new R o k es (second_of _ _ s)) (λ p. none_found R o k e.0 (o.antisymm k e.0 ∙ ap ordering_reverse p) es (first_of _ _ s)) h)
@@ -120,23 +120,23 @@ step_some Less e d es n test value rest is more h =
 step_some Equal e d es n test value rest is more h = refl
 step_some Greater e d es n test value rest is more h = absurd (subst T (sym h ∙ is) tt)
 
-pub find_old : {K X : Type 0} (R : K → K → Ordering) → IsTotalOrder R → (k : K) (es : List (K × X)) (d : K × X) → stands R k es ≡ true → find R k es ≡ Some (get_or es (place R k es) d).1
+pub find_old : {K X : Type 0} (R : K → K → Ordering) → IsTotalOrder R → (k : K) (es : List (K × X)) (d : K × X) → is_present R k es ≡ true → find R k es ≡ Some (get_or es (place R k es) d).1
 find_old R o k [] d h = absurd (subst T (sym h) tt)
 find_old R o k (e ∷ es) d h = rw (o.antisymm k e.0) (step_some (R e.0 k) e d es (place R k es) (λ f. is_eq (R f.0 k)) (λ f. f.1) (find R k es) refl (find_old R o k es d) h)
 
 -- ---- one more entry
 
-pub entry_new : {K X : Type 0} (R : K → K → Ordering) → IsTotalOrder R → (plus : X → X → X) (e : K × X) (es : List (K × X)) → T (is_sorted R es) → stands R e.0 es ≡ false → with_entry R plus es e ≡ insert es (place R e.0 es) e
+pub entry_new : {K X : Type 0} (R : K → K → Ordering) → IsTotalOrder R → (plus : X → X → X) (e : K × X) (es : List (K × X)) → T (is_sorted R es) → is_present R e.0 es ≡ false → with_entry R plus es e ≡ insert es (place R e.0 es) e
 entry_new R o plus e es s h = rw (find_new R o e.0 es s h) (put_new R o e.0 e.1 es h)
 
-pub entry_old : {K X : Type 0} (R : K → K → Ordering) → IsTotalOrder R → (plus : X → X → X) (e : K × X) (es : List (K × X)) (d : K × X) → stands R e.0 es ≡ true → with_entry R plus es e ≡ slice_set es (place R e.0 es) ((get_or es (place R e.0 es) d).0, plus (get_or es (place R e.0 es) d).1 e.1)
+pub entry_old : {K X : Type 0} (R : K → K → Ordering) → IsTotalOrder R → (plus : X → X → X) (e : K × X) (es : List (K × X)) (d : K × X) → is_present R e.0 es ≡ true → with_entry R plus es e ≡ slice_set es (place R e.0 es) ((get_or es (place R e.0 es) d).0, plus (get_or es (place R e.0 es) d).1 e.1)
 entry_old R o plus e es d h = rw (find_old R o e.0 es d h) (put_old R o e.0 (plus (get_or es (place R e.0 es) d).1 e.1) es d h)
 
 -- An item found at a position is within the list.
-pub stands_within : {Y : Type 0} (test : Y → Bool) (ys : List Y) (n : ℕ) → option_map_or test (slice_get ys n) false ≡ true → n < length ys
-stands_within test [] n h = absurd (subst T (sym h) tt)
-stands_within test (y ∷ ys) zero h = omega arith
-stands_within test (y ∷ ys) (suc n) h = omega (arith, stands_within test ys n h)
+pub present_within : {Y : Type 0} (test : Y → Bool) (ys : List Y) (n : ℕ) → option_map_or test (slice_get ys n) false ≡ true → n < length ys
+present_within test [] n h = absurd (subst T (sym h) tt)
+present_within test (y ∷ ys) zero h = omega arith
+present_within test (y ∷ ys) (suc n) h = omega (arith, present_within test ys n h)
 
 -- ---- the same for items that are viewed as entries
 

@@ -79,26 +79,26 @@ greatest_is passes (suc n) i le here others = elim (cases_lt i (suc n)) [
   | inr ge ↦ let same : suc n ≡ i = omega arith in rw (same, here) refl
 ]
 
-take_front : {X : Type 0} (xs : List X) (i m : ℕ) → i ≤ m → (more : List X) × (take m xs ≡ take i xs ++ more)
-take_front xs zero m le = (take m xs, refl)
-take_front xs (suc i) zero le = absurd (omega arith)
-take_front [] (suc i) (suc m) le = ([], refl)
-take_front (x ∷ xs) (suc i) (suc m) le = let rest = take_front xs i m (omega arith) in (rest.0, ap (λ (ys : List _). x ∷ ys) rest.1)
+take_prefix : {X : Type 0} (xs : List X) (i m : ℕ) → i ≤ m → (more : List X) × (take m xs ≡ take i xs ++ more)
+take_prefix xs zero m le = (take m xs, refl)
+take_prefix xs (suc i) zero le = absurd (omega arith)
+take_prefix [] (suc i) (suc m) le = ([], refl)
+take_prefix (x ∷ xs) (suc i) (suc m) le = let rest = take_prefix xs i m (omega arith) in (rest.0, ap (λ (ys : List _). x ∷ ys) rest.1)
 
 pub room_is : (book : Book) (i : ℕ) → i ≤ length book → bulk_length (take i book) ≤ 1048576 → (i < length book → 1048576 < bulk_length (take (i + 1) book)) → room_for book ≡ i
 unfolding room_for
 room_is book i le fits full = greatest_is (λ n. nat_le (bulk_length (take n book)) 1048576) (length book) i le (grind (arith, nat_tests, fits))
-    (λ m low high. let front = take_front book (i + 1) m (omega arith) in
-    let longer : bulk_length (take (i + 1) book) ≤ bulk_length (take m book) = rw front.1 (grows (take (i + 1) book) front.0) in
+    (λ m low high. let prefix = take_prefix book (i + 1) m (omega arith) in
+    let longer : bulk_length (take (i + 1) book) ≤ bulk_length (take m book) = rw prefix.1 (grows (take (i + 1) book) prefix.0) in
     let past = full (omega arith) in
     grind (arith, nat_tests, longer, past))
 
 pub longer_is : (rows : Book) (i n before comma values : ℕ) (e : Key × Tally) → i < length rows → e ≡ get_or rows i e → before ≡ bulk_length (take i rows) → n ≡ length (compact_text (counted_data e)) → values ≡ i → comma ≡ (if values == 0 then 0 else 1) → before + n + comma ≡ bulk_length (take (i + 1) rows)
 longer_is rows i n before comma values e lt is so_far text all mark =
-    let front : take (i + 1) rows ≡ take i rows ++ e ∷ [] = take_more rows i e lt ∙ ap (λ x. take i rows ++ x ∷ []) (sym is) in
+    let prefix : take (i + 1) rows ≡ take i rows ++ e ∷ [] = take_more rows i e lt ∙ ap (λ x. take i rows ++ x ∷ []) (sym is) in
     let len : length (take i rows) ≡ i = length-take-le i rows (omega arith) in
     let comma_is_same : comma ≡ cond (nat_eq (length (take i rows)) 0) 0 1 = rw (len, ← all) mark in
-    rw front (rw (so_far, text, comma_is_same) (sym (one_more (take i rows) e)))
+    rw prefix (rw (so_far, text, comma_is_same) (sym (one_more (take i rows) e)))
 
 -- Two lists with the same images have the same length.
 pub within : {A B C : Type 0} (f : A → C) (g : B → C) (xs : List A) (ys : List B) (i n : ℕ) → map f xs ≡ map g (take i ys) → length xs ≡ n → n ≤ length ys

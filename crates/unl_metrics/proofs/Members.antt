@@ -21,35 +21,35 @@ use Rattle.unl_metrics.specs.Readable.{IsNamed, AreVariants, AreReadable}
 use Rattle.unl_metrics.specs.Reports.{each_member, IsReport}
 
 -- The items already read, and the reading of the rest.
-abbrev pub with_front : {T : Type 0} → List T → Reading (List T) → Reading (List T)
-with_front front reading = reading >>= λ others. Ok (front ++ others)
+abbrev pub with_prefix : {T : Type 0} → List T → Reading (List T) → Reading (List T)
+with_prefix prefix reading = reading >>= λ others. Ok (prefix ++ others)
 
-regroup : {T : Type 0} (front : List T) (first : T) (reading : Reading (List T)) → with_front front (reading >>= λ others. Ok (first ∷ others)) ≡ with_front (front ++ first ∷ []) reading
-regroup front first (Ok others) = ap Ok (sym (append_assoc front (first ∷ []) others))
-regroup front first (Err e) = refl
+regroup : {T : Type 0} (prefix : List T) (first : T) (reading : Reading (List T)) → with_prefix prefix (reading >>= λ others. Ok (first ∷ others)) ≡ with_prefix (prefix ++ first ∷ []) reading
+regroup prefix first (Ok others) = ap Ok (sym (append_assoc prefix (first ∷ []) others))
+regroup prefix first (Err e) = refl
 
-pub begins : {T : Type 0} (reading : Reading (List T)) → with_front [] reading ≡ reading
+pub begins : {T : Type 0} (reading : Reading (List T)) → with_prefix [] reading ≡ reading
 begins (Ok others) = refl
 begins (Err e) = refl
 
-pub goes_on : {T : Type 0} (kind : List ℕ → Data → Reading T) (front : List T) (e : Entry) (left : List Entry) (first : T) (total : Reading (List T)) → kind (string_bytes e.0) (view e.1) ≡ Ok first
-    → with_front front (each_member kind (members_view (e ∷ left))) ≡ total → with_front (front ++ first ∷ []) (each_member kind (members_view left)) ≡ total
+pub goes_on : {T : Type 0} (kind : List ℕ → Data → Reading T) (prefix : List T) (e : Entry) (left : List Entry) (first : T) (total : Reading (List T)) → kind (string_bytes e.0) (view e.1) ≡ Ok first
+    → with_prefix prefix (each_member kind (members_view (e ∷ left))) ≡ total → with_prefix (prefix ++ first ∷ []) (each_member kind (members_view left)) ≡ total
 unfolding each_member
-goes_on kind front e left first total here so_far =
-    let one : with_front front (each_member kind (members_view (e ∷ left))) ≡ with_front (front ++ first ∷ []) (each_member kind (members_view left)) = rw here (regroup front first (each_member kind (members_view left))) in
+goes_on kind prefix e left first total here so_far =
+    let one : with_prefix prefix (each_member kind (members_view (e ∷ left))) ≡ with_prefix (prefix ++ first ∷ []) (each_member kind (members_view left)) = rw here (regroup prefix first (each_member kind (members_view left))) in
     sym one ∙ so_far
 
-pub ends : {T : Type 0} (fault : BadDocument) (kind : List ℕ → Data → Reading T) (front : List T) (e : Entry) (left : List Entry) (total : Reading (List T)) → (fault ≢ Memory → kind (string_bytes e.0) (view e.1) ≡ Err fault)
-    → with_front front (each_member kind (members_view (e ∷ left))) ≡ total → fault ≢ Memory → total ≡ Err fault
+pub ends : {T : Type 0} (fault : BadDocument) (kind : List ℕ → Data → Reading T) (prefix : List T) (e : Entry) (left : List Entry) (total : Reading (List T)) → (fault ≢ Memory → kind (string_bytes e.0) (view e.1) ≡ Err fault)
+    → with_prefix prefix (each_member kind (members_view (e ∷ left))) ≡ total → fault ≢ Memory → total ≡ Err fault
 unfolding each_member
-ends fault kind front e left total here so_far known =
+ends fault kind prefix e left total here so_far known =
     let found : kind (string_bytes e.0) (view e.1) ≡ Err fault = here known in
-    let one : with_front front (each_member kind (members_view (e ∷ left))) ≡ Err fault = rw found refl in
+    let one : with_prefix prefix (each_member kind (members_view (e ∷ left))) ≡ Err fault = rw found refl in
     sym so_far ∙ one
 
-pub is_done : {T : Type 0} (kind : List ℕ → Data → Reading T) (front : List T) (total : Reading (List T)) → with_front front (each_member kind (members_view [])) ≡ total → total ≡ Ok front
+pub is_done : {T : Type 0} (kind : List ℕ → Data → Reading T) (prefix : List T) (total : Reading (List T)) → with_prefix prefix (each_member kind (members_view [])) ≡ total → total ≡ Ok prefix
 unfolding each_member
-is_done kind front total so_far = sym so_far ∙ ap Ok (append-nil front)
+is_done kind prefix total so_far = sym so_far ∙ ap Ok (append-nil prefix)
 
 -- ---- the names of the members ascend
 

@@ -128,25 +128,25 @@ small_book : (book : Book) → fits book ≡ true → (length book ≤ 10000) ×
 unfolding fits
 small_book book e = let two = each_true (nat_le (length book) 10000) (list_all has_few_variants book) e in (grind (arith, nat_tests, two.0), two.1)
 
-front_again : (environment : List ℕ) (n : ℕ) (book : Book) → map (counted environment) (entries_at (take n (counted_in environment book))) ≡ take n (counted_in environment book)
-front_again environment n book = ap (map (counted environment)) (sym (take-map entry_at n (counted_in environment book))) ∙ sym (take-map (counted environment) n (entries_at (counted_in environment book))) ∙ ap (take n) (entries_again environment book)
+prefix_again : (environment : List ℕ) (n : ℕ) (book : Book) → map (counted environment) (entries_at (take n (counted_in environment book))) ≡ take n (counted_in environment book)
+prefix_again environment n book = ap (map (counted environment)) (sym (take-map entry_at n (counted_in environment book))) ∙ sym (take-map (counted environment) n (entries_at (counted_in environment book))) ∙ ap (take n) (entries_again environment book)
 
 pub book_back : (environment : List ℕ) (book : Book) (n : ℕ) → IsBook book → All IsSendable book → IsReadAs (bulk_data (take n (counted_in environment book))) (entries_at (take n (counted_in environment book)))
 book_back environment book n is sendable bytes spelled =
-    let front = take n (counted_in environment book) in
+    let prefix = take n (counted_in environment book) in
     let small = small_book book is.fit in
-    let count : length (entries_at front) ≤ 10000 = omega (arith, length-map front entry_at, length-take n (counted_in environment book), no_more environment book, small.0) in
-    let again : json_of bytes ≡ Some (bulk_data (map (counted environment) (entries_at front))) = spelled ∙ ap (λ (b : Book). Some (bulk_data b)) (sym (front_again environment n book)) in
-    text_back environment (entries_at front) (count, each_readable environment n book sendable is.order.each small.1) bytes again
+    let count : length (entries_at prefix) ≤ 10000 = omega (arith, length-map prefix entry_at, length-take n (counted_in environment book), no_more environment book, small.0) in
+    let again : json_of bytes ≡ Some (bulk_data (map (counted environment) (entries_at prefix))) = spelled ∙ ap (λ (b : Book). Some (bulk_data b)) (sym (prefix_again environment n book)) in
+    text_back environment (entries_at prefix) (count, each_readable environment n book sendable is.order.each small.1) bytes again
 
 report_back : (environment : List ℕ) (book found : Book) (sent : Data × ℕ) → IsBook book → All IsSendable book → found ≡ counted_in environment book → Some sent ≡ bulk_report found → IsReadAs sent.0 (entries_at (take sent.1 (counted_in environment book)))
 report_back environment book [] sent is sendable same report = absurd (subst T (ap is_some report) tt)
 report_back environment book (e ∷ found) sent is sendable same report =
     let room = room_for (e ∷ found) in
     let parts : sent ≡ (bulk_data (take room (e ∷ found)), room) = ap (λ o. unwrap_or o sent) report in
-    let front : take room (counted_in environment book) ≡ take room (e ∷ found) = ap (take room) (sym same) in
+    let prefix : take room (counted_in environment book) ≡ take room (e ∷ found) = ap (take room) (sym same) in
     subst (λ (s : Data × ℕ). IsReadAs s.0 (entries_at (take s.1 (counted_in environment book)))) (sym parts)
-    (subst (λ (b : Book). IsReadAs (bulk_data b) (entries_at (take room (counted_in environment book)))) front (book_back environment book room is sendable))
+    (subst (λ (b : Book). IsReadAs (bulk_data b) (entries_at (take room (counted_in environment book)))) prefix (book_back environment book room is sendable))
 
 pub sent_back : (environment : List ℕ) (book : Book) (found : Option (Value × ℕ)) → IsBook book → All IsSendable book → option_map (λ sent. (view sent.0, sent.1)) found ≡ bulk environment book → IfSome found (λ sent. IsReadAs (view sent.0) (entries_at (take sent.1 (counted_in environment book))))
 unfolding bulk

@@ -7,8 +7,8 @@ use Rattle.unl_spec_runner.specs.Expected.{agrees, expected_text}
 use Rattle.unl_spec_runner.specs.Report.{line_of, pass_line, fail_line, quoted}
 
 -- A text with a nonempty prefix is not empty.
-starts : (front bytes : List ℕ) → 0 < length front → 0 < length (front ++ bytes)
-starts front bytes has = rw (length-append front bytes) (omega (arith, has))
+starts : (prefix bytes : List ℕ) → 0 < length prefix → 0 < length (prefix ++ bytes)
+starts prefix bytes has = rw (length-append prefix bytes) (omega (arith, has))
 
 passing : (number : ℕ) (description : List ℕ) → 0 < length (pass_line number description)
 unfolding pass_line

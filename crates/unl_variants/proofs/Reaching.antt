@@ -57,7 +57,7 @@ place_is_reached target vs some far =
 
 heavier : (vs : List Variant) (j k : ℕ) → j < k → weight_before (j + 1) vs ≤ weight_before k vs
 heavier vs j k below =
-    subst (λ front. total_weight front ≤ total_weight (take k vs)) (take-take (j + 1) k vs (omega arith)) (sum_by-take-le (λ (v : Variant). v.weight) (take k vs) (j + 1))
+    subst (λ prefix. total_weight prefix ≤ total_weight (take k vs)) (take-take (j + 1) k vs (omega arith)) (sum_by-take-le (λ (v : Variant). v.weight) (take k vs) (j + 1))
 
 -- only one position reaches it first
 pub reached_once : (target : ℕ) (vs : List Variant) (j k : ℕ) → IsReached target vs j → IsReached target vs k → j ≡ k

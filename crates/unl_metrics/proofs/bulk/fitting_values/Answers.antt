@@ -44,9 +44,9 @@ loop-row-preserved c =
     let all : c.len.result ≡ l.row-index = search rules in
     let longer = longer_is rows l.row-index c.in_ok-longer.field-0 l.length c.comma.result c.len.result item c.loop-row-test.true c.row-item.is l.invariant.length text all c.comma.ensures in
     let shown : view c.in_ok-value.value ≡ counted_data (get_or rows l.row-index item) = search rules in
-    let front = take_more rows l.row-index item c.loop-row-test.true in
+    let prefix = take_more rows l.row-index item c.loop-row-test.true in
     rw c.in_ok-push.ensures.items record {
-      values = rw (map_push view l.values.items c.in_ok-value.value, front, map-append counted_data (take l.row-index rows) (get_or rows l.row-index item ∷ []), l.invariant.values, shown) refl;
+      values = rw (map_push view l.values.items c.in_ok-value.value, prefix, map-append counted_data (take l.row-index rows) (get_or rows l.row-index item ∷ []), l.invariant.values, shown) refl;
       count = length_push l.values.items c.in_ok-value.value ∙ ap (λ n. n + 1) l.invariant.count;
       length = longer;
       fits = omega (arith, c.if-longer-gt-LONGEST.false);

@@ -1,5 +1,5 @@
 use Rattle.std.proofs.lemmas.Str.Pattern.{contains_text}
-use Rattle.unl_strategies.proofs.Standing.{not_listed}
+use Rattle.unl_strategies.proofs.Subslices.{not_listed}
 use Rattle.unl_strategies.proofs.lists.list_contains_text.Goals as goal
 
 pub returns : goal.returns

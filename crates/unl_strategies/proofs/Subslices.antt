@@ -16,17 +16,17 @@ abbrev IsItem : List ℕ → List (List ℕ) → Type 0
 IsItem x items = list_any (λ item. bytes_eq item x) items ≡ true
 
 -- A substring of a part of a text is a substring of the text.
-within : (front part back x : List ℕ) → HasSubslice part x → HasSubslice (front ++ (part ++ back)) x
-within front part back x (a, b, is) =
+within : (prefix part back x : List ℕ) → HasSubslice part x → HasSubslice (prefix ++ (part ++ back)) x
+within prefix part back x (a, b, is) =
     let inside : (a ++ (x ++ b)) ++ back ≡ a ++ (x ++ (b ++ back)) = append_assoc a (x ++ b) back ∙ ap (λ (p : List ℕ). a ++ p) (append_assoc x b back) in
-    let whole : front ++ (part ++ back) ≡ front ++ (a ++ (x ++ (b ++ back))) =
-    ap (λ (p : List ℕ). front ++ (p ++ back)) is ∙ ap (λ (p : List ℕ). front ++ p) inside in
-    (front ++ a, b ++ back, whole ∙ sym (append_assoc front a (x ++ (b ++ back))))
+    let whole : prefix ++ (part ++ back) ≡ prefix ++ (a ++ (x ++ (b ++ back))) =
+    ap (λ (p : List ℕ). prefix ++ (p ++ back)) is ∙ ap (λ (p : List ℕ). prefix ++ p) inside in
+    (prefix ++ a, b ++ back, whole ∙ sym (append_assoc prefix a (x ++ (b ++ back))))
 
 -- A trimmed part is a substring of the part.
-trimmed_stands : (part : List ℕ) → HasSubslice part (trimmed part)
+trimmed_is_subslice : (part : List ℕ) → HasSubslice part (trimmed part)
 unfolding trimmed
-trimmed_stands part =
+trimmed_is_subslice part =
     let before : ℕ = prefix_len is_ascii_whitespace part in
     let rest : List ℕ = drop before part in
     let kept : ℕ = length rest - suffix_len is_ascii_whitespace rest in
@@ -35,8 +35,8 @@ trimmed_stands part =
 
 -- A substring of the first part is a substring of the joined parts.
 in_first : (part : List ℕ) (others : List (List ℕ)) (x : List ℕ) → HasSubslice part x → HasSubslice (join_with_byte 44 (part ∷ others)) x
-in_first part [] x stands = stands
-in_first part (other ∷ more) x stands = within [] part (44 ∷ join_with_byte 44 (other ∷ more)) x stands
+in_first part [] x has = has
+in_first part (other ∷ more) x has = within [] part (44 ∷ join_with_byte 44 (other ∷ more)) x has
 
 in_later : (part other : List ℕ) (more : List (List ℕ)) (x : List ℕ)
     → HasSubslice (join_with_byte 44 (other ∷ more)) x → HasSubslice (join_with_byte 44 (part ∷ other ∷ more)) x
@@ -54,27 +54,27 @@ either true item x items listed =
 
 later : (p : List ℕ) (ps : List (List ℕ)) (x : List ℕ) → (IsItem x (items_among ps) → HasSubslice (join_with_byte 44 ps) x)
     → IsItem x (items_among ps) → HasSubslice (join_with_byte 44 (p ∷ ps)) x
-later p [] x stands listed = absurd (cc)
-later p (other ∷ more) x stands listed = in_later p other more x (stands listed)
+later p [] x has listed = absurd (cc)
+later p (other ∷ more) x has listed = in_later p other more x (has listed)
 
 -- An item of the parts is a substring of the joined parts.
-among_stands : (ps : List (List ℕ)) (x : List ℕ) → IsItem x (items_among ps) → HasSubslice (join_with_byte 44 ps) x
-among_stands [] x listed = absurd (cc)
-among_stands (p ∷ ps) x listed =
+item_is_subslice : (ps : List (List ℕ)) (x : List ℕ) → IsItem x (items_among ps) → HasSubslice (join_with_byte 44 ps) x
+item_is_subslice [] x listed = absurd (cc)
+item_is_subslice (p ∷ ps) x listed =
     elim (either (has_bytes (trimmed p)) (trimmed p) x (items_among ps) listed) [
-      | inl same ↦ in_first p ps x (subst (λ (t : List ℕ). HasSubslice p t) same (trimmed_stands p))
-      | inr more ↦ later p ps x (λ item. among_stands ps x item) more
+      | inl same ↦ in_first p ps x (subst (λ (t : List ℕ). HasSubslice p t) same (trimmed_is_subslice p))
+      | inr more ↦ later p ps x (λ item. item_is_subslice ps x item) more
     ]
 
-listed_stands : (list x : List ℕ) → is_listed list x ≡ true → HasSubslice list x
+listed_is_subslice : (list x : List ℕ) → is_listed list x ≡ true → HasSubslice list x
 unfolding is_listed comma_items
-listed_stands list x listed =
-    subst (λ (t : List ℕ). HasSubslice t x) (join_with_byte-slice_split 44 list) (among_stands (parts 44 list) x listed)
+listed_is_subslice list x listed =
+    subst (λ (t : List ℕ). HasSubslice t x) (join_with_byte-slice_split 44 list) (item_is_subslice (parts 44 list) x listed)
 
 -- A text that is not a substring of the list is not an item of it.
 pub not_listed : (found : Bool) (list x : List ℕ) → (found ≡ true) ↔ HasSubslice list x → found ≡ false → is_listed list x ≡ false
-not_listed found list x stands none =
+not_listed found list x has none =
     elim (is_listed list x) as (λ b. is_listed list x ≡ b → b ≡ false) [
-      | true ↦ λ listed. let there : found ≡ true = stands.1 (listed_stands list x listed) in absurd (cc)
+      | true ↦ λ listed. let there : found ≡ true = has.1 (listed_is_subslice list x listed) in absurd (cc)
       | false ↦ λ listed. refl
     ] refl
