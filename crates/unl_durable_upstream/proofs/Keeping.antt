@@ -8,7 +8,7 @@ use Rattle.unl_durable_upstream.specs.Serving.{Facing, KeepsAcknowledged, LinksE
 use Rattle.unl_keeper.specs.State.{HasKept}
 use Rattle.unl_upstream.specs.declared.command.Command.{Command}
 use Rattle.unl_upstream.specs.Kept.{AttemptsPreserve, Carries, IsAfterKept, KeptState, LeavesOne, failed_after, kept_commands}
-use Rattle.unl_upstream.specs.KeptHosting.{AllLinksEffect, IsNamed, LinkServed, Linked}
+use Rattle.unl_upstream.specs.KeptLinks.{AllLinksEffect, IsNamed, LinkServed, Linked}
 use Rattle.unl_upstream.specs.Reopening.{IsSameKeeper, Reopened}
 use Rattle.unl_upstream.specs.Served.{draws_after}
 use Rattle.unl_upstream.proofs.Carrying.{carries_all, holds_still}

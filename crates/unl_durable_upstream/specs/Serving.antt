@@ -12,7 +12,7 @@ use Rattle.unl_upstream.specs.History.{after_commands}
 use Rattle.unl_keeper.specs.State.{KeeperState}
 use Rattle.unl_upstream.specs.Kept.{AttemptsInOrder, AttemptsPreserve, IsAfterKept, KeepAttempt, KeptState, RoseBy, acknowledged}
 use Rattle.unl_upstream.specs.Kept.{failed_after, faults_among, kept_commands, kept_state}
-use Rattle.unl_upstream.specs.KeptHosting.{AllLinksEffect, Hosts, LinkServed, NoKeeperFaults}
+use Rattle.unl_upstream.specs.KeptLinks.{AllLinksEffect, ServesKeptLinks, LinkServed, NoKeeperFaults}
 use Rattle.unl_upstream.specs.Reopening.{GivesBack, IsSameKeeper, Reopens}
 use Rattle.unl_upstream.specs.Upstream.{UpstreamState}
 use Rattle.unl_upstream.specs.declared.reopening.ReopenFault.{ReopenFault}
@@ -41,7 +41,7 @@ facing door coming = record { door = door; coming = coming }
 -- An upstream and its keeper served `served` links. Whether or not the door's links are observable, attempts to keep the
 -- commands of their requests are all that changed the upstream and the keeper.
 pub record ServesLinks (opened last : KeptState) (before after : Facing) (served : ℕ) : Type 0 where
-  pub hosts : Hosts (linking opened before.coming before.door) (linking last after.coming after.door) served
+  pub serves_links : ServesKeptLinks (linking opened before.coming before.door) (linking last after.coming after.door) served
   pub carries : AttemptsPreserve opened last
 
 -- How serving ends on a door that was to listen on this port. On success it served `served` links until the door was closed.

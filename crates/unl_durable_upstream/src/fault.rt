@@ -2,7 +2,7 @@
 ghost use Rattle.std.specs.Prelude.{◌≡◌};
 ghost use Rattle.unl_durable_upstream.specs.Faults.{IsOfDatabase, fault_of};
 ghost use Rattle.unl_durable_upstream.specs.Serving.{code_of};
-ghost use Rattle.unl_durable_upstream.specs.declared.fault.KeepingFault.TheVariants.{Memory as want};
+ghost use Rattle.unl_durable_upstream.specs.declared.fault.KeepingFault.TheVariants.{Memory as out_of_memory};
 
 use sqlite::ErrorCode;
 use std::alloc::AllocError;
@@ -59,7 +59,7 @@ impl From<sqlite::Error> for KeepingFault {
 }
 
 impl From<AllocError> for KeepingFault {
-    ghost from_gives = { λ _ fault. fault ≡ want };
+    ghost from_gives = { λ _ fault. fault ≡ out_of_memory };
 
     fn from(_: AllocError) -> KeepingFault {
         KeepingFault::Memory

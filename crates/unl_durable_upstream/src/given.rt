@@ -13,7 +13,9 @@ use unl_words::{UpstreamArguments, Words, WordsRefusal, read_words};
 /// The path of the database file, and the options of the upstream.
 #[derive(Drop)]
 pub struct ProgramArguments {
+    /// The path of the database file.
     pub path: String,
+    /// The options of the upstream.
     pub options: UpstreamArguments,
 }
 

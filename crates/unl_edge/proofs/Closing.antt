@@ -4,7 +4,7 @@ use Rattle.std.proofs.Common.{false, true}
 use Rattle.std.specs.Prelude.{◌⊎◌, OnErr, OnOk}
 use Rattle.unl_base.specs.Draws.{TakesDraw}
 use Rattle.unl_base.specs.Doors.{DoorState, IsClosed, IsClosedAt, ListenedAt, ListenedOnlyAt, ServedOnlyAt, listening_at}
-use Rattle.unl_base.specs.Streams.{Sends, SendsFront}
+use Rattle.unl_base.specs.Streams.{Sends, SendsPrefix}
 use Rattle.unl_base.specs.declared.draws.Draw.{Draw}
 use Rattle.unl_core.specs.declared.board.Board.{Board}
 use Rattle.unl_edge.specs.Edges.{EdgeEnds, EdgeRuns, HandsLinks, IsServed, RunsEdge, StopsEarly}
@@ -152,7 +152,7 @@ closed_ends service port served before middle after same hands serves sent close
 
 -- the door was closed, and a prefix of the line was sent
 pub broken_ends : (service : EdgeService) (port served : ℕ) (before middle after : Scene) → before ≡ middle → HandsLinks served middle after
-    → IsServed service port served middle after → SendsFront middle.output.sent (connections_line served) after.output.sent
+    → IsServed service port served middle after → SendsPrefix middle.output.sent (connections_line served) after.output.sent
     → IsClosedAt port middle.door.state after.door.state → EdgeEnds service port WriteFault before after
 broken_ends service port served before middle after same hands serves sent closed =
     subst (λ (scene : Scene). EdgeEnds service port WriteFault scene after) (sym same) ends

@@ -4,7 +4,7 @@ use Rattle.std.specs.Prelude.{option_and_then, option_map, slice_get, unwrap_or}
 use Rattle.std.specs.List.{list_all}
 use Rattle.clap.proofs.WalkLemmas.{both}
 use Rattle.unl_base.specs.Faults.{Rose}
-use Rattle.unl_base.specs.Streams.{HasEnded, Sends, SendsFront, Takes}
+use Rattle.unl_base.specs.Streams.{HasEnded, Sends, SendsPrefix, Takes}
 use Rattle.unl_base.proofs.Sending.{Sends_nothing}
 use Rattle.unl_core.specs.Board.{AreDifferent}
 use Rattle.unl_documents.specs.Texts.{is_name}
@@ -51,7 +51,7 @@ pub serves_none : (state : KeptState) (before after : Facing) → HasKept state.
     → after.door.given ≡ before.door.given → after.door.back ≡ before.door.back → after.door.links ≡ before.door.links
     → after.door.returned ≡ before.door.returned → ServesLinks state state before after 0
 serves_none state before after has coming given back left returned = record {
-  hosts = record {
+  serves_links = record {
     given = given ∙ omega arith;
     back = back ∙ omega arith;
     linked = λ all others observed observed_back. record {
@@ -110,13 +110,13 @@ after_lines opened kept port last desk end left left_after before after sent has
       accepted = accepted;
       spelled = spelled;
       up = last.up;
-      serves = record { hosts = all.hosts; carries = all.carries };
+      serves = record { serves_links = all.serves_links; carries = all.carries };
       keeps = all.carries.carries.appended
           ∙ ap (option_map (λ kept. kept ++ acknowledged all.carries.some.tried)) spelled.kept
           ∙ both_behind spelled.commands (acknowledged all.carries.some.tried) (kept_commands opened.keeper);
       named = λ links returned observed observed_back.
           links_named opened kept last spelled.commands before after served links returned has spelled.kept
-          (record { up = spelled.leads; count = spelled.counted }) (all.hosts.linked links returned observed observed_back);
+          (record { up = spelled.leads; count = spelled.counted }) (all.serves_links.linked links returned observed observed_back);
     }
 
     by_end : (end : ServingEnd) → LinksEnd kept port end last (record before { sent = sent }) after
@@ -130,7 +130,7 @@ after_lines opened kept port last desk end left left_after before after sent has
     by_end WriteFault links = (
       links.0,
       serves links.0 links.1,
-      subst (λ (s : Option (List ℕ)). SendsFront s (connections_line links.0) after.sent) same_sent links.2,
+      subst (λ (s : Option (List ℕ)). SendsPrefix s (connections_line links.0) after.sent) same_sent links.2,
       links.3,
     )
     by_end DoorFault links = (links.0, serves links.0 links.1, links.2, links.3 ∙ same_sent)

@@ -7,7 +7,7 @@ use Rattle.unl_server.specs.Handling.{Coming}
 use Rattle.unl_server.specs.Linked.{ServesLinks, linking}
 use Rattle.unl_upstream.specs.declared.command.Command.{Command}
 use Rattle.unl_upstream.specs.Kept.{Carries, KeptState, acknowledged, kept_commands}
-use Rattle.unl_upstream.specs.KeptHosting.{IsNamed, LinkServed, Linked, AllLinksEffect}
+use Rattle.unl_upstream.specs.KeptLinks.{IsNamed, LinkServed, Linked, AllLinksEffect}
 use Rattle.unl_upstream.specs.Served.{draws_after}
 use Rattle.unl_upstream.proofs.Carrying.{both_behind, carries_all}
 use Rattle.unl_upstream.proofs.KeptNaming.{links_are_named}
@@ -15,7 +15,7 @@ use Rattle.unl_upstream.proofs.KeptNaming.{links_are_named}
 -- no draw was used
 none_drawn : (coming : Coming) → coming ≡ draws_after 0 coming
 none_drawn None = refl
-none_drawn (Some told) = refl
+none_drawn (Some list) = refl
 
 -- the links of a door whose links are observable
 pub links_named : (opened kept last : KeptState) (commands : List Command) (before after : Facing) (served : ℕ) (links : List (List ℕ))

@@ -14,7 +14,7 @@ use Rattle.unl_edge.specs.Polling.{PollsOn}
 use Rattle.unl_edge.specs.LinkHandling.{HasLearned, ReadsOnAt, ServesAt}
 use Rattle.unl_edge.specs.declared.link_handler.EdgeLinkHandler.{EdgeLinkHandler}
 use Rattle.unl_edge.proofs.Polling.{polls_same}
-use Rattle.unl_edge.proofs.Working.{work_beside}
+use Rattle.unl_edge.proofs.Working.{work_concurrently}
 use Rattle.unl_edge_state.specs.Editions.{BoardAt, orderly_opening}
 use Rattle.unl_publication.specs.declared.knowledge.Knowledge.{Knowledge}
 use Rattle.unl_refresh.specs.Exchange.{PeerView}
@@ -108,13 +108,13 @@ pub work_on_each : {W R L : Type 0} (coming_of : R → Coming) (left sent : L �
     → IfOk served (λ outcome. 0 < length before
     → EachLinkServedOnce ServesAt coming_of left sent faults door door_after outcome.accepted.links before outcome.slots.items)
     → IfOk result (λ accepted. 0 < workers → WorkOnEachLink workers known.opening (length known.installs) door door_after accepted.links)
-unfolding work_beside
+unfolding work_concurrently
 work_on_each coming_of left sent faults door door_after known before workers (Ok outcome) result is many learned all every =
     subst (λ (r : Result AcceptOutcome PoolFault).
     IfOk r (λ accepted. 0 < workers → WorkOnEachLink workers known.opening (length known.installs) door door_after accepted.links))
     (sym is)
     (λ some. record {
-      work = work_beside coming_of known before outcome.slots.items workers many learned all;
+      work = work_concurrently coming_of known before outcome.slots.items workers many learned all;
       each = each_served coming_of left sent faults door door_after outcome.accepted.links before outcome.slots.items
           (every (subst (λ (n : ℕ). 0 < n) (sym many) some));
     })

@@ -116,10 +116,10 @@ others_new readers rest reader steps all =
     All-tail IsNewReader reader rest (subst (λ (rs : List EdgeReader). All IsNewReader rs) steps all)
 
 -- the workers worked concurrently
-unfoldable pub work_beside : {W R : Type 0} (coming_of : R → Coming) (known : Knowledge BoardAt Install) (before after : List (WorkerSlot (EdgeLinkHandler W) R))
+unfoldable pub work_concurrently : {W R : Type 0} (coming_of : R → Coming) (known : Knowledge BoardAt Install) (before after : List (WorkerSlot (EdgeLinkHandler W) R))
     (workers : ℕ) → length before ≡ workers → All (λ pool_slot. HasLearned known pool_slot.server.desk.reader) before
     → AllZip (ServesSlot ServesAt ReadsOnAt coming_of) before after → WorkConcurrently workers known.opening (length known.installs)
-work_beside coming_of known before after workers many learned all = record {
+work_concurrently coming_of known before after workers many learned all = record {
   begun = map (worker_of coming_of) before;
   ended = map (worker_of coming_of) after;
   many = length-map before (worker_of coming_of) ∙ many;

@@ -2,7 +2,7 @@
 use Rattle.std.specs.Prelude.{◌≡◌, ◌⊎◌, ℕ, ◌+◌, ◌<◌, ◌≤◌, true, List, Option, option_map, drop, length, IfSome, Result, Ok, Err}
 use Rattle.unl_base.specs.Doors.{IsClosedAt, ListenedOnlyAt, ServedOnlyAt, listening_at}
 use Rattle.unl_base.specs.Draws.{TakesDraw}
-use Rattle.unl_base.specs.Streams.{Sends, SendsFront}
+use Rattle.unl_base.specs.Streams.{Sends, SendsPrefix}
 use Rattle.unl_base.specs.declared.draws.Draw.{Draw}
 use Rattle.unl_edge.specs.Scene.{Scene}
 use Rattle.unl_edge.specs.EdgeLinks.{ServesEachLink}
@@ -72,7 +72,7 @@ EdgeEnds service port Closed before after =
     × IsClosedAt port before.door.state after.door.state
 EdgeEnds service port WriteFault before after =
     (served : ℕ) × HandsLinks served before after × IsServed service port served before after
-    × SendsFront before.output.sent (connections_line served) after.output.sent
+    × SendsPrefix before.output.sent (connections_line served) after.output.sent
     × IsClosedAt port before.door.state after.door.state
 EdgeEnds service port DoorFault before after =
     (served : ℕ) × HandsLinks served before after × (0 < served → IsServed service port served before after)

@@ -1,7 +1,7 @@
--- How the program ends, over its ends before and after.
+-- How the program ends, over its endpoints before and after.
 use Rattle.std.specs.Prelude.{◌≡◌, ℕ, ◌==◌, List, codes, Option, IfSome, Result, Ok, Err, if◌then◌else◌}
 use Rattle.unl_base.specs.Faults.{Rose}
-use Rattle.unl_base.specs.Streams.{Sends, SendsFront}
+use Rattle.unl_base.specs.Streams.{Sends, SendsPrefix}
 use Rattle.unl_base.specs.declared.draws.Draw.{Draw}
 use Rattle.unl_edge.specs.Edges.{EdgeRuns}
 use Rattle.unl_edge.specs.Follows.{FollowEnds}
@@ -70,7 +70,7 @@ CheckEnds draw OutOfMemory left left_after old new = new ≡ old
 -- How a load of a seed and a count ends: its line was sent; a prefix of it, if a write failed; or nothing, if out of memory.
 abbrev pub LoadEnds : ℕ → ℕ → Result (Unit {0}) LoadFault → Option (List ℕ) → Option (List ℕ) → Type 0
 LoadEnds seed count (Ok u) old new = Sends old (load_line seed count) new
-LoadEnds seed count (Err load.WriteFault) old new = SendsFront old (load_line seed count) new
+LoadEnds seed count (Err load.WriteFault) old new = SendsPrefix old (load_line seed count) new
 LoadEnds seed count (Err load.Memory) old new = new ≡ old
 
 -- ---- bad arguments
@@ -82,7 +82,7 @@ bad_arguments_line = codes "unl_edge: bad words\n"
 -- It was sent, or a prefix of it; or memory ran out before the arguments were read, and nothing was sent.
 abbrev pub PrintsBadArguments : ArgumentsEnd → Option (List ℕ) → Option (List ℕ) → Type 0
 PrintsBadArguments words.Bad old new = Sends old bad_arguments_line new
-PrintsBadArguments words.WriteFault old new = SendsFront old bad_arguments_line new
+PrintsBadArguments words.WriteFault old new = SendsPrefix old bad_arguments_line new
 PrintsBadArguments words.OutOfMemory old new = new ≡ old
 
 -- ---- the program
@@ -133,8 +133,8 @@ LeavesAlone (Err Memory) before after = after ≡ before
 abbrev pub Exits : ℕ → (Status → Type 0) → Type 0
 Exits code Ends = (status : Status) × (code ≡ code_of status) × Ends status
 
--- The code of an input or output fault is returned only if that end failed; that of a door fault only if the door failed or no
--- job could be started; that of a keeper fault only if the maker's fault count rose, and then no link was handed out.
+-- The code of an input or output fault is returned only if that endpoint failed; that of a door fault only if the door failed or no job
+-- could be started; that of a keeper fault only if the maker's fault count rose, and then no link was handed out.
 pub record HasCauses (code : ℕ) (before after : Scene) : Type 0 where
   pub read : code ≡ 4 → Rose before.input.faults after.input.faults
   pub write : code ≡ 5 → Rose before.output.faults after.output.faults

@@ -7,7 +7,7 @@ use Rattle.unl_follow.specs.declared.fault.FollowFault.{FollowFault}
 use Rattle.unl_refresh.specs.declared.ask.Ask.{Ask}
 use Rattle.unl_words.specs.declared.words.FollowArguments.{FollowArguments}
 
--- the ends of the program that a run of turns uses
+-- the endpoints of the program that a run of turns uses
 abbrev pub ends_in : Scene → Ends
 ends_in scene =
     record { peer = scene.peer.state; faults = scene.peer.faults; coming = scene.draws; sent = scene.output.sent }

@@ -1,4 +1,4 @@
--- The ends that the program creates from its arguments before it runs.
+-- The endpoints that the program creates from its arguments before it runs.
 use Rattle.std.specs.Prelude.{ℕ, ◌*◌, Bool, false, List, [], Option, Some, None, nat_lt, option_map, unwrap_or, if◌then◌else◌}
 use Rattle.unl_words.specs.declared.words.Words.{Words}
 use Rattle.unl_words.specs.declared.words.Words.TheVariants.{Replay, Check, Edge, Explain, Follow, Load, Upstream}

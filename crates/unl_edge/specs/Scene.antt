@@ -1,4 +1,4 @@
--- The state of each of the program's ends. A field is `None` if it is not observable.
+-- The state of each of the program's endpoints. A field is `None` if it is not observable.
 use Rattle.std.specs.Prelude.{◌≡◌, ◌⊎◌, ℕ, List, Option}
 use Rattle.unl_base.specs.Doors.{DoorState}
 use Rattle.unl_base.specs.Faults.{Rose}

@@ -5,7 +5,7 @@ use Rattle.std.specs.Prelude.{option_and_then, option_map}
 use Rattle.unl_base.specs.Doors.{ServedOnlyAt, DoorState, IsClosedAt}
 use Rattle.unl_base.specs.Draws.{TakesDraw}
 use Rattle.unl_base.specs.Faults.{Rose}
-use Rattle.unl_base.specs.Streams.{HasEnded, Sends, SendsFront, Takes}
+use Rattle.unl_base.specs.Streams.{HasEnded, Sends, SendsPrefix, Takes}
 use Rattle.unl_base.specs.declared.draws.Draw.{Draw}
 use Rattle.unl_edge.specs.Keeping.{SpellKept, keeping, kept_lines_of}
 use Rattle.unl_edge.specs.Scene.{Scene}
@@ -25,7 +25,7 @@ use Rattle.unl_keeper.specs.State.{IsNewKeeper, KeeperState, MakerState, kept_ro
 use Rattle.unl_server.specs.Handling.{Coming}
 use Rattle.unl_server.specs.Linked.{ServesLinks as ServesObservable, linking}
 use Rattle.unl_upstream.specs.Kept.{AttemptsPreserve, KeptState, acknowledged, commands_in, kept_commands, kept_state}
-use Rattle.unl_upstream.specs.KeptHosting.{Hosts, LinkServed, AllLinksEffect, NoKeeperFaults}
+use Rattle.unl_upstream.specs.KeptLinks.{ServesKeptLinks, LinkServed, AllLinksEffect, NoKeeperFaults}
 use Rattle.unl_edge.specs.PlainLines.{obeyed_line}
 use Rattle.unl_upstream.specs.Reopening.{IsOpening, IsSameKeeper, Reopens}
 use Rattle.unl_upstream.specs.Upstream.{UpstreamState, opening}
@@ -63,7 +63,7 @@ pub record Facing : Type 0 where
 abbrev pub facing : Option (List ℕ) → DoorState → Coming → Facing
 facing sent door coming = record { sent = sent; door = door; coming = coming }
 
--- these ends of the scene
+-- these endpoints of the scene
 abbrev pub facing_of : Scene → Facing
 facing_of scene = facing scene.output.sent scene.door.state scene.draws
 
@@ -77,7 +77,7 @@ pub record IsUntouched (before after : Facing) : Type 0 where
 -- `served` links were served by an upstream and its keeper. Whether or not the door's links are observable, the upstream and
 -- keeper changed only by what was to be kept of the links.
 pub record ServesLinks (state last : KeptState) (before after : Facing) (served : ℕ) : Type 0 where
-  pub hosts : Hosts (linking state before.coming before.door) (linking last after.coming after.door) served
+  pub serves_links : ServesKeptLinks (linking state before.coming before.door) (linking last after.coming after.door) served
   pub carries : AttemptsPreserve state last
 
 -- How serving ends at a door that is to listen at this port: the door listened there, once more than before, and was closed, and the
@@ -87,7 +87,7 @@ LinksEnd state port Closed last before after =
     (served : ℕ) × ServesLinks state last before after served × Sends before.sent (connections_line served) after.sent
     × IsClosedAt port before.door after.door
 LinksEnd state port WriteFault last before after =
-    (served : ℕ) × ServesLinks state last before after served × SendsFront before.sent (connections_line served) after.sent
+    (served : ℕ) × ServesLinks state last before after served × SendsPrefix before.sent (connections_line served) after.sent
     × IsClosedAt port before.door after.door
 LinksEnd state port DoorFault last before after =
     (served : ℕ) × ServesLinks state last before after served × ServedOnlyAt port served before.door after.door
@@ -115,7 +115,7 @@ abbrev pub obeying : Taking UpstreamState
 obeying number up line = obeyed_line up line
 
 -- The input was read to its end, and the commands of all its lines were accepted and kept. Then `served` links were handed out;
--- each was served over the state that the one before it left, and was handed back. So the keeper keeps the commands of the
+-- each was served over the state that the one before it left, and was returned. So the keeper keeps the commands of the
 -- lines after those of the opening, and after them those of the links.
 pub record ServesAfterLines
     (opened : KeptState) (last : KeeperState) (left left_after : Option (List ℕ)) (before after : Facing) (served : ℕ) : Type 0 where
@@ -148,7 +148,7 @@ LinesEnd opened port (Links Closed) last left left_after before after =
     × Sends before.sent (connections_line served) after.sent × IsClosedAt port before.door after.door
 LinesEnd opened port (Links WriteFault) last left left_after before after =
     (served : ℕ) × ServesAfterLines opened last left left_after before after served
-    × SendsFront before.sent (connections_line served) after.sent × IsClosedAt port before.door after.door
+    × SendsPrefix before.sent (connections_line served) after.sent × IsClosedAt port before.door after.door
 LinesEnd opened port (Links DoorFault) last left left_after before after =
     (served : ℕ) × ServesAfterLines opened last left left_after before after served
     × ServedOnlyAt port served before.door after.door × (after.sent ≡ before.sent)

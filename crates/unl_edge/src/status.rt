@@ -18,7 +18,7 @@ pub enum Status {
     TestFailed,
     /// The arguments name no command, or a value is outside its range.
     BadArguments,
-    /// The input is refused, or a line of it, or a row of a keeper.
+    /// The input, a line of it, or a row of a keeper is refused.
     Refused,
     /// The input failed.
     ReadFault,

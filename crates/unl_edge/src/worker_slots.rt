@@ -26,7 +26,8 @@ pub(crate) fn worker_slots_of<'a, R: Draws + Drop, W: Wait>(
     ensures same { writer.new ≡ writer.old }
     ensures draws { R.coming draws.new ≡ R.coming draws.old }
     ensures count { IfOk result (λ pool_slots. length pool_slots.items ≡ length readers.items) }
-    ensures learned { IfOk result (λ pool_slots. All (λ pool_slot. HasLearned writer.old.known pool_slot.server.desk.reader) pool_slots.items) }
+    ensures learned { IfOk result (λ pool_slots.
+        All (λ pool_slot. HasLearned writer.old.known pool_slot.server.desk.reader) pool_slots.items) }
 {
     let mut pool_slots = Vec::new(alloc);
     for reader in readers {

@@ -1,11 +1,11 @@
-//! The ends of the program.
+//! The endpoints of the program.
 use std::marker::Model;
 use std::sync::Wait;
 use unl_base::{Door, Draws, Pace, Peer, Sink, Source, Spawner};
 use unl_keeper::KeepMaker;
 
-/// The ends that the program uses: its input and output, the door whose links it serves, the peer that it polls, the draws for
-/// its answers, the pace of its turns, the spawner of its jobs, the maker of its keeper, and the runtime that it waits with.
+/// The endpoints that the program uses: its input and output, the door whose links it serves, the peer that it polls, the draws for its
+/// answers, the pace of its turns, the spawner of its jobs, the maker of its keeper, and the runtime that it waits with.
 #[derive(Drop)]
 pub struct World<
     I: Source,

@@ -97,7 +97,7 @@ was_here : (p : Bool) (x : Option BoardAt) (board : Board) → option_map (λ (e
 was_here true x board is = refl
 was_here false x board is = absurd cc
 
--- The board at a front of the list.
+-- The board after a prefix of the list.
 board_is : (known : Knowledge BoardAt Install) (opening : BoardAt) (k : ℕ) → known.opening ≡ Some opening → IsOfList opening known k → k ≤ length known.installs
     → board_of known k ≡ Some (board_after opening.board (take k known.installs))
 board_is known opening k is (inl start) low = boards_are known opening k is start low

@@ -25,14 +25,14 @@ use Rattle.unl_publication.specs.declared.knowledge.Knowledge.{Knowledge}
 -- The last board of all.
 last_represented : (line : List Era) (sees : Sees) (slot : ℕ) (board : Board) (list : List Install) → AlwaysRepresentedFrom line sees slot board list
     → SlotRepresented line sees slot (board_after board list)
-last_represented line sees slot board [] stood = stood
-last_represented line sees slot board (what ∷ more) stood = last_represented line sees slot (installed what board) more stood.1
+last_represented line sees slot board [] represented = represented
+last_represented line sees slot board (what ∷ more) represented = last_represented line sees slot (installed what board) more represented.1
 
 -- One install more.
 represented_more : (line : List Era) (sees : Sees) (slot : ℕ) (board : Board) (list : List Install) (what : Install) → AlwaysRepresentedFrom line sees slot board list
     → SlotRepresented line sees slot (installed what (board_after board list)) → AlwaysRepresentedFrom line sees slot board (list ++ what ∷ [])
-represented_more line sees slot board [] what stood new = (stood, new)
-represented_more line sees slot board (first ∷ more) what stood new = (stood.0, represented_more line sees slot (installed first board) more what stood.1 new)
+represented_more line sees slot board [] what represented new = (represented, new)
+represented_more line sees slot board (first ∷ more) what represented new = (represented.0, represented_more line sees slot (installed first board) more what represented.1 new)
 
 -- A slot, if there is one, has the version it was given.
 taken_represented : (line : List Era) (sees : Sees) (slots : List Slot) (slot : ℕ) (v : EnvVersion) → RepresentsLine line sees v → IfSome (snapshot_at (taking slot v slots) slot) (RepresentsLine line sees)
@@ -42,41 +42,41 @@ taken_represented line sees (s ∷ slots) (suc slot) v represents = taken_repres
 
 known_represented : (line : List Era) (sees : Sees) (slot : ℕ) (opening : Option BoardAt) (list : List Install) → IfSome opening (λ o. AlwaysRepresentedFrom line sees slot o.board list)
     → SlotRepresented line sees slot (unwrap_or (option_map (λ o. board_after o.board list) opening) no_board)
-known_represented line sees slot None list stood = tt
-known_represented line sees slot (Some opening) list stood = last_represented line sees slot opening.board list stood
+known_represented line sees slot None list represented = tt
+known_represented line sees slot (Some opening) list represented = last_represented line sees slot opening.board list represented
 
 known_more : (line : List Era) (sees : Sees) (slot : ℕ) (opening : Option BoardAt) (list : List Install) (v : EnvVersion) → IfSome opening (λ o. AlwaysRepresentedFrom line sees slot o.board list)
     → RepresentsLine line sees v → IfSome opening (λ o. AlwaysRepresentedFrom line sees slot o.board (list ++ Env slot v ∷ []))
-known_more line sees slot None list v stood represents = tt
-known_more line sees slot (Some opening) list v stood represents =
-    represented_more line sees slot opening.board list (Env slot v) stood (taken_represented line sees (board_after opening.board list).slots slot v represents)
+known_more line sees slot None list v represented represents = tt
+known_more line sees slot (Some opening) list v represented represents =
+    represented_more line sees slot opening.board list (Env slot v) represented (taken_represented line sees (board_after opening.board list).slots slot v represents)
 
 -- A batch that was sent of the line was published, or nothing was.
 pub batch_represented : {E : Type 0} (r : Result ℕ E) (w new : Writing) (slot : ℕ) (batch : Batch) → (place_of (installed_by w) slot).version ≡ snapshot_at (board_known w.known).slots slot
     → verdict_of (place_of (installed_by w) slot) batch ≡ Apply → OnOk r (new ≡ record (after_batch slot batch w) { closed = new.closed }) → OnErr r (Stays w new)
     → (line : List Era) (sees : Sees) → IsLine line → AlwaysRepresented line sees slot w.known → IsSent line sees batch → AlwaysRepresented line sees slot new.known
-batch_represented (Err e) w new slot batch represents applies published stays line sees h stood sent = subst (λ (x : Writing). AlwaysRepresented line sees slot x.known) (sym stays) stood
-batch_represented (Ok front) w new slot batch represents applies published stays line sees h stood sent =
+batch_represented (Err e) w new slot batch represents applies published stays line sees h represented sent = subst (λ (x : Writing). AlwaysRepresented line sees slot x.known) (sym stays) represented
+batch_represented (Ok front) w new slot batch represents applies published stays line sees h represented sent =
     let v : EnvVersion = next_version (place_of (installed_by w) slot) batch in
     let before : IfSome (place_of (installed_by w) slot).version (RepresentsLine line sees) =
-    subst (λ (o : Option EnvVersion). IfSome o (RepresentsLine line sees)) (sym represents) (known_represented line sees slot w.known.opening w.known.installs stood) in
+    subst (λ (o : Option EnvVersion). IfSome o (RepresentsLine line sees)) (sym represents) (known_represented line sees slot w.known.opening w.known.installs represented) in
     let follows : PreservesLines (place_of (installed_by w) slot).version batch (Some v) = next_follows (place_of (installed_by w) slot) batch v applies refl in
     subst (λ (x : Writing). AlwaysRepresented line sees slot x.known) (sym published)
-    (known_more line sees slot w.known.opening w.known.installs v stood (follows.represents line sees h before sent))
+    (known_more line sees slot w.known.opening w.known.installs v represented (follows.represents line sees h before sent))
 
 -- ---- each board
 
 represented_at : (line : List Era) (sees : Sees) (slot : ℕ) (board : Board) (list : List Install) (k : ℕ) → AlwaysRepresentedFrom line sees slot board list
     → SlotRepresented line sees slot (board_after board (take k list))
-represented_at line sees slot board [] zero stood = stood
-represented_at line sees slot board [] (suc k) stood = stood
-represented_at line sees slot board (what ∷ more) zero stood = stood.0
-represented_at line sees slot board (what ∷ more) (suc k) stood = represented_at line sees slot (installed what board) more k stood.1
+represented_at line sees slot board [] zero represented = represented
+represented_at line sees slot board [] (suc k) represented = represented
+represented_at line sees slot board (what ∷ more) zero represented = represented.0
+represented_at line sees slot board (what ∷ more) (suc k) represented = represented_at line sees slot (installed what board) more k represented.1
 
 -- The board at each front.
 pub boards_represent : (line : List Era) (sees : Sees) (slot : ℕ) (known : Knowledge BoardAt Install) (opening : BoardAt) (k : ℕ) → known.opening ≡ Some opening
     → ContinuedFromOpening opening known → k ≤ length known.installs → AlwaysRepresented line sees slot known → IfSome (board_of known k) (SlotRepresented line sees slot)
-boards_represent line sees slot known opening k is start low stood =
+boards_represent line sees slot known opening k is start low represented =
     let from : AlwaysRepresentedFrom line sees slot opening.board known.installs =
-    subst (λ (o : Option BoardAt). IfSome o (λ (b : BoardAt). AlwaysRepresentedFrom line sees slot b.board known.installs)) is stood in
+    subst (λ (o : Option BoardAt). IfSome o (λ (b : BoardAt). AlwaysRepresentedFrom line sees slot b.board known.installs)) is represented in
     subst (λ (o : Option Board). IfSome o (SlotRepresented line sees slot)) (sym (boards_are known opening k is start low)) (represented_at line sees slot opening.board known.installs k from)

@@ -18,7 +18,8 @@ ghost use Rattle.unl_publication.specs.declared.knowledge.Knowledge.{Knowledge};
 /// look.
 pub fn boards_are_after_installs()
     ensures { (known : Knowledge BoardAt Install) (opening : BoardAt) (k : ℕ) → known.opening ≡ Some opening
-        → ContinuedFromOpening opening known → k ≤ length known.installs → board_of known k ≡ Some (board_after opening.board (take k known.installs)) }
+        → ContinuedFromOpening opening known → k ≤ length known.installs
+        → board_of known k ≡ Some (board_after opening.board (take k known.installs)) }
 {}
 
 /// In an orderly list, a larger front has no older version at any slot, and no slot becomes empty.
@@ -47,6 +48,7 @@ pub fn steady_readers_see_in_order()
 /// learned, or did so only from the opening board.
 pub fn boards_represent_lines()
     ensures { (line : List Era) (sees : Sees) (slot : ℕ) (known : Knowledge BoardAt Install) (opening : BoardAt) (k : ℕ)
-        → known.opening ≡ Some opening → ContinuedFromOpening opening known → k ≤ length known.installs → AlwaysRepresented line sees slot known
+        → known.opening ≡ Some opening → ContinuedFromOpening opening known → k ≤ length known.installs
+        → AlwaysRepresented line sees slot known
         → IfSome (board_of known k) (SlotRepresented line sees slot) }
 {}

@@ -75,8 +75,8 @@ impl Desk for EdgeReader {
     ///
     /// # Errors
     ///
-    /// Fails if it runs out of memory for the answer, if it did not look, for which `left_right` gives no cause, or if it saw
-    /// fewer publications than it has learned of.
+    /// Fails if it runs out of memory for the answer, if it could not look (`left_right` gives no reason for that), or if it saw fewer
+    /// publications than it has learned of.
     fn answer(
         &mut self,
         alloc: Global,

@@ -192,7 +192,8 @@ impl<W: Wait> Installer for EdgeWriter<'_, W> {
         ensures same { OnErr result (Stays self.old self.new) }
         ensures orderly { KnowsOrderly self.old.known → KnowsOrderly self.new.known }
         ensures ordered { OnOk result (KeepsOrder self.new.known) }
-        ensures always_represented { (line : List Era) (sees : Sees) → IsLine line → AlwaysRepresented line sees slot self.old.known → IsSent line sees batch.now
+        ensures always_represented { (line : List Era) (sees : Sees) → IsLine line
+            → AlwaysRepresented line sees slot self.old.known → IsSent line sees batch.now
             → AlwaysRepresented line sees slot self.new.known }
     {
         let slots = &self.publisher.value().board().slots;

@@ -9,7 +9,7 @@ use Rattle.unl_base.specs.Doors.{next_of}
 use Rattle.unl_base.specs.Draws.{TakesDraw}
 use Rattle.unl_base.specs.Faults.{Rose}
 use Rattle.unl_base.specs.Peers.{PeerState, history_of}
-use Rattle.unl_base.specs.Streams.{Sends, SendsFront}
+use Rattle.unl_base.specs.Streams.{Sends, SendsPrefix}
 use Rattle.unl_refresh.specs.declared.ask.Ask.{Ask}
 use Rattle.unl_refresh.specs.Exchange.{IsRead, ReplyOrFault}
 use Rattle.unl_refresh.specs.Refresh.{with_tag}
@@ -31,7 +31,7 @@ Sends_more None mid new a b first next = next ∙ ap (λ (o : Option (List ℕ))
 Sends_more (Some bytes) mid new a b first next =
     next ∙ ap (λ (o : Option (List ℕ)). option_map (λ sent. sent ++ b) o) first ∙ ap Some (append_assoc bytes a b)
 
-prefix_more : (old mid new : Option (List ℕ)) (a b : List ℕ) → Sends old a mid → SendsFront mid b new → SendsFront old (a ++ b) new
+prefix_more : (old mid new : Option (List ℕ)) (a b : List ℕ) → Sends old a mid → SendsPrefix mid b new → SendsPrefix old (a ++ b) new
 prefix_more old mid new a b first next = record {
   part = a ++ next.part;
   after = next.after;
@@ -172,9 +172,9 @@ Reached_more ask subject start mid now count turn_state next reached takes = rec
 
 -- one more turn, with a prefix of its line sent
 pub Reached_cut : (ask : Ask) (subject : Subject) (start mid now : Ends) (count : ℕ) (turn_state next : TurnState) → Reached ask subject start count turn_state mid
-    → TakesTurn SendsFront ask subject (count + 1) turn_state mid next now → (turns : List Turn) × Follows SendsFront ask subject start turns now
+    → TakesTurn SendsPrefix ask subject (count + 1) turn_state mid next now → (turns : List Turn) × Follows SendsPrefix ask subject start turns now
 Reached_cut ask subject start mid now count turn_state next reached takes =
-    (takes.turn ∷ reached.turns, turns_more SendsFront prefix_more ask subject start mid now count turn_state next reached takes)
+    (takes.turn ∷ reached.turns, turns_more SendsPrefix prefix_more ask subject start mid now count turn_state next reached takes)
 
 -- ---- the pace
 
@@ -195,10 +195,10 @@ Paced_first (Some n) mid now made paced first same =
 
 pub Paced_more : (start mid now : Option ℕ) (made : ℕ) → Paced start mid made → 0 < made
     → now ≡ option_map (λ n. n - 1) mid → IfSome mid (λ n. true ≡ nat_lt 0 n) → Paced start now (made + 1)
-Paced_more None mid now made paced later takes told = record { left = takes ∙ ap (option_map (λ n. n - 1)) paced.left; most = tt }
-Paced_more (Some n) mid now made paced later takes told =
+Paced_more None mid now made paced later takes known = record { left = takes ∙ ap (option_map (λ n. n - 1)) paced.left; most = tt }
+Paced_more (Some n) mid now made paced later takes known =
     let number : n - (made - 1) - 1 ≡ n - (made + 1 - 1) = omega (arith, later) in
-    let more : true ≡ nat_lt 0 (n - (made - 1)) = subst (λ (o : Option ℕ). IfSome o (λ n. true ≡ nat_lt 0 n)) paced.left told in
+    let more : true ≡ nat_lt 0 (n - (made - 1)) = subst (λ (o : Option ℕ). IfSome o (λ n. true ≡ nat_lt 0 n)) paced.left known in
     let few : made + 1 ≤ n + 1 = grind (arith, nat_tests) in
     record { left = takes ∙ ap (option_map (λ n. n - 1)) paced.left ∙ ap Some number; most = few }
 
@@ -211,10 +211,10 @@ all_made asked made (Some n) now turns paced many all = omega (arith, many, all,
 -- the pace had no more turns
 pub pace_ended : (asked made : ℕ) (start mid : Option ℕ) (turns : List Turn) → Paced start mid made → length turns ≡ made → made < asked
     → 0 < made → IfSome mid (λ n. false ≡ nat_lt 0 n) → IfNone mid (false ≡ true) → AreAsMany asked start turns
-pace_ended asked made None mid turns paced many few later told unobservable =
+pace_ended asked made None mid turns paced many few later known unobservable =
     absurd (true≢false (sym (subst (λ (o : Option ℕ). IfNone o (false ≡ true)) paced.left unobservable)))
-pace_ended asked made (Some n) mid turns paced many few later told unobservable =
-    let none : false ≡ nat_lt 0 (n - (made - 1)) = subst (λ (o : Option ℕ). IfSome o (λ n. false ≡ nat_lt 0 n)) paced.left told in
+pace_ended asked made (Some n) mid turns paced many few later known unobservable =
+    let none : false ≡ nat_lt 0 (n - (made - 1)) = subst (λ (o : Option ℕ). IfSome o (λ n. false ≡ nat_lt 0 n)) paced.left known in
     let most : made ≤ n + 1 = paced.most in
     let over : n + 1 ≤ made = grind (arith, nat_tests) in
     omega (arith, many, few, most, over)
@@ -222,18 +222,18 @@ pace_ended asked made (Some n) mid turns paced many few later told unobservable 
 -- each turn but the first used up one of the pace
 pub went_on : (start mid now : Option ℕ) (made : ℕ) → Paced start mid made → (made ≡ 0 → (true ≡ true) × (now ≡ mid))
     → (0 < made → now ≡ option_map (λ n. n - 1) mid) → (0 < made → IfSome mid (λ n. true ≡ nat_lt 0 n)) → Paced start now (made + 1)
-went_on start mid now zero paced first takes told = Paced_first start mid now zero paced refl (first refl).1
-went_on start mid now (suc made) paced first takes told =
-    let later : 0 < suc made = omega arith in Paced_more start mid now (suc made) paced later (takes later) (told later)
+went_on start mid now zero paced first takes known = Paced_first start mid now zero paced refl (first refl).1
+went_on start mid now (suc made) paced first takes known =
+    let later : 0 < suc made = omega arith in Paced_more start mid now (suc made) paced later (takes later) (known later)
 
 -- the run stopped because the pace had no more turns
 pub stopped : (asked made : ℕ) (start mid now : Option ℕ) (turns : List Turn) → Paced start mid made → length turns ≡ made → made < asked
     → (made ≡ 0 → (false ≡ true) × (now ≡ mid)) → (0 < made → IfSome mid (λ n. false ≡ nat_lt 0 n)) → (0 < made → IfNone mid (false ≡ true))
     → AreAsMany asked start turns
-stopped asked zero start mid now turns paced many few first told unobservable = absurd (true≢false (sym (first refl).0))
-stopped asked (suc made) start mid now turns paced many few first told unobservable =
+stopped asked zero start mid now turns paced many few first known unobservable = absurd (true≢false (sym (first refl).0))
+stopped asked (suc made) start mid now turns paced many few first known unobservable =
     let later : 0 < suc made = omega arith in
-    pace_ended asked (suc made) start mid turns paced many few later (told later) (unobservable later)
+    pace_ended asked (suc made) start mid turns paced many few later (known later) (unobservable later)
 
 -- ---- one turn of the code
 
@@ -276,11 +276,11 @@ Reached_next ask asked same subject start mid now count turn_state next reached 
 pub cut_runs : {T : Type 0} (ask asked : Ask) → asked ≡ with_tag asked.tag ask → (subject : Subject) (start mid now : Ends) (count : ℕ)
     (turn_state next : TurnState) (most : ℕ) (pace : Option ℕ) (result : Result T FollowFault) (fault : FollowFault)
     → Reached ask subject start count turn_state mid → result ≡ Err fault
-    → (result ≡ Err WriteFault → TakesTurn SendsFront asked subject (count + 1) turn_state mid next now)
+    → (result ≡ Err WriteFault → TakesTurn SendsPrefix asked subject (count + 1) turn_state mid next now)
     → (result ≡ Err Memory → now.sent ≡ mid.sent) → Runs {T = T} most pace ask subject start (Err fault) now
 cut_runs ask asked same subject start mid now count turn_state next most pace result WriteFault reached is cut silent =
     Reached_cut ask subject start mid now count turn_state next reached
-    (of_the_run SendsFront ask asked same subject (count + 1) turn_state next mid now (cut is))
+    (of_the_run SendsPrefix ask asked same subject (count + 1) turn_state next mid now (cut is))
 cut_runs ask asked same subject start mid now count turn_state next most pace result Memory reached is cut silent =
     (reached.turns, silent is ∙ reached.follows.sends)
 

@@ -1,10 +1,10 @@
--- The effect of a run on the ends that it is given.
+-- The effect of a run on the endpoints that it is given.
 use Rattle.std.specs.Prelude.{◌≡◌, ◌≤◌, ℕ, ◌+◌, ◌-◌, ◌^◌, min, List, drop, length, Option, Some, None, option_map}
 use Rattle.std.specs.Prelude.{Result, Ok, Err}
 use Rattle.unl_base.specs.declared.draws.Draw.{Draw}
 use Rattle.unl_base.specs.Draws.{TakesDraw}
 use Rattle.unl_base.specs.Peers.{PeerState, history_of}
-use Rattle.unl_base.specs.Streams.{Sends, SendsFront}
+use Rattle.unl_base.specs.Streams.{Sends, SendsPrefix}
 use Rattle.unl_refresh.specs.declared.ask.Ask.{Ask}
 use Rattle.unl_refresh.specs.Exchange.{Meets as MeetsPeer, ReplyOrFault, peer_view}
 use Rattle.unl_follow.specs.declared.fault.FollowFault.{FollowFault}
@@ -13,8 +13,8 @@ use Rattle.unl_follow.specs.Replica.{Subject}
 use Rattle.unl_follow.specs.Turns.{HaveAsked, HaveDrawn, HaveTurned, TurnState, Turn, TurnEffect, follow_text, request_at, turn_line}
 use Rattle.unl_follow.specs.Turns.{turned_to}
 
--- The ends of a run: the peer (what it was sent on each connection, and what its next ones give to read) with its count of
--- faults; the draws to come; and what the sink was sent.
+-- The endpoints of a run: the peer (what it was sent on each connection, and what its next ones give to read) with its count of faults;
+-- the draws to come; and what the sink was sent.
 pub record Ends : Type 0 where
   pub peer : PeerState
   pub faults : ℕ
@@ -78,6 +78,6 @@ abbrev pub Runs : {T : Type 0} → ℕ → Option ℕ → Ask → Subject → En
 Runs asked pace ask subject before (Ok done) after =
     (turns : List Turn) × AreAsMany asked pace turns × Follows Sends ask subject before turns after
 Runs asked pace ask subject before (Err WriteFault) after =
-    (turns : List Turn) × Follows SendsFront ask subject before turns after
+    (turns : List Turn) × Follows SendsPrefix ask subject before turns after
 Runs asked pace ask subject before (Err Memory) after =
     (turns : List Turn) × Sends before.sent (follow_text ask.delta subject turns) after.sent

@@ -7,7 +7,7 @@ use Rattle.unl_delta.specs.declared.version.EnvVersion.{EnvVersion}
 use Rattle.unl_delta.specs.Installing.{Installed, place_of}
 use Rattle.unl_refresh.specs.declared.ask.Ask.{Ask}
 use Rattle.unl_refresh.specs.declared.outcome.Outcome.{Outcome}
-use Rattle.unl_refresh.specs.Exchange.{AddsFront, AddsText, IsRead, ReplyOrFault}
+use Rattle.unl_refresh.specs.Exchange.{AddsPrefix, AddsText, IsRead, ReplyOrFault}
 use Rattle.unl_refresh.specs.Refresh.{Refreshed, after_reading, refresh_request}
 use Rattle.unl_strategies.specs.Moment.{Moment}
 use Rattle.unl_follow.specs.Line.{line_of, number_text, on_text, word_of}
@@ -93,7 +93,7 @@ request_at ask turn_state = refresh_request ask.delta ask.host ask.token turn_st
 -- that connection. If the peer failed: a prefix of the request is one more, perhaps all of it, or there is none.
 abbrev pub IsAsked : ReplyOrFault → List ℕ → Option (List (List ℕ)) → Option (List (List ℕ)) → Type 0
 IsAsked (Some reading) request asked asked_after = AddsText asked request asked_after
-IsAsked None request asked asked_after = (asked_after ≡ asked) ⊎ AddsFront asked request asked_after
+IsAsked None request asked asked_after = (asked_after ≡ asked) ⊎ AddsPrefix asked request asked_after
 
 -- all that the peer was sent after these turns
 abbrev pub HaveAsked : Ask → Option (List (List ℕ)) → List Turn → Option (List (List ℕ)) → Type 0

@@ -1,6 +1,6 @@
 //! The errors of a replica's evaluation and of a run.
 ghost use Rattle.std.specs.Prelude.{◌≡◌};
-ghost use Rattle.unl_follow.specs.declared.fault.FollowFault.TheVariants.{Memory as want, WriteFault as write_fault};
+ghost use Rattle.unl_follow.specs.declared.fault.FollowFault.TheVariants.{Memory as out_of_memory, WriteFault as write_fault};
 ghost use Rattle.unl_follow.specs.declared.fault.ReplicaRefusal.TheVariants.{Memory as no_memory};
 
 use std::alloc::AllocError;
@@ -12,7 +12,7 @@ use unl_documents as documents;
 #[derive(Clone, Copy, Debug, PartialEq, Eq, Error)]
 pub enum ReplicaRefusal {
     /// The place has no version yet.
-    #[error("nothing stands yet")]
+    #[error("no version yet")]
     NotReady,
     /// Memory ran out.
     #[error("out of memory")]
@@ -47,7 +47,7 @@ impl From<Failed> for FollowFault {
 }
 
 impl From<documents::Memory> for FollowFault {
-    ghost from_gives = { λ _ fault. fault ≡ want };
+    ghost from_gives = { λ _ fault. fault ≡ out_of_memory };
 
     fn from(_: documents::Memory) -> FollowFault {
         FollowFault::Memory
@@ -55,7 +55,7 @@ impl From<documents::Memory> for FollowFault {
 }
 
 impl From<AllocError> for FollowFault {
-    ghost from_gives = { λ _ fault. fault ≡ want };
+    ghost from_gives = { λ _ fault. fault ≡ out_of_memory };
 
     fn from(_: AllocError) -> FollowFault {
         FollowFault::Memory

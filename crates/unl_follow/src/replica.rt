@@ -2,7 +2,7 @@
 ghost use Rattle.std.specs.Prelude.{◌≡◌, option_map};
 ghost use Rattle.unl_documents.specs.Results.{Gives};
 ghost use Rattle.unl_follow.specs.Replica.{found_in, installed_by, new_replica};
-ghost use Rattle.unl_follow.specs.declared.fault.ReplicaRefusal.TheVariants.{Memory as want};
+ghost use Rattle.unl_follow.specs.declared.fault.ReplicaRefusal.TheVariants.{Memory as out_of_memory};
 
 use crate::fault::ReplicaRefusal;
 use std::alloc::Global;
@@ -61,7 +61,7 @@ impl Replica {
         context: &Context,
         moment: &Moment,
     ) -> Result<Option<Evaluation>, ReplicaRefusal>
-        ensures { Gives want result (found_in self.now.place.version name.now context.now moment.entry.now) }
+        ensures { Gives out_of_memory result (found_in self.now.place.version name.now context.now moment.entry.now) }
     {
         let Some(version) = &self.place.version else {
             return Err(ReplicaRefusal::NotReady);

@@ -1,7 +1,7 @@
 //! One turn: a request, and the line that reports it.
 ghost use Rattle.std.specs.Prelude.{◌≡◌, ℕ, ◌<◌, ◌≤◌, ◌+◌, ◌-◌, ◌^◌, List, Option, Err, IfOk, IsTrue, OnOk, string_bytes};
 ghost use Rattle.unl_base.specs.Faults.{Rose};
-ghost use Rattle.unl_base.specs.Streams.{Sends, SendsFront};
+ghost use Rattle.unl_base.specs.Streams.{Sends, SendsPrefix};
 ghost use Rattle.unl_follow.specs.Replica.{installed_by};
 ghost use Rattle.unl_follow.specs.Run.{AsksOnce, TakesTurn};
 ghost use Rattle.unl_follow.specs.Turns.{moment_of, turn_line};
@@ -49,7 +49,7 @@ pub(crate) fn turn<P: Peer, R: Draws, K: Sink>(
           coming = R.coming draws.new;
           sent = K.sent sink.new;
         })) }
-    ensures cut { result ≡ Err FollowFault.WriteFault → TakesTurn SendsFront ask.old subject.now number
+    ensures cut { result ≡ Err FollowFault.WriteFault → TakesTurn SendsPrefix ask.old subject.now number
         (record { installed = installed_by replica.old; tag = ask.old.tag })
         (record {
           peer = P.state peer.old;
@@ -73,7 +73,7 @@ pub(crate) fn turn<P: Peer, R: Draws, K: Sink>(
 {
     let draw = draws.draw();
     let outcome = ask_once(alloc, replica, ask, peer)?;
-    let line = told(alloc, number, &outcome, replica, subject, &draw)?;
+    let line = line_of_turn(alloc, number, &outcome, replica, subject, &draw)?;
     write_all(sink, line.as_bytes())?;
     Ok(())
 }
@@ -107,7 +107,7 @@ fn ask_once<P: Peer>(
 
 /// Returns the line of a turn with this draw.
 #[tactic(auto, unfolding(crate::specs::Turns::turn_line))]
-fn told(
+fn line_of_turn(
     alloc: Global,
     number: u32,
     outcome: &Option<Outcome>,

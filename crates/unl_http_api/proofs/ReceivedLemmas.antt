@@ -21,8 +21,8 @@ use Rattle.unl_http_api.specs.Fields.{body_length, count_of, first_value, is_nam
 use Rattle.unl_http_api.specs.Received.{HasReplyHead, HasNoReplyHead, reply_fields, stated_length, size_among, body_size, got_with, reading_with, reading_of, IsReply, HasOneReply}
 use Rattle.unl_http_api.specs.RequestText.{fits_line, fits_if_any}
 use Rattle.unl_http_api.specs.Requests.{window}
-use Rattle.unl_http_api.proofs.FindLemmas.{after_front}
-use Rattle.unl_http_api.proofs.RequestLemmas.{window-append-drop, window-append, front_of_window}
+use Rattle.unl_http_api.proofs.FindLemmas.{after_prefix}
+use Rattle.unl_http_api.proofs.RequestLemmas.{window-append-drop, window-append, prefix_of_window}
 use Rattle.unl_http_api.proofs.RoomLemmas.{window_fits}
 
 -- ---- what a call returns
@@ -56,8 +56,8 @@ pub window_from_reply_head : (bytes : List ℕ) (head : ResponseHead) (rest : Li
     → (tail : List ℕ) × ReadsResponse (window bytes) head tail
 unfolding window
 window_from_reply_head bytes head rest has =
-    let front = front_of_window 8192 (print_response head) rest has.short in
-    (front.0, (has.reads.0, ap (take 8192) has.reads.1 ∙ front.1))
+    let prefix = prefix_of_window 8192 (print_response head) rest has.short in
+    (prefix.0, (has.reads.0, ap (take 8192) has.reads.1 ∙ prefix.1))
 
 pub HasReplyHead-append : (bytes : List ℕ) (head : ResponseHead) (rest more : List ℕ) → HasReplyHead bytes head rest
     → HasReplyHead (bytes ++ more) head (rest ++ more)
@@ -68,10 +68,10 @@ HasReplyHead-append bytes head rest more has = record {
 }
 
 -- if the window has no head of few fields, the bytes have none
-pub no_reply_head : (bytes front : List ℕ) → front ≡ window bytes
-    → ((head : ResponseHead) (rest : List ℕ) → ReadsResponse front head rest → length head.fields ≤ 64 → ⊥)
+pub no_reply_head : (bytes prefix : List ℕ) → prefix ≡ window bytes
+    → ((head : ResponseHead) (rest : List ℕ) → ReadsResponse prefix head rest → length head.fields ≤ 64 → ⊥)
     → HasNoReplyHead bytes
-no_reply_head bytes front is none head rest has =
+no_reply_head bytes prefix is none head rest has =
     let at = window_from_reply_head bytes head rest has in
     none head at.0 (subst (λ (w : List ℕ). ReadsResponse w head at.0) (sym is) at.1) has.few
 
@@ -103,18 +103,18 @@ pub record HasReplyAt (bytes : List ℕ) (r : ResponseSpans) (fields : List (Lis
   pub fields_are : fields ≡ reply_fields head
 
 -- the spans of a head in the window are those of a head of the bytes
-pub reply_at : (bytes front : List ℕ) (spans : List HeaderSpan) (r : ResponseSpans) → front ≡ window bytes
-    → length front ≤ 8192 → length spans ≡ 64 → IsResponseWithin front spans r → IsResponseOf front spans r
-    → HasReplyAt bytes r (map (header_bytes front) (take r.headers spans))
-reply_at bytes front spans r is fits room within (h, at) =
+pub reply_at : (bytes prefix : List ℕ) (spans : List HeaderSpan) (r : ResponseSpans) → prefix ≡ window bytes
+    → length prefix ≤ 8192 → length spans ≡ 64 → IsResponseWithin prefix spans r → IsResponseOf prefix spans r
+    → HasReplyAt bytes r (map (header_bytes prefix) (take r.headers spans))
+reply_at bytes prefix spans r is fits room within (h, at) =
     let few : length h.fields ≤ 64 =
-    omega (arith, room, ap length at.fields, length-map (take r.headers spans) (header_bytes front), length-map h.fields name_and_value, length-take r.headers spans) in
-    let has = reply_head_from_window bytes h (drop r.len front) (subst (λ (w : List ℕ). length w ≤ 8192) is fits)
-    (subst (λ (w : List ℕ). ReadsResponse w h (drop r.len front)) is at.reads) few in
+    omega (arith, room, ap length at.fields, length-map (take r.headers spans) (header_bytes prefix), length-map h.fields name_and_value, length-take r.headers spans) in
+    let has = reply_head_from_window bytes h (drop r.len prefix) (subst (λ (w : List ℕ). length w ≤ 8192) is fits)
+    (subst (λ (w : List ℕ). ReadsResponse w h (drop r.len prefix)) is at.reads) few in
     record {
       head = h;
       has_head = subst (HasReplyHead bytes h)
-          (after_front bytes (print_response h) (drop r.len front ++ drop 8192 bytes) r.len at.len has.reads.1) has;
+          (after_prefix bytes (print_response h) (drop r.len prefix ++ drop 8192 bytes) r.len at.len has.reads.1) has;
       fits = omega (arith, within.section.len_fits, ap length is, ap length (window-append-drop bytes), length-append (window bytes) (drop 8192 bytes));
       code = at.code;
       fields_are = at.fields;

@@ -10,11 +10,11 @@ use Rattle.unl_http_api.specs.Route.{if_utf8}
 smaller : (m n : ℕ) → m < n → (m == n) ≡ false
 smaller m n low = grind (arith, nat_tests)
 
-pub text_told : {E : Type 0} (r : Result (Bor (List ℕ)) E) (bytes : List ℕ) (valid : E → ℕ)
+pub text_is : {E : Type 0} (r : Result (Bor (List ℕ)) E) (bytes : List ℕ) (valid : E → ℕ)
     → MatchResult r (λ s. (s.now ≡ bytes) × IsUtf8 bytes) (λ e. ¬ (IsUtf8 bytes) × IsValidUpTo bytes (valid e)) → option_map (λ s. s.now) (result_ok r) ≡ if_utf8 bytes
-text_told (Ok s) bytes valid h =
+text_is (Ok s) bytes valid h =
     ap Some h.0 ∙ sym (ap (λ b. cond b (Some bytes) None) (eq-eqb (utf8_valid_len bytes) (length bytes) (utf8_valid_len-IsUtf8 bytes h.1)))
-text_told (Err e) bytes valid h =
+text_is (Err e) bytes valid h =
     let len : utf8_valid_len bytes ≡ valid e = utf8_valid_len-IsValidUpTo bytes (valid e) h.1 in
     let low : utf8_valid_len bytes < length bytes = omega (arith, h.1.short) in
     sym (ap (λ b. cond b (Some bytes) None) (smaller (utf8_valid_len bytes) (length bytes) low))

@@ -232,18 +232,18 @@ no_fault Other host (Some token) None digits n said fits = refl
 no_fault Other host (Some token) (Some tag) digits n said fits = refl
 
 -- the body has the length that a POST states, and a GET has none
-length_told : (method : Method) (host : List ℕ) (token tag : Option (List ℕ)) (digits : List ℕ) (n : ℕ) → method ≢ Other
+length_known : (method : Method) (host : List ℕ) (token tag : Option (List ℕ)) (digits : List ℕ) (n : ℕ) → method ≢ Other
     → plain_number (trim_ows (32 ∷ digits)) ≡ Some n → (method ≡ Get → n ≡ 0)
     → n ≡ unwrap_or (body_length (map name_and_value (written_fields method host token tag digits))) 0
-length_told Get host None None digits n known said none = none refl
-length_told Get host None (Some tag) digits n known said none = none refl
-length_told Get host (Some token) None digits n known said none = none refl
-length_told Get host (Some token) (Some tag) digits n known said none = none refl
-length_told Post host None None digits n known said none = rw said refl
-length_told Post host None (Some tag) digits n known said none = rw said refl
-length_told Post host (Some token) None digits n known said none = rw said refl
-length_told Post host (Some token) (Some tag) digits n known said none = rw said refl
-length_told Other host token tag digits n known said none = absurd (known refl)
+length_known Get host None None digits n known said none = none refl
+length_known Get host None (Some tag) digits n known said none = none refl
+length_known Get host (Some token) None digits n known said none = none refl
+length_known Get host (Some token) (Some tag) digits n known said none = none refl
+length_known Post host None None digits n known said none = rw said refl
+length_known Post host None (Some tag) digits n known said none = rw said refl
+length_known Post host (Some token) None digits n known said none = rw said refl
+length_known Post host (Some token) (Some tag) digits n known said none = rw said refl
+length_known Other host token tag digits n known said none = absurd (known refl)
 
 -- the parts are those that were written
 parts_read : (method : Method) (target host : List ℕ) (token tag : Option (List ℕ)) (digits body : List ℕ) → method ≢ Other
@@ -289,7 +289,7 @@ written_is_read method target host token tag body can =
         short = omega (arith, can.head_fits, ap length text, length-append (print_request head) body);
       };
       accepted = no_fault method host token tag digits n said (fits_limit n can.body_fits);
-      whole = length_told method host token tag digits n can.method_is said (λ get. ap length (can.body_allowed get));
+      whole = length_known method host token tag digits n can.method_is said (λ get. ap length (can.body_allowed get));
       parts = parts_read method target host token tag digits body can.method_is;
     }
   where

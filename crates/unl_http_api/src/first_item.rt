@@ -49,12 +49,12 @@ fn first_item(held: &[u8], spans: &mut [HeaderSpan]) -> FirstItem
     requires { length spans.old ≡ MOST_SPANS }
     ensures { IsFirstItem held.now result }
 {
-    let front = window(held);
-    let Some(seen) = see(front, spans) else {
+    let prefix = window(held);
+    let Some(seen) = see(prefix, spans) else {
         unreachable!();
     };
     match seen {
-        Seen::Head(head) => weigh(held, head.len, &Parts::new(front, &head, spans)),
+        Seen::Head(head) => weigh(held, head.len, &Parts::new(prefix, &head, spans)),
         Seen::Unfinished => if held.len() < WINDOW {
             FirstItem::More
         } else {

@@ -58,12 +58,12 @@ fn frame_by(bytes: &[u8], spans: &mut [HeaderSpan]) -> Option<Frame>
     ensures frame { IfSome result (IsFrame bytes.now) }
     ensures room { MOST_SPANS ≤ length spans.old → result ≢ None }
 {
-    let front = window(bytes);
-    let Some(seen) = see(front, spans) else {
+    let prefix = window(bytes);
+    let Some(seen) = see(prefix, spans) else {
         return None;
     };
     match seen {
-        Seen::Head(head) => Some(framed(bytes, head.len, &Parts::new(front, &head, spans))),
+        Seen::Head(head) => Some(framed(bytes, head.len, &Parts::new(prefix, &head, spans))),
         Seen::Unfinished => Some(not_yet(bytes)),
         Seen::Hopeless => Some(Frame::Bad(400)),
     }

@@ -82,10 +82,10 @@ pub(crate) fn read_reply(
     requires { length spans.old ≡ MOST_FIELDS }
     ensures { Answers BadReply.Memory (IsReply bytes.now) result }
 {
-    let front = window(bytes);
-    match see_reply(front, spans) {
+    let prefix = window(bytes);
+    match see_reply(prefix, spans) {
         Some(head) => {
-            let fields = Fields::new(front, &spans[..head.headers]);
+            let fields = Fields::new(prefix, &spans[..head.headers]);
             reply_with(alloc, head.code, &fields, after(bytes, head.len))
         }
         None => Err(BadReply::Head),

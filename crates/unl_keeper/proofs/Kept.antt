@@ -8,13 +8,13 @@ use Rattle.unl_keeper.specs.State.{HasKept, IsFailed, IsWritten, KeeperState, ke
 -- ---- rows, with one written after the first `count`
 
 -- the first `count` rows are that many
-front : (count : ℕ) (list : List (List ℕ)) → count ≤ length list → length (take count list) ≡ count
-front count list has = length-take-le count list has
+prefix_length : (count : ℕ) (list : List (List ℕ)) → count ≤ length list → length (take count list) ≡ count
+prefix_length count list has = length-take-le count list has
 
 -- with the row written after them, they are one more
 longer : (count : ℕ) (text : List ℕ) (list : List (List ℕ)) → count ≤ length list → length (take count list ++ text ∷ []) ≡ count + 1
 longer count text list has =
-    let here : length (take count list) ≡ count = front count list has in
+    let here : length (take count list) ≡ count = prefix_length count list has in
     let all : length (take count list ++ text ∷ []) ≡ length (take count list) + 1 = length-append (take count list) (text ∷ []) in
     omega (arith, here, all)
 
@@ -29,14 +29,14 @@ kept_same : (count : ℕ) (text : List ℕ) (rows : Option (List (List ℕ))) �
     → kept count (with_row count text rows) ≡ kept count rows
 kept_same count text None has = refl
 kept_same count text (Some list) has =
-    let here : length (take count list) ≡ count = front count list has in
+    let here : length (take count list) ≡ count = prefix_length count list has in
     ap Some (take-append-le count (take count list) (text ∷ []) (omega (arith, here)) ∙ take_all count (take count list) (omega (arith, here)))
 
 past_is : (count : ℕ) (text : List ℕ) (rows : Option (List (List ℕ))) → IfSome rows (λ list. count ≤ length list)
     → option_map (λ list. drop count list) (with_row count text rows) ≡ option_map (λ _. text ∷ []) rows
 past_is count text None has = refl
 past_is count text (Some list) has =
-    let here : length (take count list) ≡ count = front count list has in
+    let here : length (take count list) ≡ count = prefix_length count list has in
     ap Some (ap (λ n. drop n (take count list ++ text ∷ [])) (sym here) ∙ drop-append_seam (take count list) (text ∷ []))
 
 past_none : (count : ℕ) (text : List ℕ) (rows : Option (List (List ℕ))) → IfSome rows (λ list. count ≤ length list)

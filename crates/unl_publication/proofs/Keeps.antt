@@ -44,7 +44,7 @@ module _ {S I : Type 0} (installed : S → I → S) (allows : S → I → Type 0
   AreAllowed-append value [] more first later = later
   AreAllowed-append value (what ∷ list) more first later = (first.0, AreAllowed-append (installed value what) list more first.1 later)
 
-  -- Who knows the opening value, if any, and the list, knows that.
+  -- If the kept value allows the list, so does the opening value, where it is known.
   knows_allowed : (opening : Option S) (kept : S) (list : List I) → ((o : S) → opening ≡ Some o → o ≡ kept) → AreAllowed installed allows kept list
       → IfSome opening (λ o. AreAllowed installed allows o list)
   knows_allowed None kept list opened allowed = tt

@@ -40,8 +40,8 @@ module _ {S I : Type 0} where
   IsBetweenLooks-rises past now h = Rise-higher 0 (known past now).fronts (length (known past now).installs) (length now.installs) h.fronts (known_ahead past now h.ahead)
 
   -- The reader continues from a learned list.
-  pub IsBetweenLooks-learned : (past : Option (Knowledge S I)) (now told kept : Knowledge S I) → IsBetweenLooks past now → kept ≡ known past now → length now.installs < length told.installs → IsBetweenLooks (Some kept) told
-  IsBetweenLooks-learned past now told kept h is more = record {
+  pub IsBetweenLooks-learned : (past : Option (Knowledge S I)) (now learned kept : Knowledge S I) → IsBetweenLooks past now → kept ≡ known past now → length now.installs < length learned.installs → IsBetweenLooks (Some kept) learned
+  IsBetweenLooks-learned past now learned kept h is more = record {
     fronts = subst AreFronts (sym is) h.fronts;
     ahead = omega (arith, known_ahead past now h.ahead, more, ap (λ (k : Knowledge S I). length k.installs) is);
   }
@@ -101,7 +101,7 @@ module _ {S I : Type 0} (installed : S → I → S) (allows : S → I → Type 0
   pub KnowsAllowed-same : (v w : Knowledge S I) → w ≡ v → ∥ KnowsAllowed installed allows v ∥₁ → ∥ KnowsAllowed installed allows w ∥₁
   KnowsAllowed-same v w same h = subst (λ (k : Knowledge S I). ∥ KnowsAllowed installed allows k ∥₁) (sym same) h
 
-  -- One that was told the list.
+  -- One that learned the list.
   pub KnowsAllowed-shared : (v w : Knowledge S I) → w ≡ shared_knowledge v → ∥ KnowsAllowed installed allows v ∥₁ → ∥ KnowsAllowed installed allows w ∥₁
   KnowsAllowed-shared v w same h = KnowsAllowed-same (shared_knowledge v) w same h
 
@@ -120,11 +120,11 @@ module _ {S I : Type 0} (installed : S → I → S) (allows : S → I → Type 0
       both x = record { seen = x; next = x }
 
   -- A reader that continues from a learned list.
-  pub AreBothAllowed-learned : (past : Option (Knowledge S I)) (now told kept : Knowledge S I) → kept ≡ known past now → ∥ AreBothAllowed installed allows past now ∥₁
-      → ∥ KnowsAllowed installed allows told ∥₁ → ∥ AreBothAllowed installed allows (Some kept) told ∥₁
-  AreBothAllowed-learned past now told kept is h more = ∥∥₁_map₂ h more both
+  pub AreBothAllowed-learned : (past : Option (Knowledge S I)) (now learned kept : Knowledge S I) → kept ≡ known past now → ∥ AreBothAllowed installed allows past now ∥₁
+      → ∥ KnowsAllowed installed allows learned ∥₁ → ∥ AreBothAllowed installed allows (Some kept) learned ∥₁
+  AreBothAllowed-learned past now learned kept is h more = ∥∥₁_map₂ h more both
     where
-      both : AreBothAllowed installed allows past now → KnowsAllowed installed allows told → AreBothAllowed installed allows (Some kept) told
+      both : AreBothAllowed installed allows past now → KnowsAllowed installed allows learned → AreBothAllowed installed allows (Some kept) learned
       both x y = record { seen = subst (λ (k : Knowledge S I). KnowsAllowed installed allows k) (sym is) x.seen; next = y }
 
   allowed_by : (opening : Option S) (list : List I) (value : S) (what : I) → is_some opening ≡ true → ((o : S) → opening ≡ Some o → value ≡ fold installed o list)

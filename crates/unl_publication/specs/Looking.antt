@@ -1,5 +1,6 @@
 -- Invariants of what the writer and a reader know, and the steps of a reader.
-use Rattle.std.specs.Prelude.{◌≡◌, ℕ, ◌<◌, ◌≤◌, [], ◌∷◌, ◌++◌, ◌⊎◌, length, fold, leb, if◌then◌else◌, Option, Some, None, option_map, unwrap_or}
+use Rattle.std.specs.Prelude.{◌≡◌, ℕ, ◌<◌, ◌≤◌, [], ◌∷◌, ◌++◌, ◌⊎◌, length, fold, leb, if◌then◌else◌}
+use Rattle.std.specs.Prelude.{Option, Some, None, option_map, unwrap_or}
 use Rattle.unl_publication.specs.declared.knowledge.Knowledge.{Knowledge}
 use Rattle.unl_publication.specs.Rule.{KnowsAllowed, Rise, StartsWith}
 use Rattle.unl_publication.specs.Meaning.{known, before_of, front_seen, value_at}
@@ -68,10 +69,10 @@ module _ {S I : Type 0} where
   -- What a reader continues from after it learned a front: if the front is above its own, the list that came with it, if there
   -- is one; otherwise its own.
   abbrev pub continues_from : ℕ → Option (Knowledge S I) → Knowledge S I → Knowledge S I
-  continues_from front told own = if leb front (front_seen own) then own else unwrap_or told own
+  continues_from front reported own = if leb front (front_seen own) then own else unwrap_or reported own
 
   -- What a reader remembers of its last look after it learned a front: if it continues from the list that came with it, what it
   -- knew at that look; otherwise what it remembered.
   abbrev pub remembers : ℕ → Option (Knowledge S I) → Option (Knowledge S I) → Knowledge S I → Option (Knowledge S I)
-  remembers front told past own =
-      if leb front (front_seen own) then past else unwrap_or (option_map (λ _. Some (known past own)) told) past
+  remembers front reported past own =
+      if leb front (front_seen own) then past else unwrap_or (option_map (λ _. Some (known past own)) reported) past

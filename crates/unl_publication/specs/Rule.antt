@@ -44,7 +44,7 @@ module _ {S I : Type 0} where
   AreAllowed installed allows value [] = ⊤
   AreAllowed installed allows value (what ∷ more) = allows value what × AreAllowed installed allows (installed value what) more
 
-  -- So it is for the installs that are known, from the opening value on.
+  -- The known installs are allowed, from the opening value on.
   abbrev pub KnowsAllowed : (S → I → S) → (S → I → Type 0) → Knowledge S I → Type 0
   KnowsAllowed installed allows v = IfSome v.opening (λ opening. AreAllowed installed allows opening v.installs)
 

@@ -42,7 +42,8 @@ pub struct Guard<T: Counted<I> + Drop, I: Drop, P: Rules<T, I>> {
 }
 
 impl<T: Counted<I> + Drop, I: Drop, P: Rules<T, I>> Reader<T, I, P> {
-    ghost use Rattle.unl_publication.specs.Seen.{next, past, seen, taken, reported_front, reported_list, learned_front, learned_front_at_look};
+    ghost use Rattle.unl_publication.specs.Seen.{next, past, seen, taken, reported_front, reported_list};
+    ghost use Rattle.unl_publication.specs.Seen.{learned_front, learned_front_at_look};
 
     /// Learns what the writer knew when it made `told`. From then on the reader returns no value with fewer installs, and
     /// what it knew stays known. If `told` has more installs than the reader knows, and has their list, the list that the

@@ -14,10 +14,12 @@ pub trait Rules<T: Counted<I>, I: Drop>: Protocol<T, Knowledge<T::State, I>> {
     ghost use Rattle.unl_publication.specs.Rule.{IsKept, knows_nothing};
 
     /// What the protocol holds of the value and of everyone's knowledge implies `IsKept`.
-    ghost kept: { (x : T) (views : List (Knowledge T.State I)) → Self.holds x views → IsKept T.applied T.front_of T.allows (T.state x) views };
+    ghost kept: { (x : T) (views : List (Knowledge T.State I)) → Self.holds x views
+        → IsKept T.applied T.front_of T.allows (T.state x) views };
 
     /// `IsKept` implies what the protocol holds.
-    ghost keeps: { (x : T) (views : List (Knowledge T.State I)) → IsKept T.applied T.front_of T.allows (T.state x) views → Self.holds x views };
+    ghost keeps: { (x : T) (views : List (Knowledge T.State I))
+        → IsKept T.applied T.front_of T.allows (T.state x) views → Self.holds x views };
 
     /// At first nothing is known.
     ghost begins: { Self.first ≡ knows_nothing };

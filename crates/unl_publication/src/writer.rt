@@ -3,7 +3,8 @@ ghost use Rattle.std.specs.Prelude.{◌≡◌, ◌^◌, ◌<◌, ◌≤◌, fals
 ghost use Rattle.std.specs.Prelude.{IfOk, IfSome, IsErr, MatchResult, OnOk};
 ghost use Rattle.std.specs.Prelude.{true, Some, is_some};
 ghost use Rattle.left_right.specs.Sides.{view};
-ghost use Rattle.unl_publication.specs.Rule.{AreAllowed, KnowsAllowed, MayPublish, Opens, Publishes, knows_opening, shared_knowledge, with_installs};
+ghost use Rattle.unl_publication.specs.Rule.{AreAllowed, KnowsAllowed, MayPublish, Opens, Publishes};
+ghost use Rattle.unl_publication.specs.Rule.{knows_opening, shared_knowledge, with_installs};
 ghost use Rattle.unl_publication.specs.Looking.{Shows};
 ghost use Rattle.unl_publication.specs.Meaning.{front_seen};
 
@@ -74,8 +75,8 @@ impl<T: Counted<I> + Drop, I: Drop, P: Rules<T, I>> Writer<T, I, P> {
         ensures open { IfOk result (λ writer. is_closed writer ≡ false) }
     {
         let sides = Sides::new(alloc, first, second, readers)?;
-        let (sides, told) = open_table::<T, I, P, Brand, W>(rt, sides);
-        match told {
+        let (sides, opened) = open_table::<T, I, P, Brand, W>(rt, sides);
+        match opened {
             Ok(()) => Ok(Writer {
                 sides,
                 refused: false,

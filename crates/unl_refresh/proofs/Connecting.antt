@@ -19,7 +19,7 @@ use Rattle.unl_refresh.specs.declared.outcome.Bad.{Bad}
 use Rattle.unl_refresh.specs.declared.outcome.Outcome.{Outcome}
 use Rattle.unl_refresh.specs.declared.outcome.Outcome.TheVariants.{Published, Unchanged, Repeat, Old, Gap, Held, Refused, BadAnswer}
 use Rattle.unl_refresh.specs.declared.outcome.RefreshFault.{RefreshFault}
-use Rattle.unl_refresh.specs.declared.outcome.RefreshFault.TheVariants.{PeerFault as peer_fault, Memory as want}
+use Rattle.unl_refresh.specs.declared.outcome.RefreshFault.TheVariants.{PeerFault as peer_fault, Memory as out_of_memory}
 use Rattle.unl_refresh.specs.Exchange.{Asks, AsksAtMostOnce}
 use Rattle.unl_refresh.specs.Metrics.{AsksBulkAtMostOnce}
 use Rattle.unl_refresh.specs.Refresh.{Refreshed, Refreshes, after_batch, after_reading, after_verdict, batch_in, number_held}
@@ -160,26 +160,26 @@ book_at_most_once {texts} {before} {coming} {outcome} {after} refreshes =
 -- ---- from the result of a refresh
 
 -- the effect of refreshing the book, whatever the result is
-pub book_result_at_most_once : (texts : List (List ℕ)) {before after : Installed} (coming : Option (List ℕ)) (told : Result Outcome RefreshFault)
-    → IfOk told (λ outcome. RefreshesTokens texts before coming outcome after) → OnErr told (after ≡ before) → PublishesAtMostOnce before after
+pub book_result_at_most_once : (texts : List (List ℕ)) {before after : Installed} (coming : Option (List ℕ)) (reported : Result Outcome RefreshFault)
+    → IfOk reported (λ outcome. RefreshesTokens texts before coming outcome after) → OnErr reported (after ≡ before) → PublishesAtMostOnce before after
 book_result_at_most_once texts coming (Ok outcome) takes fault = book_at_most_once takes
 book_result_at_most_once texts {before} {after} coming (Err e) takes fault = same_at_most_once before after fault
 
 -- the effect of refreshing a slot, whatever the result is
-pub slot_result_at_most_once : (slot : ℕ) (ask : Ask) {before after : Installed} (coming tag : Option (List ℕ)) (told : Result Outcome RefreshFault)
-    → IfOk told (λ outcome. Refreshes slot ask before coming (record { outcome = outcome; installed = after; tag = tag }))
-    → OnErr told (after ≡ before) → PublishesAtMostOnce before after
+pub slot_result_at_most_once : (slot : ℕ) (ask : Ask) {before after : Installed} (coming tag : Option (List ℕ)) (reported : Result Outcome RefreshFault)
+    → IfOk reported (λ outcome. Refreshes slot ask before coming (record { outcome = outcome; installed = after; tag = tag }))
+    → OnErr reported (after ≡ before) → PublishesAtMostOnce before after
 slot_result_at_most_once slot ask coming tag (Ok outcome) takes fault = slot_at_most_once takes
 slot_result_at_most_once slot ask {before} {after} coming tag (Err e) takes fault = same_at_most_once before after fault
 
 -- unless out of memory, one connection was made
 pub asked_once : {A : Type 0} (request : List ℕ) (replies replies_after history history_after : Option (List (List ℕ))) {faults faults_after : ℕ}
-    (told : Result A RefreshFault) (result : Result Unit Memory) → OnOk result (told ≢ Err want) → OnOk told (Asks request replies history replies_after history_after)
-    → (told ≡ Err peer_fault → Rose faults faults_after) → faults ≤ faults_after → OnOk result (Connects 1 replies faults replies_after faults_after)
-asked_once request replies replies_after history history_after told (Err e) some asks cause later = tt
+    (reported : Result A RefreshFault) (result : Result Unit Memory) → OnOk result (reported ≢ Err out_of_memory) → OnOk reported (Asks request replies history replies_after history_after)
+    → (reported ≡ Err peer_fault → Rose faults faults_after) → faults ≤ faults_after → OnOk result (Connects 1 replies faults replies_after faults_after)
+asked_once request replies replies_after history history_after reported (Err e) some asks cause later = tt
 asked_once request replies replies_after history history_after (Ok outcome) (Ok _) some asks cause later = one_connect asks later
 asked_once request replies replies_after history history_after (Err peer_fault) (Ok _) some asks cause later = after_fault _ _ _ _ _ later (cause refl)
-asked_once request replies replies_after history history_after (Err want) (Ok _) some asks cause later = absurd (some refl)
+asked_once request replies replies_after history history_after (Err out_of_memory) (Ok _) some asks cause later = absurd (some refl)
 
 -- a fact holds in the `Ok` case too
 pub if_ok : {A E X : Type 0} (result : Result A E) → X → OnOk result X

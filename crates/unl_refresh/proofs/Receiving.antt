@@ -33,10 +33,10 @@ IsRead-from_enough (Some bytes) held reading enough is =
 -- The next reply has only one reading.
 pub same_reading : (replies : Option (List (List ℕ))) (list : List (List ℕ)) (read reading : Result Got BadReply)
     → IsRead (option_map next_of replies) read → replies ≡ Some list → IsReply (next_of list) reading → read ≡ reading
-same_reading None list read reading is told one = absurd (none-some list told)
-same_reading (Some other) list read reading is told one =
+same_reading None list read reading is known one = absurd (none-some list known)
+same_reading (Some other) list read reading is known one =
     IsReply_unique (next_of list) read reading
-    (subst (λ (l : List (List ℕ)). IsReply (next_of l) read) (same_Some other list told) is) one
+    (subst (λ (l : List (List ℕ)). IsReply (next_of l) read) (same_Some other list known) is) one
 
 -- ---- causes
 

@@ -21,26 +21,26 @@ use Rattle.unl_refresh.specs.declared.ask.Ask.{Ask}
 use Rattle.unl_refresh.specs.declared.outcome.MetricsOutcome.{MetricsOutcome}
 use Rattle.unl_refresh.specs.declared.outcome.Outcome.{Outcome}
 use Rattle.unl_refresh.specs.declared.outcome.RefreshFault.{RefreshFault}
-use Rattle.unl_refresh.specs.declared.outcome.RefreshFault.TheVariants.{PeerFault as peer_fault, Memory as want}
+use Rattle.unl_refresh.specs.declared.outcome.RefreshFault.TheVariants.{PeerFault as peer_fault, Memory as out_of_memory}
 use Rattle.unl_refresh.specs.declared.slot_poller.SlotPoller.{SlotPoller}
 
 -- ---- one exchange
 
 -- for the book; the call's host is the poller's
 pub book_polled : (texts : List (List ℕ)) (asked host : List ℕ) (before after : Installed) (peer peer_after : PeerView)
-    (tags : List (Option (List ℕ))) (metrics : Book) (told : Result Outcome RefreshFault) (result : Result Unit Memory) → asked ≡ host
-    → OnOk result (told ≢ Err want) → OnErr result (told ≡ Err want)
-    → RefreshedTokens texts asked before peer told after peer_after → HasPeerCause told peer.faults peer_after.faults
+    (tags : List (Option (List ℕ))) (metrics : Book) (reported : Result Outcome RefreshFault) (result : Result Unit Memory) → asked ≡ host
+    → OnOk result (reported ≢ Err out_of_memory) → OnErr result (reported ≡ Err out_of_memory)
+    → RefreshedTokens texts asked before peer reported after peer_after → HasPeerCause reported peer.faults peer_after.faults
     → ByResult result (TakesBook texts host) (StopsAtBook texts host) (poll_state before tags metrics peer) (poll_state after tags metrics peer_after)
-book_polled texts asked host before after peer peer_after tags metrics told result same some is leaves causes =
-    by_result told result some is causes
-    (subst (λ (h : List ℕ). RefreshedTokens texts h before peer told after peer_after) same leaves)
+book_polled texts asked host before after peer peer_after tags metrics reported result same some is leaves causes =
+    by_result reported result some is causes
+    (subst (λ (h : List ℕ). RefreshedTokens texts h before peer reported after peer_after) same leaves)
   where
-    by_result : (told : Result Outcome RefreshFault) (result : Result Unit Memory)
-        → OnOk result (told ≢ Err want) → OnErr result (told ≡ Err want) → HasPeerCause told peer.faults peer_after.faults
-        → RefreshedTokens texts host before peer told after peer_after
+    by_result : (reported : Result Outcome RefreshFault) (result : Result Unit Memory)
+        → OnOk result (reported ≢ Err out_of_memory) → OnErr result (reported ≡ Err out_of_memory) → HasPeerCause reported peer.faults peer_after.faults
+        → RefreshedTokens texts host before peer reported after peer_after
         → ByResult result (TakesBook texts host) (StopsAtBook texts host) (poll_state before tags metrics peer) (poll_state after tags metrics peer_after)
-    by_result told (Err e) some is causes leaves = record {
+    by_result reported (Err e) some is causes leaves = record {
       installed = subst (λ (r : Result Outcome RefreshFault). OnErr r (after ≡ before)) is leaves.fault;
       tags = refl;
       metrics = refl;
@@ -61,7 +61,7 @@ book_polled texts asked host before after peer peer_after tags metrics told resu
       tags = refl;
       metrics = refl;
     }
-    by_result (Err want) (Ok u) some is causes leaves = absurd (some refl)
+    by_result (Err out_of_memory) (Ok u) some is causes leaves = absurd (some refl)
 
 -- the request parameters of an ask, for an environment
 abbrev parameters_for : List ℕ → Ask → SlotParameters
@@ -69,13 +69,13 @@ parameters_for environment ask = record { environment = environment; host = ask.
 
 -- for what is new in a slot
 pub slot_refreshed : (slot : ℕ) (environment : List ℕ) (ask ask_after : Ask) (before after : Installed) (peer peer_after : PeerView)
-    (tags : List (Option (List ℕ))) (metrics : Book) (told : Result Outcome RefreshFault) (result : Result Unit Memory)
-    → OnOk result (told ≢ Err want) → OnErr result (told ≡ Err want)
-    → RefreshedOnce slot (refresh_state before ask peer) told (refresh_state after ask_after peer_after)
-    → HasPeerCause told peer.faults peer_after.faults
+    (tags : List (Option (List ℕ))) (metrics : Book) (reported : Result Outcome RefreshFault) (result : Result Unit Memory)
+    → OnOk result (reported ≢ Err out_of_memory) → OnErr result (reported ≡ Err out_of_memory)
+    → RefreshedOnce slot (refresh_state before ask peer) reported (refresh_state after ask_after peer_after)
+    → HasPeerCause reported peer.faults peer_after.faults
     → ByResult result (TakesSlot slot (parameters_for environment ask) ask.tag) (StopsRefreshing slot (parameters_for environment ask) ask.tag)
     (poll_state before tags metrics peer) (poll_state after (set tags slot ask_after.tag) metrics peer_after)
-slot_refreshed slot environment ask ask_after before after peer peer_after tags metrics told (Err e) some is leaves causes = record {
+slot_refreshed slot environment ask ask_after before after peer peer_after tags metrics reported (Err e) some is leaves causes = record {
   installed = subst (λ (r : Result Outcome RefreshFault). OnErr r (after ≡ before)) is leaves.fault;
   tags = ap (λ (t : Option (List ℕ)). set tags slot t)
       (subst (λ (r : Result Outcome RefreshFault). OnErr r (ask_after.tag ≡ None)) is leaves.no_tag);
@@ -97,12 +97,12 @@ slot_refreshed slot environment ask ask_after before after peer peer_after tags 
   tags = ap (λ (t : Option (List ℕ)). set tags slot t) leaves.no_tag;
   metrics = refl;
 }
-slot_refreshed slot environment ask ask_after before after peer peer_after tags metrics (Err want) (Ok u) some is leaves causes =
+slot_refreshed slot environment ask ask_after before after peer peer_after tags metrics (Err out_of_memory) (Ok u) some is leaves causes =
     absurd (some refl)
 
 -- nothing was sent, so nothing was dropped
-none_dropped : (environment : List ℕ) (coming : Option (List ℕ)) (before after : Book) (told : Result MetricsOutcome RefreshFault)
-    → IfOk told (SendsBulk None coming) → IfOk told (λ outcome. after ≡ book_after environment outcome before) → OnErr told (after ≡ before)
+none_dropped : (environment : List ℕ) (coming : Option (List ℕ)) (before after : Book) (reported : Result MetricsOutcome RefreshFault)
+    → IfOk reported (SendsBulk None coming) → IfOk reported (λ outcome. after ≡ book_after environment outcome before) → OnErr reported (after ≡ before)
     → after ≡ before
 none_dropped environment coming before after (Ok outcome) sends book fault =
     book ∙ ap (λ (o : MetricsOutcome). book_after environment o before) sends
@@ -110,22 +110,22 @@ none_dropped environment coming before after (Err e) sends book fault = fault
 
 -- for a report of metrics, if there is one
 report_sent : (found : Option (Data × ℕ)) (parameters : SlotParameters) (installed : Installed) (tags : List (Option (List ℕ)))
-    (before after : Book) (peer peer_after : PeerView) (told : Result MetricsOutcome RefreshFault) (result : Result Unit Memory)
-    → OnOk result (told ≢ Err want) → OnErr result (told ≡ Err want)
-    → IfOk told (SendsBulk found (option_map next_of peer.replies))
-    → IfOk told (λ outcome. after ≡ book_after parameters.environment outcome before) → OnErr told (after ≡ before)
-    → OnOk told (AsksBulk found parameters.host parameters.token peer.replies peer.history peer_after.replies peer_after.history)
+    (before after : Book) (peer peer_after : PeerView) (reported : Result MetricsOutcome RefreshFault) (result : Result Unit Memory)
+    → OnOk result (reported ≢ Err out_of_memory) → OnErr result (reported ≡ Err out_of_memory)
+    → IfOk reported (SendsBulk found (option_map next_of peer.replies))
+    → IfOk reported (λ outcome. after ≡ book_after parameters.environment outcome before) → OnErr reported (after ≡ before)
+    → OnOk reported (AsksBulk found parameters.host parameters.token peer.replies peer.history peer_after.replies peer_after.history)
     → AsksBulkAtMostOnce found parameters.host parameters.token peer.replies peer.history peer_after.replies peer_after.history
-    → HasPeerCause told peer.faults peer_after.faults → (found ≡ None → peer_after ≡ peer)
+    → HasPeerCause reported peer.faults peer_after.faults → (found ≡ None → peer_after ≡ peer)
     → ByResult result (SendsIfAny found parameters) (StopsIfAny found parameters)
     (poll_state installed tags before peer) (poll_state installed tags after peer_after)
-report_sent None parameters installed tags before after peer peer_after told (Ok u) some is sends book fault asks once causes silent =
-    λ i. poll_state installed tags (none_dropped parameters.environment (option_map next_of peer.replies) before after told sends book fault i)
+report_sent None parameters installed tags before after peer peer_after reported (Ok u) some is sends book fault asks once causes silent =
+    λ i. poll_state installed tags (none_dropped parameters.environment (option_map next_of peer.replies) before after reported sends book fault i)
     (silent refl i)
-report_sent None parameters installed tags before after peer peer_after told (Err e) some is sends book fault asks once causes silent =
-    λ i. poll_state installed tags (none_dropped parameters.environment (option_map next_of peer.replies) before after told sends book fault i)
+report_sent None parameters installed tags before after peer peer_after reported (Err e) some is sends book fault asks once causes silent =
+    λ i. poll_state installed tags (none_dropped parameters.environment (option_map next_of peer.replies) before after reported sends book fault i)
     (silent refl i)
-report_sent (Some (report, count)) parameters installed tags before after peer peer_after told (Err e) some is sends book fault asks once causes silent = record {
+report_sent (Some (report, count)) parameters installed tags before after peer peer_after reported (Err e) some is sends book fault asks once causes silent = record {
   installed = refl;
   tags = refl;
   metrics = subst (λ (r : Result MetricsOutcome RefreshFault). OnErr r (after ≡ before)) is fault;
@@ -146,35 +146,35 @@ report_sent (Some (report, count)) parameters installed tags before after peer p
   installed = refl;
   tags = refl;
 }
-report_sent (Some (report, count)) parameters installed tags before after peer peer_after (Err want) (Ok u) some is sends book fault asks once causes silent =
+report_sent (Some (report, count)) parameters installed tags before after peer peer_after (Err out_of_memory) (Ok u) some is sends book fault asks once causes silent =
     absurd (some refl)
 
 -- for the metrics of a slot's environment; the call's texts are those of the slot
 pub metrics_sent : (parameters : SlotParameters) (environment host token : List ℕ) (installed : Installed) (tags : List (Option (List ℕ)))
-    (before after : Book) (peer peer_after : PeerView) (told : Result MetricsOutcome RefreshFault) (result : Result Unit Memory)
+    (before after : Book) (peer peer_after : PeerView) (reported : Result MetricsOutcome RefreshFault) (result : Result Unit Memory)
     → environment ≡ parameters.environment → host ≡ parameters.host → token ≡ parameters.token
-    → OnOk result (told ≢ Err want) → OnErr result (told ≡ Err want)
-    → SentMetrics environment host token before peer told after peer_after
-    → HasPeerCause told peer.faults peer_after.faults → (bulk environment before ≡ None → peer_after ≡ peer)
+    → OnOk result (reported ≢ Err out_of_memory) → OnErr result (reported ≡ Err out_of_memory)
+    → SentMetrics environment host token before peer reported after peer_after
+    → HasPeerCause reported peer.faults peer_after.faults → (bulk environment before ≡ None → peer_after ≡ peer)
     → ByResult result (SendsMetrics parameters) (StopsSending parameters)
     (poll_state installed tags before peer) (poll_state installed tags after peer_after)
-metrics_sent parameters environment host token installed tags before after peer peer_after told result named asked shown some is leaves causes silent =
+metrics_sent parameters environment host token installed tags before after peer peer_after reported result named asked shown some is leaves causes silent =
     by_result result some is
-    (subst (λ (e : List ℕ). SentMetrics e parameters.host parameters.token before peer told after peer_after) named
-    (subst (λ (h : List ℕ). SentMetrics environment h parameters.token before peer told after peer_after) asked
-    (subst (λ (t : List ℕ). SentMetrics environment host t before peer told after peer_after) shown leaves)))
+    (subst (λ (e : List ℕ). SentMetrics e parameters.host parameters.token before peer reported after peer_after) named
+    (subst (λ (h : List ℕ). SentMetrics environment h parameters.token before peer reported after peer_after) asked
+    (subst (λ (t : List ℕ). SentMetrics environment host t before peer reported after peer_after) shown leaves)))
     (subst (λ (e : List ℕ). bulk e before ≡ None → peer_after ≡ peer) named silent)
   where
-    by_result : (result : Result Unit Memory) → OnOk result (told ≢ Err want) → OnErr result (told ≡ Err want)
-        → SentMetrics parameters.environment parameters.host parameters.token before peer told after peer_after
+    by_result : (result : Result Unit Memory) → OnOk result (reported ≢ Err out_of_memory) → OnErr result (reported ≡ Err out_of_memory)
+        → SentMetrics parameters.environment parameters.host parameters.token before peer reported after peer_after
         → (bulk parameters.environment before ≡ None → peer_after ≡ peer)
         → ByResult result (SendsMetrics parameters) (StopsSending parameters)
         (poll_state installed tags before peer) (poll_state installed tags after peer_after)
     by_result (Ok u) some is leaves silent =
-        report_sent (bulk parameters.environment before) parameters installed tags before after peer peer_after told (Ok u) some is
+        report_sent (bulk parameters.environment before) parameters installed tags before after peer peer_after reported (Ok u) some is
         leaves.sends leaves.book leaves.fault leaves.asks leaves.once causes silent
     by_result (Err e) some is leaves silent =
-        report_sent (bulk parameters.environment before) parameters installed tags before after peer peer_after told (Err e) some is
+        report_sent (bulk parameters.environment before) parameters installed tags before after peer peer_after reported (Err e) some is
         leaves.sends leaves.book leaves.fault leaves.asks leaves.once causes silent
 
 -- ---- a slot

@@ -18,7 +18,7 @@ abbrev pub AddsText : Option (List (List ℕ)) → List ℕ → Option (List (Li
 AddsText history text history_after = history_after ≡ option_map (λ texts. texts ++ text ∷ []) history
 
 -- The history has a prefix of this text as one more, the last.
-pub record AddsFront (history : Option (List (List ℕ))) (text : List ℕ) (history_after : Option (List (List ℕ))) : Type 0 where
+pub record AddsPrefix (history : Option (List (List ℕ))) (text : List ℕ) (history_after : Option (List (List ℕ))) : Type 0 where
   pub part : List ℕ
   pub after : List ℕ
   pub split : text ≡ part ++ after
@@ -32,7 +32,7 @@ pub record Asks (request : List ℕ) (replies history replies_after history_afte
 -- One connection is made, it uses up one reply, and a prefix of the request is sent on it, and nothing else.
 pub record AsksPart (request : List ℕ) (replies history replies_after history_after : Option (List (List ℕ))) : Type 0 where
   pub one_reply : replies_after ≡ option_map (λ list. drop 1 list) replies
-  pub sends : AddsFront history request history_after
+  pub sends : AddsPrefix history request history_after
 
 -- Nothing is used up and nothing sent; or one connection is made, and the request or a prefix of it is sent on it.
 abbrev pub AsksAtMostOnce : (request : List ℕ) (replies history replies_after history_after : Option (List (List ℕ))) → Type 0

@@ -1,6 +1,6 @@
 //! The outcomes of refreshing and of sending metrics.
 ghost use Rattle.std.specs.Prelude.{◌≡◌};
-ghost use Rattle.unl_refresh.specs.declared.outcome.RefreshFault.TheVariants.{PeerFault as peer_fault, Memory as want};
+ghost use Rattle.unl_refresh.specs.declared.outcome.RefreshFault.TheVariants.{PeerFault as peer_fault, Memory as out_of_memory};
 
 use thiserror::Error;
 use unl_base::Failed;
@@ -83,7 +83,7 @@ impl From<Failed> for RefreshFault {
 }
 
 impl From<NoMemory> for RefreshFault {
-    ghost from_gives = { λ _ e. e ≡ want };
+    ghost from_gives = { λ _ e. e ≡ out_of_memory };
 
     fn from(_e: NoMemory) -> RefreshFault {
         RefreshFault::Memory

@@ -4,7 +4,7 @@ use Rattle.std.specs.List.{AllByRecursion, count_by}
 use Rattle.std.specs.Prelude.{codes, map, ok_or}
 use Rattle.std.specs.Str.{bytes_eq}
 use Rattle.serde_json.specs.Data.{Data}
-use Rattle.unl_base.specs.Streams.{HasEnded, Sends, SendsFront, Takes}
+use Rattle.unl_base.specs.Streams.{HasEnded, Sends, SendsPrefix, Takes}
 use Rattle.unl_core.specs.DeskStates.{with_name}
 use Rattle.unl_core.specs.Histories.{AreLines, Histories, RepresentedAt}
 use Rattle.unl_core.proofs.Showing.{shows_revision}
@@ -295,14 +295,14 @@ replays_lines (Err ReadFault) left left_after old new takes =
           (all_of 1 opening ls takes.answered.ending, subst (λ t. Sends old t new) (same_text 1 opening ls) takes.answered.sent);
     }
 replays_lines (Err WriteFault) left left_after old new takes =
-    let front : SendsFront old (whole_text (replay_of takes.read)) new = of_read (λ bytes. SendsFront old (whole_text (replay_of bytes)) new) left left_after takes in
+    let front : SendsPrefix old (whole_text (replay_of takes.read)) new = of_read (λ bytes. SendsPrefix old (whole_text (replay_of bytes)) new) left left_after takes in
     record {
       takes = takes;
       read = takes.read;
       took = takes.took;
       answered = among_first takes.read (lines takes.read) (Err WriteFault) old new (λ k few. refl) (
         (replay_of takes.read).ending,
-        subst (λ t. SendsFront old (t ++ ending_text (replay_of takes.read).ending) new) (same_text 1 opening (lines takes.read)) front,
+        subst (λ t. SendsPrefix old (t ++ ending_text (replay_of takes.read).ending) new) (same_text 1 opening (lines takes.read)) front,
       );
     }
 replays_lines (Err Memory) left left_after old new takes =

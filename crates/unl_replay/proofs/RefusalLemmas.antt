@@ -16,28 +16,28 @@ use Rattle.unl_input.specs.declared.line.LineRefusal.TheVariants as line
 use Rattle.unl_replay.specs.Refusals.{Causes, LineReading, refusal_text, refusing, refusal_for, refusal_for_batch, refusal_for_book}
 
 -- a fault that is passed on, where one of the faults is out of memory
-handed_on : {A E : Type 0} (becomes : E → Refusal) (memory : E) → becomes memory ≡ Memory → (e : E) (refusal : Refusal) (reading : Result A E)
+forwarded : {A E : Type 0} (becomes : E → Refusal) (memory : E) → becomes memory ≡ Memory → (e : E) (refusal : Refusal) (reading : Result A E)
     → refusal ≡ becomes e → (e ≢ memory → reading ≡ Err e) → refusal ≢ Memory → refusing becomes reading ≡ Err refusal
-handed_on becomes memory none e refusal reading made told other =
-    ap (refusing becomes) (told (λ same. other (made ∙ ap becomes same ∙ none))) ∙ ap Err (sym made)
+forwarded becomes memory none e refusal reading made known other =
+    ap (refusing becomes) (known (λ same. other (made ∙ ap becomes same ∙ none))) ∙ ap Err (sym made)
 
 -- a fault of a document
 pub refused : {A : Type 0} (e : BadDocument) (refusal : Refusal) (reading : Result A BadDocument) → refusal ≡ refusal_for e → (e ≢ document.Memory → reading ≡ Err e)
     → refusal ≢ Memory → refusing refusal_for reading ≡ Err refusal
-refused e refusal reading made told other = handed_on refusal_for document.Memory refl e refusal reading made told other
+refused e refusal reading made known other = forwarded refusal_for document.Memory refl e refusal reading made known other
 
 -- a fault of a batch
 pub refused_batch : {A : Type 0} (e : BadBatch) (refusal : Refusal) (reading : Result A BadBatch) → refusal ≡ refusal_for_batch e → (e ≢ batch.Memory → reading ≡ Err e)
     → refusal ≢ Memory → refusing refusal_for_batch reading ≡ Err refusal
-refused_batch e refusal reading made told other = handed_on refusal_for_batch batch.Memory refl e refusal reading made told other
+refused_batch e refusal reading made known other = forwarded refusal_for_batch batch.Memory refl e refusal reading made known other
 
 -- a fault of a book
 pub refused_book : {A : Type 0} (e : BadBook) (refusal : Refusal) (reading : Result A BadBook) → refusal ≡ refusal_for_book e → (e ≢ book.Memory → reading ≡ Err e)
     → refusal ≢ Memory → refusing refusal_for_book reading ≡ Err refusal
-refused_book e refusal reading made told other = handed_on refusal_for_book book.Memory refl e refusal reading made told other
+refused_book e refusal reading made known other = forwarded refusal_for_book book.Memory refl e refusal reading made known other
 
 -- a refused line, with the cause that is printed for it
 pub refused_line : {A : Type 0} (r : LineRefusal) (refusal : Refusal) (stated : LineReading (Taken A)) (desk : A) → Causes r refusal
     → (refusal ≢ Memory → stated ≡ Err refusal) → TakesLine (Err r) desk (refusing refusal_text stated)
-refused_line (Cause text) refusal stated desk causes told = ap (refusing refusal_text) (told causes.0) ∙ ap Err (sym causes.1)
-refused_line line.Memory refusal stated desk causes told = tt
+refused_line (Cause text) refusal stated desk causes known = ap (refusing refusal_text) (known causes.0) ∙ ap Err (sym causes.1)
+refused_line line.Memory refusal stated desk causes known = tt

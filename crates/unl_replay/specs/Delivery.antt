@@ -80,7 +80,8 @@ IsSentFromHistory histories delivery = IsSent (histories.line delivery.environme
 abbrev pub AllSent : Histories → ℕ → ReplayState → List (List ℕ) → Type 0
 AllSent histories k b [] = ⊤
 AllSent histories k b (line ∷ more) =
-    IfOk (brought b line) (IsSentFromHistory histories) × IfOk (take_line line_answer k b line) (λ taken. AllSent histories (k + 1) taken.desk more)
+    IfOk (brought b line) (IsSentFromHistory histories)
+    × IfOk (take_line line_answer k b line) (λ taken. AllSent histories (k + 1) taken.desk more)
 
 -- The ask is answered over a board whose slots each represent the line of histories of their environment, and what a token is
 -- shown of it is one revision.
@@ -100,4 +101,5 @@ AsksFromHistories histories k b (line ∷ more) =
 -- each environment, each ask among them is answered from these histories.
 abbrev pub DeliversRevisions : List ℕ → Type 0
 DeliversRevisions bytes =
-    (histories : Histories) → AreLines histories → AllSent histories 1 opening (lines bytes) → AsksFromHistories histories 1 opening (lines bytes)
+    (histories : Histories) → AreLines histories → AllSent histories 1 opening (lines bytes)
+    → AsksFromHistories histories 1 opening (lines bytes)

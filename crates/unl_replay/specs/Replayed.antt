@@ -1,7 +1,7 @@
 -- The lines of a replay that were answered: what they print, and what holds along them.
 use Rattle.std.specs.Prelude.{◌≡◌, ⊤, ℕ, ◌+◌, List, [], ◌∷◌, ◌++◌, length, map, take, Option, IfOk, Result, Ok, Err}
 use Rattle.std.specs.List.{AllByRecursion}
-use Rattle.unl_base.specs.Streams.{Sends, SendsFront, Takes}
+use Rattle.unl_base.specs.Streams.{Sends, SendsPrefix, Takes}
 use Rattle.unl_core.specs.Board.{snapshot_in}
 use Rattle.unl_core.specs.Histories.{AllRepresented, AreLines, Histories, ShowsRevisions}
 use Rattle.unl_delta.specs.History.{IsNotBelow}
@@ -87,7 +87,7 @@ abbrev pub SendsAnswers : Result (Unit {0}) LinesFault → List ℕ → List Rep
 SendsAnswers (Ok u) bytes ones old new = (bytes_of ones ≡ lines bytes) × Sends old (text_of ones) new
 SendsAnswers (Err Bad) bytes ones old new = (k : ℕ) × (cause : List ℕ) × Sends old (text_of ones ++ refused_text k cause) new
 SendsAnswers (Err ReadFault) bytes ones old new = (bytes_of ones ≡ ended_lines bytes) × Sends old (text_of ones) new
-SendsAnswers (Err WriteFault) bytes ones old new = (ending : Ending) × SendsFront old (text_of ones ++ ending_text ending) new
+SendsAnswers (Err WriteFault) bytes ones old new = (ending : Ending) × SendsPrefix old (text_of ones ++ ending_text ending) new
 SendsAnswers (Err Memory) bytes ones old new = Sends old (text_of ones) new
 
 -- The first lines of these bytes were answered, one after another, and their text was sent. Their asks are answered over one

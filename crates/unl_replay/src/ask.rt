@@ -18,7 +18,9 @@ const LAST_MOMENT: u64 = 100_000_000_000_000;
 /// A request with the parts given in the line, and the draw to answer it with.
 #[derive(Drop)]
 pub struct Ask {
+    /// The request.
     pub request: Request,
+    /// The moment and the random word to answer it with.
     pub draw: Draw,
 }
 

@@ -22,6 +22,7 @@ use unl_metrics::MetricsBook;
 /// The state that the lines change.
 #[derive(Drop)]
 pub struct ReplayState {
+    /// The desk that the asks are answered by.
     pub desk: OneDesk,
     /// The metrics that the asks report.
     pub book: MetricsBook,

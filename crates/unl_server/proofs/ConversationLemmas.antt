@@ -2,7 +2,7 @@
 use Rattle.std.proofs.Common.{◌≡◌, ℕ, ◌+◌, ◌<◌, Bool, true, ◌||◌, List, [], ◌∷◌, ◌++◌, length, refl, sym, ap, ◌∙◌, subst, arith, append_assoc, append-nil, Option, Some, None, ◌⊎◌, inl, inr}
 use Rattle.std.specs.Prelude.{◌==◌}
 use Rattle.std.proofs.lemmas.Bool.Decides.{nat_tests}
-use Rattle.unl_base.specs.Streams.{Takes, HasEnded, Sends, SendsFront}
+use Rattle.unl_base.specs.Streams.{Takes, HasEnded, Sends, SendsPrefix}
 use Rattle.unl_http_api.specs.declared.end.End.{End}
 use Rattle.unl_http_api.specs.declared.end.End.TheVariants.{Closed, Asked, Limit, Refused, CutOff, ReadFault, WriteFault, Memory}
 use Rattle.unl_http_api.specs.declared.reply.Reply.{Reply}
@@ -186,8 +186,8 @@ either_end read requests (b ∷ rest) reads stay few unfinished closed cut_off =
     inr (cut_off (Session-cut_off read requests (b ∷ rest) reads stay few (λ h. cc) unfinished))
 
 -- after a text, a prefix of another was sent
-SendsPrefix_after : (old mid new : Option (List ℕ)) (a b : List ℕ) → Sends old a mid → SendsFront mid b new
-    → SendsFront old (a ++ b) new
+SendsPrefix_after : (old mid new : Option (List ℕ)) (a b : List ℕ) → Sends old a mid → SendsPrefix mid b new
+    → SendsPrefix old (a ++ b) new
 SendsPrefix_after old mid new a b sends prefix = record {
   part = a ++ prefix.part;
   after = prefix.after;
@@ -199,12 +199,12 @@ SendsPrefix_after old mid new a b sends prefix = record {
 cut_in_reply : {S : Type 0} (Step : S → Request → Reply → S → Type 0) (start now new : Connection S)
     (requests : List Request) (last close : Bool) (bytes : List ℕ) → Talk Step start now requests
     → last ≡ (length requests == 999) → StayOpen requests → length requests < 1000 → start.left ≡ Some bytes
-    → Exchanges SendsFront Step last close now new → CutInReply Step bytes start.sent start.state new.state new.sent
+    → Exchanges SendsPrefix Step last close now new → CutInReply Step bytes start.sent start.state new.state new.sent
 cut_in_reply Step start now new requests last close bytes talk is stay few known turn =
     let took = Takes_more start.left now.left new.left talk.read turn.read talk.took turn.took in
     let prefix = Takes_known bytes (talk.read ++ turn.read) new.left
     (subst (λ (l : Option (List ℕ)). Takes l (talk.read ++ turn.read) new.left) known took) in
-    let reads = turn_reads SendsFront Step start now new requests last close talk turn in record {
+    let reads = turn_reads SendsPrefix Step start now new requests last close talk turn in record {
       earlier = requests;
       request = turn.request;
       rest = new.held ++ prefix.0;
@@ -212,7 +212,7 @@ cut_in_reply Step start now new requests last close bytes talk is stay few known
       reads = subst (λ (b : List ℕ). Reads b (requests ++ turn.request ∷ []) (new.held ++ prefix.0)) (sym prefix.2)
           (Reads-append (talk.read ++ turn.read) (requests ++ turn.request ∷ []) new.held prefix.0 reads);
       first = record { few = few; open_all = stay };
-      answered = turn_answered SendsFront Step start now new requests last close talk is turn;
+      answered = turn_answered SendsPrefix Step start now new requests last close talk is turn;
       sends = SendsPrefix_after start.sent now.sent new.sent talk.text
           (reply_text turn.replies.reply (turn.request.close || last)) talk.sends turn.replies.sends;
     }
@@ -221,10 +221,10 @@ cut_in_reply Step start now new requests last close bytes talk is stay few known
 cut_in_refusal : {S : Type 0} (Step : S → Request → Reply → S → Type 0) (start now new : Connection S)
     (requests : List Request) (bytes : List ℕ) (status : ℕ) → Talk Step start now requests → StayOpen requests
     → length requests < 1000 → start.left ≡ Some bytes
-    → Stops SendsFront (λ bytes left. IsBad bytes status) (refusal_text status) now new
+    → Stops SendsPrefix (λ bytes left. IsBad bytes status) (refusal_text status) now new
     → CutInRefusal Step bytes start.sent start.state new.state new.sent
 cut_in_refusal {S} Step start now new requests bytes status talk stay few known stop =
-    let prefix = stopped SendsFront _ (refusal_text status) Step start now new requests bytes talk stop known in record {
+    let prefix = stopped SendsPrefix _ (refusal_text status) Step start now new requests bytes talk stop known in record {
       requests = requests;
       status = status;
       text = talk.text;

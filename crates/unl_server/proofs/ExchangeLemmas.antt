@@ -1,6 +1,6 @@
 -- How a turn ends.
 use Rattle.std.proofs.Common.{◌≡◌, ℕ, Bool, ◌||◌, List, ◌++◌, refl, sym, subst, Option, Some, None, inl, inr}
-use Rattle.unl_base.specs.Streams.{Takes, Sends, SendsFront}
+use Rattle.unl_base.specs.Streams.{Takes, Sends, SendsPrefix}
 use Rattle.unl_http_api.specs.declared.end.End.{End}
 use Rattle.unl_http_api.specs.declared.end.End.TheVariants.{Closed, Asked, Limit, Refused, CutOff, ReadFault, WriteFault, Memory}
 use Rattle.unl_http_api.specs.declared.reply.Reply.{Reply}
@@ -32,7 +32,7 @@ turn_refused Step RunsOut last old new status WriteFault held left sent receives
     took = subst (λ (l : Option (List ℕ)). Takes old.left receives.read l) (sym same) receives.took;
     found = receives.next.0;
     same = same_state;
-    sends = subst (λ (before : Option (List ℕ)). SendsFront before (refusal_text status) new.sent) unsent refuses;
+    sends = subst (λ (before : Option (List ℕ)). SendsPrefix before (refusal_text status) new.sent) unsent refuses;
   },
 )
 turn_refused Step RunsOut last old new status Memory held left sent receives same same_state unsent refuses = inl same_state
@@ -46,7 +46,7 @@ turn_refused Step RunsOut last old new status CutOff held left sent receives sam
 pub refused_end : (status : ℕ) (sent sent_after : Option (List ℕ)) (text : List ℕ) (end : End) → text ≡ refusal_text status
     → Writes text sent (Some end) sent_after → Refuses status sent end sent_after
 refused_end status sent sent_after text WriteFault is writes =
-    subst (λ (t : List ℕ). SendsFront sent t sent_after) is writes
+    subst (λ (t : List ℕ). SendsPrefix sent t sent_after) is writes
 refused_end status sent sent_after text Memory is writes = tt
 refused_end status sent sent_after text (Refused reported) is writes = absurd writes
 refused_end status sent sent_after text ReadFault is writes = absurd writes
@@ -71,9 +71,9 @@ turn_cut Step RunsOut last close old new request WriteFault held left sent recei
     begins = subst (BeginsWith (old.held ++ receives.read) request) (sym same_held) receives.next;
     closes = refl;
     replies = subst
-        (λ (before : Option (List ℕ)). Replies SendsFront Step request (request.close || last) old.state new.state before new.sent)
+        (λ (before : Option (List ℕ)). Replies SendsPrefix Step request (request.close || last) old.state new.state before new.sent)
         unsent
-        (subst (λ (c : Bool). Replies SendsFront Step request c old.state new.state sent new.sent) is replied);
+        (subst (λ (c : Bool). Replies SendsPrefix Step request c old.state new.state sent new.sent) is replied);
   },
 )
 turn_cut Step RunsOut last close old new request Memory held left sent receives same same_held unsent is replied = inr (record {

@@ -2,7 +2,7 @@
 -- of one answer on the handler's state, and `RunsOut before request after` the effect of running out of memory at a request.
 use Rattle.std.specs.Prelude.{◌≡◌, ◌≢◌, ◌≤◌, ℕ, ◌+◌, ◌⊎◌, ◌==◌, ◌||◌, List, [], ◌∷◌, ◌++◌, length, Option, Some, ⊤}
 use Rattle.unl_base.specs.Faults.{Rose}
-use Rattle.unl_base.specs.Streams.{Sends, SendsFront}
+use Rattle.unl_base.specs.Streams.{Sends, SendsPrefix}
 use Rattle.unl_http_api.specs.declared.end.End.{End}
 use Rattle.unl_http_api.specs.declared.end.End.TheVariants.{Closed, Asked, Limit, Refused, CutOff, ReadFault, WriteFault, Memory}
 use Rattle.unl_http_api.specs.declared.reply.Reply.{Reply}
@@ -66,7 +66,7 @@ pub record CutInReply
   pub reads : Reads bytes (earlier ++ request ∷ []) rest
   pub first : IsOpen 1000 earlier
   pub answered : Answered Step 0 before (earlier ++ request ∷ []) text after
-  pub sends : SendsFront sent text sent_after
+  pub sends : SendsPrefix sent text sent_after
 
 -- a write failed in a refusal: the session ends with it, and only a prefix of the replies and the refusal was sent
 pub record CutInRefusal
@@ -77,7 +77,7 @@ pub record CutInRefusal
   pub text : List ℕ
   pub session : Session bytes requests (Refused status)
   pub answered : Answered Step 0 before requests text after
-  pub sends : SendsFront sent (text ++ refusal_text status) sent_after
+  pub sends : SendsPrefix sent (text ++ refusal_text status) sent_after
 
 -- a request begins the bytes, and its reply was not sent in full
 pub record IsUnreplied

@@ -1,7 +1,7 @@
 -- One exchange on a connection: a request and its reply, or the end.
 use Rattle.std.specs.Prelude.{◌≡◌, ◌≢◌, ℕ, ◌⊎◌, ◌||◌, Bool, true, false, List, [], ◌++◌, Option, Some, None, ⊤}
 use Rattle.unl_base.specs.Faults.{Rose}
-use Rattle.unl_base.specs.Streams.{Takes, HasEnded, Sends, SendsFront}
+use Rattle.unl_base.specs.Streams.{Takes, HasEnded, Sends, SendsPrefix}
 use Rattle.unl_http_api.specs.declared.end.End.{End}
 use Rattle.unl_http_api.specs.declared.end.End.TheVariants.{Closed, Asked, Limit, Refused, CutOff, ReadFault, WriteFault, Memory}
 use Rattle.unl_http_api.specs.declared.reply.Reply.{Reply}
@@ -78,14 +78,14 @@ ServesTurn Step RunsOut last old (Some (Refused status)) new =
 ServesTurn Step RunsOut last old (Some Limit) new = ⊥
 ServesTurn Step RunsOut last old (Some ReadFault) new = Stops Sends (λ bytes left. IsUnfinished bytes) [] old new
 ServesTurn Step RunsOut last old (Some WriteFault) new =
-    ((close : Bool) × Exchanges SendsFront Step last close old new)
-    ⊎ ((status : ℕ) × Stops SendsFront (λ bytes left. IsBad bytes status) (refusal_text status) old new)
+    ((close : Bool) × Exchanges SendsPrefix Step last close old new)
+    ⊎ ((status : ℕ) × Stops SendsPrefix (λ bytes left. IsBad bytes status) (refusal_text status) old new)
 ServesTurn Step RunsOut last old (Some Memory) new = (new.state ≡ old.state) ⊎ Breaks Step RunsOut old new
 
 -- the effect of writing a text; `None` if all of it was sent
 abbrev pub Writes : List ℕ → Option (List ℕ) → Option End → Option (List ℕ) → Type 0
 Writes text sent None sent_after = Sends sent text sent_after
-Writes text sent (Some WriteFault) sent_after = SendsFront sent text sent_after
+Writes text sent (Some WriteFault) sent_after = SendsPrefix sent text sent_after
 Writes text sent (Some Memory) sent_after = ⊤
 Writes text sent (Some end) sent_after = ⊥
 
@@ -96,14 +96,14 @@ abbrev pub Replied :
 Replied Step RunsOut request close before after sent None sent_after =
     Replies Sends Step request close before after sent sent_after
 Replied Step RunsOut request close before after sent (Some WriteFault) sent_after =
-    Replies SendsFront Step request close before after sent sent_after
+    Replies SendsPrefix Step request close before after sent sent_after
 Replied Step RunsOut request close before after sent (Some Memory) sent_after = Unreplied Step RunsOut before request after
 Replied Step RunsOut request close before after sent (Some end) sent_after = ⊥
 
 -- the effect of refusing
 abbrev pub Refuses : ℕ → Option (List ℕ) → End → Option (List ℕ) → Type 0
 Refuses status sent (Refused reported) sent_after = (reported ≡ status) × Sends sent (refusal_text status) sent_after
-Refuses status sent WriteFault sent_after = SendsFront sent (refusal_text status) sent_after
+Refuses status sent WriteFault sent_after = SendsPrefix sent (refusal_text status) sent_after
 Refuses status sent Memory sent_after = ⊤
 Refuses status sent end sent_after = ⊥
 

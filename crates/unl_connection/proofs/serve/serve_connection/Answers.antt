@@ -25,43 +25,43 @@ returns-clause-converses g c =
 pub returns-clause-fronts : goal.returns-clause-fronts
 returns-clause-fronts g c =
     let after = c.serve_requests-conversed.new.state in
-    let told : ReflectsNotes (known_by g.D.Desk.front g.D.Desk.board_at g.D.Desk.fronts c.args.desk.now) (g.R.Draws.coming c.args.draws.now)
+    let reflected : ReflectsNotes (known_by g.D.Desk.front g.D.Desk.board_at g.D.Desk.fronts c.args.desk.now) (g.R.Draws.coming c.args.draws.now)
     c.serve_requests-conversed.result.1 (known_by g.D.Desk.front g.D.Desk.board_at g.D.Desk.fronts after.desk.now)
     (g.R.Draws.coming c.serve_requests-conversed.new.draws) after.served.now =
     reflects (λ (s : DeskHandler g.row.D.Denot). seen (known_by g.D.Desk.front g.D.Desk.board_at g.D.Desk.fronts s.desk.now) s.served.now s.book.now)
     _ _ c.serve_requests-conversed.result.1 c.serve_requests-conversed.result.0 c.requires c.serve_requests-conversed.ensures.converses.answered in
-    let fact : Rise (g.D.Desk.front c.args.desk.now) after.served.now (g.D.Desk.front after.desk.now) = told.fronts in
+    let fact : Rise (g.D.Desk.front c.args.desk.now) after.served.now (g.D.Desk.front after.desk.now) = reflected.fronts in
     search rules
 
 pub returns-clause-looks : goal.returns-clause-looks
 returns-clause-looks g c =
     let after = c.serve_requests-conversed.new.state in
-    let told : ReflectsNotes (known_by g.D.Desk.front g.D.Desk.board_at g.D.Desk.fronts c.args.desk.now) (g.R.Draws.coming c.args.draws.now)
+    let reflected : ReflectsNotes (known_by g.D.Desk.front g.D.Desk.board_at g.D.Desk.fronts c.args.desk.now) (g.R.Draws.coming c.args.draws.now)
     c.serve_requests-conversed.result.1 (known_by g.D.Desk.front g.D.Desk.board_at g.D.Desk.fronts after.desk.now)
     (g.R.Draws.coming c.serve_requests-conversed.new.draws) after.served.now =
     reflects (λ (s : DeskHandler g.row.D.Denot). seen (known_by g.D.Desk.front g.D.Desk.board_at g.D.Desk.fronts s.desk.now) s.served.now s.book.now)
     _ _ c.serve_requests-conversed.result.1 c.serve_requests-conversed.result.0 c.requires c.serve_requests-conversed.ensures.converses.answered in
-    let fact : LooksFor (g.D.Desk.fronts c.args.desk.now) after.served.now c.serve_requests-conversed.result.1 (g.D.Desk.fronts after.desk.now) = told.looks in
+    let fact : LooksFor (g.D.Desk.fronts c.args.desk.now) after.served.now c.serve_requests-conversed.result.1 (g.D.Desk.fronts after.desk.now) = reflected.looks in
     search rules
 
 pub returns-clause-drawn : goal.returns-clause-drawn
 returns-clause-drawn g c =
     let after = c.serve_requests-conversed.new.state in
-    let told : ReflectsNotes (known_by g.D.Desk.front g.D.Desk.board_at g.D.Desk.fronts c.args.desk.now) (g.R.Draws.coming c.args.draws.now)
+    let reflected : ReflectsNotes (known_by g.D.Desk.front g.D.Desk.board_at g.D.Desk.fronts c.args.desk.now) (g.R.Draws.coming c.args.draws.now)
     c.serve_requests-conversed.result.1 (known_by g.D.Desk.front g.D.Desk.board_at g.D.Desk.fronts after.desk.now)
     (g.R.Draws.coming c.serve_requests-conversed.new.draws) after.served.now =
     reflects (λ (s : DeskHandler g.row.D.Denot). seen (known_by g.D.Desk.front g.D.Desk.board_at g.D.Desk.fronts s.desk.now) s.served.now s.book.now)
     _ _ c.serve_requests-conversed.result.1 c.serve_requests-conversed.result.0 c.requires c.serve_requests-conversed.ensures.converses.answered in
-    let fact : DrawsAtLeast (g.R.Draws.coming c.args.draws.now) after.served.now (g.R.Draws.coming c.serve_requests-conversed.new.draws) = told.drawn in
+    let fact : DrawsAtLeast (g.R.Draws.coming c.args.draws.now) after.served.now (g.R.Draws.coming c.serve_requests-conversed.new.draws) = reflected.drawn in
     search rules
 
 pub returns-clause-keeps : goal.returns-clause-keeps
 returns-clause-keeps g c k board there =
     let after = c.serve_requests-conversed.new.state in
-    let told : ReflectsNotes (known_by g.D.Desk.front g.D.Desk.board_at g.D.Desk.fronts c.args.desk.now) (g.R.Draws.coming c.args.draws.now)
+    let reflected : ReflectsNotes (known_by g.D.Desk.front g.D.Desk.board_at g.D.Desk.fronts c.args.desk.now) (g.R.Draws.coming c.args.draws.now)
     c.serve_requests-conversed.result.1 (known_by g.D.Desk.front g.D.Desk.board_at g.D.Desk.fronts after.desk.now)
     (g.R.Draws.coming c.serve_requests-conversed.new.draws) after.served.now =
     reflects (λ (s : DeskHandler g.row.D.Denot). seen (known_by g.D.Desk.front g.D.Desk.board_at g.D.Desk.fronts s.desk.now) s.served.now s.book.now)
     _ _ c.serve_requests-conversed.result.1 c.serve_requests-conversed.result.0 c.requires c.serve_requests-conversed.ensures.converses.answered in
-    let fact : g.D.Desk.board_at after.desk.now k ≡ Some board = told.keeps k board there in
+    let fact : g.D.Desk.board_at after.desk.now k ≡ Some board = reflected.keeps k board there in
     search rules

@@ -7,12 +7,12 @@ use Rattle.unl_http_api.proofs.first_item.first_item.Goals as goal
 
 pub weigh-requires : goal.weigh-requires
 weigh-requires c =
-    let seen = subst (IsSeen c.window-front.result.now c.see.new.spans) c.in-Head.is c.in-Some.ensures.seen in
-    parts_at c.args.held.now _ _ c.in-Head.head c.new.result c.window-front.ensures.value c.window-front.ensures.fits
+    let seen = subst (IsSeen c.window-prefix.result.now c.see.new.spans) c.in-Head.is c.in-Some.ensures.seen in
+    parts_at c.args.held.now _ _ c.in-Head.head c.new.result c.window-prefix.ensures.value c.window-prefix.ensures.fits
     seen.0 seen.1 c.new.ensures
 
 pub returns-then-held-lt-WINDOW : goal.returns-then-held-lt-WINDOW
 returns-then-held-lt-WINDOW c =
-    let seen = subst (IsSeen c.window-front.result.now c.see.new.spans) c.in-Unfinished.is c.in-Some.ensures.seen in
-    no_head_yet c.args.held.now c.if-held-lt-WINDOW.true (subst HasNoRequest c.window-front.ensures.value seen.0)
-    (subst (λ (w : List ℕ). IsHopeless w → ⊥) c.window-front.ensures.value seen.1)
+    let seen = subst (IsSeen c.window-prefix.result.now c.see.new.spans) c.in-Unfinished.is c.in-Some.ensures.seen in
+    no_head_yet c.args.held.now c.if-held-lt-WINDOW.true (subst HasNoRequest c.window-prefix.ensures.value seen.0)
+    (subst (λ (w : List ℕ). IsHopeless w → ⊥) c.window-prefix.ensures.value seen.1)

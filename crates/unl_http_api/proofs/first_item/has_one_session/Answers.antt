@@ -11,9 +11,9 @@ pub returns-then-close : goal.returns-then-close
 returns-then-close c =
     let so_far = c.loop-turn.invariant in
     let few : length so_far.asked < 1000 = omega (arith, so_far.count, c.loop-turn-test.true) in
-    let stands = c.in-Request.ensures in
+    let one = c.in-Request.ensures in
     has_one_of c.args.bytes.now
-    (session_asked c.args.bytes.now so_far.asked _ _ stands.0 so_far.reads so_far.stay few stands.1 (stands.2 ∙ c.if-close.true))
+    (session_asked c.args.bytes.now so_far.asked _ _ one.0 so_far.reads so_far.stay few one.1 (one.2 ∙ c.if-close.true))
 
 pub returns-in-More : goal.returns-in-More
 returns-in-More c =
@@ -32,12 +32,12 @@ returns-in-Bad c =
 pub loop-turn-preserved : goal.loop-turn-preserved
 loop-turn-preserved c =
     let so_far = c.loop-turn.invariant in
-    let stands = c.in-Request.ensures in
+    let one = c.in-Request.ensures in
     record {
-      asked = so_far.asked ++ stands.0 ∷ [];
-      reads = rw c.after-rest.ensures (Reads_more c.args.bytes.now so_far.asked stands.0 _ _ so_far.reads stands.1);
-      stay = StayOpen_more so_far.asked stands.0 so_far.stay (stands.2 ∙ c.if-close.false);
-      count = omega (arith, so_far.count, length-append so_far.asked (stands.0 ∷ []));
+      asked = so_far.asked ++ one.0 ∷ [];
+      reads = rw c.after-rest.ensures (Reads_more c.args.bytes.now so_far.asked one.0 _ _ so_far.reads one.1);
+      stay = StayOpen_more so_far.asked one.0 so_far.stay (one.2 ∙ c.if-close.false);
+      count = omega (arith, so_far.count, length-append so_far.asked (one.0 ∷ []));
     }
 
 pub returns : goal.returns

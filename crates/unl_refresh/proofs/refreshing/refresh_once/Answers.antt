@@ -7,9 +7,9 @@ returns-clause-next_reply g c =
     let leaves = c.refresh.ensures.leaves in
     let causes = c.refresh.ensures.causes in
     record {
-      next_reply = λ list reading told is. refreshed_by_reply _ _ _ _ _ _ _ list reading leaves.takes told is;
-      complete = λ list got batch told is status batch_is verdict calm found.
-          completes _ _ _ _ _ _ (refreshed_by_reply _ _ _ _ _ _ _ list _ leaves.takes told is)
+      next_reply = λ list reading known is. refreshed_by_reply _ _ _ _ _ _ _ list reading leaves.takes known is;
+      complete = λ list got batch known is status batch_is verdict calm found.
+          completes _ _ _ _ _ _ (refreshed_by_reply _ _ _ _ _ _ _ list _ leaves.takes known is)
           (applies _ _ _ _ got batch status batch_is verdict) causes.cause calm found;
       one_reply = λ calm found. takes_one _ _ _ _ _ _ _ leaves.asks causes.cause calm found;
     }

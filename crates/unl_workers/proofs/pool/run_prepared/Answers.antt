@@ -93,12 +93,12 @@ returns-in-Ok-clause-each_link_served_once g c some =
     let same : SameLinks puts.0 (flat_map (λ (share : List g.row.D-L.Denot). share) shares) =
     λ h. ap (weigh h) (sym put) ∙ c.all_taken.ensures (omega (arith, long, seen, some)) h ∙ ap (weigh h) taken in
     let before : List (WorkerSlot g.row.S.Denot g.row.R.Denot) = map slot_of was in
-    let at_posts = all_served g.S.Server.serves g.S.Server.keeps g.R.Draws.coming state_of Fits
+    let at_slots = all_served g.S.Server.serves g.S.Server.keeps g.R.Draws.coming state_of Fits
     (λ p q same fits. (same.0 ∙ fits.0, same.2 ∙ fits.1)) was done each c.requires.passes in
     let served : ServedAtEach g.S.Server.serves g.R.Draws.coming state_of shares before c.collect_slots-slots.result.items =
     subst (λ (slots : List (WorkerSlot g.row.S.Denot g.row.R.Denot)).
     ServedAtEach g.S.Server.serves g.R.Draws.coming state_of shares before slots)
-    (sym c.collect_slots-slots.ensures.slots) at_posts in
+    (sym c.collect_slots-slots.ensures.slots) at_slots in
     record {
       given = puts.0;
       shares = shares;

@@ -6,7 +6,7 @@ use Rattle.crossbeam_queue.specs.Passes.{view}
 use Rattle.unl_workers.specs.Passes.{IsPassOfQueue}
 use Rattle.unl_workers.specs.declared.tally.Tally.{Tally}
 use Rattle.unl_workers.specs.Tallies.{tally}
-use Rattle.unl_workers.proofs.Collecting.{all_back, all_front, items_chunk, mapped_all, none_found, pieces_chunk}
+use Rattle.unl_workers.proofs.Collecting.{all_back, all_prefix, items_chunk, mapped_all, none_found, pieces_chunk}
 use Rattle.unl_workers.proofs.WorkerSlots.{chunked, same_slots}
 use Rattle.unl_workers.specs.Pool.{slot_of, taken_by, worker_of}
 use Rattle.unl_workers.specs.declared.worker.Worker.{Worker}
@@ -16,7 +16,7 @@ pub collect_slot-requires-clause-passes : goal.collect_slot-requires-clause-pass
 collect_slot-requires-clause-passes g c =
     let Done : Worker g.row.S.Denot g.row.R.Denot g.row.L.Denot g.row.W.Denot → Type 0 =
     λ worker. IsPassOfQueue c.args.queue.now worker.pass × (view worker.pass ≡ tally 1 [] (taken_by worker) 0 1) in
-    all_front Done (option_to_list (worker_of c.in-Some.job)) (filter_map worker_of c.next.new.self.rest.items)
+    all_prefix Done (option_to_list (worker_of c.in-Some.job)) (filter_map worker_of c.next.new.self.rest.items)
     (All-same Done _ _ (sym (chunked worker_of c.in-Some.job _ _ c.in-Some.ensures.steps.0)) c.loop-job.invariant.passes)
 
 pub collect_slot-requires-clause-room : goal.collect_slot-requires-clause-room
