@@ -2,13 +2,12 @@
 ghost use Rattle.std.specs.Prelude.{◌≡◌, true};
 
 use crate::machine::Machine;
-use crate::upstreams::{give, opened, state_of_dev};
+use crate::upstreams::{opened, put, state_of_dev};
 use sqlite::{Connection, FileStore, Files, Options};
 use sqlite_disk::{Crash, Disk, Memory};
 use std::alloc::Global;
 use std::cell::Cell;
 use std::rc::Rc;
-use std::test::Fail;
 use unl_keeper::{Keeper, SqliteKeeper};
 use unl_upstream::Upstream;
 
@@ -17,20 +16,6 @@ const NAMES: &str = "abcdefghij";
 
 /// An upper bound on the disk calls of a run.
 const MOST: u64 = 2000;
-
-/// Puts a feature of this name, and returns its version number if the command is acknowledged.
-fn put<K: Keeper>(alloc: Global, up: &mut Upstream, keeper: &mut K, name: char) -> Option<u64>
-    requires { (K.state keeper.old).opened ≡ true }
-    ensures { (K.state keeper.new).opened ≡ true }
-{
-    let text = format!(in alloc;
-        r#"{{"command":"put-feature","environment":"dev","feature":{{"name":"{name}","enabled":true}}}}"#
-    );
-    match text {
-        Ok(text) => give(alloc, up, keeper, text.as_str())?.ok(),
-        Err(_) => None,
-    }
-}
 
 /// Puts the features in order until one is not acknowledged with the next version number, and returns how many were.
 fn put_all<K: Keeper>(alloc: Global, up: &mut Upstream, keeper: &mut K) -> u64
@@ -69,24 +54,24 @@ fn run<D: Disk + Drop>(alloc: Global, files: Files<D>) -> (u64, Files<D>) {
         Err(left) => return (0, left),
     };
     let done = match opened(alloc, &mut keeper) {
-        Ok(mut up) => put_all(alloc, &mut up, &mut keeper),
-        Err(_) => 0,
+        Some(mut up) => put_all(alloc, &mut up, &mut keeper),
+        None => 0,
     };
     (done, keeper.into_connection().0.into_store().close())
 }
 
 /// Reopens an upstream from the files and returns how many commands it has. Returns `None` unless its features are exactly
 /// that many of the first names, its version number is that count, and one more put gets the next number.
-fn found(alloc: Global, files: Files<Memory>) -> Option<u64> {
+fn found<D: Disk + Drop>(alloc: Global, files: Files<D>) -> Option<u64> {
     let mut keeper = SqliteKeeper::new(open(alloc, files).ok()?);
     match opened(alloc, &mut keeper) {
-        Ok(mut up) => {
+        Some(mut up) => {
             let (number, names) = state_of_dev(alloc, &up)?;
-            let is_front = NAMES.starts_with(names.as_str()) && names.len() as u64 == number;
+            let is_prefix = NAMES.starts_with(names.as_str()) && names.len() as u64 == number;
             let next = put(alloc, &mut up, &mut keeper, 'z')?;
-            (is_front && next == number.saturating_add(1)).then_some(number)
+            (is_prefix && next == number.saturating_add(1)).then_some(number)
         }
-        Err(_) => None,
+        None => None,
     }
 }
 
@@ -99,42 +84,45 @@ fn after(machine: Machine<Memory>, loses: bool) -> Memory {
     disk
 }
 
+/// Returns two empty files of a machine that stops when this clock is at 0.
+fn files_of(alloc: Global, clock: &Rc<Cell<u64>>) -> Option<Files<Machine<Memory>>> {
+    Some(Files {
+        log: Machine::new(Memory::new(alloc), clock.clone().ok()?),
+        db: Machine::new(Memory::new(alloc), clock.clone().ok()?),
+    })
+}
+
 /// Runs on a machine that stops after this number of disk calls. Returns how many commands were acknowledged, how many are
 /// found after reopening, and whether the machine used up its calls.
-fn stops_at(alloc: Global, calls: u64, loses: bool) -> Result<(u64, Option<u64>, bool), Fail> {
-    let clock = Rc::new(alloc, Cell::new(calls))?;
-    let log = Machine::new(Memory::new(alloc), clock.clone()?);
-    let db = Machine::new(Memory::new(alloc), clock.clone()?);
-    let (done, Files { log, db }) = run(alloc, Files { log, db });
-    let stopped = clock.get() == 0;
+fn stops_at(alloc: Global, calls: u64, loses: bool) -> Option<(u64, u64, bool)> {
+    let clock = Rc::new(alloc, Cell::new(calls)).ok()?;
+    let (done, Files { log, db }) = run(alloc, files_of(alloc, &clock)?);
     let files = Files {
         log: after(log, loses),
         db: after(db, loses),
     };
-    Ok((done, found(alloc, files), stopped))
+    Some((done, found(alloc, files)?, clock.get() == 0))
 }
 
 /// Runs with 0, 1, 2 and so on allowed disk calls, and returns the first number that a run does not use up. Returns `None` if
 /// some run, reopened, has neither what it acknowledged nor that and one more command, or if the last run lacks one of the
 /// ten.
-fn calls_of_a_run(alloc: Global, loses: bool) -> Result<Option<u64>, Fail> {
+fn calls_of_a_run(alloc: Global, loses: bool) -> Option<u64> {
     for calls in 0..MOST {
         let (done, found, stopped) = stops_at(alloc, calls, loses)?;
-        if found != Some(done) && found != Some(done.saturating_add(1)) {
-            return Ok(None);
+        if found != done && found != done.saturating_add(1) {
+            return None;
         }
         if !stopped {
-            return Ok((found == Some(10)).then_some(calls));
+            return (found == 10).then_some(calls);
         }
     }
-    Ok(None)
+    None
 }
 
 #[test]
-fn a_stop_at_each_disk_call(rt: HostRuntime) -> Result<(), Fail> {
-    let alloc = rt.alloc();
-    let calls = calls_of_a_run(alloc, true)?;
+fn a_stop_at_each_disk_call(rt: HostRuntime) {
+    let calls = calls_of_a_run(rt.alloc(), true);
     assert!(rt; calls.is_some_and(|n| n > 20));
-    assert_eq!(rt; calls_of_a_run(alloc, false)?, calls);
-    Ok(())
+    assert!(rt; calls_of_a_run(rt.alloc(), false) == calls);
 }

@@ -138,7 +138,7 @@ fn askers(alloc: Global, readers: Vec<EdgeReader>) -> Result<Vec<Asking>, Memory
 }
 
 /// Publishes on this thread while each reader answers requests in its own thread.
-fn publish_beside<R: Threads + Wait>(
+fn publish_concurrently<R: Threads + Wait>(
     rt: &R,
     alloc: Global,
     writer: &mut EdgeWriter<'_, R>,
@@ -164,7 +164,7 @@ fn publish_beside<R: Threads + Wait>(
 }
 
 /// Whether what the writer reports has its list, for each of the two readers.
-fn tells_lists<W: Wait>(writer: &mut EdgeWriter<'_, W>) -> bool {
+fn reports_lists<W: Wait>(writer: &mut EdgeWriter<'_, W>) -> bool {
     let first = writer.tell();
     let second = writer.tell();
     first.has_list() && second.has_list()
@@ -172,9 +172,9 @@ fn tells_lists<W: Wait>(writer: &mut EdgeWriter<'_, W>) -> bool {
 
 fn side_by_side<R: Threads + Wait>(rt: &R, alloc: Global, orderly: bool) -> Result<bool, Memory> {
     let (mut writer, readers) = begun(rt, alloc, orderly)?;
-    let whole = tells_lists(&mut writer);
+    let whole = reports_lists(&mut writer);
     let good = match askers(alloc, readers) {
-        Ok(asking) => publish_beside(rt, alloc, &mut writer, asking),
+        Ok(asking) => publish_concurrently(rt, alloc, &mut writer, asking),
         Err(Memory) => false,
     };
     writer.end();

@@ -1,4 +1,4 @@
-//! Tests of published values: readers that learn of a publication, and a reader concurrent with its writer.
+//! A test of published values, with a reader that learns of publications and one that does not.
 ghost use Rattle.std.specs.Prelude.{◌≡◌, ◌<◌, ◌≤◌, IfOk, IfSome};
 ghost use Rattle.unl_publication.specs.Looking.{SameOrigin};
 ghost use Rattle.unl_publication.specs.Seen.{next, published, reported_list};
@@ -7,8 +7,7 @@ use left_right::Absorb;
 use std::alloc::{AllocError, Global};
 use std::sync::Wait;
 use std::test::Fail;
-use std::thread::{Threads, join};
-use unl_publication::{Counted, Publisher, Reader, Ruled, Told, Writer, begin, new_reader};
+use unl_publication::{Counted, Publisher, Reader, Ruled, Told, Writer, new_reader};
 
 /// A number that is published, and its front.
 #[derive(Drop)]
@@ -57,11 +56,17 @@ fn opening() -> Setting
     }
 }
 
+/// A reader of settings.
+type Readers = Reader<Setting, u64, Ruled<u64>>;
+
+/// A publisher of settings.
+type Settings<'a, W> = Publisher<'a, W, Setting, u64, Ruled<u64>>;
+
+/// What a look saw: the front, and the sum of the number there and one that was asked. `None` if the look failed.
+type Look = Option<(u64, u64)>;
+
 /// Looks once, and returns the front and the sum of the number seen and `asked`.
-fn answer(
-    reader: Reader<Setting, u64, Ruled<u64>>,
-    asked: u64,
-) -> (Reader<Setting, u64, Ruled<u64>>, Option<(u64, u64)>)
+fn answer(reader: Readers, asked: u64) -> (Readers, Look)
     ensures { SameOrigin (next result.0) (next reader) }
 {
     match reader.enter() {
@@ -76,7 +81,7 @@ fn answer(
 
 /// Publishes a number and returns what `tell` gives.
 fn publish_and_tell<W: Wait>(
-    writer: &mut Publisher<'_, W, Setting, u64, Ruled<u64>>,
+    writer: &mut Settings<'_, W>,
     number: u64,
 ) -> Result<Told<Setting, u64, Ruled<u64>>, AllocError>
     ensures writer { SameOrigin (published writer.new) (published writer.old) }
@@ -88,90 +93,19 @@ fn publish_and_tell<W: Wait>(
     }
 }
 
-/// The first reader looks, then learns of a publication and looks again. The second reader looks without having learned.
+/// The reader learns once after each of two looks, then twice without a look, and at last of an older publication. The other one
+/// looks after the first publication.
 fn look<W: Wait>(
-    writer: &mut Publisher<'_, W, Setting, u64, Ruled<u64>>,
-    learns: Result<Reader<Setting, u64, Ruled<u64>>, AllocError>,
-    other: Result<Reader<Setting, u64, Ruled<u64>>, AllocError>,
-) -> Result<(Option<(u64, u64)>, Option<(u64, u64)>), AllocError>
-    requires { IfOk learns (λ reader. SameOrigin (next reader) (published writer.old)) }
-{
-    let other = other?;
-    let (mut learns, _) = answer(learns?, 0);
-    learns.learn(publish_and_tell(writer, 7)?);
-    let (_, told) = answer(learns, 100);
-    let (_, untold) = answer(other, 200);
-    Ok((told, untold))
-}
-
-/// Returns what two readers see, the first of which learned of a publication, with room for this many seats.
-fn told_and_untold<W: Wait>(
-    rt: &W,
-    alloc: Global,
-    seats: usize,
-) -> Result<(Option<(u64, u64)>, Option<(u64, u64)>), AllocError>
-    requires { (0 < seats) × (seats ≤ 16) }
-{
-    let mut writer = Writer::new(rt, alloc, opening(), opening(), seats)?;
-    let learns = new_reader(&mut writer);
-    let other = new_reader(&mut writer);
-    let mut writer = Publisher::new(rt, writer);
-    let seen = look(&mut writer, learns, other);
-    writer.end();
-    seen
-}
-
-/// With only two seats, `tell` gives only a front.
-#[test]
-fn a_told_reader_sees_what_was_published(rt: HostRuntime) -> Result<(), Fail> {
-    for seats in 2..4 {
-        let (told, untold) = told_and_untold(&rt, rt.alloc(), seats)?;
-        assert_eq!(rt; told, Some((1, 107)));
-        assert!(rt; untold == Some((0, 200)) || untold == Some((1, 207)));
-    }
-    Ok(())
-}
-
-/// Whether what the writer reports has its list, with one reader and room for this many seats.
-fn tells_its_list<W: Wait>(rt: &W, alloc: Global, seats: usize) -> Result<bool, AllocError>
-    requires { (0 < seats) × (seats ≤ 16) }
-{
-    let mut writer = Writer::<Setting, u64, Ruled<u64>>::new(
-        rt,
-        alloc,
-        opening(),
-        opening(),
-        seats,
-    )?;
-    let reader = new_reader(&mut writer);
-    let told = writer.tell();
-    let whole = told.has_list();
-    writer.end(rt);
-    match reader {
-        Ok(_) => Ok(whole),
-        Err(e) => Err(e),
-    }
-}
-
-/// `tell` has the list if there is room for one more reader.
-#[test]
-fn the_list_is_told_where_there_is_room(rt: HostRuntime) -> Result<(), Fail> {
-    for seats in 1..5 {
-        assert_eq!(rt; tells_its_list(&rt, rt.alloc(), seats)?, seats > 1);
-    }
-    Ok(())
-}
-
-/// The reader learns once after each of two looks, then twice without a look, and at last of an older publication.
-fn learn_again<W: Wait>(
-    writer: &mut Publisher<'_, W, Setting, u64, Ruled<u64>>,
-    reader: Reader<Setting, u64, Ruled<u64>>,
-) -> Result<[Option<(u64, u64)>; 5], AllocError>
+    writer: &mut Settings<'_, W>,
+    reader: Readers,
+    other: Readers,
+) -> Result<([Look; 5], Look), AllocError>
     requires { SameOrigin (next reader) (published writer.old) }
 {
     let (mut reader, zero) = answer(reader, 100);
     reader.learn(publish_and_tell(writer, 7)?);
     let (mut reader, one) = answer(reader, 100);
+    let (_, not_learned) = answer(other, 200);
     reader.learn(publish_and_tell(writer, 8)?);
     let (mut reader, two) = answer(reader, 100);
     let first = publish_and_tell(writer, 9)?;
@@ -182,81 +116,48 @@ fn learn_again<W: Wait>(
     let (mut reader, five) = answer(reader, 100);
     reader.learn(second);
     let (_, still) = answer(reader, 100);
-    Ok([zero, one, two, five, still])
+    Ok(([zero, one, two, five, still], not_learned))
 }
 
-fn told_again<W: Wait>(rt: &W, alloc: Global) -> Result<[Option<(u64, u64)>; 5], AllocError> {
-    let mut writer = Writer::new(rt, alloc, opening(), opening(), 4)?;
+/// Returns whether the writer reports its list at first, and what two readers see, with room for this many seats.
+fn looks<W: Wait>(
+    rt: &W,
+    alloc: Global,
+    seats: usize,
+) -> Result<(bool, [Look; 5], Look), AllocError>
+    requires { (0 < seats) × (seats ≤ 16) }
+{
+    let mut writer = Writer::new(rt, alloc, opening(), opening(), seats)?;
     let reader = new_reader(&mut writer);
+    let other = new_reader(&mut writer);
+    let has_list = writer.tell().has_list();
     let mut writer = Publisher::new(rt, writer);
-    let seen = match reader {
-        Ok(reader) => learn_again(&mut writer, reader),
-        Err(e) => Err(e),
+    let seen = match (reader, other) {
+        (Ok(reader), Ok(other)) => look(&mut writer, reader, other),
+        _ => Err(AllocError),
     };
     writer.end();
-    seen
+    let (learned, not_learned) = seen?;
+    Ok((has_list, learned, not_learned))
 }
 
+/// What the reader that learns sees.
+const LEARNED: [Look; 5] = [
+    Some((0, 100)),
+    Some((1, 107)),
+    Some((2, 108)),
+    Some((5, 111)),
+    Some((5, 111)),
+];
+
+/// A list is reported only if there is room for one more reader. Without it a reader learns the front alone.
 #[test]
-fn a_reader_is_told_again_and_again(rt: HostRuntime) -> Result<(), Fail> {
-    let seen = told_again(&rt, rt.alloc())?;
-    let fronts = [0, 1, 2, 5, 5];
-    let given = [100, 107, 108, 111, 111];
-    for look in 0..5 {
-        assert_eq!(rt; seen[look], Some((fronts[look], given[look])));
+fn a_reader_learns_again_and_again(rt: HostRuntime) -> Result<(), Fail> {
+    for seats in 2..5 {
+        let (has_list, learned, not_learned) = looks(&rt, rt.alloc(), seats)?;
+        assert!(rt; has_list == (seats > 2));
+        assert!(rt; learned == LEARNED);
+        assert!(rt; not_learned == Some((0, 200)) || not_learned == Some((1, 207)));
     }
-    Ok(())
-}
-
-fn publish_many<W: Wait>(writer: &mut Publisher<'_, W, Setting, u64, Ruled<u64>>) -> bool {
-    let mut good = true;
-    for number in 1..21u64 {
-        let published = writer.publish(number);
-        good = good && matches!(published, Ok(front) if front == number);
-    }
-    good
-}
-
-/// Each answer must have the number that was published at its front, and the fronts must not fall.
-fn answer_many(reader: Reader<Setting, u64, Ruled<u64>>) -> bool {
-    let mut reader = reader;
-    let mut last = 0;
-    let mut good = true;
-    for _ in 0..500 {
-        let (next, seen) = answer(reader, 1000);
-        reader = next;
-        good = good
-            && matches!(seen, Some((front, given)) if last <= front && given == 1000 + front.min(20));
-        if let Some((front, _)) = seen {
-            last = front;
-        }
-    }
-    good
-}
-
-/// A writer publishes while a reader looks, each in its own thread.
-fn side_by_side<R: Threads + Wait + Sync>(rt: &R, alloc: Global) -> Result<bool, AllocError> {
-    let (writer, mut readers) = begin::<Setting, u64, Ruled<u64>, _>(
-        rt,
-        alloc,
-        opening(),
-        opening(),
-        16,
-        16,
-    )?;
-    let mut writer = Publisher::new(rt, writer);
-    let reader = readers.pop();
-    let (published, answered) = join(
-        rt,
-        || publish_many(&mut writer),
-        || reader.map(answer_many) == Some(true),
-    );
-    writer.end();
-    Ok(published && answered && readers.len() == 15)
-}
-
-#[test]
-fn a_writer_publishes_beside_a_reader(rt: HostRuntime) -> Result<(), Fail> {
-    assert!(rt; side_by_side(&rt, rt.alloc())?);
     Ok(())
 }

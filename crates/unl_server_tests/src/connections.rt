@@ -1,137 +1,249 @@
-//! Single connections: a request however its bytes are split across reads, and how connections end.
+//! Single connections: requests however their bytes are split, requests that are cut off, refused or at a limit, and how
+//! connections end.
 ghost use Rattle.std.specs.Prelude.{◌<◌};
 
 use std::alloc::Global;
-use std::test::Fail;
-use unl_base::{Draw, ListDraws, MemoryLink};
-use unl_connection::{Served, ServedOne, serve_connection};
+use unl_base::{ListDraws, MemoryLink};
+use unl_connection::{Served, serve_connection};
 use unl_core::{Board, OneDesk};
-use unl_delta::Installer;
-use unl_documents::{List, Memory};
+use unl_documents::List;
 use unl_http_api::End;
 use unl_metrics::MetricsBook;
-use unl_tokens::Book;
 
-pub(crate) const HEALTH: &[u8] = b"GET /internal-backstage/health HTTP/1.1\r\nHost: x\r\n\r\n";
+/// What a connection is sent, how many of its requests are answered, and how it ends.
+type Outcome = (&'static [u8], usize, End);
 
-pub(crate) const HEALTHY: &[u8] =
-    b"HTTP/1.1 200 OK\r\nContent-Type: application/json\r\nContent-Length: 15\r\n\r\n{\"status\":\"OK\"}";
-
-const DRAW: Draw = Draw { now: 1, word: 2 };
-
-/// The bytes that a connection was sent, the notes of the answered requests, and how it ended.
-#[derive(Drop)]
-pub(crate) struct Outcome {
-    pub sent: Vec<u8>,
-    pub served: Served,
-    pub end: End,
+/// Returns the desk of a board without tokens.
+fn desk(alloc: Global) -> Option<OneDesk> {
+    let board = Board::new(alloc, 0, "", &List::new(alloc)).ok()?;
+    OneDesk::new(alloc, board).ok()
 }
 
-const TOKENS: &[u8] =
-    b"{\"tokens\":[{\"token\":\"*:dev.f\",\"type\":\"frontend\"},{\"token\":\"*:dev.c\",\"type\":\"client\"}]}";
-
-/// Returns a desk with a token of each kind, at front 1. Their environment has no state.
-fn desk(alloc: Global) -> Result<OneDesk, Memory> {
-    let Ok(book) = Book::read(alloc, TOKENS) else {
-        return Err(Memory);
-    };
-    let board = Board::new(alloc, 0, "", &List::new(alloc))?;
-    let mut desk = OneDesk::new(alloc, board)?;
-    desk.install_book(alloc, book)?;
-    Ok(desk)
+/// Serves a link. Returns the number of requests answered, and how the connection ended.
+fn serve(alloc: Global, link: &mut MemoryLink) -> Option<(usize, End)> {
+    let mut desk = desk(alloc)?;
+    let mut served = Served::new(alloc).ok()?;
+    let mut book = MetricsBook::new(alloc);
+    let mut draws = ListDraws::new(Vec::new(alloc));
+    let end = serve_connection(alloc, &mut desk, &mut book, link, &mut draws, &mut served);
+    Some((served.len(), end))
 }
 
-/// Serves a connection whose reads give at most `most` of the bytes at a time.
-pub(crate) fn serve(alloc: Global, bytes: &[u8], most: usize) -> Result<Outcome, Memory>
+/// Returns a link whose reads give at most `most` of the bytes at a time.
+fn link_of(alloc: Global, bytes: &[u8], most: usize) -> Option<MemoryLink>
     requires { 0 < most }
 {
-    let mut desk = desk(alloc)?;
-    let Ok(mut link) = MemoryLink::new(alloc, bytes.to_vec(alloc)?, most, 200_000, Vec::new(alloc))
-    else {
-        return Err(Memory);
-    };
-    let mut draws = ListDraws::new(vec![in alloc; DRAW]?);
-    let mut served = Served::new(alloc)?;
-    let mut book = MetricsBook::new(alloc);
-    let end = serve_connection(
-        alloc,
-        &mut desk,
-        &mut book,
-        &mut link,
-        &mut draws,
-        &mut served,
-    );
-    Ok(Outcome {
-        sent: link.sent().to_vec(alloc)?,
-        served,
-        end,
-    })
+    let bytes = bytes.to_vec(alloc).ok()?;
+    MemoryLink::new(alloc, bytes, most, 10_000, Vec::new(alloc)).ok()
 }
+
+/// Serves a connection whose reads give at most `most` of the bytes at a time. Returns whether it has this outcome.
+fn has_outcome(alloc: Global, bytes: &[u8], most: usize, outcome: Outcome) -> bool
+    requires { 0 < most }
+{
+    let Some(mut link) = link_of(alloc, bytes, most) else {
+        return false;
+    };
+    match serve(alloc, &mut link) {
+        Some((answered, end)) => (link.sent(), answered, end) == outcome,
+        None => false,
+    }
+}
+
+const HEALTH: &[u8] = b"GET /internal-backstage/health HTTP/1.1\r\nHost: x\r\n\r\n";
+
+const HEALTHY: Outcome = (
+    b"HTTP/1.1 200 OK\r\nContent-Type: application/json\r\nContent-Length: 15\r\n\r\n{\"status\":\"OK\"}",
+    1,
+    End::Closed,
+);
+
+/// A request whose body is a whole request for the health, and then such a request.
+const SPELLED_IN_A_BODY: &[u8] = b"POST /no HTTP/1.1\r\nHost: x\r\nContent-Length: 52\r\n\r\n\
+    GET /internal-backstage/health HTTP/1.1\r\nHost: x\r\n\r\n\
+    GET /internal-backstage/health HTTP/1.1\r\nHost: x\r\n\r\n";
+
+const TWO_REPLIES: Outcome = (
+    b"HTTP/1.1 404 Not Found\r\nContent-Type: application/json\r\nContent-Length: 23\r\n\r\n{\"error\":\"NoSuchRoute\"}\
+    HTTP/1.1 200 OK\r\nContent-Type: application/json\r\nContent-Length: 15\r\n\r\n{\"status\":\"OK\"}",
+    2,
+    End::Closed,
+);
 
 #[test]
-fn a_health_request_however_it_is_split(rt: HostRuntime) -> Result<(), Fail> {
-    let alloc = rt.alloc();
-    for most in 1..60 {
-        let outcome = serve(alloc, HEALTH, most)?;
-        assert_eq!(rt; outcome.sent.as_slice(), HEALTHY);
-        assert_eq!(rt; outcome.served.len(), 1);
-        let note = ServedOne {
-            front: 1,
-            draw: DRAW,
-        };
-        assert_eq!(rt; outcome.served.get(0), Some(&note));
-        assert_eq!(rt; outcome.served.get(1), None);
-        assert_eq!(rt; outcome.end, End::Closed);
+fn requests_however_they_are_split(rt: HostRuntime) {
+    for most in 1..120 {
+        assert!(rt; has_outcome(rt.alloc(), HEALTH, most, HEALTHY), "{most}");
+        assert!(rt;
+            has_outcome(rt.alloc(), SPELLED_IN_A_BODY, most, TWO_REPLIES),
+            "{most}"
+        );
     }
-    Ok(())
 }
 
-/// Bytes that end the connection without a refusal, the number of requests answered, and how it ends.
-const ENDS: [(&[u8], usize, End); 10] = [
-    (b"", 0, End::Closed),
-    (b"GET", 0, End::CutOff),
-    (b"GET /no HTTP/1.1\r\nHost: x\r\n", 0, End::CutOff),
+const NOTHING: Outcome = (b"", 0, End::Closed);
+
+const CUT_OFF: Outcome = (b"", 0, End::CutOff);
+
+#[test]
+fn a_request_cut_short(rt: HostRuntime) {
+    for count in 0..HEALTH.len() {
+        let start = HEALTH.get(..count).unwrap_or_default();
+        let outcome = if count == 0 { NOTHING } else { CUT_OFF };
+        assert!(rt; has_outcome(rt.alloc(), start, 4_096, outcome), "{count}");
+    }
+}
+
+/// The reply to a request for `/no`.
+const NO_ROUTE: &[u8] =
+    b"HTTP/1.1 404 Not Found\r\nContent-Type: application/json\r\nContent-Length: 23\r\n\r\n{\"error\":\"NoSuchRoute\"}";
+
+/// The same, to a request after which the connection ends.
+const NO_ROUTE_AT_LAST: &[u8] =
+    b"HTTP/1.1 404 Not Found\r\nContent-Type: application/json\r\nContent-Length: 23\r\nConnection: close\r\n\r\n\
+    {\"error\":\"NoSuchRoute\"}";
+
+const BAD: Outcome = (
+    b"HTTP/1.1 400 Bad Request\r\nContent-Length: 0\r\nConnection: close\r\n\r\n",
+    0,
+    End::Refused(400),
+);
+
+const NO_LENGTH: Outcome = (
+    b"HTTP/1.1 411 Length Required\r\nContent-Length: 0\r\nConnection: close\r\n\r\n",
+    0,
+    End::Refused(411),
+);
+
+const TOO_LONG: Outcome = (
+    b"HTTP/1.1 413 Payload Too Large\r\nContent-Length: 0\r\nConnection: close\r\n\r\n",
+    0,
+    End::Refused(413),
+);
+
+const ENCODED: Outcome = (
+    b"HTTP/1.1 415 Unsupported Media Type\r\nContent-Length: 0\r\nConnection: close\r\n\r\n",
+    0,
+    End::Refused(415),
+);
+
+const EXPECTING: Outcome = (
+    b"HTTP/1.1 417 Expectation Failed\r\nContent-Length: 0\r\nConnection: close\r\n\r\n",
+    0,
+    End::Refused(417),
+);
+
+const LONG_HEAD: Outcome = (
+    b"HTTP/1.1 431 Request Header Fields Too Large\r\nContent-Length: 0\r\nConnection: close\r\n\r\n",
+    0,
+    End::Refused(431),
+);
+
+/// The bytes of a connection, and its outcome.
+const ENDS: [(&[u8], Outcome); 19] = [
+    (b"GET /no HTTP/1.1\r\nHost: x\r\n", CUT_OFF),
     (
-        b"POST / HTTP/1.1\r\nHost: x\r\nContent-Length: 3\r\n\r\nab",
-        0,
-        End::CutOff,
+        b"POST /no HTTP/1.1\r\nHost: x\r\nContent-Length: 3\r\n\r\nab",
+        CUT_OFF,
     ),
     (
-        b"POST / HTTP/1.1\r\nHost: x\r\nContent-Length: 3\r\n\r\nabc",
-        1,
-        End::Closed,
+        b"POST /no HTTP/1.1\r\nHost: x\r\nContent-Length: 3\r\n\r\nabc",
+        (NO_ROUTE, 1, End::Closed),
     ),
     (
-        b"POST / HTTP/1.1\r\nHost: x\r\nContent-Length: 3\r\n\r\nabcGET",
-        1,
-        End::CutOff,
+        b"POST /no HTTP/1.1\r\nHost: x\r\nContent-Length: 3\r\n\r\nabcGET",
+        (NO_ROUTE, 1, End::CutOff),
     ),
     (
         b"GET /no HTTP/1.1\r\nHost: x\r\nConnection: keep-alive, Close\r\n\r\nGET",
-        1,
-        End::Asked,
+        (NO_ROUTE_AT_LAST, 1, End::Asked),
     ),
-    (b"GET /no HTTP/1.0\r\n\r\nGET", 1, End::Asked),
+    (
+        b"GET /no HTTP/1.0\r\n\r\nGET",
+        (NO_ROUTE_AT_LAST, 1, End::Asked),
+    ),
     (
         b"GET /no HTTP/1.0\r\nConnection: Keep-Alive\r\n\r\n",
-        1,
-        End::Closed,
+        (NO_ROUTE, 1, End::Closed),
     ),
     (
         b"GET /no HTTP/1.0\r\nConnection: x\r\nConnection: keep-alive\r\n\r\n",
-        1,
-        End::Asked,
+        (NO_ROUTE_AT_LAST, 1, End::Asked),
     ),
+    (
+        b"POST /no HTTP/1.1\r\nHost: x\r\nTransfer-Encoding: chunked\r\n\r\nabcde",
+        NO_LENGTH,
+    ),
+    (
+        b"POST /no HTTP/1.1\r\nHost: x\r\nContent-Length: 5\r\nTransfer-Encoding: chunked\r\n\r\nabcde",
+        NO_LENGTH,
+    ),
+    (
+        b"POST /no HTTP/1.1\r\nHost: x\r\nTransfer-Encoding: chunked\r\nContent-Length: 5\r\n\r\nabcde",
+        NO_LENGTH,
+    ),
+    (
+        b"POST /no HTTP/1.1\r\nHost: x\r\nContent-Length: +5\r\n\r\nabcde",
+        BAD,
+    ),
+    (
+        b"POST /no HTTP/1.1\r\nHost: x\r\nContent-Length: 5,5\r\n\r\nabcde",
+        BAD,
+    ),
+    (
+        b"POST /no HTTP/1.1\r\nHost: x\r\nContent-Length: 5\r\nContent-Length: 5\r\n\r\nabcde",
+        BAD,
+    ),
+    (
+        b"POST /no HTTP/1.1\r\nHost: x\r\nContent-Length: -5\r\n\r\nabcde",
+        BAD,
+    ),
+    (
+        b"POST /no HTTP/1.1\r\nHost: x\r\nContent-Length: 1048577\r\n\r\nabcde",
+        TOO_LONG,
+    ),
+    (
+        b"POST /no HTTP/1.1\r\nHost: x\r\nContent-Length: 5\r\nContent-Encoding: gzip\r\n\r\nabcde",
+        ENCODED,
+    ),
+    (
+        b"POST /no HTTP/1.1\r\nHost: x\r\nContent-Length: 5\r\nExpect: 100-continue\r\n\r\nabcde",
+        EXPECTING,
+    ),
+    (b"", NOTHING),
 ];
 
 #[test]
-fn ends(rt: HostRuntime) -> Result<(), Fail> {
-    let alloc = rt.alloc();
-    for (bytes, answered, end) in ENDS {
-        let outcome = serve(alloc, bytes, 9)?;
-        assert_eq!(rt; outcome.served.len(), answered);
-        assert_eq!(rt; outcome.end, end);
-        assert_eq!(rt; outcome.sent.is_empty(), answered == 0);
+fn ends(rt: HostRuntime) {
+    for (bytes, outcome) in ENDS {
+        assert!(rt; has_outcome(rt.alloc(), bytes, 9, outcome), "{outcome:?}");
     }
-    Ok(())
+}
+
+/// Returns the beginning of a request for the health, filled up to this length, with this end.
+fn head_of(alloc: Global, length: usize, end: &[u8]) -> Option<Vec<u8>> {
+    let mut bytes = HEALTH.get(..HEALTH.len() - 2)?.to_vec(alloc).ok()?;
+    bytes.extend_from_slice(b"X: ").ok()?;
+    bytes.resize(length.saturating_sub(end.len()), b'a').ok()?;
+    bytes.extend_from_slice(end).ok()?;
+    Some(bytes)
+}
+
+/// The length of a head, its end, and the outcome.
+const HEADS: [(usize, &[u8], Outcome); 4] = [
+    (8_191, b"", CUT_OFF),
+    (8_192, b"", LONG_HEAD),
+    (8_192, b"\r\n\r\n", HEALTHY),
+    (8_193, b"\r\n\r\n", LONG_HEAD),
+];
+
+#[test]
+fn heads_at_the_limit(rt: HostRuntime) {
+    for (length, end, outcome) in HEADS {
+        let head = head_of(rt.alloc(), length, end).unwrap_or(Vec::new(rt.alloc()));
+        assert!(rt;
+            head.len() == length && has_outcome(rt.alloc(), head.as_slice(), 4_096, outcome),
+            "{length}"
+        );
+    }
 }

@@ -1,4 +1,4 @@
-//! Tests of serving links: single connections, queues of links, concurrent workers, and the network.
+//! Tests of serving links: single connections, the queue of links, a pool without threads, and the network.
 #![tactic(auto)]
 
 #[cfg(test)]
@@ -7,7 +7,5 @@ mod connections;
 mod links;
 #[cfg(test)]
 mod network;
-#[cfg(test)]
-mod requests;
 #[cfg(test)]
 mod workers;

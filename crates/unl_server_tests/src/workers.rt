@@ -1,80 +1,102 @@
-//! Tests of links that are served concurrently, the first of which waits for others.
+//! A pool of workers without threads, which serves as many links as its queue holds.
 ghost use Rattle.std.specs.Prelude.{◌≤◌};
 
-use std::alloc::{AllocError, Global};
+use std::alloc::Global;
 use std::sync::Wait;
-use std::sync::atomic::{AtomicU64, Ordering};
-use std::test::Fail;
-use std::thread;
-use unl_base::{
-    CountPace, Door, Draws, Failed, Link, ListDraws, OneByOne, RealSpawner, Sink, Source, Spawner,
-};
+use std::thread::Threads;
+use unl_base::{CountPace, Door, Draws, Failed, Link, ListDraws, OneByOne, Sink, Source};
 use unl_server::Server;
-use unl_workers::{
-    AcceptOutcome, LinkHandler, PeriodicTask, PoolFault, PoolOutcome, WorkerSlot, run_pool,
-};
+use unl_workers::{AcceptOutcome, LinkHandler, PeriodicTask, WorkerSlot, run_pool};
 
-/// A link with one request. Its first read waits until the `happened` counter reaches `awaits`, and fails after many yields.
+/// Reads once from each link, and counts the links that give a byte.
 #[derive(Drop)]
-struct TestLink<'a> {
-    awaits: u64,
-    happened: &'a AtomicU64,
-    answered: &'a AtomicU64,
-    asked: bool,
-    faults: u64,
+struct Counting {
+    links: u64,
 }
 
-/// Waits until the counter reaches `awaits`. Returns false after many yields.
-fn came(happened: &AtomicU64, awaits: u64) -> bool {
-    for _ in 0..1_000_000_000u64 {
-        if happened.load(Ordering::SeqCst) >= awaits {
-            return true;
+impl Server for Counting {
+    ghost use Rattle.std.specs.Prelude.{⊤};
+
+    ghost fits = { λ server. ⊤ };
+
+    ghost keeps = { λ server after. ⊤ };
+
+    ghost serves = { λ server coming link link_after after coming_after. ⊤ };
+
+    fn serve_link<L: Link, R: Draws>(&mut self, _alloc: Global, link: &mut L, _draws: &mut R) {
+        if link.read(&mut [0u8; 1]) == Ok(1) {
+            self.links = self.links.saturating_add(1);
         }
-        thread::yield_now();
     }
-    false
+
+    ghost keeps_itself = { λ server. tt };
+
+    ghost keeps_on = { λ first next last first_kept next_kept. tt };
 }
 
-impl Source for TestLink<'_> {
+impl LinkHandler for Counting {
+    ghost always = { λ server. tt };
+}
+
+/// Does nothing.
+#[derive(Drop)]
+struct Idle;
+
+impl PeriodicTask for Idle {
+    ghost use Rattle.std.specs.Prelude.{⊤};
+
+    ghost turned = { λ turn after. ⊤ };
+
+    ghost keeps = { λ turn after. ⊤ };
+
+    fn turn(&mut self, _alloc: Global) {}
+
+    ghost keeps_itself = { λ turn. tt };
+
+    ghost keeps_on = { λ first next last first_kept next_kept. tt };
+}
+
+/// A link with one byte to read.
+#[derive(Drop)]
+struct TestLink {
+    is_read: bool,
+}
+
+impl Source for TestLink {
     ghost use Rattle.std.specs.Prelude.{None};
     ghost use Rattle.unl_base.specs.Peers.{nothing_beside};
 
     ghost left = { λ link. None };
 
-    ghost faults = { λ link. link.faults };
+    ghost faults = { λ link. 0 };
 
     ghost beside = { λ link. nothing_beside };
 
     fn read(&mut self, _room: &mut [u8]) -> Result<usize, Failed> {
-        if self.asked {
+        if self.is_read {
             return Ok(0);
         }
-        self.asked = true;
-        if came(self.happened, self.awaits) {
-            return Ok(1);
-        }
-        self.faults = self.faults.saturating_add(1);
-        Err(Failed)
+        self.is_read = true;
+        Ok(1)
     }
 }
 
-impl Sink for TestLink<'_> {
+impl Sink for TestLink {
     ghost use Rattle.std.specs.Prelude.{None};
     ghost use Rattle.unl_base.specs.Peers.{nothing_beside};
 
     ghost sent = { λ link. None };
 
-    ghost faults = { λ link. link.faults };
+    ghost faults = { λ link. 0 };
 
     ghost beside = { λ link. nothing_beside };
 
     fn write(&mut self, piece: &[u8]) -> Result<usize, Failed> {
-        self.answered.fetch_add(1, Ordering::SeqCst);
         Ok(piece.len())
     }
 }
 
-impl Link for TestLink<'_> {
+impl Link for TestLink {
     ghost use Rattle.std.proofs.Common.{refl};
 
     ghost one_count = { λ link. refl };
@@ -84,52 +106,25 @@ impl Link for TestLink<'_> {
     ghost writes_beside = { λ link. refl };
 }
 
-/// A door with `left` links to come, the first of which waits. It fails once it has handed out `most`.
+/// A door with as many links as a queue holds.
 #[derive(Drop)]
-struct TestDoor<'a> {
+struct TestDoor {
     ports: Vec<u16>,
-    left: u64,
-    most: u64,
     given: u64,
     back: u64,
-    awaits: u64,
-    happened: &'a AtomicU64,
-    answered: &'a AtomicU64,
     faults: u64,
     ghost lent: { back ≤ given },
-    ghost within: { given ≤ most },
+    ghost within: { given ≤ 64 },
 }
 
-/// Returns a door with `left` links. The first waits until `happened` reaches `awaits`; the door fails after `most` links.
-fn door_of<'a>(
-    alloc: Global,
-    left: u64,
-    most: u64,
-    awaits: u64,
-    happened: &'a AtomicU64,
-    answered: &'a AtomicU64,
-) -> TestDoor<'a> {
-    TestDoor {
-        ports: Vec::new(alloc),
-        left,
-        most,
-        given: 0,
-        back: 0,
-        awaits,
-        happened,
-        answered,
-        faults: 0,
-    }
-}
-
-impl<'a> Door for TestDoor<'a> {
+impl Door for TestDoor {
     ghost use Rattle.std.specs.Prelude.{None, nat_eq};
 
-    type L = TestLink<'a>;
+    type L = TestLink;
 
     ghost state = { λ door. record {
       ports = door.ports.items;
-      closed = nat_eq door.left 0;
+      closed = nat_eq door.given 64;
       given = door.given;
       back = door.back;
       links = None;
@@ -146,257 +141,74 @@ impl<'a> Door for TestDoor<'a> {
         Ok(())
     }
 
-    fn accept(&mut self) -> Result<Option<TestLink<'a>>, Failed> {
-        if self.given == self.most {
-            self.faults = self.faults.saturating_add(1);
-            return Err(Failed);
-        }
-        if self.left == 0 {
+    fn accept(&mut self) -> Result<Option<TestLink>, Failed> {
+        if self.given == 64 {
             return Ok(None);
         }
-        let awaits = if self.given == 0 { self.awaits } else { 0 };
-        self.left -= 1;
         self.given += 1;
-        Ok(Some(TestLink {
-            awaits,
-            happened: self.happened,
-            answered: self.answered,
-            asked: false,
-            faults: 0,
-        }))
+        Ok(Some(TestLink { is_read: false }))
     }
 
-    fn give_back(&mut self, _link: TestLink<'a>) {
+    fn give_back(&mut self, _link: TestLink) {
         self.back += 1;
     }
 
     ghost within = { λ door. door.lent };
 }
 
-/// Answers each link once and counts its answers.
-#[derive(Drop)]
-struct Greeter {
-    greeted: u64,
+/// Returns the slot of a worker that has counted nothing.
+fn slot(alloc: Global) -> WorkerSlot<Counting, ListDraws> {
+    WorkerSlot::new(Counting { links: 0 }, ListDraws::new(Vec::new(alloc)))
 }
 
-impl Server for Greeter {
-    ghost use Rattle.std.specs.Prelude.{◌≤◌, ◌+◌};
-    ghost use Rattle.std.proofs.Common.{rules};
-
-    ghost fits = { λ server. Unit {0} };
-
-    ghost keeps = { λ server after. server.greeted ≤ after.greeted };
-
-    ghost serves = { λ server coming link link_after after coming_after. after.greeted ≤ server.greeted + 1 };
-
-    fn serve_link<L: Link, R: Draws>(&mut self, _alloc: Global, link: &mut L, draws: &mut R) {
-        let mut room = [0u8; 16];
-        draws.draw();
-        match link.read(&mut room) {
-            Ok(0) | Err(_) => {}
-            Ok(_) => {
-                if link.write(b"hello").is_ok() {
-                    self.greeted = self.greeted.saturating_add(1);
-                }
-            }
-        }
+/// Returns the number of links that the workers counted.
+fn links_counted(slots: &[WorkerSlot<Counting, ListDraws>]) -> u64 {
+    let mut links = 0u64;
+    for slot in slots {
+        links = links.saturating_add(slot.server.links);
     }
-
-    ghost keeps_itself = { Prim.search rules };
-
-    ghost keeps_on = { Prim.search rules };
+    links
 }
 
-impl LinkHandler for Greeter {
-    ghost always = { λ server. tt };
-}
-
-/// Counts its turns in a shared counter.
-#[derive(Drop)]
-struct Counting<'a> {
-    seen: &'a AtomicU64,
-}
-
-impl PeriodicTask for Counting<'_> {
-    ghost turned = { λ turn after. Unit {0} };
-
-    ghost keeps = { λ turn after. Unit {0} };
-
-    fn turn(&mut self, _alloc: Global) {
-        self.seen.fetch_add(1, Ordering::SeqCst);
-    }
-
-    ghost keeps_itself = { λ turn. tt };
-
-    ghost keeps_on = { λ first next last first_kept next_kept. tt };
-}
-
-/// Returns `count` worker slots.
-fn slots_of(alloc: Global, count: u64) -> Result<Vec<WorkerSlot<Greeter, ListDraws>>, AllocError> {
-    let mut slots = Vec::new(alloc);
-    for _ in 0..count {
-        let draws = ListDraws::new(Vec::new(alloc));
-        slots.push(WorkerSlot::new(Greeter { greeted: 0 }, draws))?;
-    }
-    Ok(slots)
-}
-
-/// What the door handed out, and the number of links that the slots served, of links greeted, and of turns made.
-#[derive(Clone, Copy, Debug, PartialEq, Eq)]
-struct Counts {
-    accepted: AcceptOutcome,
-    served: u64,
-    greeted: u64,
-    turns: u64,
-}
-
-/// Returns the counts where each of `links` links was served and greeted.
-fn all_served(links: u64, door: Result<(), Failed>, turns: u64) -> Counts {
-    Counts {
-        accepted: AcceptOutcome { links, door },
-        served: links,
-        greeted: links,
-        turns,
-    }
-}
-
-/// Returns the counts of an outcome.
-fn counts_of(outcome: PoolOutcome<Greeter, ListDraws>) -> Counts {
-    let mut served = 0u64;
-    let mut greeted = 0u64;
-    for slot in outcome.slots.as_slice() {
-        served = served.saturating_add(slot.links);
-        greeted = greeted.saturating_add(slot.server.greeted);
-    }
-    Counts {
-        accepted: outcome.accepted,
-        served,
-        greeted,
-        turns: outcome.turns,
-    }
-}
-
-/// Serves the links of a door with this many workers, concurrently with at most this many turns.
-fn outcome_of<P: Spawner, W: Wait + Sync>(
-    alloc: Global,
-    rt: &W,
-    spawner: &mut P,
-    workers: u64,
-    turns: u64,
-    door: &mut TestDoor<'_>,
-    seen: &AtomicU64,
-) -> Result<Counts, PoolFault> {
-    let Ok(slots) = slots_of(alloc, workers) else {
-        return Err(PoolFault::Memory);
+/// Serves the links of a door by two workers, one after another. Returns what the door handed out, the number of links counted,
+/// and that of turns made.
+fn serve<W: Threads + Wait + Sync>(rt: &W, alloc: Global) -> Option<(AcceptOutcome, u64, u64)> {
+    let slots = vec![in alloc; slot(alloc), slot(alloc)].ok()?;
+    let mut door = TestDoor {
+        ports: Vec::new(alloc),
+        given: 0,
+        back: 0,
+        faults: 0,
     };
     if door.listen(1).is_err() {
-        return Err(PoolFault::Memory);
+        return None;
     }
-    let mut turn = Counting { seen };
-    let mut pace = CountPace::new(turns);
-    let outcome = run_pool(alloc, rt, spawner, door, &mut pace, &mut turn, slots);
-    match outcome {
-        Ok(outcome) => Ok(counts_of(outcome)),
-        Err(fault) => Err(fault),
+    let mut spawner: OneByOne<&W> = OneByOne::new();
+    let mut pace = CountPace::new(5);
+    let done = run_pool(
+        alloc,
+        rt,
+        &mut spawner,
+        &mut door,
+        &mut pace,
+        &mut Idle,
+        slots,
+    );
+    match done {
+        Ok(done) => Some((
+            done.accepted,
+            links_counted(done.slots.as_slice()),
+            done.turns,
+        )),
+        Err(_) => None,
     }
-}
-
-/// A test case: the number of links, the most that the door hands out, the workers, the turns, whether the first link waits for
-/// turns or for answers, and for how many; the expected number of links served, and whether the door fails.
-#[derive(Clone, Copy)]
-struct Case {
-    links: u64,
-    most: u64,
-    workers: u64,
-    turns: u64,
-    for_turns: bool,
-    awaits: u64,
-    served: u64,
-    door: Result<(), Failed>,
-}
-
-/// The first link of two waits until the second is answered; a hundred links; a first link that waits for the second turn while
-/// the links after it keep the door open; and a door that fails after five links, which are all served.
-const CASES: [Case; 4] = [
-    Case {
-        links: 2,
-        most: 1_000,
-        workers: 2,
-        turns: 0,
-        for_turns: false,
-        awaits: 1,
-        served: 2,
-        door: Ok(()),
-    },
-    Case {
-        links: 100,
-        most: 1_000,
-        workers: 4,
-        turns: 0,
-        for_turns: false,
-        awaits: 0,
-        served: 100,
-        door: Ok(()),
-    },
-    Case {
-        links: 100,
-        most: 1_000,
-        workers: 1,
-        turns: 2,
-        for_turns: true,
-        awaits: 2,
-        served: 100,
-        door: Ok(()),
-    },
-    Case {
-        links: 9,
-        most: 5,
-        workers: 3,
-        turns: 0,
-        for_turns: false,
-        awaits: 0,
-        served: 5,
-        door: Err(Failed),
-    },
-];
-
-#[test]
-fn links_are_served_side_by_side(rt: HostRuntime) -> Result<(), Fail> {
-    for case in CASES {
-        let answered = AtomicU64::new(0);
-        let seen = AtomicU64::new(0);
-        let happened = if case.for_turns { &seen } else { &answered };
-        let mut door = door_of(
-            rt.alloc(),
-            case.links,
-            case.most,
-            case.awaits,
-            happened,
-            &answered,
-        );
-        let mut spawner = RealSpawner::new(&rt);
-        let outcome = outcome_of(
-            rt.alloc(),
-            &rt,
-            &mut spawner,
-            case.workers,
-            case.turns,
-            &mut door,
-            &seen,
-        );
-        assert_eq!(rt; outcome, Ok(all_served(case.served, case.door, case.turns)));
-        assert_eq!(rt; answered.load(Ordering::SeqCst), case.served);
-    }
-    Ok(())
 }
 
 #[test]
-fn one_by_one_serves_up_to_64(rt: HostRuntime) -> Result<(), Fail> {
-    let answered = AtomicU64::new(0);
-    let seen = AtomicU64::new(0);
-    let mut door = door_of(rt.alloc(), 64, 1_000, 0, &answered, &answered);
-    let mut spawner: OneByOne<&HostRuntime> = OneByOne::new();
-    let outcome = outcome_of(rt.alloc(), &rt, &mut spawner, 2, 5, &mut door, &seen);
-    assert_eq!(rt; outcome, Ok(all_served(64, Ok(()), 0)));
-    Ok(())
+fn one_by_one_serves_up_to_64(rt: HostRuntime) {
+    let accepted = AcceptOutcome {
+        links: 64,
+        door: Ok(()),
+    };
+    assert!(rt; serve(&rt, rt.alloc()) == Some((accepted, 64, 0)));
 }

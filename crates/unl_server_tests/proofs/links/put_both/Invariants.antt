@@ -1,11 +1,11 @@
 use Rattle.std.proofs.Common.{◌≡◌, ◌<◌}
 use Rattle.crossbeam_queue.specs.Passes.{view}
 use Rattle.unl_workers.specs.Passes.{IsPassOfQueue}
-use Rattle.unl_server_tests.proofs.links.agree_while_open.Given as goal
+use Rattle.unl_server_tests.proofs.links.put_both.Given as goal
 
 -- the pass may still put links
-abbrev pub invariant-loop-step : goal.invariant-loop-step
-invariant-loop-step g l = record {
+abbrev pub invariant-loop-link : goal.invariant-loop-link
+invariant-loop-link g l = record {
   queue : IsPassOfQueue l.queue l.pass;
   parts : 0 < (view l.pass).parts;
   may_put : (view l.pass).may_put ≡ 1;

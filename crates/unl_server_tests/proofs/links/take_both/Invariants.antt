@@ -1,0 +1,12 @@
+use Rattle.std.proofs.Common.{◌≡◌, ◌<◌}
+use Rattle.crossbeam_queue.specs.Passes.{view}
+use Rattle.unl_workers.specs.Passes.{IsPassOfQueue}
+use Rattle.unl_server_tests.proofs.links.take_both.Given as goal
+
+-- the pass is still one of the queue, with the same right to put links
+abbrev pub invariant-loop : goal.invariant-loop
+invariant-loop g l = record {
+  queue : IsPassOfQueue l.queue l.pass;
+  parts : 0 < (view l.pass).parts;
+  may_put : (view l.pass).may_put ≡ (view l.initial.pass).may_put;
+}
