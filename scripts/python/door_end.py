@@ -38,7 +38,7 @@ def last_answer(link):
 
 
 def ends_in_time(name, notes, server, begun, least, most):
-    """Checks that a server ends with status 7, so many seconds after it began to."""
+    """Checks that a server ends with status 7, this many seconds after it began to."""
     try:
         status = server.wait(timeout=SOON + most)
     except subprocess.TimeoutExpired:
