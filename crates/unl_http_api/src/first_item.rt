@@ -54,7 +54,7 @@ fn first_item(held: &[u8], spans: &mut [HeaderSpan]) -> FirstItem
         unreachable!();
     };
     match seen {
-        Seen::Head(head) => weigh(held, head.len, &Parts::new(prefix, &head, spans)),
+        Seen::Head(head) => item_after_head(held, head.len, &Parts::new(prefix, &head, spans)),
         Seen::Unfinished => if held.len() < WINDOW {
             FirstItem::More
         } else {
@@ -65,7 +65,7 @@ fn first_item(held: &[u8], spans: &mut [HeaderSpan]) -> FirstItem
 }
 
 /// The first item in a buffer that begins with a complete head of `len` bytes.
-fn weigh(held: &[u8], len: usize, parts: &Parts) -> FirstItem
+fn item_after_head(held: &[u8], len: usize, parts: &Parts) -> FirstItem
     requires { HasParts held.now len parts.now }
     ensures { IsFirstItem held.now result }
 {

@@ -5,8 +5,8 @@ use Rattle.unl_http_api.specs.Requests.{IsHopeless}
 use Rattle.unl_http_api.proofs.FindLemmas.{parts_at, no_head_yet}
 use Rattle.unl_http_api.proofs.first_item.first_item.Goals as goal
 
-pub weigh-requires : goal.weigh-requires
-weigh-requires c =
+pub item_after_head-requires : goal.item_after_head-requires
+item_after_head-requires c =
     let seen = subst (IsSeen c.window-prefix.result.now c.see.new.spans) c.in-Head.is c.in-Some.ensures.seen in
     parts_at c.args.held.now _ _ c.in-Head.head c.new.result c.window-prefix.ensures.value c.window-prefix.ensures.fits
     seen.0 seen.1 c.new.ensures

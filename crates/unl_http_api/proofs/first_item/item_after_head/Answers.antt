@@ -1,6 +1,6 @@
 use Rattle.std.proofs.Common.{◌∙◌, sym}
 use Rattle.unl_http_api.proofs.FirstItemLemmas.{whole_request_begins}
-use Rattle.unl_http_api.proofs.first_item.weigh.Goals as goal
+use Rattle.unl_http_api.proofs.first_item.item_after_head.Goals as goal
 
 pub returns-in-Body : goal.returns-in-Body
 returns-in-Body c =
