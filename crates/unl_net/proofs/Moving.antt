@@ -7,22 +7,22 @@ use Rattle.std.proofs.Math.Seq.{take-append_seam, take-length}
 use Rattle.std.proofs.lemmas.List.{length-take, take-take}
 use Rattle.std.specs.Io.KnownBytes.{Appends, Consumes, Keeps, WriteAppends, append_known, prepend_known}
 use Rattle.unl_net.proofs.Trying.{appended_then, consumed_then, none_consumed, stays, stays_on}
-use Rattle.unl_net.specs.Buffers.{BeginsWith, Gives}
+use Rattle.unl_net.specs.Buffers.{BeginsWith, ConsumesReturned}
 
--- a read appends to the received bytes
+-- bytes that a read moves from the stream to the received ones stay among those to come
 pub received_keeps : (a b : Option (List ℕ)) (held bytes : List ℕ) → Consumes a b bytes
     → Keeps (prepend_known held a) (prepend_known (held ++ bytes) b)
 received_keeps None b held bytes read = tt
 received_keeps (Some x) None held bytes read = absurd read
 received_keeps (Some x) (Some y) held bytes read = append_assoc held bytes y ∙ ap (λ (l : List ℕ). held ++ l) (sym read)
 
--- a read of nothing
+-- a read that removes nothing leaves the bytes to come as they are
 pub waited_keeps : (a b : Option (List ℕ)) (held : List ℕ) → Keeps a b → Keeps (prepend_known held a) (prepend_known held b)
 waited_keeps None b held kept = tt
 waited_keeps (Some x) None held kept = absurd kept
 waited_keeps (Some x) (Some y) held kept = ap (λ (l : List ℕ). held ++ l) kept
 
--- a write takes its bytes from those to be sent
+-- bytes that a write moves from those to be sent to the stream stay among those written
 pub sent_keeps : (a b : Option (List ℕ)) (held : List ℕ) (n : ℕ) → Appends a b (take n held)
     → Keeps (append_known a held) (append_known b (drop n held))
 sent_keeps None b held n sent = tt
@@ -31,25 +31,26 @@ sent_keeps (Some x) (Some y) held n sent =
     ap (λ (l : List ℕ). l ++ drop n held) sent ∙ append_assoc x (take n held) (drop n held)
     ∙ ap (λ (l : List ℕ). x ++ l) (take-append-drop n held)
 
--- a link takes bytes from the received ones
-pub handed_out : (a : Option (List ℕ)) (old new bytes : List ℕ) → old ≡ bytes ++ new
+-- a link that reads received bytes removes them from the front of those to come
+pub link_takes : (a : Option (List ℕ)) (old new bytes : List ℕ) → old ≡ bytes ++ new
     → Consumes (prepend_known old a) (prepend_known new a) bytes
-handed_out None old new bytes same = tt
-handed_out (Some x) old new bytes same = ap (λ (l : List ℕ). l ++ x) same ∙ append_assoc bytes new x
+link_takes None old new bytes same = tt
+link_takes (Some x) old new bytes same = ap (λ (l : List ℕ). l ++ x) same ∙ append_assoc bytes new x
 
--- nothing was read
+-- a read of no bytes changes nothing
 pub none_read : (a : Option (List ℕ)) → Consumes a a []
 none_read None = tt
 none_read (Some x) = refl
 
--- a step that reads nothing, then a read
-pub gives_then : {E : Type 0} (a b c : Option (List ℕ)) (r : Result ℕ E) (room : List ℕ) → Keeps a b → Gives b c r room → Gives a c r room
-gives_then a b c (Ok n) room kept given = consumed_then a b c (take n room) kept given
-gives_then a b c (Err e) room kept given = Keeps-trans a b c kept given
+-- a step that reads nothing, then a read that removes what it returns
+pub then_consumed : {E : Type 0} (a b c : Option (List ℕ)) (r : Result ℕ E) (room : List ℕ) → Keeps a b
+    → ConsumesReturned b c r room → ConsumesReturned a c r room
+then_consumed a b c (Ok n) room kept given = consumed_then a b c (take n room) kept given
+then_consumed a b c (Err e) room kept given = Keeps-trans a b c kept given
 
 -- a read of the stream if no received byte is left
-pub read_behind : {E : Type 0} (a b : Option (List ℕ)) (held : List ℕ) (r : Result ℕ E) (room : List ℕ) → held ≡ [] → Gives a b r room
-    → Gives (prepend_known held a) (prepend_known held b) r room
+pub read_behind : {E : Type 0} (a b : Option (List ℕ)) (held : List ℕ) (r : Result ℕ E) (room : List ℕ) → held ≡ []
+    → ConsumesReturned a b r room → ConsumesReturned (prepend_known held a) (prepend_known held b) r room
 read_behind a b held (Ok n) room none given = by a b given
   where
     by : (a b : Option (List ℕ)) → Consumes a b (take n room) → Consumes (prepend_known held a) (prepend_known held b) (take n room)
@@ -58,7 +59,7 @@ read_behind a b held (Ok n) room none given = by a b given
     by (Some x) (Some y) read = ap (λ (l : List ℕ). l ++ x) none ∙ read ∙ ap (λ (l : List ℕ). take n room ++ (l ++ y)) (sym none)
 read_behind a b held (Err e) room none given = waited_keeps a b held given
 
--- nothing was written
+-- a write of no bytes appends nothing
 pub none_written : (a : Option (List ℕ)) → Appends a a []
 none_written None = tt
 none_written (Some x) = sym (append-nil x)
@@ -100,7 +101,7 @@ pub held_behind : (a : Option (List ℕ)) (old new bytes : List ℕ) → new ≡
 held_behind None old new bytes same = tt
 held_behind (Some x) old new bytes same = ap (λ (l : List ℕ). x ++ l) same ∙ sym (append_assoc x old bytes)
 
--- the first bytes of a piece were written, then the rest
+-- the first bytes of a piece are written, and then the rest of it
 pub rest_then : (a b c : Option (List ℕ)) (piece : List ℕ) (sent n : ℕ) → sent ≤ n → Appends a b (take sent piece)
     → Appends b c (drop sent (take n piece)) → Appends a c (take n piece)
 rest_then a b c piece sent n within first rest =
@@ -127,7 +128,7 @@ pub begins_more : (prefix more bytes : List ℕ) → bytes ≡ prefix ++ more �
 unfolding BeginsWith
 begins_more prefix more bytes same = ap (take (length prefix)) same ∙ take-append_seam prefix more
 
--- a prefix stays one of bytes that are the same
+-- a prefix of bytes is a prefix of equal bytes
 pub begins_kept : (prefix bytes same : List ℕ) → same ≡ bytes → BeginsWith prefix bytes → BeginsWith prefix same
 unfolding BeginsWith
 begins_kept prefix bytes same still begins = ap (take (length prefix)) still ∙ begins

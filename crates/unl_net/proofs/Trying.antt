@@ -4,12 +4,12 @@ use Rattle.std.proofs.Common.{Result, Ok, Err, is_err}
 use Rattle.std.specs.Io.KnownBytes.{Appends, Consumes, Keeps, ReadConsumes, WriteAppends}
 use Rattle.std.proofs.KnownBytes.{Keeps-trans}
 
--- nothing was read or written
+-- a step that changes nothing keeps the known bytes
 pub stays : (a : Option (List ℕ)) → Keeps a a
 stays None = tt
 stays (Some x) = refl
 
--- nothing was read or written in either of two steps
+-- two steps that each keep the known bytes keep them together
 pub stays_on : (a b c : Option (List ℕ)) → Keeps a b → Keeps b c → Keeps a c
 stays_on = Keeps-trans
 
@@ -45,13 +45,13 @@ pub write_then : {E : Type 0} (a b c : Option (List ℕ)) (r : Result ℕ E) (pi
 write_then a b c (Ok n) piece kept write = appended_then a b c (take n piece) kept write
 write_then a b c (Err e) piece kept write = Keeps-trans a b c kept write
 
--- one more read failed
+-- a read that fails after a step that reads nothing keeps the known bytes
 pub read_failed : {E : Type 0} (a b c : Option (List ℕ)) (r : Result ℕ E) (room : List ℕ) → Keeps a b → ReadConsumes b c r room
     → is_err r ≡ true → Keeps a c
 read_failed a b c (Ok n) room kept read fails = absurd (true≢false (sym fails))
 read_failed a b c (Err e) room kept read fails = Keeps-trans a b c kept read
 
--- one more write failed
+-- a write that fails after a step that writes nothing keeps the known bytes
 pub write_failed : {E : Type 0} (a b c : Option (List ℕ)) (r : Result ℕ E) (piece : List ℕ) → Keeps a b → WriteAppends b c r piece
     → is_err r ≡ true → Keeps a c
 write_failed a b c (Ok n) piece kept write fails = absurd (true≢false (sym fails))

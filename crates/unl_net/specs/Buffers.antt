@@ -11,7 +11,8 @@ use Rattle.unl_net.specs.declared.phase.Facts.{Facts}
 abbrev pub unread : ReceiveBuffer → List ℕ
 unread buffer = drop buffer.taken buffer.bytes.items
 
--- how many received bytes may be read: those of the request that they begin with, or all if they are refused
+-- How many received bytes a link may read, given what they begin with: those of the request if it is whole, none if it is unfinished,
+-- or all if they are refused.
 abbrev pub opened_len : Frame → List ℕ → ℕ
 opened_len (Whole count) bytes = count
 opened_len More bytes = 0
@@ -25,22 +26,23 @@ BeginsWith prefix bytes = take (length prefix) bytes ≡ prefix
 abbrev pub unsent : SendBuffer → List ℕ
 unsent buffer = drop buffer.sent buffer.bytes.items
 
--- what a connection gives, if known: the bytes received and not read yet, then those that its stream still gives
+-- the bytes that a connection has for its reader, if known: those received and not read yet, then those still to be read from its stream
 abbrev pub coming : ReceiveBuffer → Option (List ℕ) → Option (List ℕ)
 coming buffer remaining = prepend_known (unread buffer) remaining
 
--- what a connection was sent, if known: the bytes that its stream took, then those still to be sent
+-- the bytes written to a connection, if known: those that its stream took, then those still to be sent
 abbrev pub outgoing : Option (List ℕ) → SendBuffer → Option (List ℕ)
 outgoing contents buffer = append_known contents (unsent buffer)
 
--- a read took exactly the bytes that it returned from those to come, and none if it failed
-abbrev pub Gives : {E : Type 0} → Option (List ℕ) → Option (List ℕ) → Result ℕ E → List ℕ → Type 0
-Gives old new r room = MatchResult r (λ n. Consumes old new (take n room)) (λ _. Keeps old new)
+-- A read removes exactly the bytes that it returns from the front of those to come, and none if it fails. `old` and `new` are the bytes
+-- to come before and after it; `room` begins with the bytes returned.
+abbrev pub ConsumesReturned : {E : Type 0} → Option (List ℕ) → Option (List ℕ) → Result ℕ E → List ℕ → Type 0
+ConsumesReturned old new r room = MatchResult r (λ n. Consumes old new (take n room)) (λ _. Keeps old new)
 
--- the same for a read that returns `None` if nothing came in time: it then took none
-abbrev pub GivesIfAny : {E : Type 0} → Option (List ℕ) → Option (List ℕ) → Result (Option ℕ) E → List ℕ → Type 0
-GivesIfAny old new r room = MatchResult r (λ given. MatchOption given (Keeps old new) (λ n. Consumes old new (take n room)))
-    (λ _. Keeps old new)
+-- the same for a read that may also return `None`, if nothing came in time: it then removes none
+abbrev pub ConsumesReturnedIfAny : {E : Type 0} → Option (List ℕ) → Option (List ℕ) → Result (Option ℕ) E → List ℕ → Type 0
+ConsumesReturnedIfAny old new r room =
+    MatchResult r (λ count. MatchOption count (Keeps old new) (λ n. Consumes old new (take n room))) (λ _. Keeps old new)
 
 -- the facts that decide what a connection with these buffers and flags waits for
 abbrev pub facts_of : ReceiveBuffer → SendBuffer → Bool → Bool → Facts

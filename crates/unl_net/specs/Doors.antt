@@ -8,25 +8,27 @@ use Rattle.unl_net.specs.declared.counts.Counts.{Counts}
 use Rattle.unl_net.specs.declared.listener.Accepting.{Accepting}
 use Rattle.unl_net.specs.declared.reactor.Reactor.{Reactor}
 
--- it is closed once its last link was handed out, or 2^64 - 1 links; what its links give and send is not observable
+-- The state of the door as the contracts of `Door` see it. It is closed once its last link was handed out, or 2^64 - 1 links. What its
+-- links read and write is not observable.
 abbrev pub door_state : List ℕ → Counts → DoorState
 door_state ports counts = record {
   ports = ports;
-  closed = counts.closed || nat_eq counts.given (2 ^ 64 - 1);
-  given = counts.given;
-  back = counts.back;
+  closed = counts.closed || nat_eq counts.handed_out (2 ^ 64 - 1);
+  given = counts.handed_out;
+  back = counts.taken_back;
   links = None;
   returned = None;
 }
 
--- all connections that the bound allows were accepted, and none of them waits or is ready
-pub record IsLast {A : Type 0} (accepting : Accepting) (waiting : Slab A) (ready : List A) : Type 0 where
+-- The link that was just handed out is the last one: all connections that the bound allows were accepted, and none of them waits or is
+-- ready.
+pub record IsLastLink {A : Type 0} (accepting : Accepting) (waiting : Slab A) (ready : List A) : Type 0 where
   pub all : accepting.bound ≤ accepting.accepted
   pub none_waits : slab_len waiting ≡ 0
   pub none_ready : ready ≡ []
 
--- no more connections are accepted, and none waits or is ready
-pub record IsServed {A : Type 0} (accepting : Accepting) (waiting : Slab A) (ready : List A) : Type 0 where
+-- no further link comes: no more connections are accepted, and none waits or is ready
+pub record IsFinished {A : Type 0} (accepting : Accepting) (waiting : Slab A) (ready : List A) : Type 0 where
   pub done : (is_some accepting.fault || nat_le accepting.bound accepting.accepted) ≡ true
   pub none_waits : slab_len waiting ≡ 0
   pub none_ready : ready ≡ []
@@ -36,17 +38,17 @@ abbrev pub held_by : {S : Type 0} → Option (Reactor S) → ℕ
 held_by None = 0
 held_by (Some reactor) = slab_len reactor.waiting + deque_len reactor.ready
 
--- how many were counted as ended
+-- how many connections a door has counted as ended
 abbrev pub ended_by : {S : Type 0} → Option (Reactor S) → ℕ
 ended_by None = 0
 ended_by (Some reactor) = reactor.ended
 
--- a count of connections, and that of the link that a call handed out
+-- the number of connections in the door, plus one if a call handed one out as a link
 abbrev pub with_link : {L E : Type 0} → Result L E → ℕ → ℕ
 with_link (Ok link) held = held + 1
 with_link (Err fault) held = held
 
--- the same for a call that may hand out none
+-- the same for a call that may succeed without a link
 abbrev pub with_link_if_any : {L E : Type 0} → Result (Option L) E → ℕ → ℕ
 with_link_if_any (Ok None) held = held
 with_link_if_any (Ok (Some link)) held = held + 1

@@ -1,6 +1,6 @@
 pub mod Buffers
 pub mod Doors
-pub mod Ends
+pub mod EndedConnections
 pub mod Exchanges
 pub mod LoggedText
 pub mod Moments

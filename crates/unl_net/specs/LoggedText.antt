@@ -2,7 +2,7 @@
 use Rattle.std.specs.Prelude.{Bool, ℕ, zero, suc, ◌&&◌, not, List, nat_le, nat_eq, if◌then◌else◌, filter, length, take}
 use Rattle.std.specs.List.{list_all}
 
--- a byte that may be logged: a visible ASCII character or a space, but no question mark
+-- whether a byte may be logged: a visible ASCII character or a space, but no question mark
 abbrev pub is_loggable : ℕ → Bool
 is_loggable byte = nat_le 32 byte && nat_le byte 126 && not (nat_eq byte 63)
 
@@ -10,7 +10,7 @@ is_loggable byte = nat_le 32 byte && nat_le byte 126 && not (nat_eq byte 63)
 abbrev pub spaces_in : List ℕ → ℕ
 spaces_in bytes = length (filter (λ byte. nat_eq byte 32) bytes)
 
--- bytes that may be logged together: each may, and at most one is a space, the one between the method and the path
+-- whether these bytes may be logged as a text: each may be logged, and at most one is a space, that between the method and the path
 abbrev pub may_be_logged : List ℕ → Bool
 may_be_logged bytes = list_all is_loggable bytes && nat_le (spaces_in bytes) 1
 

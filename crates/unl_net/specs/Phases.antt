@@ -3,12 +3,13 @@ use Rattle.std.specs.Prelude.{Bool, true, false, ℕ, ◌||◌, if◌then◌else
 use Rattle.unl_net.specs.declared.phase.Facts.{Facts}
 use Rattle.unl_net.specs.declared.phase.Phase.{Phase}
 use Rattle.unl_net.specs.declared.served.Fate.{Fate}
-use Rattle.unl_net.specs.declared.served.Fate.TheVariants.{Continues, Ends, Closed}
-use Rattle.unl_net.specs.declared.served.Stage.{Stage}
-use Rattle.unl_net.specs.declared.served.Stage.TheVariants.{Answered, Asked, Open, Parked, Failed}
+use Rattle.unl_net.specs.declared.served.Fate.TheVariants.{KeptOpen, ClosedLater, ClosedNow}
+use Rattle.unl_net.specs.declared.served.LinkStage.{LinkStage}
+use Rattle.unl_net.specs.declared.served.LinkStage.TheVariants.{Answered, Asked, Open, Parked, Failed}
 use Rattle.unl_net.specs.declared.phase.Phase.TheVariants.{Idle, Receiving, Ready, Sending, Draining, Over}
 
--- bytes to be sent come first, then the end; then a whole request is served, and an unfinished one is waited for
+-- What a connection with these facts waits for. Bytes to be sent come first, then the closing of a connection that is to be closed; then
+-- a whole request is served, and the rest of an unfinished one is waited for.
 abbrev pub phase_of : Facts → Phase
 phase_of known =
     if known.owes then Sending else
@@ -26,7 +27,7 @@ waits Sending = true
 waits Draining = true
 waits Over = false
 
--- for how many seconds a connection may be in this phase at most
+-- the maximum number of seconds that a connection may stay in this phase
 abbrev pub limit_of : Phase → ℕ
 limit_of Idle = 75
 limit_of Receiving = 30
@@ -35,11 +36,12 @@ limit_of Sending = 30
 limit_of Draining = 2
 limit_of Over = 0
 
--- What becomes of a connection whose link ends at this stage: it goes back unless it failed, and is closed after its last answer unless
--- the link ended between two requests. `owes`: bytes are to be sent; `unread`: the client may have sent what no link has read.
-abbrev pub fate_of : Stage → Bool → Bool → Fate
-fate_of Answered owes unread = if owes || unread then Ends else Closed
-fate_of Asked owes unread = if owes || unread then Ends else Closed
-fate_of Open owes unread = if owes || unread then Ends else Closed
-fate_of Parked owes unread = Continues
-fate_of Failed owes unread = Closed
+-- What becomes of a connection whose link ends at this stage. It is kept open if the link ended between two requests. Otherwise it is
+-- closed: at once if a call failed or if nothing is left to be sent or read. `owes`: bytes are still to be sent; `unread`: the client may
+-- have sent bytes that no link has read.
+abbrev pub fate_of : LinkStage → Bool → Bool → Fate
+fate_of Answered owes unread = if owes || unread then ClosedLater else ClosedNow
+fate_of Asked owes unread = if owes || unread then ClosedLater else ClosedNow
+fate_of Open owes unread = if owes || unread then ClosedLater else ClosedNow
+fate_of Parked owes unread = KeptOpen
+fate_of Failed owes unread = ClosedNow

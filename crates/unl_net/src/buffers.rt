@@ -10,7 +10,7 @@ pub(crate) struct ReceiveBuffer {
     bytes: Vec<u8>,
     /// The number of bytes at the start that were read already.
     taken: usize,
-    /// The number of bytes after these that may be read, all of one request.
+    /// The number of bytes after these that a link may read: one request, or bytes that are refused.
     opened: usize,
     ghost within: { taken + opened ≤ vec_len bytes },
 }
@@ -45,7 +45,7 @@ impl ReceiveBuffer {
         self.len() == 0
     }
 
-    /// The number of bytes that may be read, all of one request.
+    /// The number of bytes that a link may read: one request, or bytes that are refused.
     pub fn opened_len(&self) -> usize
         ensures { result ≡ self.now.opened }
     {
@@ -75,29 +75,29 @@ impl ReceiveBuffer {
 
     /// Measures the request at the start of the unread bytes. If an allocation fails, which only very long heads need, the request
     /// counts as unfinished.
-    fn prefix(&self, alloc: Global) -> Frame
+    fn first_frame(&self, alloc: Global) -> Frame
         ensures { result ≢ Frame.More → IsFrame (unread self.now) result }
     {
-        match request_frame(alloc, self.waiting()) {
+        match request_frame(alloc, self.unread()) {
             Ok(frame) => frame,
             Err(_) => Frame::More,
         }
     }
 
-    /// Opens bytes, so that they may be read: the request at the start of the unread bytes if it is whole, or all unread bytes if they
-    /// are refused. Returns which of these it found.
+    /// Opens bytes, so that a link may read them: the request at the start of the unread bytes if it is whole, none if it is unfinished,
+    /// or all unread bytes if they are refused. Returns which of these it is.
     pub fn open(&mut self, alloc: Global) -> Frame
         ensures same { unread self.new ≡ unread self.old }
         ensures frame { result ≢ Frame.More → IsFrame (unread self.new) result }
         ensures opened { self.new.opened ≡ opened_len result (unread self.new) }
     {
-        let prefix = self.prefix(alloc);
-        self.opened = match prefix {
+        let frame = self.first_frame(alloc);
+        self.opened = match frame {
             Frame::Whole(count) => count,
             Frame::Bad(_) => self.len(),
             Frame::More => 0,
         };
-        prefix
+        frame
     }
 
     /// Opens all unread bytes.
@@ -108,21 +108,21 @@ impl ReceiveBuffer {
         self.opened = self.len();
     }
 
-    /// Moves opened bytes to `room`, and returns how many.
-    pub fn give(&mut self, room: &mut [u8]) -> usize
+    /// Reads opened bytes into `room`, and returns how many.
+    pub fn read_opened(&mut self, room: &mut [u8]) -> usize
         ensures fits { result ≤ length room.new }
         ensures some { 0 < length room.old → 0 < self.old.opened → 0 < result }
         ensures bytes { unread self.old ≡ take result room.new ++ unread self.new }
     {
         let count = self.opened.min(room.len());
-        copy_prefix(self.waiting(), room, count);
+        copy_prefix(self.unread(), room, count);
         self.opened -= count;
         self.taken += count;
         count
     }
 
     /// The bytes that were not read yet.
-    fn waiting(&self) -> &[u8]
+    fn unread(&self) -> &[u8]
         ensures { result.now ≡ unread self.now }
     {
         &self.bytes[self.taken..]
@@ -204,7 +204,7 @@ impl SendBuffer {
     }
 
     /// The bytes still to be sent.
-    pub fn rest(&self) -> &[u8]
+    pub fn unsent(&self) -> &[u8]
         ensures { result.now ≡ unsent self.now }
     {
         &self.bytes[self.sent..]

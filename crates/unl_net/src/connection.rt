@@ -1,7 +1,7 @@
-//! A connection of a door, which its reactor and its links hold in turn.
+//! A connection of a door. The reactor of the door holds it while it waits, and a link while its requests are served.
 ghost use Rattle.std.specs.Prelude.{◌≡◌, ◌==◌, ◌≤◌, ◌||◌, [], false, length, nat_le, IfOk, IfSome, OnOk};
 ghost use Rattle.std.specs.Io.KnownBytes.{Keeps, WriteAppends};
-ghost use Rattle.unl_net.specs.Buffers.{BeginsWith, GivesIfAny, coming, facts_of, outgoing, unread, unsent};
+ghost use Rattle.unl_net.specs.Buffers.{BeginsWith, ConsumesReturnedIfAny, coming, facts_of, outgoing, unread, unsent};
 ghost use Rattle.unl_net.specs.Moments.{seconds_between};
 ghost use Rattle.unl_net.specs.Phases.{limit_of, phase_of};
 
@@ -17,15 +17,15 @@ use std::time::{Clock, Duration, Instant};
 use unl_http_api::Frame;
 
 /// The timeout of a blocking call of a stream, in milliseconds: long enough for a request that is already on its way.
-const MOMENT: u64 = 10;
+const CALL_TIMEOUT: u64 = 10;
 
 /// The size of one read, in bytes.
 pub(crate) const PIECE: usize = 4_096;
 
-/// More pieces than the longest request has. This bounds each loop of reads.
+/// A bound on each loop of reads: more pieces than the longest request has.
 const MOST_PIECES: usize = 300;
 
-/// A connection.
+/// A connection, with what was received and not read yet, and what is still to be sent.
 #[derive(Drop)]
 pub(crate) struct Connection<S: Read + Write + OpenStream + Drop> {
     pub stream: S,
@@ -42,9 +42,9 @@ pub(crate) struct Connection<S: Read + Write + OpenStream + Drop> {
     /// Whether this side was shut down: nothing more is sent.
     is_shut: bool,
     /// Whether the stream's calls block.
-    waits: bool,
+    is_blocking: bool,
     /// Whether the timeouts of the stream's calls are set.
-    is_limited: bool,
+    has_timeouts: bool,
 }
 
 impl<S: Read + Write + OpenStream + Drop> Connection<S> {
@@ -65,27 +65,27 @@ impl<S: Read + Write + OpenStream + Drop> Connection<S> {
             closing: false,
             since: None,
             is_shut: false,
-            waits: false,
-            is_limited: false,
+            is_blocking: false,
+            has_timeouts: false,
         })
     }
 
-    /// Sets the stream to blocking, with a timeout of `MOMENT`.
+    /// Sets the stream to blocking, with a timeout of `CALL_TIMEOUT`.
     ///
     /// # Errors
     /// The error of the stream.
-    pub fn set_waiting(&mut self) -> io::Result<()>
-        ensures { self.new ≡ record self.old { waits = self.new.waits; is_limited = self.new.is_limited } }
+    pub fn set_blocking(&mut self) -> io::Result<()>
+        ensures { self.new ≡ record self.old { is_blocking = self.new.is_blocking; has_timeouts = self.new.has_timeouts } }
     {
-        if !self.is_limited {
-            let moment = Some(Duration::from_millis(MOMENT));
-            self.stream.set_read_timeout(moment)?;
-            self.stream.set_write_timeout(moment)?;
-            self.is_limited = true;
+        if !self.has_timeouts {
+            let timeout = Some(Duration::from_millis(CALL_TIMEOUT));
+            self.stream.set_read_timeout(timeout)?;
+            self.stream.set_write_timeout(timeout)?;
+            self.has_timeouts = true;
         }
-        if !self.waits {
+        if !self.is_blocking {
             self.stream.set_nonblocking(false)?;
-            self.waits = true;
+            self.is_blocking = true;
         }
         Ok(())
     }
@@ -94,12 +94,12 @@ impl<S: Read + Write + OpenStream + Drop> Connection<S> {
     ///
     /// # Errors
     /// The error of the stream.
-    pub fn set_not_waiting(&mut self) -> io::Result<()>
-        ensures { self.new ≡ record self.old { waits = self.new.waits } }
+    pub fn set_nonblocking(&mut self) -> io::Result<()>
+        ensures { self.new ≡ record self.old { is_blocking = self.new.is_blocking } }
     {
-        if self.waits {
+        if self.is_blocking {
             self.stream.set_nonblocking(true)?;
-            self.waits = false;
+            self.is_blocking = false;
         }
         Ok(())
     }
@@ -110,13 +110,13 @@ impl<S: Read + Write + OpenStream + Drop> Connection<S> {
         ensures others { (self.new.stream ≡ self.old.stream) × (self.new.to_send ≡ self.old.to_send) }
         ensures marks { (self.new.closing ≡ self.old.closing) × (self.new.ended ≡ self.old.ended) }
     {
-        let prefix = self.received.open(alloc);
-        self.refused = matches!(prefix, Frame::Bad(_));
-        prefix != Frame::More
+        let frame = self.received.open(alloc);
+        self.refused = matches!(frame, Frame::Bad(_));
+        frame != Frame::More
     }
 
     /// Marks the connection to be closed after its answers, unless bytes of a further request were received.
-    pub fn close_behind(&mut self)
+    pub fn close_after_answers(&mut self)
         ensures { self.new ≡ record self.old { closing = self.old.closing || (length (unread self.old.received) == 0) } }
     {
         self.closing = self.closing || self.received.is_empty();
@@ -142,7 +142,7 @@ impl<S: Read + Write + OpenStream + Drop> Connection<S> {
         phase_of(self.facts())
     }
 
-    /// Whether its time is over: at `now` it has waited as long as its phase allows.
+    /// Whether it has waited too long: at `now` it has been in its phase for as long as that allows.
     pub fn is_late(&self, now: Option<Instant>) -> bool
         ensures { result ≡ nat_le
             (limit_of (phase_of (facts_of self.now.received self.now.to_send self.now.closing self.now.ended)))
@@ -156,8 +156,8 @@ impl<S: Read + Write + OpenStream + Drop> Connection<S> {
     /// # Errors
     /// The error of the stream.
     pub fn read(&mut self, room: &mut [u8]) -> io::Result<Option<usize>>
-        ensures fits { IfOk result (λ given. IfSome given (λ n. n ≤ length room.new)) }
-        ensures gives { GivesIfAny (S.remaining self.old.stream) (S.remaining self.new.stream) result room.new }
+        ensures fits { IfOk result (λ count. IfSome count (λ n. n ≤ length room.new)) }
+        ensures consumes { ConsumesReturnedIfAny (S.remaining self.old.stream) (S.remaining self.new.stream) result room.new }
         ensures others { (self.new.received ≡ self.old.received) × (self.new.to_send ≡ self.old.to_send) }
         ensures marks { (self.new.closing ≡ self.old.closing) × (self.new.ended ≡ self.old.ended) }
     {
@@ -219,7 +219,7 @@ impl<S: Read + Write + OpenStream + Drop> Connection<S> {
         ensures others { (self.new.received ≡ self.old.received) × (self.new.closing ≡ self.old.closing)
             × (self.new.ended ≡ self.old.ended) }
     {
-        match write_once(&mut self.stream, self.to_send.rest()) {
+        match write_once(&mut self.stream, self.to_send.unsent()) {
             Ok(count) => {
                 self.to_send.note_sent(count);
                 Ok(count)
@@ -229,7 +229,7 @@ impl<S: Read + Write + OpenStream + Drop> Connection<S> {
         }
     }
 
-    /// Advances a connection that no link serves: sends the pending bytes, then reads what came. No received byte is lost unless the
+    /// Advances a connection that no link serves: sends the bytes to be sent, then reads what came. No received byte is lost unless the
     /// connection is to be closed. Returns its new phase.
     ///
     /// # Errors

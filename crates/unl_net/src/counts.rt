@@ -1,11 +1,11 @@
 //! The counts of the links of a door.
 ghost use Rattle.std.specs.Prelude.{◌≤◌};
 
-/// How many links were handed out and returned, and whether the last one was handed out.
+/// How many links a door has handed out and taken back, and whether the last one was handed out.
 #[derive(Clone, Copy)]
 pub(crate) struct Counts {
     pub closed: bool,
-    pub given: u64,
-    pub back: u64,
-    ghost in_order: { back ≤ given },
+    pub handed_out: u64,
+    pub taken_back: u64,
+    ghost in_order: { taken_back ≤ handed_out },
 }

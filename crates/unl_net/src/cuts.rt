@@ -1,7 +1,7 @@
 //! Why connections end, and the counts of those that were cut off. These and the answers with a status of 500 or more are logged once
 //! a minute at most.
 ghost use Rattle.std.specs.Prelude.{◌≡◌};
-ghost use Rattle.unl_net.specs.Ends.{after_cut, counted, cut_of, late_cut};
+ghost use Rattle.unl_net.specs.EndedConnections.{with_cut_if_any, with_cut, cut_of, late_cut};
 
 use crate::moment::seconds_between;
 use crate::phase::Phase;
@@ -9,8 +9,8 @@ use std::fmt::Display;
 use std::time::Instant;
 use std::{fmt, io};
 
-/// The minimum number of seconds between two lines.
-const PAUSE: u64 = 60;
+/// The minimum number of seconds between two log lines of a kind.
+const LOG_INTERVAL: u64 = 60;
 
 /// Why a connection was cut off.
 #[derive(Clone, Copy)]
@@ -86,7 +86,7 @@ impl Cuts {
 
     /// Counts a connection if it was cut off.
     pub fn count(&mut self, cut: Option<Cut>)
-        ensures { self.new ≡ after_cut cut self.old }
+        ensures { self.new ≡ with_cut_if_any cut self.old }
     {
         match cut {
             Some(cut) => self.count_one(cut),
@@ -96,7 +96,7 @@ impl Cuts {
 
     /// Counts one connection that was cut off.
     fn count_one(&mut self, cut: Cut)
-        ensures { self.new ≡ counted cut self.old }
+        ensures { self.new ≡ with_cut cut self.old }
     {
         match cut {
             Cut::SlowRequest => self.slow_requests = self.slow_requests.saturating_add(1),
@@ -136,7 +136,7 @@ impl Display for Cuts {
     }
 }
 
-/// When something was last logged.
+/// When a kind of line was last logged, which is at most once a minute.
 #[derive(Clone, Copy)]
 pub(crate) struct EachMinute {
     last: Option<Instant>,
@@ -150,7 +150,7 @@ impl EachMinute {
 
     /// Whether a line may be logged, which then counts as logged.
     fn is_due(&mut self, now: Option<Instant>) -> bool {
-        let is_due = self.last.is_none() || seconds_between(self.last, now) >= PAUSE;
+        let is_due = self.last.is_none() || seconds_between(self.last, now) >= LOG_INTERVAL;
         if is_due {
             self.last = now;
         }
@@ -167,7 +167,7 @@ impl EachMinute {
         Some(due)
     }
 
-    /// Whether a line of a count that is not 0 is due.
+    /// Whether a line with this count is due. It never is if the count is 0.
     pub fn is_count_due(&mut self, now: Option<Instant>, count: u64) -> bool {
         count > 0 && self.is_due(now)
     }

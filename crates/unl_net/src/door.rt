@@ -5,8 +5,8 @@ ghost use Rattle.std.specs.Prelude.{true, unwrap_or};
 ghost use Rattle.std.specs.VecDeque.{deque_len};
 ghost use Rattle.unl_base.specs.Doors.{Accepts, IsFresh};
 ghost use Rattle.unl_base.specs.Faults.{HasExactCause};
-ghost use Rattle.unl_net.specs.Doors.{IsLast, IsServed, door_state, ended_by, held_by, with_link, with_link_if_any};
-ghost use Rattle.unl_net.specs.Ends.{Accounts, LosesNone};
+ghost use Rattle.unl_net.specs.Doors.{IsLastLink, IsFinished, door_state, ended_by, held_by, with_link, with_link_if_any};
+ghost use Rattle.unl_net.specs.EndedConnections.{Accounts, LosesNone};
 
 use crate::counts::Counts;
 use crate::link::RealLink;
@@ -23,14 +23,14 @@ use std::sync::{Arc, Wait};
 use std::time::Clock;
 use unl_base::{Door, Failed};
 
-/// How many links are handed out before the door looks for further events.
+/// How many links are handed out before the door handles further events.
 const MOST_IN_A_ROW: u64 = 32;
 
 /// The longest wait for an event, in milliseconds.
-const SECOND: u64 = 1_000;
+const LONG_WAIT: u64 = 1_000;
 
 /// The same while a connection waits to be accepted and there is no room for it yet.
-const MOMENT: u64 = 10;
+const SHORT_WAIT: u64 = 10;
 
 /// A door over the network. It listens on all IPv6 and IPv4 addresses of this machine if one socket can do both, otherwise on all IPv4
 /// addresses. It holds the connections that wait for their clients, and hands one out as a link once a whole request was received. A
@@ -58,7 +58,8 @@ impl<N: Net + Clock + Eprint + Wait + Copy + Drop> RealDoor<N> {
     /// # Errors
     /// Out of memory.
     pub fn new(alloc: Global, net: N, bound: Option<u64>, workers: u32) -> Result<Self, AllocError>
-        ensures new { IfOk result (λ door. (door.listener ≡ None) × (door.counts.given ≡ 0) × (door.counts.back ≡ 0) × (door.faults ≡ 0)) }
+        ensures new { IfOk result (λ door. (door.listener ≡ None) × (door.counts.handed_out ≡ 0) × (door.counts.taken_back ≡ 0)
+            × (door.faults ≡ 0)) }
         ensures no_port { IfOk result (λ door. door.ports.items ≡ []) }
         ensures bound { IfOk result (λ door. door.accepting.bound ≡ unwrap_or bound (2 ^ 64 - 1)) }
         ensures workers { IfOk result (λ door. door.workers ≡ workers) }
@@ -74,8 +75,8 @@ impl<N: Net + Clock + Eprint + Wait + Copy + Drop> RealDoor<N> {
             reports: Reports::new(),
             counts: Counts {
                 closed: bound == Some(0),
-                given: 0,
-                back: 0,
+                handed_out: 0,
+                taken_back: 0,
             },
             faults: 0,
         })
@@ -97,7 +98,7 @@ fn next_link<N: Net + Clock + Eprint + Wait + Copy + Drop>(
 ) -> io::Result<(RealLink<N::Stream, N>, bool)>
     ensures faultless { IfOk result (λ next. next.0.faults ≡ 0) }
     ensures last { IfOk result (λ next. next.1 ≡ true
-        → IfSome reactor.new (λ reactor. IsLast accepting.new reactor.waiting reactor.ready.items)) }
+        → IfSome reactor.new (λ reactor. IsLastLink accepting.new reactor.waiting reactor.ready.items)) }
     ensures accounts { LosesNone reports.old.arrived (held_by reactor.old) (ended_by reactor.old)
         reports.new.arrived (with_link result (held_by reactor.new)) (ended_by reactor.new) }
 {
@@ -107,14 +108,14 @@ fn next_link<N: Net + Clock + Eprint + Wait + Copy + Drop>(
     let Some(reactor) = reactor else {
         return Err(io::Error::from(ErrorKind::NotConnected));
     };
-    next_or_end(alloc, net, listener, reactor, accepting, reports)
+    next_link_or_fault(alloc, net, listener, reactor, accepting, reports)
 }
 
 /// Waits for the next link of a reactor, and returns whether it is the last one.
 ///
 /// # Errors
 /// As [`next_link`].
-fn next_or_end<N: Net + Clock + Eprint + Wait + Copy + Drop>(
+fn next_link_or_fault<N: Net + Clock + Eprint + Wait + Copy + Drop>(
     alloc: Global,
     net: N,
     listener: &N::Listener,
@@ -123,13 +124,13 @@ fn next_or_end<N: Net + Clock + Eprint + Wait + Copy + Drop>(
     reports: &mut Reports,
 ) -> io::Result<(RealLink<N::Stream, N>, bool)>
     ensures faultless { IfOk result (λ next. next.0.faults ≡ 0) }
-    ensures last { IfOk result (λ next. next.1 ≡ true → IsLast accepting.new reactor.new.waiting reactor.new.ready.items) }
+    ensures last { IfOk result (λ next. next.1 ≡ true → IsLastLink accepting.new reactor.new.waiting reactor.new.ready.items) }
     ensures accounts { LosesNone reports.old.arrived (slab_len reactor.old.waiting + deque_len reactor.old.ready) reactor.old.ended
         reports.new.arrived (with_link result (slab_len reactor.new.waiting + deque_len reactor.new.ready)) reactor.new.ended }
 {
-    let next = next_of(alloc, net, listener, reactor, accepting, reports)?;
+    let next = next_link_if_any(alloc, net, listener, reactor, accepting, reports)?;
     let Some(next) = next else {
-        return Err(accepting.end());
+        return Err(accepting.final_fault());
     };
     Ok(next)
 }
@@ -141,7 +142,7 @@ fn next_or_end<N: Net + Clock + Eprint + Wait + Copy + Drop>(
 /// # Errors
 /// Out of memory.
 #[tactic(auto, using(crate::proofs::Accounting::unchanged, crate::proofs::Accounting::behind))]
-fn next_of<N: Net + Clock + Eprint + Wait + Copy + Drop>(
+fn next_link_if_any<N: Net + Clock + Eprint + Wait + Copy + Drop>(
     alloc: Global,
     net: N,
     listener: &N::Listener,
@@ -151,8 +152,8 @@ fn next_of<N: Net + Clock + Eprint + Wait + Copy + Drop>(
 ) -> io::Result<Option<(RealLink<N::Stream, N>, bool)>>
     ensures faultless { IfOk result (λ next. IfSome next (λ next. next.0.faults ≡ 0)) }
     ensures last { IfOk result (λ next. IfSome next (λ next. next.1 ≡ true
-        → IsLast accepting.new reactor.new.waiting reactor.new.ready.items)) }
-    ensures none { IfOk result (λ next. IfNone next (IsServed accepting.new reactor.new.waiting reactor.new.ready.items)) }
+        → IsLastLink accepting.new reactor.new.waiting reactor.new.ready.items)) }
+    ensures none { IfOk result (λ next. IfNone next (IsFinished accepting.new reactor.new.waiting reactor.new.ready.items)) }
     ensures accounts { LosesNone reports.old.arrived (slab_len reactor.old.waiting + deque_len reactor.old.ready) reactor.old.ended
         reports.new.arrived (with_link_if_any result (slab_len reactor.new.waiting + deque_len reactor.new.ready)) reactor.new.ended }
 {
@@ -164,12 +165,12 @@ fn next_of<N: Net + Clock + Eprint + Wait + Copy + Drop>(
         if is_finished(&net, reactor, accepting, reports) {
             return Ok(None);
         }
-        look_for_more(alloc, net, listener, reactor, accepting, reports);
+        accept_and_wait(alloc, net, listener, reactor, accepting, reports);
     }
     Err(io::Error::from(ErrorKind::NotConnected))
 }
 
-/// Hands out a connection that is ready, unless `MOST_IN_A_ROW` were handed out since the door last looked for events.
+/// Hands out a connection that is ready, unless `MOST_IN_A_ROW` were handed out since the door last waited for events.
 ///
 /// # Errors
 /// Out of memory.
@@ -183,7 +184,7 @@ fn hand_out_in_a_row<N: Net + Clock + Eprint + Wait + Copy + Drop>(
 ) -> io::Result<Option<(RealLink<N::Stream, N>, bool)>>
     ensures faultless { IfOk result (λ next. IfSome next (λ next. next.0.faults ≡ 0)) }
     ensures last { IfOk result (λ next. IfSome next (λ next. next.1 ≡ true
-        → IsLast accepting.now reactor.new.waiting reactor.new.ready.items)) }
+        → IsLastLink accepting.now reactor.new.waiting reactor.new.ready.items)) }
     ensures accounts { LosesNone reports.old.arrived (slab_len reactor.old.waiting + deque_len reactor.old.ready) reactor.old.ended
         reports.new.arrived (with_link_if_any result (slab_len reactor.new.waiting + deque_len reactor.new.ready)) reactor.new.ended }
 {
@@ -203,7 +204,7 @@ fn hand_out_in_a_row<N: Net + Clock + Eprint + Wait + Copy + Drop>(
     }
 }
 
-/// Takes back the connections that links gave back, and counts them.
+/// Takes back the connections that links returned, and counts them.
 #[tactic(auto, using(crate::proofs::Accounting::arrived))]
 fn take_back<N: Net + Clock + Eprint + Wait + Copy + Drop>(
     net: &N,
@@ -243,7 +244,7 @@ fn is_finished<N: Net + Clock + Eprint + Wait + Copy + Drop>(
     accepting: &Accepting,
     reports: &mut Reports,
 ) -> bool
-    ensures served { result ≡ true → IsServed accepting.now reactor.new.waiting reactor.new.ready.items }
+    ensures served { result ≡ true → IsFinished accepting.now reactor.new.waiting reactor.new.ready.items }
     ensures accounts { LosesNone reports.old.arrived (slab_len reactor.old.waiting + deque_len reactor.old.ready) reactor.old.ended
         reports.new.arrived (slab_len reactor.new.waiting + deque_len reactor.new.ready) reactor.new.ended }
 {
@@ -260,7 +261,7 @@ fn is_finished<N: Net + Clock + Eprint + Wait + Copy + Drop>(
 
 /// Accepts connections, waits for events, and ends the connections whose time is over.
 #[tactic(auto, using(crate::proofs::Accounting::behind))]
-fn look_for_more<N: Net + Clock + Eprint + Wait + Copy + Drop>(
+fn accept_and_wait<N: Net + Clock + Eprint + Wait + Copy + Drop>(
     alloc: Global,
     net: N,
     listener: &N::Listener,
@@ -290,7 +291,7 @@ fn wait_for_events<N: Net + Clock + Eprint + Wait + Copy + Drop>(
 {
     take_back(&net, reactor, reports);
     wait(&net, reactor, accepting);
-    look_after(net, reactor, accepting, reports);
+    sweep_and_log(net, reactor, accepting, reports);
 }
 
 /// Waits for events, and handles them. If that fails, it fails for good: the error is noted, and no connection waits any more.
@@ -303,24 +304,24 @@ fn wait<N: Net + Clock + Eprint + Wait + Copy + Drop>(
     ensures accounts { Accounts 0 (slab_len reactor.old.waiting + deque_len reactor.old.ready) reactor.old.ended
         (slab_len reactor.new.waiting + deque_len reactor.new.ready) reactor.new.ended }
 {
-    let most = wait_of(reactor, accepting);
+    let most = wait_limit(reactor, accepting);
     if let Err(fault) = reactor.wait(net, most) {
-        accepting.note_end(fault);
+        accepting.note_final_fault(fault);
         reactor.end_waiting(fault);
     }
 }
 
 /// How long the door waits for an event, in milliseconds.
-fn wait_of<S: Read + Write + OpenStream + AsRawFd + Drop>(
+fn wait_limit<S: Read + Write + OpenStream + AsRawFd + Drop>(
     reactor: &Reactor<S>,
     accepting: &Accepting,
 ) -> u64 {
     if reactor.has_ready() {
         0
     } else if !reactor.may_accept || accepting.is_done() {
-        SECOND
+        LONG_WAIT
     } else if reactor.is_full() {
-        MOMENT
+        SHORT_WAIT
     } else {
         0
     }
@@ -340,7 +341,7 @@ fn hand_out<N: Net + Clock + Eprint + Wait + Copy + Drop>(
 ) -> io::Result<Option<(RealLink<N::Stream, N>, bool)>>
     ensures faultless { IfOk result (λ next. IfSome next (λ next. next.0.faults ≡ 0)) }
     ensures last { IfOk result (λ next. IfSome next (λ next. next.1 ≡ true
-        → IsLast accepting.now reactor.new.waiting reactor.new.ready.items)) }
+        → IsLastLink accepting.now reactor.new.waiting reactor.new.ready.items)) }
     ensures first { IfOk result (λ next. IfSome next (λ next. reactor.old.ready.items
         ≡ next.0.served.connection ∷ reactor.new.ready.items)) }
     ensures ready { deque_len reactor.old.ready ≡ with_link_if_any result (deque_len reactor.new.ready) }
@@ -362,7 +363,7 @@ fn hand_out<N: Net + Clock + Eprint + Wait + Copy + Drop>(
 
 /// Ends the connections whose time is over, and logs the counts that are due.
 #[tactic(auto, using(crate::proofs::Accounting::none_arrived))]
-fn look_after<N: Net + Clock + Eprint + Wait + Copy + Drop>(
+fn sweep_and_log<N: Net + Clock + Eprint + Wait + Copy + Drop>(
     net: N,
     reactor: &mut Reactor<N::Stream>,
     accepting: &mut Accepting,
@@ -374,9 +375,9 @@ fn look_after<N: Net + Clock + Eprint + Wait + Copy + Drop>(
     let now = moment(&net);
     reactor.sweep(now);
     reactor.cuts.count_memory(reactor.shared.take_lost());
-    let faults = reactor.shared.take_faults();
+    let errors = reactor.shared.take_server_errors();
     reports.log_cuts(&net, now, &mut reactor.cuts, &mut accepting.log);
-    reports.log_faults(&net, now, faults, &mut accepting.log);
+    reports.log_server_errors(&net, now, errors, &mut accepting.log);
 }
 
 impl<N: Net + Clock + Eprint + Wait + Copy + Drop> Door for RealDoor<N> {
@@ -419,11 +420,11 @@ impl<N: Net + Clock + Eprint + Wait + Copy + Drop> Door for RealDoor<N> {
             ≡ door_state self.old.ports.items self.old.counts) }
         ensures cause { HasExactCause self.old.faults self.new.faults result }
         ensures closes { IfOk result (λ link. IfSome link (λ _. self.new.counts.closed ≡ true
-            → IfSome self.new.reactor (λ reactor. IsLast self.new.accepting reactor.waiting reactor.ready.items))) }
+            → IfSome self.new.reactor (λ reactor. IsLastLink self.new.accepting reactor.waiting reactor.ready.items))) }
         ensures accounts { LosesNone self.old.reports.arrived (held_by self.old.reactor) (ended_by self.old.reactor)
             self.new.reports.arrived (with_link_if_any result (held_by self.new.reactor)) (ended_by self.new.reactor) }
     {
-        if self.counts.closed || self.counts.given == u64::MAX {
+        if self.counts.closed || self.counts.handed_out == u64::MAX {
             return Ok(None);
         }
         let next = next_link(
@@ -436,7 +437,7 @@ impl<N: Net + Clock + Eprint + Wait + Copy + Drop> Door for RealDoor<N> {
         );
         match next {
             Ok((link, is_last)) => {
-                self.counts.given += 1;
+                self.counts.handed_out += 1;
                 self.counts.closed = is_last;
                 Ok(Some(link))
             }
@@ -450,9 +451,9 @@ impl<N: Net + Clock + Eprint + Wait + Copy + Drop> Door for RealDoor<N> {
     }
 
     fn give_back(&mut self, _link: Self::L) {
-        let given = self.counts.given;
-        if self.counts.back < given {
-            self.counts.back += 1;
+        let handed_out = self.counts.handed_out;
+        if self.counts.taken_back < handed_out {
+            self.counts.taken_back += 1;
         }
     }
 

@@ -1,9 +1,9 @@
-//! Ends connections that wait: the one that has received most if memory is short, the oldest if room is short, and those whose time is
-//! over. Also decides what becomes of them once no more are accepted.
+//! Ends connections that wait: the one that has received most if memory is short, the oldest if room is short, and those that have waited
+//! too long. It also decides what becomes of all of them once no more are accepted.
 ghost use Rattle.slab.specs.Slab.{slab_len};
 ghost use Rattle.std.specs.Prelude.{◌≡◌, ◌+◌, ◌&&◌, nat_le};
 ghost use Rattle.std.specs.VecDeque.{deque_len};
-ghost use Rattle.unl_net.specs.Ends.{Accounts};
+ghost use Rattle.unl_net.specs.EndedConnections.{Accounts};
 ghost use Rattle.unl_net.specs.Moments.{seconds_between};
 
 use crate::connection::Connection;
@@ -155,13 +155,13 @@ impl<S: Read + Write + OpenStream + AsRawFd + Drop> Reactor<S> {
             (slab_len self.new.waiting + deque_len self.new.ready) self.new.ended }
     {
         'noted: for at in 0..self.keys.len() {
-            self.end(at, now);
+            self.end_at(at, now);
         }
     }
 
     /// Ends the noted connection at this index, if its time is over.
     #[tactic(auto, using(crate::proofs::Accounting::same))]
-    fn end(&mut self, at: usize, now: Option<Instant>)
+    fn end_at(&mut self, at: usize, now: Option<Instant>)
         ensures accounts { Accounts 0 (slab_len self.old.waiting + deque_len self.old.ready) self.old.ended
             (slab_len self.new.waiting + deque_len self.new.ready) self.new.ended }
     {
@@ -216,11 +216,11 @@ impl<S: Read + Write + OpenStream + AsRawFd + Drop> Reactor<S> {
     /// Notes that as many connections were accepted as the bound allows. From now on each connection from which a request may still
     /// come is ready for a link, which serves it to its end, and the door closes with the last link. If there is no memory to note all
     /// of them, the rest are served once a whole request was received.
-    pub fn call_last(&mut self)
+    pub fn note_accepted_all(&mut self)
         ensures accounts { Accounts 0 (slab_len self.old.waiting + deque_len self.old.ready) self.old.ended
             (slab_len self.new.waiting + deque_len self.new.ready) self.new.ended }
     {
-        self.shared.call_last();
+        self.shared.note_accepted_all();
         self.closes = true;
         self.place_all()
     }
@@ -267,7 +267,7 @@ impl<S: Read + Write + OpenStream + AsRawFd + Drop> Reactor<S> {
         };
         let mut connection = connection;
         if self.is_ending && !connection.to_send.is_empty() {
-            connection.close_behind();
+            connection.close_after_answers();
         }
         self.place(connection)
     }
@@ -288,7 +288,7 @@ fn note_keys<S: Read + Write + OpenStream + AsRawFd + Drop>(
     }
 }
 
-/// Whether a connection has received more than the best candidate so far.
+/// Whether a connection that has received this much has received more than the largest one so far.
 fn is_more(received: usize, largest: &Option<(usize, usize)>) -> bool {
     match largest {
         None => true,
@@ -296,7 +296,8 @@ fn is_more(received: usize, largest: &Option<(usize, usize)>) -> bool {
     }
 }
 
-/// Whether a connection is to be closed rather than the best candidate so far.
+/// Whether a connection is to be closed rather than the oldest one so far: it is idle and that one is not, or both are alike in this and
+/// it has waited longer.
 fn is_older(is_busy: bool, since: Instant, oldest: &Option<(bool, Instant, usize)>) -> bool {
     match oldest {
         None => true,

@@ -6,10 +6,10 @@ use crate::moment::seconds_between;
 use std::time::Instant;
 
 /// How long an exchange may take, in seconds. How long the system takes to look up a name is not bounded.
-pub(crate) const MOST: u64 = 30;
+const MOST_SECONDS: u64 = 30;
 
 /// For how many seconds a server is not asked after it used up its time.
-const REST: u64 = 5;
+const REST_SECONDS: u64 = 5;
 
 /// When an exchange began, and when the last one that used up its time ended. If the clock can't be read, no time counts as passed.
 #[derive(Clone, Copy)]
@@ -38,7 +38,7 @@ impl Exchange {
     pub fn left(&self, now: Option<Instant>) -> u64
         ensures { result ≡ seconds_left self.now now }
     {
-        MOST.saturating_sub(seconds_between(self.begun, now))
+        MOST_SECONDS.saturating_sub(seconds_between(self.begun, now))
     }
 
     /// Notes that a call failed: if no time is left, the server used it up.
@@ -54,6 +54,6 @@ impl Exchange {
     pub fn rests(&self, now: Option<Instant>) -> bool
         ensures { result ≡ rests self.now now }
     {
-        self.over.is_some() && seconds_between(self.over, now) < REST
+        self.over.is_some() && seconds_between(self.over, now) < REST_SECONDS
     }
 }

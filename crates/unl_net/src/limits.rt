@@ -5,10 +5,10 @@ use libc::types::rlimit;
 use libc::{RLIMIT_NOFILE, getrlimit};
 
 /// The most connections that a door holds.
-const MOST: u64 = 16_384;
+const MOST_CONNECTIONS: u64 = 16_384;
 
 /// How many descriptors are reserved for the rest of the program.
-const REST: u64 = 64;
+const RESERVED: u64 = 64;
 
 /// How many connections a door may hold: the process's limit of descriptors, less those for the rest of the program. 512 if the limit
 /// can't be read.
@@ -26,11 +26,11 @@ pub(crate) fn most_connections() -> usize
     most_of(limit.rlim_cur)
 }
 
-/// The same for this limit of descriptors. If it is below 128, the door gets half of it.
+/// How many connections a door may hold if the process may open `limit` descriptors: half of them if `limit` is below 128.
 fn most_of(limit: u64) -> usize
     ensures some { 0 < result }
     ensures most { result ≤ 16384 }
 {
-    let kept = limit.saturating_sub(REST).max(limit / 2);
-    kept.max(1).min(MOST) as usize
+    let kept = limit.saturating_sub(RESERVED).max(limit / 2);
+    kept.max(1).min(MOST_CONNECTIONS) as usize
 }

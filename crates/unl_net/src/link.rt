@@ -3,7 +3,7 @@ ghost use Rattle.std.specs.Prelude.{◌≡◌, ◌<◌, ◌≤◌, length, IfOk,
 ghost use Rattle.std.specs.Io.KnownBytes.{WriteAppends};
 ghost use Rattle.unl_base.specs.Faults.{HasExactCause};
 ghost use Rattle.unl_base.specs.Peers.{nothing_beside};
-ghost use Rattle.unl_net.specs.Buffers.{Gives, coming, outgoing};
+ghost use Rattle.unl_net.specs.Buffers.{ConsumesReturned, coming, outgoing};
 
 use crate::connection::Connection;
 use crate::served::Served;
@@ -53,7 +53,7 @@ impl<S: Read + Write + OpenStream + Drop, C: Clock + Wait + Drop> Source for Rea
     fn read(&mut self, room: &mut [u8]) -> Result<usize, Failed>
         requires { 0 < length room.old }
         ensures fits { IfOk result (λ n. n ≤ length room.new) }
-        ensures forwards { Gives
+        ensures forwards { ConsumesReturned
             (coming self.old.served.connection.received (S.remaining self.old.served.connection.stream))
             (coming self.new.served.connection.received (S.remaining self.new.served.connection.stream)) result room.new }
         ensures cause { HasExactCause self.old.faults self.new.faults result }

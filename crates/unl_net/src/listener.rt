@@ -3,7 +3,7 @@ ghost use Rattle.slab.specs.Slab.{slab_len};
 ghost use Rattle.std.specs.Prelude.{◌≡◌, ◌≤◌, ◌+◌, ◌∷◌, ◌++◌, ◌⊎◌, ◌||◌, [], IfSome, MatchResult, None, OnErr, OnOk, OnSome, Some};
 ghost use Rattle.std.specs.Prelude.{false, is_some, nat_le, true};
 ghost use Rattle.std.specs.VecDeque.{deque_len};
-ghost use Rattle.unl_net.specs.Ends.{Accounts};
+ghost use Rattle.unl_net.specs.EndedConnections.{Accounts};
 
 use crate::connection::Connection;
 use crate::limits::most_connections;
@@ -22,7 +22,7 @@ use std::{io, thread};
 const MOST_AT_ONCE: u64 = 16;
 
 /// How long the door pauses before it tries again to accept, in milliseconds.
-const PAUSE: u64 = 10;
+const ACCEPT_PAUSE: u64 = 10;
 
 /// The logged state while accepting fails.
 const FAILS: u16 = 1;
@@ -42,14 +42,14 @@ fn is_shortage(fault: &io::Error) -> bool {
 }
 
 /// Whether an error is temporary.
-fn passes(fault: &io::Error) -> bool {
+fn is_temporary(fault: &io::Error) -> bool {
     match fault.raw_os_error() {
         Some(code) => !LASTING.contains(&code),
         None => false,
     }
 }
 
-/// How many connections were accepted, and what of that was logged.
+/// How many connections were accepted, how many may be, and what of that was logged.
 #[derive(Clone, Copy)]
 pub(crate) struct Accepting {
     pub log: Log,
@@ -58,7 +58,7 @@ pub(crate) struct Accepting {
     pub bound: u64,
     /// How many were accepted.
     pub accepted: u64,
-    /// The error with which an accept or a wait for events failed for good: nothing more is accepted.
+    /// The error with which an accept or a wait for events failed for good, if one did: nothing more is accepted then.
     pub fault: Option<io::Error>,
     ghost within: { accepted ≤ bound },
 }
@@ -93,7 +93,7 @@ impl Accepting {
     }
 
     /// Notes that an accept or a wait for events failed for good.
-    pub fn note_end(&mut self, fault: io::Error)
+    pub fn note_final_fault(&mut self, fault: io::Error)
         ensures { self.new ≡ record self.old { fault = Some fault } }
     {
         self.fault = Some(fault);
@@ -108,7 +108,7 @@ impl Accepting {
     }
 
     /// The error with which an accept or a wait for events failed for good, or `NotConnected` if none did.
-    pub fn end(&self) -> io::Error
+    pub fn final_fault(&self) -> io::Error
         ensures { IfSome self.now.fault (λ fault. result ≡ fault) }
     {
         match self.fault {
@@ -134,7 +134,7 @@ impl Accepting {
             self.log
                 .line(net, format_args!("cannot accept, trying again: {fault}"));
         }
-        thread::sleep(net, Duration::from_millis(PAUSE));
+        thread::sleep(net, Duration::from_millis(ACCEPT_PAUSE));
     }
 }
 
@@ -209,7 +209,7 @@ fn stream_of<N: Net + Clock + Eprint + Wait + Copy + Drop>(
 ) -> Option<N::Stream>
     ensures accounts { Accounts 0 (slab_len reactor.old.waiting + deque_len reactor.old.ready) reactor.old.ended
         (slab_len reactor.new.waiting + deque_len reactor.new.ready) reactor.new.ended }
-    ensures exact { MatchResult accepted (λ given. result ≡ Some given.0) (λ _. result ≡ None) }
+    ensures exact { MatchResult accepted (λ pair. result ≡ Some pair.0) (λ _. result ≡ None) }
     ensures counts { (accepting.new.bound ≡ accepting.old.bound) × (accepting.new.accepted ≡ accepting.old.accepted) }
 {
     match accepted {
@@ -240,8 +240,8 @@ fn note_failed<N: Net + Clock + Eprint + Wait + Copy + Drop>(
         reactor.may_accept = false;
         return;
     }
-    if !passes(&fault) {
-        accepting.note_end(fault);
+    if !is_temporary(&fault) {
+        accepting.note_final_fault(fault);
         return reactor.begin_ending(moment(&net));
     }
     if is_shortage(&fault) {
@@ -300,13 +300,13 @@ fn take_in_counted<N: Net + Clock + Eprint + Wait + Copy + Drop>(
     ensures counts { accepting.new.accepted ≡ accepting.old.accepted + 1 }
 {
     accepting.count();
-    call_last_if_full(reactor, accepting);
+    note_if_accepted_all(reactor, accepting);
     reactor.take_in(&net, connection);
 }
 
-/// Begins to serve the last connections if as many were accepted as the bound allows.
+/// Notes that no more connections are accepted, if as many were as the bound allows.
 #[tactic(auto, using(crate::proofs::Accounting::same))]
-fn call_last_if_full<S: Read + Write + OpenStream + AsRawFd + Drop>(
+fn note_if_accepted_all<S: Read + Write + OpenStream + AsRawFd + Drop>(
     reactor: &mut Reactor<S>,
     accepting: &Accepting,
 )
@@ -314,7 +314,7 @@ fn call_last_if_full<S: Read + Write + OpenStream + AsRawFd + Drop>(
         (slab_len reactor.new.waiting + deque_len reactor.new.ready) reactor.new.ended }
 {
     if accepting.is_full() {
-        reactor.call_last();
+        reactor.note_accepted_all();
     }
 }
 

@@ -9,7 +9,7 @@ use crate::exchange::Exchange;
 use crate::log::{Log, Logged, WELL};
 use crate::moment::moment;
 use crate::retrying::{read_once, write_once};
-use crate::status_log::{Answer, StatusLog};
+use crate::status_log::{LoggedStatus, StatusLog};
 use std::fmt::Display;
 use std::io;
 use std::io::{ErrorKind, Read, Write};
@@ -61,13 +61,13 @@ impl<N: Net + Clock + Eprint + Drop, A: ToSocketAddrs + Display> RealPeer<N, A> 
         ensures rises { (self.old.faults ≤ self.new.faults) × Rose self.old.faults self.new.faults }
     {
         self.exchange.note_fault(moment(&self.net));
-        let answer = self.statuses.note_read(b"");
-        log_answer(
+        let status = self.statuses.note_read(b"");
+        log_status(
             &self.net,
             &self.address,
             &self.statuses,
             &mut self.log,
-            answer,
+            status,
         );
         self.faults = self.faults.saturating_add(1);
     }
@@ -91,7 +91,7 @@ fn set_limit<S: OpenStream>(stream: &S, left: u64, limit: &mut u64) -> io::Resul
 }
 
 /// Connects to the first address of a name that accepts a connection, within the time of the exchange.
-fn connected<N: Net + Clock, A: ToSocketAddrs>(
+fn connect_in_time<N: Net + Clock, A: ToSocketAddrs>(
     net: &N,
     address: &A,
     exchange: &Exchange,
@@ -166,16 +166,16 @@ fn log_unreachable<N: Eprint, A: Display>(
 }
 
 /// Logs the status of a reply, if it is news.
-fn log_answer<N: Eprint, A: Display>(
+fn log_status<N: Eprint, A: Display>(
     net: &N,
     address: &A,
     statuses: &StatusLog,
     log: &mut Log,
-    answer: Option<Answer>,
+    status: Option<LoggedStatus>,
 ) {
-    if let Some(answer) = answer {
+    if let Some(status) = status {
         let kind = statuses.kind();
-        log.line(net, format_args!("upstream {address}: {kind}: {answer}"));
+        log.line(net, format_args!("upstream {address}: {kind}: {status}"));
     }
 }
 
@@ -202,13 +202,13 @@ impl<N: Net + Clock + Eprint + Drop, A: ToSocketAddrs + Display> Source for Real
         };
         match read_in_time(&self.net, stream, &self.exchange, &mut self.limit, room) {
             Ok(count) => {
-                let answer = self.statuses.note_read(&room[..count]);
-                log_answer(
+                let status = self.statuses.note_read(&room[..count]);
+                log_status(
                     &self.net,
                     &self.address,
                     &self.statuses,
                     &mut self.log,
-                    answer,
+                    status,
                 );
                 Ok(count)
             }
@@ -242,13 +242,13 @@ impl<N: Net + Clock + Eprint + Drop, A: ToSocketAddrs + Display> Sink for RealPe
         let Some(stream) = &mut self.stream else {
             return Ok(piece.len());
         };
-        let answer = self.statuses.note_written(piece);
-        log_answer(
+        let status = self.statuses.note_written(piece);
+        log_status(
             &self.net,
             &self.address,
             &self.statuses,
             &mut self.log,
-            answer,
+            status,
         );
         match write_in_time(&self.net, stream, &self.exchange, &mut self.limit, piece) {
             Ok(count) if count > 0 => Ok(count),
@@ -287,7 +287,7 @@ impl<N: Net + Clock + Eprint + Drop, A: ToSocketAddrs + Display> Peer for RealPe
         }
         self.exchange.begin(now);
         self.limit = 0;
-        match connected(&self.net, &self.address, &self.exchange) {
+        match connect_in_time(&self.net, &self.address, &self.exchange) {
             Ok(stream) => {
                 log_reached(&self.net, &self.address, &mut self.logged, &mut self.log);
                 self.stream = Some(stream);

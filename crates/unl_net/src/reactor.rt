@@ -1,9 +1,9 @@
-//! Waits for all connections that no link serves, and decides what becomes of each.
+//! The connections of a door that no link serves: waiting for their events, and what becomes of each.
 ghost use Rattle.slab.specs.Slab.{slab_len};
 ghost use Rattle.std.specs.Prelude.{◌≡◌, ◌+◌, ◌++◌, [], true, IfNone, MatchOption, OnSome, option_to_list};
 ghost use Rattle.std.specs.VecDeque.{deque_len};
 ghost use Rattle.unl_net.specs.Buffers.{facts_of};
-ghost use Rattle.unl_net.specs.Ends.{Accounts, MayEnd, after_cut, cut_of};
+ghost use Rattle.unl_net.specs.EndedConnections.{Accounts, MayEnd, with_cut_if_any, cut_of};
 ghost use Rattle.unl_net.specs.Phases.{phase_of};
 
 use crate::connection::{Connection, PIECE};
@@ -42,7 +42,7 @@ pub(crate) struct Reactor<S: Read + Write + OpenStream + AsRawFd + Drop> {
     alloc: Global,
     poll: Poll,
     events: Events,
-    /// The keys of the connections that are handled next.
+    /// The keys of the noted connections, which are handled next.
     pub(crate) keys: Vec<usize>,
     pub shared: Arc<Shared<S>>,
     pub(crate) waiting: Slab<Connection<S>>,
@@ -50,7 +50,7 @@ pub(crate) struct Reactor<S: Read + Write + OpenStream + AsRawFd + Drop> {
     room: [u8; PIECE],
     /// When `sweep` last ended the connections whose time is over.
     pub(crate) swept: Option<Instant>,
-    /// How many bytes the connections that wait have received.
+    /// How many received bytes the connections that wait hold.
     pub(crate) received: u64,
     /// The maximum number of connections, including those of links. It is exceeded only if links hold all of them.
     most: usize,
@@ -71,8 +71,8 @@ pub(crate) struct Reactor<S: Read + Write + OpenStream + AsRawFd + Drop> {
 }
 
 impl<S: Read + Write + OpenStream + AsRawFd + Drop> Reactor<S> {
-    /// The reactor of a listener, without connections. With `most` connections, including those of links, one that waits is closed
-    /// before another is accepted.
+    /// The reactor of a listener, without connections. Once there are `most` connections, including those of links, one that waits is
+    /// closed before another is accepted.
     ///
     /// # Errors
     /// The error of the system, or out of memory.
@@ -164,7 +164,7 @@ impl<S: Read + Write + OpenStream + AsRawFd + Drop> Reactor<S> {
             .saturating_add(Arc::strong_count(&self.shared))
     }
 
-    /// Notes that the system gives no more descriptors: some connections are closed, and fewer are allowed from now on. Returns false
+    /// Handles a lack of descriptors: closes some of the connections that wait, and allows fewer connections from now on. Returns false
     /// if none waits that could be closed.
     pub fn note_shortage(&mut self) -> bool
         ensures accounts { Accounts 0 (slab_len self.old.waiting + deque_len self.old.ready) self.old.ended
@@ -186,14 +186,14 @@ impl<S: Read + Write + OpenStream + AsRawFd + Drop> Reactor<S> {
         self.advance_and_place(clock, connection);
     }
 
-    /// Takes back the connections that links gave back, and returns how many these were. Each of them waits, is ready or has ended.
+    /// Takes back the connections that links returned, and returns how many these were. Each of them waits, is ready or has ended.
     #[tactic(auto, using(crate::proofs::Accounting::same, crate::proofs::Accounting::step_one))]
     pub fn take_back<C: Clock + Wait>(&mut self, clock: &C) -> u64
         ensures accounts { Accounts result (slab_len self.old.waiting + deque_len self.old.ready) self.old.ended
             (slab_len self.new.waiting + deque_len self.new.ready) self.new.ended }
     {
         'returned: for taken in 0..u64::MAX {
-            let Some(connection) = self.shared.take(clock) else {
+            let Some(connection) = self.shared.take_returned(clock) else {
                 return taken;
             };
             self.place_back(clock, connection);
@@ -208,13 +208,13 @@ impl<S: Read + Write + OpenStream + AsRawFd + Drop> Reactor<S> {
     {
         let mut connection = connection;
         connection.since = moment(clock);
-        if let Err(fault) = connection.set_not_waiting() {
+        if let Err(fault) = connection.set_nonblocking() {
             return self.finish(connection, EndReason::Failed(fault));
         }
         connection.open(self.alloc);
         connection.received.shrink(self.alloc);
         if self.is_ending {
-            connection.close_behind();
+            connection.close_after_answers();
         }
         match connection.phase() {
             Phase::Draining => self.advance_and_place(clock, connection),
@@ -247,7 +247,7 @@ impl<S: Read + Write + OpenStream + AsRawFd + Drop> Reactor<S> {
         if let Phase::Over = phase {
             return self.finish(connection, EndReason::Done);
         }
-        if self.is_served(phase) {
+        if self.is_for_a_link(phase) {
             return self.make_ready(connection);
         }
         match self.wait_fault {
@@ -258,9 +258,10 @@ impl<S: Read + Write + OpenStream + AsRawFd + Drop> Reactor<S> {
 
     /// Whether a connection in this phase is handed out as a link. Once as many were accepted as the bound allows, one without a whole
     /// request is handed out too.
-    fn is_served(&self, phase: Phase) -> bool {
+    fn is_for_a_link(&self, phase: Phase) -> bool {
         phase == Phase::Ready
-            || (self.shared.is_last_call() && (phase == Phase::Idle || phase == Phase::Receiving))
+            || (self.shared.has_accepted_all()
+                && (phase == Phase::Idle || phase == Phase::Receiving))
     }
 
     /// Adds a connection to those that are ready for a link.
@@ -275,15 +276,15 @@ impl<S: Read + Write + OpenStream + AsRawFd + Drop> Reactor<S> {
         }
     }
 
-    /// Drops a connection for a reason that holds for it, and counts it. If the door closes with the last link and this is the last
-    /// connection, it is served instead: the door must hand out one more link to close.
+    /// Drops a connection for a reason that holds for it, and counts it as ended. If the door closes with its last link and this is the
+    /// last connection, a link gets it instead: the door can close only with a link that it hands out.
     #[tactic(auto, using(crate::proofs::Accounting::ended))]
     pub(crate) fn finish(&mut self, connection: Connection<S>, reason: EndReason)
         requires { MayEnd reason (phase_of (facts_of connection.received connection.to_send connection.closing connection.ended))
             connection.since }
         ensures accounts { Accounts 1 (slab_len self.old.waiting + deque_len self.old.ready) self.old.ended
             (slab_len self.new.waiting + deque_len self.new.ready) self.new.ended }
-        ensures cuts { self.new.cuts ≡ after_cut
+        ensures cuts { self.new.cuts ≡ with_cut_if_any
             (cut_of reason (phase_of (facts_of connection.received connection.to_send connection.closing connection.ended))) self.old.cuts }
     {
         let phase = connection.phase();
@@ -295,7 +296,7 @@ impl<S: Read + Write + OpenStream + AsRawFd + Drop> Reactor<S> {
         self.ended = self.ended.saturating_add(1);
     }
 
-    /// Makes the last connection ready for a link, which reads nothing.
+    /// Makes the last connection ready for a link, which finds nothing to read.
     #[tactic(auto, using(crate::proofs::Accounting::pushed, crate::proofs::Accounting::ended))]
     fn serve_last(&mut self, connection: Connection<S>)
         ensures accounts { Accounts 1 (slab_len self.old.waiting + deque_len self.old.ready) self.old.ended
@@ -389,18 +390,18 @@ impl<S: Read + Write + OpenStream + AsRawFd + Drop> Reactor<S> {
         polled?;
         let may_accept = note_tokens(&self.events, &mut self.keys);
         self.may_accept = may_accept || self.may_accept;
-        self.serve_noted(clock);
+        self.handle_noted(clock);
         Ok(())
     }
 
     /// Handles the events of the noted connections.
     #[tactic(auto, using(crate::proofs::Accounting::same, crate::proofs::Accounting::step))]
-    fn serve_noted<C: Clock>(&mut self, clock: &C)
+    fn handle_noted<C: Clock>(&mut self, clock: &C)
         ensures accounts { Accounts 0 (slab_len self.old.waiting + deque_len self.old.ready) self.old.ended
             (slab_len self.new.waiting + deque_len self.new.ready) self.new.ended }
     {
         'noted: for at in 0..self.keys.len() {
-            self.serve(clock, at);
+            self.handle_at(clock, at);
         }
     }
 
@@ -411,19 +412,19 @@ impl<S: Read + Write + OpenStream + AsRawFd + Drop> Reactor<S> {
 
     /// Handles the event of the noted connection at this index.
     #[tactic(auto, using(crate::proofs::Accounting::same, crate::proofs::Accounting::step))]
-    fn serve<C: Clock>(&mut self, clock: &C, at: usize)
+    fn handle_at<C: Clock>(&mut self, clock: &C, at: usize)
         ensures accounts { Accounts 0 (slab_len self.old.waiting + deque_len self.old.ready) self.old.ended
             (slab_len self.new.waiting + deque_len self.new.ready) self.new.ended }
     {
         if let Some(key) = self.key(at) {
-            self.serve_key(clock, key);
+            self.handle_event(clock, key);
             self.bound_received();
         }
     }
 
     /// Handles the event of a connection.
     #[tactic(auto, using(crate::proofs::Accounting::same, crate::proofs::Accounting::placed, crate::proofs::Accounting::waits_again))]
-    fn serve_key<C: Clock>(&mut self, clock: &C, key: usize)
+    fn handle_event<C: Clock>(&mut self, clock: &C, key: usize)
         ensures accounts { Accounts 0 (slab_len self.old.waiting + deque_len self.old.ready) self.old.ended
             (slab_len self.new.waiting + deque_len self.new.ready) self.new.ended }
     {

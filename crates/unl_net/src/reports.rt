@@ -9,9 +9,9 @@ use std::time::Instant;
 #[derive(Clone, Copy)]
 pub(crate) struct Reports {
     cuts: EachMinute,
-    faults: EachMinute,
+    errors: EachMinute,
     /// How many answers had a status of 500 or more since that was last logged.
-    failed: u64,
+    server_errors: u64,
     /// How many links were handed out since the door last looked for events.
     pub in_a_row: u64,
     /// How many connections were accepted, or returned by links. It never falls, and stops at 2^64 - 1.
@@ -23,8 +23,8 @@ impl Reports {
     pub fn new() -> Self {
         Reports {
             cuts: EachMinute::new(),
-            faults: EachMinute::new(),
-            failed: 0,
+            errors: EachMinute::new(),
+            server_errors: 0,
             in_a_row: 0,
             arrived: 0,
         }
@@ -52,21 +52,21 @@ impl Reports {
         }
     }
 
-    /// Counts answers with a status of 500 or more, and logs how many there were, if that is due.
-    pub fn log_faults<E: Eprint>(
+    /// Counts `count` more answers with a status of 500 or more, and logs how many there were since the last such line, if that is due.
+    pub fn log_server_errors<E: Eprint>(
         &mut self,
         to: &E,
         now: Option<Instant>,
-        faults: u64,
+        count: u64,
         log: &mut Log,
     )
         ensures { self.new.arrived ≡ self.old.arrived }
     {
-        self.failed = self.failed.saturating_add(faults);
-        let failed = self.failed;
-        if self.faults.is_count_due(now, failed) {
-            self.failed = 0;
-            let line = format_args!("answers with a status of 500 or more: {failed}");
+        self.server_errors = self.server_errors.saturating_add(count);
+        let errors = self.server_errors;
+        if self.errors.is_count_due(now, errors) {
+            self.server_errors = 0;
+            let line = format_args!("answers with a status of 500 or more: {errors}");
             log.line(to, line);
         }
     }

@@ -29,7 +29,7 @@ fn has_ended(has_method: bool, byte: u8) -> bool
     has_method || byte == b' '
 }
 
-/// How many of these bytes are logged, from the first on.
+/// How many of these bytes are logged: the length of their longest prefix that may be logged.
 #[tactic(auto, using(crate::proofs::LoggedText::no_more))]
 fn logged_count(prefix: &[u8]) -> usize
     ensures { result ≡ longest_prefix (length prefix.now) prefix.now }
@@ -56,7 +56,7 @@ fn logged_len(request: &[u8]) -> usize
     logged_count(&request[..MOST_LOGGED.min(request.len())])
 }
 
-/// A kind of request: what is logged of it, and a number that identifies the kind. Requests with different tokens are of different
+/// A kind of request: what is logged of it, and a key that identifies the kind. Requests with different tokens are of different
 /// kinds, since their replies may differ.
 #[derive(Clone, Copy)]
 pub(crate) struct RequestKind {
@@ -117,7 +117,7 @@ fn copy_prefix(bytes: &[u8], room: &mut [u8], count: usize)
     room[..count].copy_from_slice(&bytes[..count]);
 }
 
-/// The line of a request that begins with this name, or no bytes if there is none.
+/// The line of a request that begins with `name`, or no bytes if there is none.
 fn line_of<'a>(request: &'a [u8], name: &[u8]) -> &'a [u8] {
     for line in request.split(|byte| *byte == b'\n') {
         if line.starts_with(name) {
@@ -127,7 +127,7 @@ fn line_of<'a>(request: &'a [u8], name: &[u8]) -> &'a [u8] {
     b""
 }
 
-/// The number of a kind, never 0: the FNV-1a hash of its texts.
+/// The key of a kind of request, never 0: the FNV-1a hash of its logged text and its line with the token.
 fn key_of(text: &[u8], line: &[u8]) -> u64 {
     mixed(mixed(0xcbf2_9ce4_8422_2325, text), line) | 1
 }

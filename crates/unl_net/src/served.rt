@@ -1,7 +1,7 @@
 //! A connection while a link serves it.
 ghost use Rattle.std.specs.Prelude.{◌≡◌, ◌≤◌, ◌++◌, drop, false, length, take, true, IfOk, MatchResult, OnErr};
 ghost use Rattle.std.specs.Io.KnownBytes.{Appends, Keeps, WriteAppends};
-ghost use Rattle.unl_net.specs.Buffers.{Gives, coming, outgoing, unsent};
+ghost use Rattle.unl_net.specs.Buffers.{ConsumesReturned, coming, outgoing, unsent};
 ghost use Rattle.unl_net.specs.Phases.{fate_of};
 
 use crate::connection::{Connection, PIECE};
@@ -16,18 +16,18 @@ use std::time::Clock;
 /// The maximum number of waits of 10 milliseconds in a read or a write: 30 seconds in all.
 const MOST_WAITS: u64 = 3_000;
 
-/// The same for a read while other links wait for a worker.
+/// How many of these waits a read makes at least, also while other links wait for a worker.
 const FEW_WAITS: u64 = 10;
 
-/// How many times a link waits for a further request while its door waits for it.
-const MOST_HELD: u64 = 64;
+/// How many times a link waits for a further request if the thread that accepts serves it: the door waits meanwhile.
+const MOST_WAITS_ALONE: u64 = 64;
 
 /// The maximum number of pieces that are read of an unfinished request.
-const MOST_LOOKS: u64 = 300;
+const MOST_REQUEST_PIECES: u64 = 300;
 
 /// The stage of a link.
 #[derive(Clone, Copy, PartialEq)]
-enum Stage {
+enum LinkStage {
     /// Each request that was read is answered.
     Answered,
     /// A request was read, and is not answered yet.
@@ -47,9 +47,9 @@ pub(crate) struct Served<S: Read + Write + OpenStream + Drop, C: Clock + Wait + 
     shared: Arc<Shared<S>>,
     alloc: Global,
     clock: C,
-    stage: Stage,
+    stage: LinkStage,
     /// How many times it may still wait for a further request, if the thread that serves it is the one that accepts.
-    held: u64,
+    waits_left: u64,
 }
 
 impl<S: Read + Write + OpenStream + Drop, C: Clock + Wait + Drop> Served<S, C> {
@@ -70,7 +70,7 @@ impl<S: Read + Write + OpenStream + Drop, C: Clock + Wait + Drop> Served<S, C> {
             alloc,
             clock,
             stage,
-            held: if alone { MOST_HELD } else { 0 },
+            waits_left: if alone { MOST_WAITS_ALONE } else { 0 },
         }
     }
 
@@ -80,14 +80,14 @@ impl<S: Read + Write + OpenStream + Drop, C: Clock + Wait + Drop> Served<S, C> {
     /// The error of the stream, or no byte came in time.
     pub fn read(&mut self, room: &mut [u8]) -> io::Result<usize>
         ensures fits { IfOk result (λ n. n ≤ length room.new) }
-        ensures gives { Gives (coming self.old.connection.received (S.remaining self.old.connection.stream))
+        ensures consumes { ConsumesReturned (coming self.old.connection.received (S.remaining self.old.connection.stream))
             (coming self.new.connection.received (S.remaining self.new.connection.stream)) result room.new }
     {
-        let given = self.read_some(room);
-        if given.is_err() {
-            self.stage = Stage::Failed;
+        let read = self.read_some(room);
+        if read.is_err() {
+            self.stage = LinkStage::Failed;
         }
-        given
+        read
     }
 
     /// Writes once.
@@ -99,11 +99,11 @@ impl<S: Read + Write + OpenStream + Drop, C: Clock + Wait + Drop> Served<S, C> {
         ensures appends { WriteAppends (outgoing (S.contents self.old.connection.stream) self.old.connection.to_send)
             (outgoing (S.contents self.new.connection.stream) self.new.connection.to_send) result piece.now }
     {
-        let taken = self.write_some(piece);
-        if taken.is_err() {
-            self.stage = Stage::Failed;
+        let written = self.write_some(piece);
+        if written.is_err() {
+            self.stage = LinkStage::Failed;
         }
-        taken
+        written
     }
 
     /// Whether there are more links than workers, so that a link waits for one.
@@ -115,26 +115,26 @@ impl<S: Read + Write + OpenStream + Drop, C: Clock + Wait + Drop> Served<S, C> {
     /// Whether the link may wait for a further request.
     fn may_wait(&self) -> bool {
         if self.shared.workers == 0 {
-            self.held > 0
+            self.waits_left > 0
         } else {
             !self.is_crowded()
         }
     }
 
-    /// Reads what the stage of the link allows.
-    #[tactic(auto, using(crate::proofs::Moving::handed_out, crate::proofs::Moving::gives_then, crate::proofs::Trying::none_consumed))]
+    /// Reads once, as the stage of the link allows.
+    #[tactic(auto, using(crate::proofs::Moving::link_takes, crate::proofs::Moving::then_consumed, crate::proofs::Trying::none_consumed))]
     fn read_some(&mut self, room: &mut [u8]) -> io::Result<usize>
         ensures fits { IfOk result (λ n. n ≤ length room.new) }
-        ensures gives { Gives (coming self.old.connection.received (S.remaining self.old.connection.stream))
+        ensures consumes { ConsumesReturned (coming self.old.connection.received (S.remaining self.old.connection.stream))
             (coming self.new.connection.received (S.remaining self.new.connection.stream)) result room.new }
     {
         if !self.may_read()? {
             return Ok(0);
         }
-        if self.stage == Stage::Open {
+        if self.stage == LinkStage::Open {
             return self.read_open(room);
         }
-        Ok(self.connection.received.give(room))
+        Ok(self.connection.received.read_opened(room))
     }
 
     /// Whether there is something to read. If all requests are answered, this opens the next one.
@@ -147,19 +147,19 @@ impl<S: Read + Write + OpenStream + Drop, C: Clock + Wait + Drop> Served<S, C> {
             (coming self.new.connection.received (S.remaining self.new.connection.stream)) }
     {
         match self.stage {
-            Stage::Parked | Stage::Failed => return Ok(false),
-            Stage::Open => return Ok(true),
-            Stage::Answered => {
-                if self.shared.is_last_call() {
-                    self.stage = Stage::Open;
+            LinkStage::Parked | LinkStage::Failed => return Ok(false),
+            LinkStage::Open => return Ok(true),
+            LinkStage::Answered => {
+                if self.shared.has_accepted_all() {
+                    self.stage = LinkStage::Open;
                     return Ok(true);
                 }
                 return self.next_request();
             }
-            Stage::Asked => {
+            LinkStage::Asked => {
                 // A reader that reads on expects a longer request than the door does: it gets all bytes as they come.
                 if self.connection.received.opened_len() == 0 {
-                    self.stage = Stage::Open;
+                    self.stage = LinkStage::Open;
                 }
                 return Ok(true);
             }
@@ -176,10 +176,10 @@ impl<S: Read + Write + OpenStream + Drop, C: Clock + Wait + Drop> Served<S, C> {
             (coming self.new.connection.received (S.remaining self.new.connection.stream)) }
     {
         if !self.connection.to_send.is_empty() {
-            self.stage = Stage::Parked;
+            self.stage = LinkStage::Parked;
             return Ok(false);
         }
-        'looks: for _look in 0..MOST_LOOKS {
+        'pieces: for _piece in 0..MOST_REQUEST_PIECES {
             if self.connection.open(self.alloc) {
                 self.stage = stage_of(&self.connection);
                 return Ok(true);
@@ -187,11 +187,11 @@ impl<S: Read + Write + OpenStream + Drop, C: Clock + Wait + Drop> Served<S, C> {
             if self.connection.ended {
                 return Ok(false);
             }
-            if !self.look()? {
+            if !self.receive_more()? {
                 break;
             }
         }
-        self.stage = Stage::Parked;
+        self.stage = LinkStage::Parked;
         Ok(false)
     }
 
@@ -200,7 +200,7 @@ impl<S: Read + Write + OpenStream + Drop, C: Clock + Wait + Drop> Served<S, C> {
     /// # Errors
     /// The error of the stream, or out of memory.
     #[tactic(auto, using(crate::proofs::Trying::stays))]
-    fn look(&mut self) -> io::Result<bool>
+    fn receive_more(&mut self) -> io::Result<bool>
         ensures { Keeps (coming self.old.connection.received (S.remaining self.old.connection.stream))
             (coming self.new.connection.received (S.remaining self.new.connection.stream)) }
     {
@@ -215,55 +215,56 @@ impl<S: Read + Write + OpenStream + Drop, C: Clock + Wait + Drop> Served<S, C> {
         ensures stream { self.new.connection.stream ≡ self.old.connection.stream }
     {
         if self.may_wait() {
-            self.held = self.held.saturating_sub(1);
-            self.connection.set_waiting()
+            self.waits_left = self.waits_left.saturating_sub(1);
+            self.connection.set_blocking()
         } else {
-            self.connection.set_not_waiting()
+            self.connection.set_nonblocking()
         }
     }
 
-    /// Reads the received bytes, and then what comes. While other links wait for a worker, the link ends once nothing came for a while.
+    /// Reads once: the received bytes, or if there are none, from the stream.
     ///
     /// # Errors
     /// The error of the stream, or no byte came in time.
-    #[tactic(auto, using(crate::proofs::Moving::handed_out, crate::proofs::Moving::none_read, crate::proofs::Moving::read_behind))]
+    #[tactic(auto, using(crate::proofs::Moving::link_takes, crate::proofs::Moving::none_read, crate::proofs::Moving::read_behind))]
     fn read_open(&mut self, room: &mut [u8]) -> io::Result<usize>
         ensures fits { IfOk result (λ n. n ≤ length room.new) }
-        ensures gives { Gives (coming self.old.connection.received (S.remaining self.old.connection.stream))
+        ensures consumes { ConsumesReturned (coming self.old.connection.received (S.remaining self.old.connection.stream))
             (coming self.new.connection.received (S.remaining self.new.connection.stream)) result room.new }
     {
         if !self.connection.received.is_empty() {
             self.connection.received.open_all();
-            return Ok(self.connection.received.give(room));
+            return Ok(self.connection.received.read_opened(room));
         }
         self.read_stream(room)
     }
 
-    /// Reads from the stream.
+    /// Reads from the stream once. While other links wait for a worker, the link ends if nothing comes for a while.
     #[tactic(auto, using(crate::proofs::Moving::read_rules))]
     fn read_stream(&mut self, room: &mut [u8]) -> io::Result<usize>
         ensures fits { IfOk result (λ n. n ≤ length room.new) }
-        ensures gives { Gives (S.remaining self.old.connection.stream) (S.remaining self.new.connection.stream) result room.new }
+        ensures consumes { ConsumesReturned (S.remaining self.old.connection.stream) (S.remaining self.new.connection.stream)
+            result room.new }
         ensures received { self.new.connection.received ≡ self.old.connection.received }
     {
         if self.connection.ended {
             return Ok(0);
         }
-        self.connection.set_waiting()?;
+        self.connection.set_blocking()?;
         'waits: for waits in 0..MOST_WAITS {
             if let Some(count) = self.connection.read(room)? {
                 return Ok(count);
             }
-            if self.gives_up(waits) {
+            if self.has_waited_long_enough(waits) {
                 return Ok(0);
             }
         }
         Err(io::Error::from(ErrorKind::TimedOut))
     }
 
-    /// Whether the link ends, since nothing came for a while and other links wait for a worker.
-    fn gives_up(&self, waits: u64) -> bool {
-        waits >= FEW_WAITS && !self.shared.is_last_call() && self.is_crowded()
+    /// Whether the link has waited long enough for bytes that do not come: other links wait for a worker, and it has waited a while.
+    fn has_waited_long_enough(&self, waits: u64) -> bool {
+        waits >= FEW_WAITS && !self.shared.has_accepted_all() && self.is_crowded()
     }
 
     /// Sends a piece, or keeps it to be sent later.
@@ -285,15 +286,15 @@ impl<S: Read + Write + OpenStream + Drop, C: Clock + Wait + Drop> Served<S, C> {
     fn note_answer(&mut self, piece: &[u8])
         ensures { self.new.connection ≡ self.old.connection }
     {
-        if self.stage == Stage::Asked {
-            self.stage = Stage::Answered;
-            if is_fault(piece) {
-                self.shared.count_fault();
+        if self.stage == LinkStage::Asked {
+            self.stage = LinkStage::Answered;
+            if is_server_error(piece) {
+                self.shared.count_server_error();
             }
         }
     }
 
-    /// Writes a piece to the stream, unless other bytes are to be sent first.
+    /// Writes a piece to the stream once, or no byte of it if other bytes are to be sent first.
     #[tactic(auto, using(crate::proofs::Moving::none_written, crate::proofs::Moving::write_first))]
     fn write_first(&mut self, piece: &[u8]) -> io::Result<usize>
         ensures fits { IfOk result (λ n. n ≤ length piece.now) }
@@ -336,7 +337,7 @@ impl<S: Read + Write + OpenStream + Drop, C: Clock + Wait + Drop> Served<S, C> {
         ensures held { result ≡ true → unsent self.new.connection.to_send ≡ unsent self.old.connection.to_send ++ rest.now }
         ensures not_held { result ≡ false → unsent self.new.connection.to_send ≡ unsent self.old.connection.to_send }
     {
-        if self.shared.is_last_call() || !self.shared.may_hold(rest.len()) {
+        if self.shared.has_accepted_all() || !self.shared.may_hold(rest.len()) {
             return false;
         }
         if self.connection.to_send.add(rest).is_ok() {
@@ -356,9 +357,9 @@ impl<S: Read + Write + OpenStream + Drop, C: Clock + Wait + Drop> Served<S, C> {
         ensures appends { WriteAppends (outgoing (S.contents self.old.connection.stream) self.old.connection.to_send)
             (outgoing (S.contents self.new.connection.stream) self.new.connection.to_send) result piece.now }
     {
-        self.connection.set_waiting()?;
+        self.connection.set_blocking()?;
         'waits: for _wait in 0..MOST_WAITS {
-            if !self.shared.is_last_call() && self.is_crowded() {
+            if !self.shared.has_accepted_all() && self.is_crowded() {
                 break;
             }
             let count = self.write_behind(piece)?;
@@ -369,7 +370,7 @@ impl<S: Read + Write + OpenStream + Drop, C: Clock + Wait + Drop> Served<S, C> {
         Err(io::Error::from(ErrorKind::TimedOut))
     }
 
-    /// Sends bytes that are kept, or if there are none, of the piece.
+    /// Makes one write: of the bytes that are kept, or of the piece if there are none. Returns how many bytes of the piece were taken.
     #[tactic(auto, using(crate::proofs::Moving::kept_appends, crate::proofs::Moving::write_first))]
     fn write_behind(&mut self, piece: &[u8]) -> io::Result<usize>
         ensures fits { IfOk result (λ n. n ≤ length piece.now) }
@@ -386,18 +387,18 @@ impl<S: Read + Write + OpenStream + Drop, C: Clock + Wait + Drop> Served<S, C> {
 }
 
 /// The stage at which a link of a connection begins.
-fn stage_of<S: Read + Write + OpenStream + Drop>(connection: &Connection<S>) -> Stage {
+fn stage_of<S: Read + Write + OpenStream + Drop>(connection: &Connection<S>) -> LinkStage {
     if connection.refused {
-        Stage::Open
+        LinkStage::Open
     } else if connection.received.opened_len() > 0 {
-        Stage::Asked
+        LinkStage::Asked
     } else {
-        Stage::Answered
+        LinkStage::Answered
     }
 }
 
 /// Whether an answer with these first bytes has a status of 500 or more.
-fn is_fault(answer: &[u8]) -> bool {
+fn is_server_error(answer: &[u8]) -> bool {
     answer.starts_with(b"HTTP/1.1 5")
 }
 
@@ -405,26 +406,26 @@ fn is_fault(answer: &[u8]) -> bool {
 #[derive(Clone, Copy, PartialEq)]
 enum Fate {
     /// The connection goes back to the door, which waits for its next request.
-    Continues,
+    KeptOpen,
     /// The connection goes back to the door, which closes it once all bytes are sent and the client has shut down its side.
-    Ends,
+    ClosedLater,
     /// The connection is closed at once.
-    Closed,
+    ClosedNow,
 }
 
 /// What becomes of a connection whose link ends at this stage. `owes`: bytes are still to be sent; `unread`: the client may have sent
 /// bytes that no link has read.
-fn fate_of(stage: Stage, owes: bool, unread: bool) -> Fate
+fn fate_of(stage: LinkStage, owes: bool, unread: bool) -> Fate
     ensures { result ≡ fate_of stage owes unread }
 {
     match stage {
-        Stage::Parked => Fate::Continues,
-        Stage::Failed => Fate::Closed,
+        LinkStage::Parked => Fate::KeptOpen,
+        LinkStage::Failed => Fate::ClosedNow,
         _ => {
             if owes || unread {
-                Fate::Ends
+                Fate::ClosedLater
             } else {
-                Fate::Closed
+                Fate::ClosedNow
             }
         }
     }
@@ -438,20 +439,20 @@ impl<S: Read + Write + OpenStream + Drop, C: Clock + Wait + Drop> Drop for Serve
             alloc,
             clock,
             stage,
-            held: _,
+            waits_left: _,
         } = self;
         let mut connection = connection;
         // The system resets a connection that is closed with unread bytes, so the door reads these first.
         let unread = !connection.ended
-            && !shared.is_last_call()
-            && (stage == Stage::Open || !connection.received.is_empty());
+            && !shared.has_accepted_all()
+            && (stage == LinkStage::Open || !connection.received.is_empty());
         let fate = fate_of(stage, !connection.to_send.is_empty(), unread);
-        if fate == Fate::Closed {
+        if fate == Fate::ClosedNow {
             shared.note_sent(connection.to_send.len());
             connection.to_send.clear(alloc);
         } else {
-            connection.closing = fate == Fate::Ends;
-            shared.give_back(&clock, connection);
+            connection.closing = fate == Fate::ClosedLater;
+            shared.return_connection(&clock, connection);
         }
     }
 }

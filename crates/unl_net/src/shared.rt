@@ -12,23 +12,23 @@ use std::sync::{Mutex, Wait};
 /// The most bytes of answers that are kept to be sent later.
 const MOST_UNSENT: u64 = 268_435_456;
 
-/// What a door shares with its links. The door and each link hold it, so its count of owners is the number of links plus 1.
+/// What a door shares with its links. The door and each link own it, so it has one owner more than there are links.
 #[derive(Drop)]
 pub(crate) struct Shared<S: Read + Write + OpenStream + Drop> {
-    /// The connections that links gave back.
+    /// The connections that links returned.
     returned: Mutex<VecDeque<Connection<S>>>,
     waker: Waker,
     /// Whether the door waits for events and must be woken.
     sleeps: AtomicBool,
     /// Whether as many connections were accepted as the bound allows: each is then served to its end by one link.
-    is_last_call: AtomicBool,
+    has_accepted_all: AtomicBool,
     /// Whether answers may be kept to be sent later.
     keeps_answers: AtomicBool,
     /// How many bytes of answers are kept to be sent later.
     unsent: AtomicU64,
     /// How many answers had a status of 500 or more.
-    faults: AtomicU64,
-    /// How many connections were closed as links gave them back, since an allocation failed.
+    server_errors: AtomicU64,
+    /// How many connections were closed as links returned them, because an allocation failed.
     lost: AtomicU64,
     /// How many links are served at once by threads other than the one that accepts: 0 if that one serves them.
     pub workers: u32,
@@ -41,17 +41,17 @@ impl<S: Read + Write + OpenStream + Drop> Shared<S> {
             returned: Mutex::new(VecDeque::with_capacity(alloc, 256)?),
             waker,
             sleeps: AtomicBool::new(false),
-            is_last_call: AtomicBool::new(false),
+            has_accepted_all: AtomicBool::new(false),
             keeps_answers: AtomicBool::new(true),
             unsent: AtomicU64::new(0),
-            faults: AtomicU64::new(0),
+            server_errors: AtomicU64::new(0),
             lost: AtomicU64::new(0),
             workers,
         })
     }
 
-    /// Gives a connection back to the door. If an allocation fails, the connection is closed and counted.
-    pub fn give_back<R: Wait>(&self, rt: &R, connection: Connection<S>) {
+    /// Returns a connection to the door. If an allocation fails, the connection is closed and counted.
+    pub fn return_connection<R: Wait>(&self, rt: &R, connection: Connection<S>) {
         let unsent = connection.to_send.len();
         let mut returned = self.returned.lock(rt);
         let pushed = returned.push_back(connection);
@@ -65,24 +65,24 @@ impl<S: Read + Write + OpenStream + Drop> Shared<S> {
         }
     }
 
-    /// Takes a connection that was returned.
-    pub fn take<R: Wait>(&self, rt: &R) -> Option<Connection<S>> {
+    /// Takes a connection that a link returned, if there is one.
+    pub fn take_returned<R: Wait>(&self, rt: &R) -> Option<Connection<S>> {
         self.returned.lock(rt).pop_front()
     }
 
-    /// Notes whether the door waits. If so, a link that gives a connection back wakes it.
+    /// Notes whether the door waits. If so, a link that returns a connection wakes it.
     pub fn note_sleep(&self, sleeps: bool) {
         self.sleeps.store(sleeps, Ordering::SeqCst);
     }
 
     /// Notes that as many connections were accepted as the bound allows.
-    pub fn call_last(&self) {
-        self.is_last_call.store(true, Ordering::SeqCst);
+    pub fn note_accepted_all(&self) {
+        self.has_accepted_all.store(true, Ordering::SeqCst);
     }
 
     /// Whether as many connections were accepted as the bound allows.
-    pub fn is_last_call(&self) -> bool {
-        self.is_last_call.load(Ordering::SeqCst)
+    pub fn has_accepted_all(&self) -> bool {
+        self.has_accepted_all.load(Ordering::SeqCst)
     }
 
     /// Notes that no more answers may be kept to be sent later: the door can't wait for their clients.
@@ -111,16 +111,16 @@ impl<S: Read + Write + OpenStream + Drop> Shared<S> {
     }
 
     /// Counts an answer with a status of 500 or more.
-    pub fn count_fault(&self) {
-        self.faults.fetch_add(1, Ordering::SeqCst);
+    pub fn count_server_error(&self) {
+        self.server_errors.fetch_add(1, Ordering::SeqCst);
     }
 
-    /// How many answers had a status of 500 or more since the last call.
-    pub fn take_faults(&self) -> u64 {
-        self.faults.swap(0, Ordering::SeqCst)
+    /// How many answers had a status of 500 or more since the last call of this function.
+    pub fn take_server_errors(&self) -> u64 {
+        self.server_errors.swap(0, Ordering::SeqCst)
     }
 
-    /// How many connections were closed as links gave them back, since the last call.
+    /// How many connections were closed as links returned them, since the last call of this function.
     pub fn take_lost(&self) -> u64 {
         self.lost.swap(0, Ordering::SeqCst)
     }

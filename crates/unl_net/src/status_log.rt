@@ -1,8 +1,8 @@
 //! The status of a server's replies to each kind of request, and when it changes.
 ghost use Rattle.std.specs.Prelude.{◌≡◌, ◌<◌, ◌&&◌, All, IfSome, nat_eq, replicate, take, true};
 ghost use Rattle.unl_net.specs.LoggedText.{is_loggable};
-ghost use Rattle.unl_net.specs.declared.status_log.Stage.TheVariants.{Fresh};
-ghost use Rattle.unl_net.specs.StatusLogs.{NotesRead, NotesWritten, after_answer, after_request, class_of, digits_of, is_digit, is_news};
+ghost use Rattle.unl_net.specs.declared.status_log.ExchangeStage.TheVariants.{Fresh};
+ghost use Rattle.unl_net.specs.StatusLogs.{NotesRead, NotesWritten, after_reply, after_request, class_of, digits_of, is_digit, is_news};
 ghost use Rattle.unl_net.specs.StatusLogs.{next_class, nothing_known, place_of, status_of, taken_class, taken_status, logged_request};
 
 use crate::log::{Logged, WELL};
@@ -10,7 +10,7 @@ use crate::request_kind::RequestKind;
 use std::fmt;
 use std::fmt::Display;
 
-/// How many kinds of requests are distinguished: more than are used, one for the book and two for each of eight tokens.
+/// How many kinds of requests are distinguished: more than are used, which are one for the book and two for each of eight tokens.
 const MOST_KINDS: usize = 32;
 
 /// The logged status of a reply without a status.
@@ -61,15 +61,15 @@ fn class_of(status: u16) -> u16
 
 /// The status of a reply, as it is logged.
 #[derive(Clone, Copy)]
-pub(crate) struct Answer {
+pub(crate) struct LoggedStatus {
     status: u16,
 }
 
-impl Display for Answer {
+impl Display for LoggedStatus {
     ghost use Rattle.std.specs.Prelude.{Some};
-    ghost use Rattle.unl_net.specs.StatusLogs.{answer_text};
+    ghost use Rattle.unl_net.specs.StatusLogs.{status_text};
 
-    ghost output = { λ answer. Some (answer_text answer.status) };
+    ghost output = { λ logged. Some (status_text logged.status) };
 
     fn fmt<W: fmt::Write>(&self, f: &mut fmt::Formatter<W>) -> fmt::Result {
         let status = self.status;
@@ -83,7 +83,7 @@ impl Display for Answer {
     }
 }
 
-/// A kind that was asked, by its number, and the class last logged for it. The number 0 means no kind.
+/// The entry of a kind of request: its key, and the class last logged for it. The key 0 means that the entry is free.
 #[derive(Clone, Copy)]
 struct Known {
     key: u64,
@@ -94,7 +94,7 @@ struct Known {
 
 /// How far the exchange on a connection has come.
 #[derive(Clone, Copy, PartialEq)]
-enum Stage {
+enum ExchangeStage {
     /// Nothing was written.
     Fresh,
     /// A request was written, and nothing was read.
@@ -103,16 +103,16 @@ enum Stage {
     Answered,
 }
 
-/// What a peer was asked on its connection, and how it replied to each kind of request before.
+/// What was requested of a peer on its connection, and how it last replied to each kind of request.
 #[derive(Clone, Copy)]
 pub(crate) struct StatusLog {
-    stage: Stage,
+    stage: ExchangeStage,
     kind: RequestKind,
     known: [Known; MOST_KINDS],
 }
 
 impl StatusLog {
-    /// A log of a peer that was asked nothing yet.
+    /// The log of a peer to which no request was sent yet.
     pub fn new() -> Self
         ensures stage { result.stage ≡ Fresh }
         ensures known { result.known ≡ replicate 32 nothing_known }
@@ -123,7 +123,7 @@ impl StatusLog {
             fed: false,
         };
         StatusLog {
-            stage: Stage::Fresh,
+            stage: ExchangeStage::Fresh,
             kind: RequestKind::of(b""),
             known: [none; MOST_KINDS],
         }
@@ -133,34 +133,34 @@ impl StatusLog {
     pub fn note_connection(&mut self)
         ensures { self.new ≡ record self.old { stage = Fresh } }
     {
-        self.stage = Stage::Fresh;
+        self.stage = ExchangeStage::Fresh;
     }
 
     /// Notes a write. The first one on a connection has the request's first line, its token and its tag. Returns what the tag shows
     /// of the reply before it, if that is news.
-    pub fn note_written(&mut self, piece: &[u8]) -> Option<Answer>
+    pub fn note_written(&mut self, piece: &[u8]) -> Option<LoggedStatus>
         ensures { NotesWritten self.old piece.now result self.new }
     {
-        if self.stage != Stage::Fresh {
+        if self.stage != ExchangeStage::Fresh {
             return None;
         }
         self.kind = RequestKind::of(piece);
-        self.stage = Stage::Asked;
+        self.stage = ExchangeStage::Asked;
         note_tag(&mut self.known, self.kind.key, self.kind.has_tag)
     }
 
     /// Notes a read, with no bytes if it failed. The first one after a request has the status. Returns the status if it is news.
-    pub fn note_read(&mut self, bytes: &[u8]) -> Option<Answer>
+    pub fn note_read(&mut self, bytes: &[u8]) -> Option<LoggedStatus>
         ensures { NotesRead self.old bytes.now result self.new }
     {
-        if self.stage != Stage::Asked {
+        if self.stage != ExchangeStage::Asked {
             return None;
         }
-        self.stage = Stage::Answered;
+        self.stage = ExchangeStage::Answered;
         let status = status_of(bytes).unwrap_or(NO_ANSWER);
         let fed = is_fed(self.kind.is_feed, status);
         if is_news(&mut self.known, self.kind.key, class_of(status), fed) {
-            Some(Answer { status })
+            Some(LoggedStatus { status })
         } else {
             None
         }
@@ -175,7 +175,7 @@ impl StatusLog {
     }
 }
 
-/// Where the replies to a kind are noted: the first entry that is its own or free. `None` if other kinds have all entries.
+/// The index of the entry for a kind of request: the first entry that is its own or free. `None` if other kinds have all entries.
 fn place_of(known: &[Known; MOST_KINDS], key: u64) -> Option<usize>
     ensures place { result ≡ place_of key known.now }
     ensures inside { IfSome result (λ at. at < 32) }
@@ -187,7 +187,7 @@ fn place_of(known: &[Known; MOST_KINDS], key: u64) -> Option<usize>
 
 /// Notes the class of a reply to a kind, and returns whether it is to be logged. Kinds for which there is no entry are not logged.
 fn is_news(known: &mut [Known; MOST_KINDS], key: u64, now: u16, fed: bool) -> bool
-    ensures noted { known.new ≡ after_answer key now fed known.old }
+    ensures noted { known.new ≡ after_reply key now fed known.old }
     ensures news { result ≡ is_news key now fed known.old }
 {
     match place_of(known, key) {
@@ -209,15 +209,17 @@ fn is_fed(is_feed: bool, status: u16) -> bool
     is_feed && status == 200
 }
 
-/// The class to note, after the last one that was noted: only the next request shows that a feed is taken again.
+/// The class to note for a reply with the class `now`. After a feed that was not taken, a further feed does not change the class: only
+/// the next request shows whether that one was taken.
 fn next_class(last: u16, now: u16, fed: bool) -> u16
     ensures { result ≡ next_class last now fed }
 {
     if fed && last == NOT_TAKEN { last } else { now }
 }
 
-/// Notes a request with or without a tag: if the last reply was a feed, the tag shows that it was taken. Returns that, if it is news.
-fn note_tag(known: &mut [Known; MOST_KINDS], key: u64, has_tag: bool) -> Option<Answer>
+/// Notes a request with or without a tag: if the last reply was a feed, the tag shows that it was taken. Returns what is to be logged
+/// then, if it is news.
+fn note_tag(known: &mut [Known; MOST_KINDS], key: u64, has_tag: bool) -> Option<LoggedStatus>
     ensures noted { known.new ≡ after_request key has_tag known.old }
     ensures news { result ≡ logged_request key has_tag known.old }
 {
@@ -233,7 +235,7 @@ fn note_tag(known: &mut [Known; MOST_KINDS], key: u64, has_tag: bool) -> Option<
         fed: false,
     };
     if is_news {
-        Some(Answer {
+        Some(LoggedStatus {
             status: taken_status(has_tag),
         })
     } else {
@@ -241,14 +243,14 @@ fn note_tag(known: &mut [Known; MOST_KINDS], key: u64, has_tag: bool) -> Option<
     }
 }
 
-/// The class of a feed that was taken, or not.
+/// The class that is noted for a feed, by whether it was taken.
 fn taken_class(is_taken: bool) -> u16
     ensures { result ≡ taken_class is_taken }
 {
     if is_taken { WELL } else { NOT_TAKEN }
 }
 
-/// The status that is logged for a feed that was taken, or not.
+/// The status that is logged for a feed, by whether it was taken.
 fn taken_status(is_taken: bool) -> u16
     ensures { result ≡ taken_status is_taken }
 {

@@ -1,7 +1,7 @@
 use Rattle.std.proofs.Common.{◌+◌}
 use Rattle.slab.specs.Slab.{slab_len}
 use Rattle.std.specs.VecDeque.{deque_len}
-use Rattle.unl_net.specs.Ends.{Accounts}
+use Rattle.unl_net.specs.EndedConnections.{Accounts}
 use Rattle.unl_net.proofs.listener.accept_some.Given as goal
 
 -- each connection that was held or accepted is held or was counted as ended

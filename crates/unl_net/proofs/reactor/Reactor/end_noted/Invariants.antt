@@ -1,7 +1,7 @@
 use Rattle.std.proofs.Common.{◌+◌}
 use Rattle.slab.specs.Slab.{slab_len}
 use Rattle.std.specs.VecDeque.{deque_len}
-use Rattle.unl_net.specs.Ends.{Accounts}
+use Rattle.unl_net.specs.EndedConnections.{Accounts}
 use Rattle.unl_net.proofs.reactor.Reactor.end_noted.Given as goal
 
 -- each connection that was held is held or was counted as ended

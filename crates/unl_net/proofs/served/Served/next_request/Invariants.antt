@@ -3,7 +3,7 @@ use Rattle.unl_net.specs.Buffers.{coming}
 use Rattle.unl_net.proofs.served.Served.next_request.Given as goal
 
 -- the bytes to come are unchanged
-abbrev pub invariant-looks : goal.invariant-looks
-invariant-looks g l = Keeps
+abbrev pub invariant-pieces : goal.invariant-pieces
+invariant-pieces g l = Keeps
     (coming l.initial.self.connection.received (g.S.Read.remaining l.initial.self.connection.stream))
     (coming l.self.connection.received (g.S.Read.remaining l.self.connection.stream))

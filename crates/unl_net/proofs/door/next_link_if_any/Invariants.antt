@@ -1,8 +1,8 @@
 use Rattle.std.proofs.Common.{◌+◌}
 use Rattle.slab.specs.Slab.{slab_len}
 use Rattle.std.specs.VecDeque.{deque_len}
-use Rattle.unl_net.specs.Ends.{LosesNone}
-use Rattle.unl_net.proofs.door.next_of.Given as goal
+use Rattle.unl_net.specs.EndedConnections.{LosesNone}
+use Rattle.unl_net.proofs.door.next_link_if_any.Given as goal
 
 -- each connection that was held or arrived is held or was counted as ended
 abbrev pub invariant-turns : goal.invariant-turns

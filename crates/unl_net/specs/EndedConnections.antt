@@ -36,25 +36,26 @@ cut_of (Late now) phase = late_cut phase
 cut_of (CutOff cut) phase = Some cut
 cut_of (DoorEnds began now) phase = None
 
--- the counts with one more connection that was cut off
-abbrev pub counted : Cut → Cuts → Cuts
-counted SlowRequest cuts = record cuts { slow_requests = min (cuts.slow_requests + 1) (2 ^ 64 - 1) }
-counted SlowReader cuts = record cuts { slow_readers = min (cuts.slow_readers + 1) (2 ^ 64 - 1) }
-counted Room cuts = record cuts { room = min (cuts.room + 1) (2 ^ 64 - 1) }
-counted Memory cuts = record cuts { memory = min (cuts.memory + 1) (2 ^ 64 - 1) }
+-- the counts with one more connection that was cut off for this cause
+abbrev pub with_cut : Cut → Cuts → Cuts
+with_cut SlowRequest cuts = record cuts { slow_requests = min (cuts.slow_requests + 1) (2 ^ 64 - 1) }
+with_cut SlowReader cuts = record cuts { slow_readers = min (cuts.slow_readers + 1) (2 ^ 64 - 1) }
+with_cut Room cuts = record cuts { room = min (cuts.room + 1) (2 ^ 64 - 1) }
+with_cut Memory cuts = record cuts { memory = min (cuts.memory + 1) (2 ^ 64 - 1) }
 
--- the counts after a connection that was cut off for this, or not
-abbrev pub after_cut : Option Cut → Cuts → Cuts
-after_cut None cuts = cuts
-after_cut (Some cut) cuts = counted cut cuts
+-- the counts after a connection ended: one more if it was cut off for some cause
+abbrev pub with_cut_if_any : Option Cut → Cuts → Cuts
+with_cut_if_any None cuts = cuts
+with_cut_if_any (Some cut) cuts = with_cut cut cuts
 
--- No connection is lost: of those that were held and of `more` that came, each is held now or was counted as ended. `held` is how
--- many wait or are ready, `ended` the count of those that ended, which says nothing more once it is the largest u64.
+-- No connection is lost between two moments: each of those held at the first, and of `more` that came since, is held at the second or was
+-- counted as ended. `held` is how many wait or are ready, and `ended` how many were counted as ended; `held_now` and `ended_now` are the
+-- same at the second moment. Once the count of those that ended has stopped at the largest u64, nothing is said.
 unfoldable pub Accounts : ℕ → ℕ → ℕ → ℕ → ℕ → Type 0
 Accounts more held ended held_now ended_now =
     ended_now < 2 ^ 64 - 1 → (ended ≤ ended_now) × (held_now + ended_now ≡ held + ended + more)
 
--- The same where as many came as `arrived` rose by. It says nothing more once that is the largest u64.
+-- The same if as many came as the count `arrived` rose by. Once that count has stopped at the largest u64, nothing is said.
 unfoldable pub LosesNone : ℕ → ℕ → ℕ → ℕ → ℕ → ℕ → Type 0
 LosesNone arrived held ended arrived_now held_now ended_now =
     arrived_now < 2 ^ 64 - 1 → (arrived ≤ arrived_now) × Accounts (arrived_now - arrived) held ended held_now ended_now

@@ -1,8 +1,8 @@
 use Rattle.std.proofs.Common.{◌+◌}
 use Rattle.slab.specs.Slab.{slab_len}
 use Rattle.std.specs.VecDeque.{deque_len}
-use Rattle.unl_net.specs.Ends.{Accounts}
-use Rattle.unl_net.proofs.reactor.Reactor.serve_noted.Given as goal
+use Rattle.unl_net.specs.EndedConnections.{Accounts}
+use Rattle.unl_net.proofs.reactor.Reactor.handle_noted.Given as goal
 
 -- each connection that was held is held or was counted as ended
 abbrev pub invariant-noted : goal.invariant-noted
