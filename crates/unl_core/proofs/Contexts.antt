@@ -1,13 +1,30 @@
--- A context that is read, or the first fault.
-use Rattle.std.proofs.Common.{◌≢◌, Ok, Err}
+-- The context of a request, or the first fault.
+use Rattle.std.proofs.Common.{◌≡◌, ◌≢◌, ◌∙◌, Bool, true, false, cond, Ok, Err, subst, sym}
 use Rattle.std.specs.Prelude.{IfErr, IfOk}
 use Rattle.unl_context.specs.Context.{Fields}
+use Rattle.unl_context.specs.Json.{body_of}
+use Rattle.unl_context.specs.Query.{query_context}
 use Rattle.unl_context.specs.Reading.{HasFault, Reading, Reads}
 use Rattle.unl_context.specs.declared.fault.BadContext.TheVariants.{Memory}
 use Rattle.unl_documents.specs.Results.{Gives}
+use Rattle.unl_http_api.specs.Route.{is_post, query_of}
+use Rattle.unl_http_api.specs.declared.request.Request.{Request}
+use Rattle.unl_core.specs.Answer.{asked_context}
 
--- The clauses of a call that reads a context are one.
-pub context_given : (result reading : Reading Fields) → IfOk result (Reads reading) → IfErr result (λ e. e ≢ Memory → HasFault reading e)
-    → Gives Memory result reading
-context_given (Ok context) reading reads fault = reads
-context_given (Err e) reading reads fault = fault
+-- The clauses of a call that reads a context are one, also where the reading is written in another way.
+pub context_given : (result reading asked : Reading Fields) → reading ≡ asked → IfOk result (Reads reading)
+    → IfErr result (λ e. e ≢ Memory → HasFault reading e) → Gives Memory result asked
+context_given (Ok context) reading asked same reads fault = sym same ∙ reads
+context_given (Err e) reading asked same reads fault = λ other. sym same ∙ fault other
+
+-- The context of a POST is read from its body.
+pub posted_context : (q : Request) (result : Reading Fields) → is_post q.method ≡ true → Gives Memory result (body_of q.body)
+    → Gives Memory result (asked_context q)
+posted_context q result post given =
+    subst (λ (b : Bool). Gives Memory result (cond b (body_of q.body) (query_context (query_of q.target)))) (sym post) given
+
+-- The context of any other request is read from its query.
+pub queried_context : (q : Request) (result : Reading Fields) → is_post q.method ≡ false
+    → Gives Memory result (query_context (query_of q.target)) → Gives Memory result (asked_context q)
+queried_context q result other given =
+    subst (λ (b : Bool). Gives Memory result (cond b (body_of q.body) (query_context (query_of q.target)))) (sym other) given

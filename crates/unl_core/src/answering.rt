@@ -12,6 +12,7 @@ ghost use Rattle.unl_context.specs.Query.{query_context};
 ghost use Rattle.unl_context.specs.declared.fault.BadContext.TheVariants.{Memory as memory};
 ghost use Rattle.unl_documents.specs.Results.{Gives};
 ghost use Rattle.unl_documents.specs.States.{IsValidState};
+ghost use Rattle.unl_http_api.specs.Route.{query_of};
 ghost use Rattle.unl_metrics.specs.Reports.{IsReport, bulk_report_of, single_report_of};
 ghost use Rattle.unl_tokens.specs.Requests.{asked_in};
 
@@ -234,21 +235,21 @@ fn asked_context(alloc: Global, request: &Request) -> Result<Context, BadContext
     ensures { Gives memory result (asked_context request.now) }
 {
     if is_post(request.method) {
-        return body_context(alloc, request.body.as_slice());
+        return body_context(alloc, request);
     }
-    query_context(alloc, query_of(request.target.as_slice()))
+    query_context(alloc, request)
 }
 
-fn body_context(alloc: Global, body: &[u8]) -> Result<Context, BadContext>
-    ensures { Gives memory result (body_of body.now) }
+fn body_context(alloc: Global, request: &Request) -> Result<Context, BadContext>
+    ensures { Gives memory result (body_of request.now.body) }
 {
-    Context::read_body(alloc, body)
+    Context::read_body(alloc, request.body.as_slice())
 }
 
-fn query_context(alloc: Global, query: &[u8]) -> Result<Context, BadContext>
-    ensures { Gives memory result (query_context query.now) }
+fn query_context(alloc: Global, request: &Request) -> Result<Context, BadContext>
+    ensures { Gives memory result (query_context (query_of request.now.target)) }
 {
-    Context::read_query(alloc, query)
+    Context::read_query(alloc, query_of(request.target.as_slice()))
 }
 
 /// The context with its environment replaced.

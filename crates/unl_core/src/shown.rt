@@ -5,25 +5,20 @@ ghost use Rattle.unl_core.specs.Shown.{entry_of, is_kind, ready_by, shown_at, sh
 
 use crate::board::Board;
 use std::marker::Model;
-use thiserror::Error;
 use unl_compiled::Snapshot;
 use unl_http_api::Request;
 use unl_tokens::{Book, Kind, Token};
 
 /// Why a request's token is not accepted.
-#[derive(Clone, Copy, Debug, PartialEq, Eq, Error)]
+#[derive(Clone, Copy)]
 pub enum TokenRefusal {
     /// The request has no token.
-    #[error("no token")]
     NoToken,
     /// The book has no such token.
-    #[error("the token is not known")]
     UnknownToken,
     /// The token is of the other kind.
-    #[error("the token is of another type")]
     WrongKind,
     /// The token's environment has no version yet.
-    #[error("the environment has no state yet")]
     NotReady,
 }
 

@@ -1,6 +1,7 @@
 //! The entity tags of answers.
 ghost use Rattle.std.specs.Prelude.{◌≡◌, [], length, IfOk, string_bytes};
-ghost use Rattle.unl_core.specs.Tag.{if_spelled, inlined_tag, number_of_tag, number_part, since_of, tag_prefix, tag_text, whole_in, with_epoch};
+ghost use Rattle.unl_core.specs.Tag.{if_spelled, inlined_tag, number_of_tag, number_part, since_of, tag_prefix, tag_text};
+ghost use Rattle.unl_core.specs.Tag.{whole_in, with_epoch};
 
 use crate::board::Board;
 use serde_json::Value;
