@@ -20,21 +20,21 @@ use Rattle.unl_connection.specs.declared.served.ServedOne.{ServedOne}
 use Rattle.unl_metrics.specs.Book.{Book}
 use Rattle.unl_connection.specs.Notes.{AnswersNothing, AnswersFromBoard, Draws, DrawsAtLeast, Known, LooksFor, Noted, Notes, NotesNothing, Rise, Seen, fronts_of, noted}
 
--- the effect of one answer of a desk
+-- a handler answered, and its desk, notes and book changed as one answer changes them
 abbrev pub Over : {S : Type 0} → (S → Seen) → HandlerState S → Request → Reply → HandlerState S → Type 0
 Over seen = Answers (λ state request draw reply after. AnswersFromBoard (seen state) request draw reply (seen after))
 
--- the effect of running out of memory at an answer
+-- a handler ran out of memory at an answer, and its notes and book stayed
 abbrev pub RunsOutOver : {S : Type 0} → (S → Seen) → HandlerState S → Request → HandlerState S → Type 0
 RunsOutOver seen = RunsOutOfMemory (λ state request draw after. AnswersNothing (seen state) (seen after))
 
--- the notes, and the book
+-- the notes and the book of a handler
 abbrev pub noted_of : {S : Type 0} → (S → Seen) → HandlerState S → Noted
 noted_of seen s = (seen s.state).noted
 
 -- ---- the desk, the notes and the draws after a chain of answers
 
--- the effect of the answers with these notes
+-- what the answers with these notes did to the desk and the draws
 pub record Sums
     (before after : Known) (coming coming_after : Option (List Draw × Draw)) (ones : List ServedOne) : Type 0 where
   pub rise : Rise before.front ones after.front
@@ -52,7 +52,7 @@ Rise_to : (first last more : ℕ) (ones : List ServedOne) → Rise first ones la
 Rise_to first last more [] rise up = omega (arith, rise, up)
 Rise_to first last more (one ∷ ones) rise up = (rise.0, Rise_to one.front last more ones rise.1 up)
 
--- one answer before the others
+-- an answer, and then those with further notes
 Sums_more : (before middle : Seen) (after : Known) (coming next coming_after : Option (List Draw × Draw)) (request : Request)
     (draw : Draw) (reply : Reply) (ones : List ServedOne) → TakesDraw coming draw next
     → (over : AnswersFromBoard before request draw reply middle) → Sums middle.desk after next coming_after ones
@@ -68,7 +68,7 @@ Sums_more before middle after coming next coming_after request draw reply ones t
   keeps = λ k board known. sums.keeps k board (over.keeps k board known);
 }
 
--- the notes of a chain of answers
+-- a chain of answers appends notes, which say what it did
 pub summed : {S : Type 0} (seen : S → Seen) (count : ℕ) (before after : HandlerState S) (qs : List Request)
     (text : List ℕ) → Answered (Over seen) count before qs text after
     → (ones : List ServedOne) × ((noted_of seen after).ones ≡ (noted_of seen before).ones ++ ones)
@@ -129,7 +129,7 @@ answered_over seen board_at count before after (q ∷ qs) text keeps (reply, mid
       answered_over seen board_at (count + 1) middle after qs more keeps rest,
     )
 
--- the boards known in the last state but one are known in the last
+-- the boards that are known before the last request are known after it
 near_keeps : {S : Type 0} (seen : S → Seen) (state after : HandlerState S)
     → IsNear (Over seen) (RunsOutOver seen) state after → Keeps (seen state.state).desk.board_at (seen after.state).desk.board_at
 near_keeps {S} seen state after (inl same) =
@@ -214,7 +214,7 @@ reflects_next seen before middle after end ones are sums (inr (is, request, lack
     (reflects_more (seen before.state).desk (seen middle.state) (seen after.state) before.coming middle.coming after.coming end ones
     lacks.draw is sums lacks.taken lacks.given_up)
 
--- what holds for a conversation that begins without notes
+-- the notes of a conversation that begins without any say what it did
 pub reflects : {S : Type 0} (seen : S → Seen) (before after : HandlerState S) (end : End) (count : ℕ)
     → (noted_of seen before).ones ≡ [] → Reaches (Over seen) (RunsOutOver seen) before end after count
     → ReflectsNotes (seen before.state).desk before.coming end (seen after.state).desk after.coming (noted_of seen after).ones

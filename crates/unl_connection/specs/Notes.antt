@@ -19,7 +19,7 @@ pub record Noted : Type 0 where
   pub ones : List ServedOne
   pub book : Book
 
--- these two as a record
+-- notes and a book as one value
 abbrev pub noted : List ServedOne → Book → Noted
 noted ones book = record { ones = ones; book = book }
 
@@ -49,13 +49,13 @@ Rise first (one ∷ ones) last = (first ≤ one.front) × Rise one.front ones la
 abbrev pub fronts_of : List ServedOne → List ℕ
 fronts_of ones = map (λ one. one.front) ones
 
--- the desk looked at the fronts of the notes; if memory ran out, at one more at most
+-- the desk looked once for each note, at the front of the note; and once more at most, if memory ran out
 abbrev pub LooksFor : Option (List ℕ) → List ServedOne → End → Option (List ℕ) → Type 0
 LooksFor fronts ones end fronts_after =
     Enters fronts (fronts_of ones) fronts_after
     ⊎ ((end ≡ Memory) × (front : ℕ) × Enters fronts (fronts_of ones ++ front ∷ []) fronts_after)
 
--- the draws of the notes were taken one after another
+-- the draws of the notes were taken, in this order and no others between them
 abbrev pub Draws : Option (List Draw × Draw) → List ServedOne → Option (List Draw × Draw) → Type 0
 Draws coming [] after = after ≡ coming
 Draws coming (one ∷ ones) after = (middle : Option (List Draw × Draw)) × TakesDraw coming one.draw middle × Draws middle ones after
@@ -70,7 +70,7 @@ pub record Known : Type 0 where
   pub board_at : ℕ → Option Board
   pub fronts : Option (List ℕ)
 
--- these facts about a desk, given the functions that read them
+-- these facts about a desk, by the functions that state them
 abbrev pub known_by : {D : Type 0} → (D → ℕ) → (D → ℕ → Option Board) → (D → Option (List ℕ)) → D → Known
 known_by front board_at fronts desk = record { front = front desk; board_at = board_at desk; fronts = fronts desk }
 
@@ -79,7 +79,7 @@ pub record Seen : Type 0 where
   pub desk : Known
   pub noted : Noted
 
--- these three as a record
+-- the facts of a desk, notes and a book as one value
 abbrev pub seen : Known → List ServedOne → Book → Seen
 seen desk ones book = record { desk = desk; noted = noted ones book }
 
