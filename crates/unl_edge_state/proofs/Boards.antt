@@ -14,7 +14,7 @@ use Rattle.unl_publication.specs.Meaning.{item_or, known, value_at, some_if}
 use Rattle.unl_publication.specs.Looking.{Follows}
 use Rattle.unl_publication.specs.Rule.{with_installs}
 
--- The board after folding over the installs.
+-- Folding over the installs of a list leads to the board after the list.
 pub board_of_fold : (opening : BoardAt) (list : List Install) → (fold edited opening list).board ≡ board_after opening.board list
 board_of_fold opening [] = refl
 board_of_fold opening (what ∷ list) = board_of_fold (edited opening what) list
@@ -28,7 +28,7 @@ after_more : (opening : Option BoardAt) (list : List Install) (what : Install) �
 after_more None list what there = absurd cc
 after_more (Some opening) list what there = board_after_more opening.board list what
 
--- The board after one more install.
+-- One more known install leads to the known board with that install.
 pub known_more : (known : Knowledge BoardAt Install) (what : Install) → is_some known.opening ≡ true → board_known (with_installs (what ∷ []) known) ≡ installed what (board_known known)
 known_more known what there = after_more known.opening known.installs what there
 
@@ -37,7 +37,7 @@ shown : (opening : Option BoardAt) (list : List Install) (value : BoardAt) → i
 shown None list value there is = absurd cc
 shown (Some opening) list value there is = ap (λ (e : BoardAt). e.board) (is opening refl) ∙ board_of_fold opening list
 
--- The value shown has the known board.
+-- A value that the known installs lead to has the known board.
 pub shown_known : (known : Knowledge BoardAt Install) (value : BoardAt) → is_some known.opening ≡ true → ((o : BoardAt) → known.opening ≡ Some o → value ≡ fold edited o known.installs)
     → value.board ≡ board_known known
 shown_known known value there is = shown known.opening known.installs value there is
@@ -46,16 +46,16 @@ keeps_mapped : (old new : Option BoardAt) (board : Board) → ((edition : BoardA
 keeps_mapped None new board keeps is = absurd cc
 keeps_mapped (Some edition) new board keeps is = ap (option_map (λ (e : BoardAt). e.board)) (keeps edition refl) ∙ is
 
--- Boards stay known if their editions do.
+-- A board that is known at a front stays known if each edition does.
 pub keeps_boards : (old new : Knowledge BoardAt Install) → ((k : ℕ) (edition : BoardAt) → value_at edited old k ≡ Some edition → value_at edited new k ≡ Some edition)
     → (k : ℕ) (board : Board) → board_of old k ≡ Some board → board_of new k ≡ Some board
 keeps_boards old new keeps k board is = keeps_mapped (value_at edited old k) (value_at edited new k) board (keeps k) is
 
--- A reader that looked, and then left.
+-- What a reader has seen after a look is what it took.
 pub seen_left : (late : Option (Knowledge BoardAt Install)) (now taken : Knowledge BoardAt Install) → late ≡ None → now ≡ taken → known late now ≡ taken
 seen_left late now taken none is = ap (λ (o : Option (Knowledge BoardAt Install)). known o now) none ∙ is
 
--- Boards stay known after a look.
+-- A board that is known at a front stays known after a look.
 pub keeps_left : (old new before taken : Knowledge BoardAt Install) → old ≡ before → new ≡ taken → Follows edited before taken
     → (k : ℕ) (board : Board) → board_of old k ≡ Some board → board_of new k ≡ Some board
 keeps_left old new before taken old_is new_is follows k board is =
@@ -91,6 +91,6 @@ more_orderly : (opening : Option BoardAt) (list : List Install) (what : Install)
 more_orderly None list what orderly goes = orderly
 more_orderly (Some opening) list what orderly goes = orderly_more opening.board list what orderly goes
 
--- An install that follows the known board.
+-- An orderly list stays orderly with an install that may come next.
 pub knows_more : (known : Knowledge BoardAt Install) (what : Install) → KnowsOrderly known → IsInOrder (board_known known) what → KnowsOrderly (with_installs (what ∷ []) known)
 knows_more known what orderly goes = more_orderly known.opening known.installs what orderly goes

@@ -35,7 +35,7 @@ same_opening None = refl
 same_opening (Some b) = refl
 
 -- Before the first install, the opening board is all that is known.
-values_first : (now : Knowledge BoardAt Install) → now.installs ≡ [] → now.before ≡ [] → values edited now ≡ now.opening ∷ []
+pub values_first : (now : Knowledge BoardAt Install) → now.installs ≡ [] → now.before ≡ [] → values edited now ≡ now.opening ∷ []
 values_first now no_installs nothing =
     let bare : Knowledge BoardAt Install = record { table = now.table; opening = now.opening; installs = []; before = []; fronts = now.fronts } in
     let is : now ≡ bare = λ i. record { table = now.table; opening = now.opening; installs = no_installs i; before = nothing i; fronts = now.fronts } in
@@ -44,7 +44,7 @@ values_first now no_installs nothing =
 is_orderly_by : (one two : Knowledge BoardAt Install) → one.opening ≡ two.opening → is_orderly two ≡ true → is_orderly one ≡ true
 is_orderly_by one two same is = ap (λ (o : Option BoardAt). unwrap_or (option_map (λ (b : BoardAt). b.orderly) o) false) same ∙ is
 
--- A new reader that learned.
+-- A new reader that learned a list reads one list, by what it knew and what it was told.
 pub learned : (low : Bool) (list : Option (Knowledge BoardAt Install)) (now after : Knowledge BoardAt Install) (past_after : Option (Knowledge BoardAt Install))
     → is_orderly now ≡ true → now.installs ≡ [] → now.before ≡ [] → after.opening ≡ now.opening
     → after ≡ (if low then now else unwrap_or list now) → past_after ≡ (if low then None else unwrap_or (option_map (λ _. Some now) list) None)
@@ -61,7 +61,7 @@ learned false (Some list) now after past_after orderly no_installs nothing same 
       next = inr (values_first now no_installs nothing ∙ ap (λ (o : Option BoardAt). o ∷ []) (sym same));
     })
 
--- A reader that learned, by what it had not done before.
+-- A new reader that learned a list is steady.
 pub learns : (reader after : EdgeReader) (front : ℕ) (list : Option (Knowledge BoardAt Install)) → IsNewReader reader → SameOrigin (next_of after) (next_of reader)
     → next_of after ≡ continues_from front list (next_of reader) → past_of after ≡ remembers front list (past_of reader) (next_of reader) → IsSteady after
 learns reader after front list new origin next_is past_is =
@@ -73,7 +73,7 @@ starts : (before given : List (Option BoardAt)) (opening same : Option BoardAt) 
 starts before given opening same is opens (inl none) = inl (is ∙ none)
 starts before given opening same is opens (inr one) = inr (is ∙ one ∙ ap (λ (o : Option BoardAt). o ∷ []) (sym opens))
 
--- A look.
+-- After a look, a reader of one list still is one.
 pub looks : (past past_after : Option (Knowledge BoardAt Install)) (now after : Knowledge BoardAt Install) → StaysOrTakes edited past now past_after after
     → ReadsOneList past now → ReadsOneList past_after after
 looks past past_after now after (inl same) h =
@@ -85,7 +85,7 @@ looks past past_after now after (inr took) h =
 
 -- ---- the clause of a look
 
--- It looked, and left.
+-- The reader looked and took a list.
 pub took_left : (past_old past_seat late : Option (Knowledge BoardAt Install)) (old now after list : Knowledge BoardAt Install) → past_old ≡ past_seat → old ≡ now
     → late ≡ None → after ≡ list → Takes edited past_seat now list → StaysOrTakes edited past_old old late after
 took_left past_old past_seat late old now after list past_is old_is none after_is takes =
@@ -93,7 +93,7 @@ took_left past_old past_seat late old now after list past_is old_is none after_i
     let two : Takes edited past_seat old after = subst (λ (k : Knowledge BoardAt Install). Takes edited past_seat k after) (sym old_is) one in
     inr (none, subst (λ (p : Option (Knowledge BoardAt Install)). Takes edited p old after) (sym past_is) two)
 
--- Its reader did, as the reader was before.
+-- The desk stayed as it was or took a list, because the reader inside it did.
 pub took_back : (past_old past_seat late : Option (Knowledge BoardAt Install)) (old now after : Knowledge BoardAt Install) → past_old ≡ past_seat → old ≡ now
     → StaysOrTakes edited past_seat now late after → StaysOrTakes edited past_old old late after
 took_back past_old past_seat late old now after past_is old_is kept =
@@ -108,7 +108,7 @@ seen_at : {T P : Type 0} {c : counted.Ghosts T Install BoardAt} {a : absorb.Ghos
 seen_at None = refl
 seen_at (Some seat) = refl
 
-seen_is : (reader : EdgeReader) → seen_by reader ≡ known (past_of reader) (next_of reader)
+pub seen_is : (reader : EdgeReader) → seen_by reader ≡ known (past_of reader) (next_of reader)
 seen_is reader = seen_at reader.seat
 
 opened : (o : Option BoardAt) → unwrap_or (option_map (λ (b : BoardAt). b.orderly) o) false ≡ true → (b : BoardAt) × (o ≡ Some b)
@@ -141,7 +141,7 @@ sees_in_order reader h = record {
 
 -- ---- new readers
 
--- The readers that `begin_orderly` makes.
+-- A reader that `begin_orderly` makes is a new reader.
 new_from : (begun : Knowledge BoardAt Install) (table : ℕ) (board : Board) (reader : EdgeReader) → begun ≡ knows_opening table (orderly_opening board)
     → HasBegun begun reader → IsNewReader reader
 new_from begun table board reader is h =

@@ -40,7 +40,7 @@ orderly_fold : (opening : BoardAt) (list : List Install) → (fold edited openin
 orderly_fold opening [] = refl
 orderly_fold opening (what ∷ list) = orderly_fold (edited opening what) list
 
--- What may be installed may be published.
+-- An install that may come next may be published.
 pub may_publish : (known : Knowledge BoardAt Install) (what : Install) → MayInstall known what → MayPublish edited AllowsInstall known what
 may_publish known what may opening is orderly =
     let says : is_orderly known ≡ true = ap (λ (o : Option BoardAt). unwrap_or (option_map (λ (b : BoardAt). b.orderly) o) false) is
@@ -50,7 +50,7 @@ may_publish known what may opening is orderly =
     ∙ sym (board_of_fold opening known.installs) in
     subst (λ (b : Board). IsInOrder b what) shown (may says)
 
--- A version that comes of a batch that applies may be installed.
+-- The version after a batch that applies may come next.
 pub version_in_order : (w : Writing) (slot : ℕ) (batch : Batch) (p : Place) (v shown : EnvVersion) → place_of (installed_by w) slot ≡ p
     → (place_of (installed_by w) slot).version ≡ snapshot_at (board_known w.known).slots slot → verdict_of (place_of (installed_by w) slot) batch ≡ Apply
     → v ≡ next_version p batch → shown ≡ v → MayInstall w.known (Env slot shown)
@@ -76,7 +76,7 @@ pub ordered_known : (opening : Option BoardAt) (list : List Install) → IfSome 
 ordered_known None list allowed is = tt
 ordered_known (Some o) list allowed is = ordered_list o list allowed is
 
--- What was taken, or published, of an orderly publication is orderly.
+-- A list that a reader took, or that the writer published, is orderly in an orderly publication.
 pub keeps_order : (taken now : Knowledge BoardAt Install) → now ≡ taken → KnowsAllowed edited AllowsInstall taken → KeepsOrder now
 keeps_order taken now same allowed = subst KeepsOrder (sym same) (ordered_known taken.opening taken.installs allowed)
 
@@ -97,7 +97,7 @@ was_here : (p : Bool) (x : Option BoardAt) (board : Board) → option_map (λ (e
 was_here true x board is = refl
 was_here false x board is = absurd cc
 
--- The board after a prefix of the list.
+-- The board at a front is the opening board after a prefix of the list.
 board_is : (known : Knowledge BoardAt Install) (opening : BoardAt) (k : ℕ) → known.opening ≡ Some opening → IsOfList opening known k → k ≤ length known.installs
     → board_of known k ≡ Some (board_after opening.board (take k known.installs))
 board_is known opening k is (inl start) low = boards_are known opening k is start low
@@ -109,7 +109,7 @@ board_is known opening k is (inr past) low =
     ∙ item_past known.before k (Some (fold edited opening (take k known.installs))) past)
     ∙ ap (λ (b : Board). Some b) (board_of_fold opening (take k known.installs))
 
-low_front : (known : Knowledge BoardAt Install) (k : ℕ) (board : Board) → board_of known k ≡ Some board → k ≤ length known.installs
+pub low_front : (known : Knowledge BoardAt Install) (k : ℕ) (board : Board) → board_of known k ≡ Some board → k ≤ length known.installs
 low_front known k board is =
     let within : leb k (length known.installs) ≡ true = was_here (leb k (length known.installs)) _ board is in
     grind (arith, nat_tests)
@@ -118,7 +118,7 @@ of_list_later : (opening : BoardAt) (known : Knowledge BoardAt Install) (j k : �
 of_list_later opening known j k (inl start) up = inl start
 of_list_later opening known j k (inr past) up = inr (omega (arith, past, up))
 
-same_board : (one two : Board) (known : Option Board) → known ≡ Some one → known ≡ Some two → two ≡ one
+pub same_board : (one two : Board) (known : Option Board) → known ≡ Some one → known ≡ Some two → two ≡ one
 same_board one two known is also = let both : Some two ≡ Some one = sym also ∙ is in cc
 
 -- ---- the order of versions does not depend on its proof
@@ -134,7 +134,7 @@ allowed_at : {T P : Type 0} {c : counted.Ghosts T Install BoardAt} {a : absorb.G
 allowed_at None = ∣ tt ∣₁
 allowed_at (Some seat) = ∥∥₁_map seat.allowed (λ x. x.seen)
 
--- What a reader has seen is allowed.
+-- Each install that a reader has seen is one that its publication allows.
 pub reader_allowed : (reader : EdgeReader) → ∥ KnowsAllowed edited AllowsInstall (seen_by reader) ∥₁
 reader_allowed reader = allowed_at reader.seat
 

@@ -17,7 +17,7 @@ use Rattle.unl_publication.specs.contracts.rule.Ruled as Ruled
 use Rattle.unl_publication.specs.contracts.writer.Writer as Publishing
 use Rattle.unl_publication.specs.contracts.rule.RuledProtocolKnowledgeState.TheImpl as ruled
 
--- The type of a seat of a reader of editions.
+-- The type of the `left_right` reader inside a reader of editions.
 abbrev pub seat_type : RattleType
 seat_type =
     Seat.the_row Edition.the_row (Knowledge.the_row Edition.the_row Install.the_row) (Ruled.the_row Install.the_row) Global.the_row
@@ -30,7 +30,7 @@ reader_type =
     Reader.the_row Edition.the_row Install.the_row (Ruled.the_row Install.the_row) Edition.the_row counted.ghosts absorb.ghosts
     (ruled.ghosts Edition.the_row Install.the_row Edition.the_row counted.ghosts ruled.no_dict absorb.ghosts ruled.no_dict ruled.no_dict)
 
--- The type of the sides of a writer of editions.
+-- The type of the `left_right` writer inside a writer of editions.
 abbrev pub sides_type : RattleType
 sides_type =
     Sides.the_row Edition.the_row Install.the_row (Knowledge.the_row Edition.the_row Install.the_row) (Ruled.the_row Install.the_row)

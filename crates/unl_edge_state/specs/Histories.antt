@@ -13,12 +13,12 @@ use Rattle.unl_publication.specs.declared.knowledge.Knowledge.{Knowledge}
 abbrev pub SlotRepresented : List Era → Sees → ℕ → Board → Type 0
 SlotRepresented line sees slot board = IfSome (snapshot_at board.slots slot) (RepresentsLine line sees)
 
--- This holds on the board, and on each board that the installs lead to.
+-- The version at the slot is such a revision on this board, and on each board that the installs lead to from it.
 abbrev pub AlwaysRepresentedFrom : List Era → Sees → ℕ → Board → List Install → Type 0
 AlwaysRepresentedFrom line sees slot board [] = SlotRepresented line sees slot board
 AlwaysRepresentedFrom line sees slot board (what ∷ more) =
     SlotRepresented line sees slot board × AlwaysRepresentedFrom line sees slot (installed what board) more
 
--- This holds for everything known to be published, from the opening board on.
+-- The version at the slot is such a revision on the opening board, and on each board that the known installs lead to.
 abbrev pub AlwaysRepresented : List Era → Sees → ℕ → Knowledge BoardAt Install → Type 0
 AlwaysRepresented line sees slot known = IfSome known.opening (λ opening. AlwaysRepresentedFrom line sees slot opening.board known.installs)

@@ -21,17 +21,17 @@ pub record GoesOn (board : Board) (slot : ℕ) (version : EnvVersion) : Type 0 w
   pub applies : verdict_of place batch ≡ Apply
   pub next : version ≡ next_version place batch
 
--- A version follows the one at its slot. A book can follow any other.
+-- The install may come next in an orderly list: a version must follow the one at its slot, and a token book may follow any other.
 abbrev pub IsInOrder : Board → Install → Type 0
 IsInOrder board (Tokens book) = ⊤
 IsInOrder board (Env slot version) = GoesOn board slot version
 
--- Each install does so, on the board after the installs before it.
+-- The list is orderly: each install may come next, on the board that the installs before it lead to.
 abbrev pub IsOrderly : Board → List Install → Type 0
 IsOrderly board [] = ⊤
 IsOrderly board (what ∷ more) = IsInOrder board what × IsOrderly (installed what board) more
 
--- What is known to be published is orderly from the opening board on.
+-- The installs that are known to be published are an orderly list, from the opening board on.
 abbrev pub KnowsOrderly : Knowledge BoardAt Install → Type 0
 KnowsOrderly known = IfSome known.opening (λ opening. IsOrderly opening.board known.installs)
 
@@ -39,7 +39,7 @@ KnowsOrderly known = IfSome known.opening (λ opening. IsOrderly opening.board k
 abbrev pub AllowsInstall : BoardAt → Install → Type 0
 AllowsInstall edition what = edition.orderly ≡ true → IsInOrder edition.board what
 
--- Whether what is known is an orderly publication. This is fixed with the opening board.
+-- Whether the publication is an orderly one, as far as is known. The opening board says so.
 abbrev pub is_orderly : Knowledge BoardAt Install → Bool
 is_orderly known = unwrap_or (option_map (λ opening. opening.orderly) known.opening) false
 
@@ -47,6 +47,6 @@ is_orderly known = unwrap_or (option_map (λ opening. opening.orderly) known.ope
 abbrev pub MayInstall : Knowledge BoardAt Install → Install → Type 0
 MayInstall known what = is_orderly known ≡ true → IsInOrder (board_known known) what
 
--- What is known of an orderly publication is orderly.
+-- If the publication is an orderly one, the installs that are known of it are an orderly list.
 abbrev pub KeepsOrder : Knowledge BoardAt Install → Type 0
 KeepsOrder known = is_orderly known ≡ true → KnowsOrderly known

@@ -1,26 +1,28 @@
 -- What a reader of the board knows, and what it has learned.
-use Rattle.std.specs.Prelude.{◌≡◌, ◌⊎◌, ℕ, ◌≤◌, true, [], ◌∷◌, length, Option, Some, None, option_and_then, option_map, unwrap_or}
+use Rattle.std.specs.Prelude.{◌≡◌, ◌⊎◌, ℕ, ◌≤◌, true, List, [], ◌∷◌, ◌++◌, length, take, Option, Some, None, IfSome}
+use Rattle.std.specs.Prelude.{is_some, option_and_then, option_map, unwrap_or}
 use Rattle.unl_core.specs.declared.board.Board.{Board}
 use Rattle.unl_core.specs.declared.board.Install.{Install}
-use Rattle.unl_edge_state.specs.declared.reader.EdgeReader.{EdgeReader}
+use Rattle.unl_core.specs.Board.{board_after}
 use Rattle.unl_core.specs.DeskStates.{snapshot_at}
+use Rattle.unl_edge_state.specs.declared.reader.EdgeReader.{EdgeReader}
 use Rattle.unl_delta.specs.History.{IsNotBelow}
 use Rattle.unl_edge_state.specs.Editions.{BoardAt, edited}
 use Rattle.unl_edge_state.specs.Orderly.{KnowsOrderly, is_orderly}
 use Rattle.unl_publication.specs.declared.knowledge.Knowledge.{Knowledge}
 use Rattle.unl_publication.specs.Meaning.{before_of, known, value_at}
-use Rattle.unl_publication.specs.Rule.{knows_nothing}
+use Rattle.unl_publication.specs.Rule.{StartsWith, knows_nothing}
 use Rattle.unl_publication.specs.Seen.{next, past, seen, learned_front}
 
 -- What the reader knew when it last looked.
 abbrev pub seen_by : EdgeReader → Knowledge BoardAt Install
 seen_by reader = unwrap_or (option_map seen reader.seat) knows_nothing
 
--- What the reader continues from: the list that it takes next starts with this one's.
+-- What the reader continues from: the next list of installs that it takes starts with the list in this.
 abbrev pub next_of : EdgeReader → Knowledge BoardAt Install
 next_of reader = unwrap_or (option_map next reader.seat) knows_nothing
 
--- What the reader knew at its last look, if it has continued from a learned list since.
+-- What the reader knew at its last look, if a learned list has replaced what it continues from since.
 abbrev pub past_of : EdgeReader → Option (Knowledge BoardAt Install)
 past_of reader = option_and_then past reader.seat
 
@@ -42,12 +44,51 @@ ContinuedFromOpening opening known = (known.before ≡ []) ⊎ (known.before ≡
 abbrev pub IsOfList : BoardAt → Knowledge BoardAt Install → ℕ → Type 0
 IsOfList opening known front = ContinuedFromOpening opening known ⊎ (length known.before ≤ front)
 
--- A reader that knows exactly this, and has learned nothing else.
+-- A new reader: it knows exactly this, and has learned nothing.
 pub record HasBegun (known : Knowledge BoardAt Install) (reader : EdgeReader) : Type 0 where
   pub seen : seen_by reader ≡ known
   pub next : next_of reader ≡ known
   pub learned_none : learned_front_of reader ≡ 0
   pub past : past_of reader ≡ None
+
+-- ---- readers that learned a list before their first look
+
+-- The boards that the reader knew before it continued from a learned list.
+abbrev pub earlier_of : EdgeReader → List (Option BoardAt)
+earlier_of reader = before_of edited (past_of reader) (next_of reader)
+
+-- The reader continues from exactly these installs on this opening board. It has not looked, and before these installs it knew
+-- at most the opening board.
+pub record BeginsWith (edition : Option BoardAt) (installs : List Install) (reader : EdgeReader) : Type 0 where
+  pub opening : (next_of reader).opening ≡ edition
+  pub list : (next_of reader).installs ≡ installs
+  pub earlier : (earlier_of reader ≡ []) ⊎ (earlier_of reader ≡ edition ∷ [])
+  pub seen_opening : (seen_by reader).opening ≡ edition
+  pub seen_before : (seen_by reader).before ≡ []
+  pub seen_none : (seen_by reader).installs ≡ []
+
+-- A later state of a reader that remembered `past` and continued from `now`, and has learned nothing since. Its list starts with
+-- that one, and it knew the same boards before. If it still remembers what it knew before it learned, that is the same.
+abbrev pub ContinuesFrom : Option (Knowledge BoardAt Install) → Knowledge BoardAt Install → EdgeReader → Type 0
+ContinuesFrom past now reader =
+    ((next_of reader).opening ≡ now.opening)
+    × (take (length now.installs) (next_of reader).installs ≡ now.installs)
+    × (earlier_of reader ≡ before_of edited past now)
+    × (is_some (past_of reader) ≡ true → past_of reader ≡ past)
+
+-- The board is the opening board after a list of `front` installs, which starts with these installs.
+abbrev pub IsAfter : Option BoardAt → List Install → ℕ → Board → Type 0
+IsAfter edition installs front board = IfSome edition (λ opening. (more : List Install) × (length (installs ++ more) ≡ front)
+    × (board ≡ board_after opening.board (installs ++ more)))
+
+-- The list that the reader saw starts with these installs, and so does the list of each board that it knows, from their number
+-- on. It continued at most from the opening board, so its board at any front is the opening board after that many installs.
+pub record AnswersAfter (edition : Option BoardAt) (installs : List Install) (reader : EdgeReader) : Type 0 where
+  pub opening : (seen_by reader).opening ≡ edition
+  pub continued : IfSome edition (λ opening. ContinuedFromOpening opening (seen_by reader))
+  pub list : length installs ≤ length (seen_by reader).installs → StartsWith (seen_by reader).installs installs
+  pub boards : (front : ℕ) (board : Board) → length installs ≤ front → board_of (seen_by reader) front ≡ Some board
+      → IsAfter edition installs front board
 
 -- ---- readers of an orderly publication
 
@@ -64,15 +105,15 @@ pub record IsNewReader (reader : EdgeReader) : Type 0 where
   pub installs : (next_of reader).installs ≡ []
   pub before : (next_of reader).before ≡ []
 
--- A reader that never continued from a learned list, or only from the opening board: by what it remembers of its last look, and
--- what it continues from.
+-- A reader never continued from a learned list, or only from the opening board. `past` is what it remembers of its last look, if a
+-- learned list has replaced that since, and `now` is what it continues from.
 pub record ReadsOneList (past : Option (Knowledge BoardAt Install)) (now : Knowledge BoardAt Install) : Type 0 where
   pub orderly : is_orderly now ≡ true
   pub opening : (known past now).opening ≡ now.opening
   pub seen : ((known past now).before ≡ []) ⊎ ((known past now).before ≡ now.opening ∷ [])
   pub next : (before_of edited past now ≡ []) ⊎ (before_of edited past now ≡ now.opening ∷ [])
 
--- The same of a reader.
+-- The reader never continued from a learned list, or only from the opening board.
 abbrev pub IsSteady : EdgeReader → Type 0
 IsSteady reader = ReadsOneList (past_of reader) (next_of reader)
 

@@ -1,8 +1,9 @@
 -- What a writer of the board has published, and the places that it keeps.
-use Rattle.std.specs.Prelude.{◌≡◌, ℕ, ◌<◌, [], ◌∷◌, List, length, Bool, true, ⊤, is_some, slice_set, Some, false}
+use Rattle.std.specs.Prelude.{◌≡◌, ℕ, ◌<◌, [], ◌∷◌, List, length, Bool, true, ⊤, is_some, slice_set, Option, Some, false, IfSome}
 use Rattle.unl_core.specs.declared.board.Board.{Board}
 use Rattle.unl_core.specs.declared.board.Install.{Install}
 use Rattle.unl_core.specs.declared.board.Install.TheVariants.{Tokens, Env}
+use Rattle.unl_core.specs.Board.{board_after}
 use Rattle.unl_core.specs.DeskStates.{PlacesMatch, place_at}
 use Rattle.unl_delta.specs.declared.batch.Batch.{Batch}
 use Rattle.unl_delta.specs.declared.version.EnvVersion.{EnvVersion}
@@ -20,7 +21,7 @@ pub record Writing : Type 0 where
   pub places : List Place
   pub closed : Bool
 
--- It began with a board, and each place has the version of its slot on the published board.
+-- The invariant of a writer: it began with a board, and each place has the version of its slot on the published board.
 pub record IsWriting (known : Knowledge BoardAt Install) (places : List Place) : Type 0 where
   pub begun : is_some known.opening ≡ true
   pub represents : PlacesMatch (board_known known) places
@@ -29,7 +30,14 @@ pub record IsWriting (known : Knowledge BoardAt Install) (places : List Place) :
 abbrev pub installed_by : Writing → Installed
 installed_by w = record { places = w.places; front = length w.known.installs; book = (board_known w.known).book }
 
--- The writer after an install is published.
+-- The installs lead from the opening board to what is installed: the front is their number, and the book and the version of each
+-- place are those of the board after them.
+pub record LeadsTo (edition : Option BoardAt) (installs : List Install) (installed : Installed) : Type 0 where
+  pub front : installed.front ≡ length installs
+  pub book : IfSome edition (λ opening. installed.book ≡ (board_after opening.board installs).book)
+  pub places : IfSome edition (λ opening. PlacesMatch (board_after opening.board installs) installed.places)
+
+-- The writer after an install is published that changes no place.
 abbrev pub with_install : Install → Writing → Writing
 with_install what w = record w { known = with_installs (what ∷ []) w.known }
 

@@ -71,7 +71,7 @@ pub fn begin_orderly<'a, W: Wait>(
     }
 }
 
-/// As `begin`, with the publication orderly or not.
+/// As `begin` or, if `orderly`, as `begin_orderly`.
 fn begin_with<'a, W: Wait>(
     rt: &'a W,
     alloc: Global,

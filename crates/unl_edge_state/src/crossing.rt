@@ -1,5 +1,5 @@
-//! Proofs that a reader and a writer can be sent to another thread. For all types that a board consists of, one proof
-//! search times out, so it goes in steps: an edition, then a seat or the sides over editions, then a reader or a writer.
+//! Proofs that a reader and a writer can be sent to another thread. One proof search over all types that a board consists of times
+//! out, so it goes in steps: first an edition, then the reader or writer of `left_right` over editions, then that of the edge.
 ghost use denote.Ref.{NamedLft};
 ghost use Rattle.std.specs.Thread.{IsSend, IsSync};
 ghost use Rattle.unl_core.specs.contracts.board.Install as InstallType;
@@ -55,7 +55,7 @@ fn install_sync()
     sync_of::<Install>()
 }
 
-/// Seats are `Send`.
+/// A `left_right` reader of editions is `Send`.
 fn seats_cross()
     ensures { IsSend seat_type }
 {
@@ -75,7 +75,7 @@ pub fn readers_are_send()
     send_of::<EdgeReader>()
 }
 
-/// The sides of a writer are `Send`.
+/// A `left_right` writer of editions is `Send`.
 fn sides_cross()
     ensures { IsSend sides_type }
 {

@@ -1,4 +1,4 @@
-//! The published value: a board and its number.
+//! The published value: a board, and how many installs led to it.
 ghost use Rattle.std.specs.Prelude.{◌≡◌, IfOk};
 ghost use Rattle.unl_core.specs.Board.{AreSlots};
 ghost use Rattle.unl_edge_state.specs.Editions.{opening_of};

@@ -1,5 +1,10 @@
 //! A desk that answers over the board published when it looks.
 ghost use Rattle.std.specs.Prelude.{max, ◌≡◌, ◌≤◌, true, is_some, unwrap_or, option_map, IfSome};
+ghost use Rattle.std.specs.Prelude.{OnErr, OnOk, Some};
+ghost use Rattle.std.specs.Result.{is_ok};
+ghost use Rattle.unl_core.specs.declared.board.Install.{Install};
+ghost use Rattle.unl_edge_state.specs.Editions.{BoardAt};
+ghost use Rattle.unl_publication.specs.declared.knowledge.Knowledge.{Knowledge};
 ghost use Rattle.unl_publication.specs.Looking.{SameOrigin, continues_from, remembers};
 ghost use Rattle.unl_publication.specs.Rule.{knows_nothing};
 ghost use Rattle.unl_publication.specs.Seen.{next, reported_front, reported_list};
@@ -24,6 +29,7 @@ pub struct EdgeReader {
 
 impl EdgeReader {
     ghost use Rattle.unl_edge_state.specs.Reading.{HasBegun, next_of, past_of, seen_by, learned_front_of};
+    ghost use Rattle.unl_edge_state.specs.Reading.{BeginsWith, IsNewReader};
 
     /// A desk over a reader that knows the opening board.
     pub(crate) fn new(seat: Reader<Edition, Install, Ruled<Install>>) -> EdgeReader
@@ -49,6 +55,32 @@ impl EdgeReader {
         };
         seat.learn(told);
         self.seat = Some(seat);
+    }
+
+    /// Learns what the writer knew when it made `told`, with its list. A new reader then continues from exactly the installs of
+    /// that list. Doesn't allocate.
+    ///
+    /// # Errors
+    ///
+    /// Fails exactly if `told` has no list. Nothing is learned then.
+    pub fn learn_all(&mut self, told: Told) -> Result<(), Memory>
+        requires origin { IfSome (reported_list told) (λ list. SameOrigin list (next_of self.old)) }
+        ensures list { is_ok result ≡ is_some (reported_list told) }
+        ensures same { OnErr result (self.new ≡ self.old) }
+        ensures origin { SameOrigin (next_of self.new) (next_of self.old) }
+        ensures least { OnOk result (learned_front_of self.new ≡ max (learned_front_of self.old) (reported_front told)) }
+        ensures seen { seen_by self.new ≡ seen_by self.old }
+        ensures next { OnOk result (next_of self.new ≡ continues_from (reported_front told) (reported_list told) (next_of self.old)) }
+        ensures past { OnOk result (past_of self.new
+            ≡ remembers (reported_front told) (reported_list told) (past_of self.old) (next_of self.old)) }
+        ensures begins { IsNewReader self.old → OnOk result ((list : Knowledge BoardAt Install) × (reported_list told ≡ Some list)
+            × BeginsWith list.opening list.installs self.new) }
+    {
+        if told.has_list() {
+            self.learn(told);
+            return Ok(());
+        }
+        Err(Memory)
     }
 }
 
@@ -105,7 +137,7 @@ impl Desk for EdgeReader {
         ensures origin { SameOrigin (next_of self.new) (next_of self.old) }
         ensures same_learned_front { learned_front_of self.new ≡ learned_front_of self.old }
 
-        // Whether it answered or not, it is as it was, or it took a list.
+        // Whether it answered or not, either it knows what it knew before, or it took a list.
         ensures stays_or_takes { StaysOrTakes edited (past_of self.old) (next_of self.old) (past_of self.new) (next_of self.new) }
     {
         let Some(seat) = self.seat.take() else {

@@ -1,4 +1,4 @@
-//! The writer that publishes what is installed.
+//! The writer, which publishes what is installed on a board.
 ghost use Rattle.std.specs.Prelude.{◌≡◌, ◌-◌, ◌^◌, ◌<◌, ◌∷◌, [], List, true, false, length, IfOk, IfNone, IfSome, IsErr, OnErr, OnOk};
 ghost use Rattle.std.specs.Prelude.{OnSome};
 ghost use Rattle.unl_core.specs.declared.board.Install.TheVariants.{Env, Tokens};
@@ -13,7 +13,8 @@ ghost use Rattle.unl_edge_state.specs.Editions.{board_known};
 ghost use Rattle.unl_edge_state.specs.Histories.{AlwaysRepresented};
 ghost use Rattle.unl_edge_state.specs.Orderly.{KeepsOrder, KnowsOrderly, MayInstall};
 ghost use Rattle.unl_edge_state.specs.Writing as writing;
-ghost use Rattle.unl_edge_state.specs.Writing.{after_publish, installed_by, with_install, with_version, IsWithin, IsWriting, Stays};
+ghost use Rattle.unl_edge_state.specs.Writing.{after_publish, installed_by, with_install, with_version};
+ghost use Rattle.unl_edge_state.specs.Writing.{IsWithin, IsWriting, LeadsTo, Stays};
 ghost use Rattle.unl_publication.specs.Rule.{shared_knowledge};
 ghost use Rattle.unl_publication.specs.Seen.{is_closed, reported_front, reported_list, written};
 
@@ -108,6 +109,13 @@ impl<'a, W: Wait> EdgeWriter<'a, W> {
         ensures list { IfSome (reported_list result) (λ list. list ≡ shared_knowledge self.old.known) }
     {
         self.publisher.tell()
+    }
+
+    /// The published installs lead to what is installed. A caller that needs this fact calls it. Does nothing at run time.
+    pub fn leads_here(&self)
+        ensures { LeadsTo self.now.known.opening self.now.known.installs (installed_by self.now) }
+    {
+        let _ = &self.places;
     }
 
     /// Waits for the readers that are still looking, and ends publication. Doesn't allocate.
