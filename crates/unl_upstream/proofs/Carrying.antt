@@ -19,6 +19,7 @@ use Rattle.unl_upstream.specs.Kept.{Acknowledges, AreLeft, Carries, FailsToKeep,
 use Rattle.unl_upstream.specs.Upstream.{AppliedCommand, CommandResult, Prepared, UpstreamState, apply_command, prepared, refused_as}
 use Rattle.unl_upstream.specs.Writing.{command_text}
 use Rattle.unl_upstream.proofs.Applying.{applied_by, applied_with, applies, refuses_command}
+use Rattle.unl_upstream.proofs.Constructors.{err_is_no_ok, err_same, ok_is_no_err, ok_same}
 use Rattle.unl_upstream.proofs.Leading.{command_one, commands_both, results_more}
 use Rattle.unl_upstream.proofs.Served.{after_both}
 use Rattle.unl_upstream.proofs.VersionLemmas.{accepted_both, are_added}
@@ -28,13 +29,13 @@ use Rattle.unl_upstream.proofs.VersionLemmas.{accepted_both, are_added}
 -- a prepared command for which there is room is accepted with this result
 room_applied : (count : ℕ) (r : CommandResult Prepared) (up : UpstreamState) (ready : Prepared) → with_room count r ≡ Ok ready
     → with_room count (applied_by up r) ≡ Ok (applied_with ready up)
-room_applied count (Err refusal) up ready is = absurd cc
+room_applied count (Err refusal) up ready is = err_is_no_ok (refused_as refusal) ready is
 room_applied count (Ok made) up ready is = decided (nat_lt count most_rows) is
   where
     decided : (t : Bool) → cond t (Ok made) (Err (KeeperFull count)) ≡ Ok ready
         → cond t (Ok (applied_with made up)) (Err (KeeperFull count)) ≡ Ok (applied_with ready up)
-    decided true is = let same : made ≡ ready = cc in ap (λ (p : Prepared). Ok (applied_with p up)) same
-    decided false is = absurd cc
+    decided true is = ap (λ (p : Prepared). Ok (applied_with p up)) (ok_same made ready is)
+    decided false is = err_is_no_ok (KeeperFull count) ready is
 
 keepable_is : (command : Command) (before : KeptState) (ready : Prepared) → with_room before.keeper.count (prepared command before.up) ≡ Ok ready
     → keepable command before ≡ Ok (applied_with ready before.up)
@@ -71,27 +72,50 @@ pub refused_by : {T : Type 0} (r : Result T KeepCommandRefusal) (count : ℕ) (c
 refused_by (Ok x) count command up refusal is refused = absurd is
 refused_by (Err e) count command up refusal is refused = refused_for count command up refusal e is refused
 
+full_is_no_fault : (count : ℕ) → KeeperFull count ≢ KeeperFault
+full_is_no_fault count is = cc
+
+refusal_is_no_fault : (refusal : CommandRefusal) → refused_as refusal ≢ KeeperFault
+refusal_is_no_fault command_refusal.NoSuchEnvironment is = cc
+refusal_is_no_fault command_refusal.NoSuchFeature is = cc
+refusal_is_no_fault command_refusal.NoSuchSegment is = cc
+refusal_is_no_fault (command_refusal.TooMany n) is = cc
+refusal_is_no_fault command_refusal.Memory is = cc
+
 -- a keeper's fault is not a refusal of a command
 no_fault : (count : ℕ) (r : CommandResult AppliedCommand) → with_room count r ≡ Err KeeperFault → ⊥
 no_fault count (Ok obeyed) is = decided (nat_lt count most_rows) is
   where
     decided : (t : Bool) → cond t (Ok obeyed) (Err (KeeperFull count)) ≡ Err KeeperFault → ⊥
-    decided true is = cc
-    decided false is = cc
-no_fault count (Err command_refusal.NoSuchEnvironment) is = cc
-no_fault count (Err command_refusal.NoSuchFeature) is = cc
-no_fault count (Err command_refusal.NoSuchSegment) is = cc
-no_fault count (Err (command_refusal.TooMany n)) is = cc
-no_fault count (Err command_refusal.Memory) is = cc
+    decided true is = ok_is_no_err obeyed KeeperFault is
+    decided false is = full_is_no_fault count (err_same (KeeperFull count) KeeperFault is)
+no_fault count (Err refusal) is = refusal_is_no_fault refusal (err_same (refused_as refusal) KeeperFault is)
+
+-- whether a refusal is `Memory`
+abbrev is_memory : KeepCommandRefusal → Bool
+is_memory NoSuchEnvironment = false
+is_memory NoSuchFeature = false
+is_memory NoSuchSegment = false
+is_memory (TooMany n) = false
+is_memory (KeeperFull n) = false
+is_memory KeeperFault = false
+is_memory Memory = true
+
+true_is_no_false : true ≡ false → ⊥
+true_is_no_false is = cc
+
+not_memory : (refusal : KeepCommandRefusal) → is_memory refusal ≡ false → refusal ≢ Memory
+not_memory refusal other is = true_is_no_false (sym (ap is_memory is) ∙ other)
 
 -- a refused command is not kept, and nothing changes
 pub refuses : (command : Command) (state : KeptState) (e : KeepCommandRefusal) → (e ≢ Memory → keepable command state ≡ Err e) → Keeps command state (Err e) state
-refuses command state NoSuchEnvironment because = record { cause = because (λ m. cc); same = refl }
-refuses command state NoSuchFeature because = record { cause = because (λ m. cc); same = refl }
-refuses command state NoSuchSegment because = record { cause = because (λ m. cc); same = refl }
-refuses command state (TooMany n) because = record { cause = because (λ m. cc); same = refl }
-refuses command state (KeeperFull n) because = record { cause = because (λ m. cc); same = refl }
-refuses command state KeeperFault because = absurd (no_fault state.keeper.count (apply_command command state.up) (because (λ m. cc)))
+refuses command state NoSuchEnvironment because = record { cause = because (not_memory NoSuchEnvironment refl); same = refl }
+refuses command state NoSuchFeature because = record { cause = because (not_memory NoSuchFeature refl); same = refl }
+refuses command state NoSuchSegment because = record { cause = because (not_memory NoSuchSegment refl); same = refl }
+refuses command state (TooMany n) because = record { cause = because (not_memory (TooMany n) refl); same = refl }
+refuses command state (KeeperFull n) because = record { cause = because (not_memory (KeeperFull n) refl); same = refl }
+refuses command state KeeperFault because =
+    absurd (no_fault state.keeper.count (apply_command command state.up) (because (not_memory KeeperFault refl)))
 refuses command state Memory because = refl
 
 -- the result of storing a text, as that of keeping its command
@@ -126,12 +150,12 @@ pub accepted_kept : (command : Command) (before : KeptState) (obeyed : AppliedCo
 accepted_kept command before obeyed is = decided (apply_command command before.up) refl is
   where
     same : (made : AppliedCommand) (t : Bool) → cond t (Ok made) (Err (KeeperFull before.keeper.count)) ≡ Ok obeyed → made ≡ obeyed
-    same made true is = cc
-    same made false is = absurd cc
+    same made true is = ok_same made obeyed is
+    same made false is = err_is_no_ok (KeeperFull before.keeper.count) obeyed is
 
     decided : (r : CommandResult AppliedCommand) → apply_command command before.up ≡ r → with_room before.keeper.count r ≡ Ok obeyed → apply_command command before.up ≡ Ok obeyed
     decided (Ok made) here is = here ∙ ap Ok (same made (nat_lt before.keeper.count most_rows) is)
-    decided (Err refusal) here is = absurd cc
+    decided (Err refusal) here is = err_is_no_ok (refused_as refusal) obeyed is
 
 -- ---- what changed
 

@@ -10,15 +10,15 @@ use Rattle.unl_upstream.proofs.Leading.{Begins, IsApplied, begins, row_applied, 
 use Rattle.unl_upstream.proofs.VersionLemmas.{IsObeyed, obeyed_by, obeyed_with, ready_with}
 
 -- the command is accepted there too, and results in the same slots
-pub record Obeys (command : Command) (up after other : UpstreamState) : Type 0 where
+pub record AcceptedThere (command : Command) (up after other : UpstreamState) : Type 0 where
   pub obeyed : AppliedCommand
   pub accepts : apply_command command other ≡ Ok obeyed
   pub same : obeyed.up.board.slots ≡ after.board.slots
 
-pub obeys : (command : Command) (up other : UpstreamState) (obeyed : AppliedCommand) → other.board.slots ≡ up.board.slots → apply_command command up ≡ Ok obeyed
-    → Obeys command up obeyed.up other
+pub accepted_there : (command : Command) (up other : UpstreamState) (obeyed : AppliedCommand) → other.board.slots ≡ up.board.slots → apply_command command up ≡ Ok obeyed
+    → AcceptedThere command up obeyed.up other
 unfolding apply_command prepared
-obeys command up other obeyed same accepts =
+accepted_there command up other obeyed same accepts =
     let o : IsObeyed command up obeyed = obeyed_by command up obeyed accepts in
     let found : place_in (environment_of command) other.board.slots ≡ Some o.slot = ap (place_in (environment_of command)) same ∙ o.at in
     let there : snapshot_in (environment_of command) other.board.slots ≡ Some o.version = ap (snapshot_in (environment_of command)) same ∙ o.version_is in record {
@@ -47,7 +47,7 @@ rows_result_there [] up after other same is = record {
 rows_result_there (row ∷ rows) up after other same is =
     let b : Begins row rows up after = begins row rows up after is in
     let t : IsApplied row up b.middle = row_applied row up b.middle b.first in
-    let o : Obeys t.command up t.obeyed.up other = obeys t.command up other t.obeyed same t.accepts in
+    let o : AcceptedThere t.command up t.obeyed.up other = accepted_there t.command up other t.obeyed same t.accepts in
     let middle_same : o.obeyed.up.board.slots ≡ b.middle.board.slots = o.same ∙ ap (λ (u : UpstreamState). u.board.slots) t.is in
     let others : ResultsThere rows after o.obeyed.up = rows_result_there rows b.middle after o.obeyed.up middle_same b.others in record {
       last = others.last;

@@ -5,7 +5,7 @@ use Rattle.unl_upstream.specs.declared.command.Command.{Command}
 use Rattle.unl_upstream.specs.History.{after_commands}
 use Rattle.unl_upstream.specs.Kept.{AttemptsInOrder, KeptState, Moves, KeepAttempt, acknowledged, faults_among}
 use Rattle.unl_upstream.specs.KeptLinks.{IsNamed, KeptLinksNameCommands, LinkEffect, LinkServed, Linked, AllLinksEffect}
-use Rattle.unl_upstream.specs.KeptServing.{Gives, NoKeeperFault, serving, tried_in}
+use Rattle.unl_upstream.specs.KeptServing.{AnswersByKeeping, NoKeeperFault, kept_serving_state, tried_in}
 use Rattle.unl_upstream.specs.Served.{draws_after}
 use Rattle.unl_upstream.specs.Upstream.{UpstreamState}
 use Rattle.unl_upstream.proofs.Asked.{Took, draws_both, took}
@@ -20,10 +20,10 @@ record NamesWithoutFaults
     (before : KeptState) (coming : Coming) (bytes : List ℕ) (back : List ℕ × ℕ) (tried : List KeepAttempt) (taken : ℕ) (after : KeptState)
     (coming_after : Coming) : Type 0 where
   pub names : LinkEffect before coming bytes back (acknowledged tried) taken after coming_after
-  pub no_faults : faults_among tried ≡ 0 → NoKeeperFault 0 (serving before 0 coming) names.requests names.text names.reached names.answered
+  pub no_faults : faults_among tried ≡ 0 → NoKeeperFault 0 (kept_serving_state before 0 coming) names.requests names.text names.reached names.answered
 
 -- one served link is described by its commands and its draws
-record HasNames (before : KeptState) (coming : Coming) (bytes : List ℕ) (back : List ℕ × ℕ) (after : KeptState) (coming_after : Coming) : Type 0 where
+record HasLinkEffect (before : KeptState) (coming : Coming) (bytes : List ℕ) (back : List ℕ × ℕ) (after : KeptState) (coming_after : Coming) : Type 0 where
   pub tried : List KeepAttempt
   pub keeps : AttemptsInOrder tried before after
   pub taken : ℕ
@@ -31,13 +31,13 @@ record HasNames (before : KeptState) (coming : Coming) (bytes : List ℕ) (back 
   pub draws : coming_after ≡ draws_after taken coming
 
 link_names : (before : KeptState) (coming : Coming) (bytes : List ℕ) (back : List ℕ × ℕ) (after : KeptState) (coming_after : Coming)
-    → LinkServed before coming bytes back after coming_after → HasNames before coming bytes back after coming_after
+    → LinkServed before coming bytes back after coming_after → HasLinkEffect before coming bytes back after coming_after
 link_names before coming bytes back after coming_after served =
-    let one : Took Gives bytes before coming served.end served.count after coming_after =
-    took Gives bytes back before coming served.end served.count after coming_after served.left_after served.conversation served.memory in
-    let tried : List KeepAttempt = tried_in 0 (serving before 0 coming) one.requests one.text one.reached one.answered in record {
+    let one : Took AnswersByKeeping bytes before coming served.end served.count after coming_after =
+    took AnswersByKeeping bytes back before coming served.end served.count after coming_after served.left_after served.conversation served.memory in
+    let tried : List KeepAttempt = tried_in 0 (kept_serving_state before 0 coming) one.requests one.text one.reached one.answered in record {
       tried = tried;
-      keeps = subst (AttemptsInOrder tried before) (sym one.state) (keeps_in 0 one.requests one.text (serving before 0 coming) one.reached one.answered);
+      keeps = subst (AttemptsInOrder tried before) (sym one.state) (keeps_in 0 one.requests one.text (kept_serving_state before 0 coming) one.reached one.answered);
       taken = one.taken;
       named = record {
         names = record {
@@ -52,7 +52,7 @@ link_names before coming bytes back after coming_after served =
           gives = refl;
           takes = one.takes;
         };
-        no_faults = without_fault_in 0 one.requests one.text (serving before 0 coming) one.reached one.answered;
+        no_faults = without_fault_in 0 one.requests one.text (kept_serving_state before 0 coming) one.reached one.answered;
       };
       draws = one.draws;
     }
@@ -77,7 +77,7 @@ links_name [] (back ∷ backs) start reopened coming commands drawn state last c
 links_name (bytes ∷ links) [] start reopened coming commands drawn state last coming_last named linked = absurd linked
 links_name (bytes ∷ links) (back ∷ backs) start reopened coming commands drawn state last coming_last named linked =
     let middle : KeptState = linked.0 in
-    let one : HasNames state (draws_after drawn coming) bytes back middle linked.1 =
+    let one : HasLinkEffect state (draws_after drawn coming) bytes back middle linked.1 =
     link_names state (draws_after drawn coming) bytes back middle linked.1 linked.2 in
     let more : List Command = acknowledged one.tried in
     let moves : Moves one.tried state middle = moves_all one.tried state middle one.keeps in

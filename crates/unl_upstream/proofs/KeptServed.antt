@@ -19,7 +19,7 @@ use Rattle.unl_upstream.specs.declared.refusal.KeepCommandRefusal.TheVariants.{K
 use Rattle.unl_upstream.specs.Answer.{done, numbered, order_of, refused, upstream_answer}
 use Rattle.unl_keeper.specs.State.{HasKept}
 use Rattle.unl_upstream.specs.Kept.{AttemptsInOrder, IsPending, KeptState, Puts, KeepAttempt, faults_among, keepable}
-use Rattle.unl_upstream.specs.KeptServing.{CarriesAnswer, Gives, GivesUp, ServesKept, KeptServing, RunsOutAtRequest, NoKeeperFault, RepliesTo, Step, RepliesByCommand, tried_in, tried_of}
+use Rattle.unl_upstream.specs.KeptServing.{CarriesAnswer, AnswersByKeeping, KeptStateUnchanged, ServesKept, KeptServing, KeptServingRunsOut, NoKeeperFault, RepliesTo, ServesKeptRequest, RepliesByCommand, tried_in, tried_of}
 use Rattle.unl_upstream.specs.Requests.{command_given}
 use Rattle.unl_upstream.specs.Upstream.{Prepared}
 use Rattle.unl_upstream.proofs.Constructors.{err_same, ok_is_no_err}
@@ -30,37 +30,37 @@ use Rattle.unl_upstream.proofs.Statuses.{answered_without_fault, answered_status
 -- ---- from the handler's parts to its model
 
 -- one answer, for a handler that is seen through `seen`
-abbrev pub Over : {S : Type 0} → (S → KeptState) → HandlerState S → Request → Reply → HandlerState S → Type 0
-Over seen = Answers (λ state request draw reply after. Gives (seen state) request draw reply (seen after))
+abbrev pub AnswersOver : {S : Type 0} → (S → KeptState) → HandlerState S → Request → Reply → HandlerState S → Type 0
+AnswersOver seen = Answers (λ state request draw reply after. AnswersByKeeping (seen state) request draw reply (seen after))
 
 -- memory ran out at a request, for such a handler
 abbrev pub RunsOutOver : {S : Type 0} → (S → KeptState) → HandlerState S → Request → HandlerState S → Type 0
-RunsOutOver seen = RunsOutOfMemory (λ state request draw after. GivesUp (seen state) request draw (seen after))
+RunsOutOver seen = RunsOutOfMemory (λ state request draw after. KeptStateUnchanged (seen state) request draw (seen after))
 
 -- the model of such a handler: an upstream with its keeper
-abbrev pub seen_of : {S : Type 0} → (S → KeptState) → HandlerState S → KeptServing
-seen_of seen s = record { state = seen s.state; count = s.count; coming = s.coming }
+abbrev pub serving_seen : {S : Type 0} → (S → KeptState) → HandlerState S → KeptServing
+serving_seen seen s = record { state = seen s.state; count = s.count; coming = s.coming }
 
-one_seen : {S : Type 0} (seen : S → KeptState) (before after : HandlerState S) (q : Request) (reply : Reply) → Over seen before q reply after
-    → Step (seen_of seen before) q reply (seen_of seen after)
+one_seen : {S : Type 0} (seen : S → KeptState) (before after : HandlerState S) (q : Request) (reply : Reply) → AnswersOver seen before q reply after
+    → ServesKeptRequest (serving_seen seen before) q reply (serving_seen seen after)
 one_seen seen before after q reply step = record { draw = step.draw; taken = step.taken; given = step.given; counted = step.counted }
 
 chain_seen : {S : Type 0} (seen : S → KeptState) (count : ℕ) (before after : HandlerState S) (qs : List Request) (text : List ℕ)
-    → AnsweredAll (Over seen) count before qs text after → AnsweredAll Step count (seen_of seen before) qs text (seen_of seen after)
-chain_seen seen count before after [] text answered = (answered.0, ap (seen_of seen) answered.1)
+    → AnsweredAll (AnswersOver seen) count before qs text after → AnsweredAll ServesKeptRequest count (serving_seen seen before) qs text (serving_seen seen after)
+chain_seen seen count before after [] text answered = (answered.0, ap (serving_seen seen) answered.1)
 chain_seen seen count before after (q ∷ qs) text (reply, middle, more, step, split, rest) =
-    (reply, seen_of seen middle, more, one_seen seen before middle q reply step, split, chain_seen seen (count + 1) middle after qs more rest)
+    (reply, serving_seen seen middle, more, one_seen seen before middle q reply step, split, chain_seen seen (count + 1) middle after qs more rest)
 
 runs_out_seen : {S : Type 0} (seen : S → KeptState) (state after : HandlerState S) (q : Request) → RunsOutOver seen state q after
-    → RunsOutAtRequest (seen_of seen state) q (seen_of seen after)
+    → KeptServingRunsOut (serving_seen seen state) q (serving_seen seen after)
 runs_out_seen seen state after q lacks = record { draw = lacks.draw; taken = lacks.taken; given_up = lacks.given_up; counted = lacks.counted }
 
-last_seen : {S : Type 0} (seen : S → KeptState) (state after : HandlerState S) (q : Request) → Unreplied (Over seen) (RunsOutOver seen) state q after
-    → Unreplied Step RunsOutAtRequest (seen_of seen state) q (seen_of seen after)
+last_seen : {S : Type 0} (seen : S → KeptState) (state after : HandlerState S) (q : Request) → Unreplied (AnswersOver seen) (RunsOutOver seen) state q after
+    → Unreplied ServesKeptRequest KeptServingRunsOut (serving_seen seen state) q (serving_seen seen after)
 last_seen seen state after q (inl lacks) = inl (runs_out_seen seen state after q lacks)
 last_seen seen state after q (inr (reply, step)) = inr (reply, one_seen seen state after q reply step)
 
-pub shows : {S : Type 0} (seen : S → KeptState) (before after : HandlerState S) → Shows (Over seen) (RunsOutOver seen) Step RunsOutAtRequest (seen_of seen) before after
+pub shows : {S : Type 0} (seen : S → KeptState) (before after : HandlerState S) → Shows (AnswersOver seen) (RunsOutOver seen) ServesKeptRequest KeptServingRunsOut (serving_seen seen) before after
 shows seen before after = record {
   chain = λ state qs text near answered. chain_seen seen 0 before state qs text answered;
   last = λ state q unreplied. last_seen seen state after q unreplied;
@@ -76,7 +76,7 @@ keeps_first : (given : Option Command) (before middle after : KeptState) (q : Re
 keeps_first None before middle after q draw reply others by_command more = subst (λ (s : KeptState). AttemptsInOrder others s after) by_command.0 more
 keeps_first (Some command) before middle after q draw reply others by_command more = (middle, by_command.keeps, more)
 
-pub keeps_in : (count : ℕ) (qs : List Request) (text : List ℕ) (before after : KeptServing) (answered : AnsweredAll Step count before qs text after)
+pub keeps_in : (count : ℕ) (qs : List Request) (text : List ℕ) (before after : KeptServing) (answered : AnsweredAll ServesKeptRequest count before qs text after)
     → AttemptsInOrder (tried_in count before qs text after answered) before.state after.state
 keeps_in count [] text before after answered = ap (λ (s : KeptServing). s.state) answered.1
 keeps_in count (q ∷ qs) text before after (reply, middle, more, step, split, rest) =
@@ -90,7 +90,7 @@ replies_without_fault None before after q draw reply by_command none = answered_
 replies_without_fault (Some command) before after q draw reply by_command none = λ is. kept_without_fault by_command.result (omega (arith, none)) (sym by_command.is ∙ is)
 
 -- so no reply is, if the keeper failed at none of them
-pub without_fault_in : (count : ℕ) (qs : List Request) (text : List ℕ) (before after : KeptServing) (answered : AnsweredAll Step count before qs text after)
+pub without_fault_in : (count : ℕ) (qs : List Request) (text : List ℕ) (before after : KeptServing) (answered : AnsweredAll ServesKeptRequest count before qs text after)
     → faults_among (tried_in count before qs text after answered) ≡ 0 → NoKeeperFault count before qs text after answered
 without_fault_in count [] text before after answered none = tt
 without_fault_in count (q ∷ qs) text before after (reply, middle, more, step, split, rest) none =
@@ -103,7 +103,7 @@ without_fault_in count (q ∷ qs) text before after (reply, middle, more, step, 
     )
 
 -- `count` requests were answered, and attempts to keep their commands are all that changed the upstream and its keeper
-pub keeps_on : (before after : KeptServing) (end : End) (count : ℕ) → HasKept before.state.keeper → Reaches Step RunsOutAtRequest before end after count
+pub keeps_on : (before after : KeptServing) (end : End) (count : ℕ) → HasKept before.state.keeper → Reaches ServesKeptRequest KeptServingRunsOut before end after count
     → ServesKept before end count after
 keeps_on before after end count has reaches =
     let tried : List KeepAttempt = tried_in 0 before reaches.requests reaches.text reaches.reached reaches.answered in
@@ -117,7 +117,7 @@ keeps_on before after end count has reaches =
       no_faults = without_fault_in 0 reaches.requests reaches.text before reaches.reached reaches.answered;
     }
   where
-    by_next : (after ≡ reaches.reached) ⊎ ((end ≡ ends.Memory) × (request : Request) × RunsOutAtRequest reaches.reached request after) → after.state ≡ reaches.reached.state
+    by_next : (after ≡ reaches.reached) ⊎ ((end ≡ ends.Memory) × (request : Request) × KeptServingRunsOut reaches.reached request after) → after.state ≡ reaches.reached.state
     by_next (inl same) = ap (λ (s : KeptServing). s.state) same
     by_next (inr lacks) = lacks.2.given_up
 
@@ -169,14 +169,14 @@ same_still (Err e) x = refl
 -- ---- one answer
 
 -- a request that gives no command is answered with the reply of its order
-pub replies_without_command : (before : KeptState) (q : Request) (draw : Draw) (reply : Reply) → order_of before.up q draw ≡ order.Reply reply → Gives before q draw reply before
+pub replies_without_command : (before : KeptState) (q : Request) (draw : Draw) (reply : Reply) → order_of before.up q draw ≡ order.Reply reply → AnswersByKeeping before q draw reply before
 unfolding upstream_answer
 replies_without_command before q draw reply is =
     let given : None ≡ command_given before.up.secret q = sym (ap ordered is) ∙ order_has before.up q draw in
     subst (λ (o : Option Command). RepliesByCommand o before q draw reply before) given (refl, ap (done before.up) is)
 
 pub replies_with_command : (before after : KeptState) (q : Request) (draw : Draw) (reply : Reply) (command : Command) → order_of before.up q draw ≡ order.Execute command
-    → RepliesTo command before reply after → Gives before q draw reply after
+    → RepliesTo command before reply after → AnswersByKeeping before q draw reply after
 replies_with_command before after q draw reply command is replies =
     let given : Some command ≡ command_given before.up.secret q = sym (ap ordered is) ∙ order_has before.up q draw in
     subst (λ (o : Option Command). RepliesByCommand o before q draw reply after) given replies
@@ -187,7 +187,7 @@ keeps_given : (given : Option Command) (before after : KeptState) (q : Request) 
 keeps_given None before after q draw reply by_command = by_command.0
 keeps_given (Some command) before after q draw reply by_command = (after, by_command.keeps, refl)
 
-pub carries_answer : (before after : KeptState) (q : Request) (draw : Draw) (reply : Reply) → HasKept before.keeper → Gives before q draw reply after
+pub carries_answer : (before after : KeptState) (q : Request) (draw : Draw) (reply : Reply) → HasKept before.keeper → AnswersByKeeping before q draw reply after
     → CarriesAnswer before q draw reply after
 carries_answer before after q draw reply has gives =
     let given : Option Command = command_given before.up.secret q in
@@ -205,5 +205,5 @@ replies_status None before after q draw reply by_command = answered_status reply
 replies_status (Some command) before after q draw reply by_command =
     subst (λ (r : Reply). IsStatusCode r.status) (sym by_command.is) (kept_status by_command.result)
 
-pub gives_status : (before after : KeptState) (q : Request) (draw : Draw) (reply : Reply) → Gives before q draw reply after → IsStatusCode reply.status
+pub gives_status : (before after : KeptState) (q : Request) (draw : Draw) (reply : Reply) → AnswersByKeeping before q draw reply after → IsStatusCode reply.status
 gives_status before after q draw reply gives = replies_status (command_given before.up.secret q) before after q draw reply gives

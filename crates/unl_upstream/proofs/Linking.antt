@@ -32,14 +32,14 @@ link_observable Step RunsOutAtRequest Changes before coming bytes link_after aft
 -- ---- from the server's parts to its model
 
 -- serving a link, for a server that is seen through `seen`
-abbrev pub Over : {S T : Type 0} → (T → Coming → LinkState → LinkState → T → Coming → Type 0) → (S → T) → S → Coming → LinkState → LinkState → S → Coming → Type 0
-Over Serves seen server coming link link_after after coming_after = Serves (seen server) coming link link_after (seen after) coming_after
+abbrev pub ServesOver : {S T : Type 0} → (T → Coming → LinkState → LinkState → T → Coming → Type 0) → (S → T) → S → Coming → LinkState → LinkState → S → Coming → Type 0
+ServesOver Serves seen server coming link link_after after coming_after = Serves (seen server) coming link link_after (seen after) coming_after
 
-abbrev pub seen_of : {S T : Type 0} → (S → T) → ServerAndDoor S → ServerAndDoor T
-seen_of seen h = server_and_door (seen h.server) h.coming h.door
+abbrev pub server_seen : {S T : Type 0} → (S → T) → ServerAndDoor S → ServerAndDoor T
+server_seen seen h = server_and_door (seen h.server) h.coming h.door
 
 link_seen : {S T : Type 0} (Serves : T → Coming → LinkState → LinkState → T → Coming → Type 0) (seen : S → T) (before after : ServerAndDoor S)
-    → ServesDoorLink (Over Serves seen) before after → ServesDoorLink Serves (seen_of seen before) (seen_of seen after)
+    → ServesDoorLink (ServesOver Serves seen) before after → ServesDoorLink Serves (server_seen seen before) (server_seen seen after)
 link_seen Serves seen before after one = record {
   link = one.link;
   link_after = one.link_after;
@@ -51,24 +51,24 @@ link_seen Serves seen before after one = record {
 }
 
 door_links_seen : {S T : Type 0} (Serves : T → Coming → LinkState → LinkState → T → Coming → Type 0) (seen : S → T) (n : ℕ) (before after : ServerAndDoor S)
-    → ServesDoorLinks (Over Serves seen) n before after → ServesDoorLinks Serves n (seen_of seen before) (seen_of seen after)
-door_links_seen Serves seen zero before after links = ap (seen_of seen) links
+    → ServesDoorLinks (ServesOver Serves seen) n before after → ServesDoorLinks Serves n (server_seen seen before) (server_seen seen after)
+door_links_seen Serves seen zero before after links = ap (server_seen seen) links
 door_links_seen Serves seen (suc n) before after links =
-    (seen_of seen links.0, door_links_seen Serves seen n before links.0 links.1, link_seen Serves seen links.0 after links.2)
+    (server_seen seen links.0, door_links_seen Serves seen n before links.0 links.1, link_seen Serves seen links.0 after links.2)
 
 -- the links of a door were served; what this says depends on what is observable of it
 pub door_links_served : {S T : Type 0} (Step : Steps T) (RunsOutAtRequest : RunsOut T) (Changes : Changing T) (seen : S → T) (result : Result ℕ Failed) (before after : ServerAndDoor S)
-    → ServesDoor (Over (ServesLinkBy Step RunsOutAtRequest Changes) seen) result before after
+    → ServesDoor (ServesOver (ServesLinkBy Step RunsOutAtRequest Changes) seen) result before after
     → ServesAllLinksBy (LinkServedBy Step RunsOutAtRequest Changes) result (linking (seen before.server) before.coming before.door) (linking (seen after.server) after.coming after.door)
 door_links_served {S} {T} Step RunsOutAtRequest Changes seen result before after = by_result result
   where
-    served_many : (n : ℕ) → ServesDoorLinks (Over (ServesLinkBy Step RunsOutAtRequest Changes) seen) n before after
+    served_many : (n : ℕ) → ServesDoorLinks (ServesOver (ServesLinkBy Step RunsOutAtRequest Changes) seen) n before after
         → HandsBack (LinkServedBy Step RunsOutAtRequest Changes) (linking (seen before.server) before.coming before.door) (linking (seen after.server) after.coming after.door) n
     served_many n links =
-        hands_back (ServesLinkBy Step RunsOutAtRequest Changes) (LinkServedBy Step RunsOutAtRequest Changes) (link_observable Step RunsOutAtRequest Changes) n (seen_of seen before) (seen_of seen after)
+        hands_back (ServesLinkBy Step RunsOutAtRequest Changes) (LinkServedBy Step RunsOutAtRequest Changes) (link_observable Step RunsOutAtRequest Changes) n (server_seen seen before) (server_seen seen after)
         (door_links_seen (ServesLinkBy Step RunsOutAtRequest Changes) seen n before after links)
 
-    by_result : (result : Result ℕ Failed) → ServesDoor (Over (ServesLinkBy Step RunsOutAtRequest Changes) seen) result before after
+    by_result : (result : Result ℕ Failed) → ServesDoor (ServesOver (ServesLinkBy Step RunsOutAtRequest Changes) seen) result before after
         → ServesAllLinksBy (LinkServedBy Step RunsOutAtRequest Changes) result (linking (seen before.server) before.coming before.door) (linking (seen after.server) after.coming after.door)
     by_result (Ok served) links = served_many served links
     by_result (Err failed) links = (links.0, served_many links.0 links.1)

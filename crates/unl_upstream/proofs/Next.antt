@@ -2,8 +2,9 @@
 use Rattle.std.proofs.Common.{◌≡◌, ℕ, ◌<◌, List, [], ◌∷◌, Bool, true, false, cond, Option, Some, All, refl, subst, arith, leb, ltb}
 use Rattle.std.specs.Prelude.{find, option_map}
 use Rattle.std.specs.Str.{bytes_eq}
-use Rattle.std.proofs.lemmas.Bool.{le-leb}
+use Rattle.std.proofs.lemmas.Bool.{le-leb, le-ltb, lt-leb}
 use Rattle.std.proofs.lemmas.List.Elements.{All-head, All-tail}
+use Rattle.std.proofs.lemmas.Option.{none-some, same_Some}
 use Rattle.unl_core.proofs.Same.{text_same}
 use Rattle.unl_delta.specs.declared.batch.Verdict.TheVariants.{Apply}
 use Rattle.unl_delta.specs.declared.event.Event.{Event}
@@ -21,7 +22,11 @@ use Rattle.unl_upstream.specs.Upstream.{IsNext, batch_of, is_named, place_with}
 
 -- a batch in the version's epoch, from its number up to a higher one, is to be applied
 later_applies : (v : EnvVersion) (n : ℕ) → v.number < n → changes_verdict (Some v) false v.epoch (Some v.number) n ≡ Apply
-later_applies v n above = let same : ltb v.epoch v.epoch ≡ false = grind arith in let past : leb n v.number ≡ false = grind arith in let reached : leb v.number v.number ≡ true = le-leb v.number v.number (omega arith) in rw (same, past, reached) refl
+later_applies v n above =
+    let same : ltb v.epoch v.epoch ≡ false = le-ltb v.epoch v.epoch (omega arith) in
+    let past : leb n v.number ≡ false = lt-leb n v.number above in
+    let reached : leb v.number v.number ≡ true = le-leb v.number v.number (omega arith) in
+    rw (same, past, reached) refl
 
 -- the batch of the next event is to be applied
 pub next_applies : (v : EnvVersion) (event : Event) → IsNext v event → verdict_of (place_with v) (batch_of v event) ≡ Apply
@@ -56,13 +61,13 @@ found_project name (f ∷ fs) = decided (bytes_eq f.name name) (found_project na
 
 -- an existing feature has a name and a project within the limits
 pub named_within : (name project : List ℕ) (features : List Feature) → All IsValidFeature features → project_of name features ≡ Some project → IsName name × IsName project
-named_within name project [] valid is = absurd cc
+named_within name project [] valid is = absurd (none-some project is)
 named_within name project (f ∷ fs) valid is = decided (bytes_eq f.name name) refl is (named_within name project fs (All-tail IsValidFeature f fs valid))
   where
     decided : (t : Bool) → bytes_eq f.name name ≡ t → cond t (Some f.project) (project_of name fs) ≡ Some project
         → (project_of name fs ≡ Some project → IsName name × IsName project) → IsName name × IsName project
     decided true here found others =
         let head : IsValidFeature f = All-head IsValidFeature f fs valid in
-        let same : f.project ≡ project = cc in
+        let same : f.project ≡ project = same_Some f.project project found in
         (subst IsName (text_same f.name name here) head.name, subst IsName same head.project)
     decided false here more others = others more

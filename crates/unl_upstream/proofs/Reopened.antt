@@ -11,7 +11,7 @@ use Rattle.unl_upstream.specs.Kept.{AreLeft, KeptState, ResultIn, commands_in, k
 use Rattle.unl_upstream.specs.Reopening.{Applies, GivesBack, IsAtMostOne, Reopened, ReopeningGivesBack, Reopens, TakesRow, rows_after}
 use Rattle.unl_upstream.specs.Upstream.{AppliedCommand, UpstreamState, apply_command}
 use Rattle.unl_upstream.proofs.Constructors.{err_is_no_success}
-use Rattle.unl_upstream.proofs.Elsewhere.{ResultsThere, Obeys, obeys, rows_result_there}
+use Rattle.unl_upstream.proofs.Elsewhere.{ResultsThere, AcceptedThere, accepted_there, rows_result_there}
 use Rattle.unl_upstream.proofs.Leading.{command_one, commands_both, results_rows, no_stop, rows_result, rows_more, row_applies}
 
 -- ---- one row more
@@ -99,7 +99,7 @@ whole_of opening fresh up prefix (text ∷ []) failed same lead left =
     by_obeyed : ResultsThere prefix up fresh → (r : Result AppliedCommand CommandRefusal) → apply_command left.command up ≡ r → IsOk r → Whole fresh prefix (prefix ++ text ∷ []) failed
     by_obeyed there (Err refusal) is accepts = err_is_no_success AppliedCommand refusal accepts
     by_obeyed there (Ok obeyed) is accepts =
-        let o : Obeys left.command up obeyed.up there.last = obeys left.command up there.last obeyed there.same is in record {
+        let o : AcceptedThere left.command up obeyed.up there.last = accepted_there left.command up there.last obeyed there.same is in record {
           last = o.obeyed.up;
           leads = rows_more prefix text fresh there.last o.obeyed.up there.leads (row_applies text there.last left.command o.obeyed left.spelled o.accepts);
           more = left.command ∷ [];

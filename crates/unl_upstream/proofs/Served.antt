@@ -11,7 +11,7 @@ use Rattle.unl_upstream.specs.declared.command.Command.{Command}
 use Rattle.unl_upstream.specs.Answer.{Answered, upstream_answer}
 use Rattle.unl_upstream.specs.History.{AreAdded, accepted, after_command, after_commands}
 use Rattle.unl_upstream.specs.Requests.{command_given}
-use Rattle.unl_upstream.specs.Serving.{RunsOutAtRequest, Obeys, Serving, Step, commands_given}
+use Rattle.unl_upstream.specs.Serving.{ServingRunsOut, ObeysRequests, Serving, ServesRequest, commands_given}
 use Rattle.unl_upstream.specs.Upstream.{UpstreamState}
 use Rattle.unl_upstream.proofs.Given.{answer_results}
 use Rattle.unl_upstream.proofs.VersionLemmas.{secret_stays, some_added}
@@ -33,12 +33,12 @@ after_both [] second up = refl
 after_both (command ∷ first) second up = after_both first second (after_command command up)
 
 -- the upstream after requests is that after their commands
-pub requests_up : (count : ℕ) (qs : List Request) (text : List ℕ) (before after : Serving) → AnsweredAll Step count before qs text after
+pub requests_up : (count : ℕ) (qs : List Request) (text : List ℕ) (before after : Serving) → AnsweredAll ServesRequest count before qs text after
     → after.state ≡ after_commands (commands_given before.state.secret qs) before.state
 requests_up count [] text before after answered = ap (λ (s : Serving). s.state) answered.1
 requests_up count (q ∷ qs) text before after answered =
     let middle : Serving = answered.1 in
-    let step : Step before q answered.0 middle = answered.3 in
+    let step : ServesRequest before q answered.0 middle = answered.3 in
     let first : middle.state ≡ after_commands (option_to_list (command_given before.state.secret q)) before.state =
     ap (λ (a : Answered). a.up) (sym step.given) ∙ answer_results before.state q step.draw in
     let secret : middle.state.secret ≡ before.state.secret =
@@ -49,8 +49,8 @@ requests_up count (q ∷ qs) text before after answered =
     ∙ sym (after_both (option_to_list (command_given before.state.secret q)) (commands_given before.state.secret qs) before.state)
 
 -- the upstream after a connection is that after the commands of its requests
-pub obeys : (before after : Serving) (end : End) (count : ℕ) → Reaches Step RunsOutAtRequest before end after count → Obeys before.state count after.state
-obeys before after end count reaches = record {
+pub obeys_requests : (before after : Serving) (end : End) (count : ℕ) → Reaches ServesRequest ServingRunsOut before end after count → ObeysRequests before.state count after.state
+obeys_requests before after end count reaches = record {
   requests = reaches.requests;
   counted = reaches.counted;
   obeyed = by_next reaches.next;
@@ -60,7 +60,7 @@ obeys before after end count reaches = record {
     answered_up : reaches.reached.state ≡ after_commands (commands_given before.state.secret reaches.requests) before.state
     answered_up = requests_up 0 reaches.requests reaches.text before reaches.reached reaches.answered
 
-    by_next : (after ≡ reaches.reached) ⊎ ((end ≡ ends.Memory) × (request : Request) × RunsOutAtRequest reaches.reached request after)
+    by_next : (after ≡ reaches.reached) ⊎ ((end ≡ ends.Memory) × (request : Request) × ServingRunsOut reaches.reached request after)
         → after.state ≡ after_commands (commands_given before.state.secret reaches.requests) before.state
     by_next (inl same) = ap (λ (s : Serving). s.state) same ∙ answered_up
     by_next (inr lacks) = lacks.2.given_up ∙ answered_up

@@ -5,6 +5,7 @@ use Rattle.std.specs.List.{list_all, list_any, position_from}
 use Rattle.std.proofs.lemmas.Bool.Decides.{nat_tests}
 use Rattle.std.proofs.lemmas.List.{length-map}
 use Rattle.std.proofs.lemmas.List.Elements.{All-cons, All-head, All-nil, All-tail}
+use Rattle.std.proofs.lemmas.Option.{none-some, same_Some}
 use Rattle.unl_core.specs.declared.board.Slot.{Slot}
 use Rattle.unl_core.specs.Board.{AreDifferent, AreSlots, is_named, names_of, same_text, place_in, snapshot_in, taking}
 use Rattle.unl_core.proofs.Same.{text_same}
@@ -39,12 +40,12 @@ slots_opened epoch slots names are few different =
 
 -- each of them has an empty version
 pub opened_empty : (epoch : ℕ) (environment : List ℕ) (names : List (List ℕ)) (v : EnvVersion) → snapshot_in environment (map (opening_slot epoch) names) ≡ Some v → v ≡ empty_at epoch
-opened_empty epoch environment [] v is = absurd cc
+opened_empty epoch environment [] v is = absurd (none-some v is)
 opened_empty epoch environment (x ∷ xs) v is = decided (same_text x environment) is (opened_empty epoch environment xs v)
   where
     decided : (t : Bool) → version_of (cond t (Some (opening_slot epoch x)) (find (is_named environment) (map (opening_slot epoch) xs))) ≡ Some v
         → (snapshot_in environment (map (opening_slot epoch) xs) ≡ Some v → v ≡ empty_at epoch) → v ≡ empty_at epoch
-    decided true found others = cc
+    decided true found others = sym (same_Some (empty_at epoch) v found)
     decided false more others = others more
 
 -- their environments are these names
@@ -62,17 +63,17 @@ opened_names epoch environment (x ∷ xs) = decided (same_text x environment) (o
 
 -- a position found from n on is at least n
 not_before : (test : Slot → Bool) (n j : ℕ) (slots : List Slot) → position_from test n slots ≡ Some j → n ≤ j
-not_before test n j [] is = absurd cc
+not_before test n j [] is = absurd (none-some j is)
 not_before test n j (x ∷ xs) is = decided (test x) is (not_before test (n + 1) j xs)
   where
     decided : (t : Bool) → cond t (Some n) (position_from test (n + 1) xs) ≡ Some j → (position_from test (n + 1) xs ≡ Some j → n + 1 ≤ j) → n ≤ j
-    decided true found others = let same : n ≡ j = cc in omega arith
+    decided true found others = let same : n ≡ j = same_Some n j found in omega arith
     decided false more others = let above : n + 1 ≤ j = others more in omega arith
 
 -- the environment has the new version
 pub slot_replaced : (environment : List ℕ) (n k : ℕ) (slots : List Slot) (v : EnvVersion) → position_from (is_named environment) n slots ≡ Some (k + n)
     → snapshot_in environment (taking k v slots) ≡ Some v
-slot_replaced environment n k [] v is = absurd cc
+slot_replaced environment n k [] v is = absurd (none-some (k + n) is)
 slot_replaced environment n zero (x ∷ xs) v is = decided (is_named environment x) is
   where
     decided : (t : Bool) → cond t (Some n) (position_from (is_named environment) (n + 1) xs) ≡ Some (zero + n)
@@ -84,7 +85,7 @@ slot_replaced environment n (suc k) (x ∷ xs) v is = decided (is_named environm
     decided : (t : Bool) → cond t (Some n) (position_from (is_named environment) (n + 1) xs) ≡ Some (suc k + n)
         → (position_from (is_named environment) (n + 1) xs ≡ Some (k + (n + 1)) → snapshot_in environment (taking k v xs) ≡ Some v)
         → version_of (cond t (Some x) (find (is_named environment) (taking k v xs))) ≡ Some v
-    decided true found others = let same : n ≡ suc k + n = cc in absurd (omega arith)
+    decided true found others = let same : n ≡ suc k + n = same_Some n (suc k + n) found in absurd (omega arith)
     decided false more others = others (more ∙ ap Some (omega arith))
 
 -- a name cannot be equal to two different names
@@ -94,7 +95,7 @@ not_both name environment other here apart = ap (λ (text : List ℕ). same_text
 -- every other environment keeps its version
 pub other_slot_same : (environment other : List ℕ) (n k : ℕ) (slots : List Slot) (v : EnvVersion) → position_from (is_named environment) n slots ≡ Some (k + n)
     → same_text environment other ≡ false → snapshot_in other (taking k v slots) ≡ snapshot_in other slots
-other_slot_same environment other n k [] v is apart = absurd cc
+other_slot_same environment other n k [] v is apart = absurd (none-some (k + n) is)
 other_slot_same environment other n zero (x ∷ xs) v is apart = decided (is_named environment x) refl is
   where
     decided : (t : Bool) → is_named environment x ≡ t → cond t (Some n) (position_from (is_named environment) (n + 1) xs) ≡ Some (zero + n)
@@ -111,7 +112,7 @@ other_slot_same environment other n (suc k) (x ∷ xs) v is apart = decided (is_
     decided : (t : Bool) → cond t (Some n) (position_from (is_named environment) (n + 1) xs) ≡ Some (suc k + n)
         → (position_from (is_named environment) (n + 1) xs ≡ Some (k + (n + 1)) → snapshot_in other (taking k v xs) ≡ snapshot_in other xs)
         → snapshot_in other (taking (suc k) v (x ∷ xs)) ≡ snapshot_in other (x ∷ xs)
-    decided true found others = let same : n ≡ suc k + n = cc in absurd (omega arith)
+    decided true found others = let same : n ≡ suc k + n = same_Some n (suc k + n) found in absurd (omega arith)
     decided false more others = more_kept (is_named other x) (others (more ∙ ap Some (omega arith)))
 
 -- ---- their names
@@ -139,7 +140,7 @@ pub named_after : (slot : ℕ) (v : EnvVersion) (slots slots_after : List Slot) 
 named_after slot v slots slots_after named are = subst AreNamed (sym are) (subst (All IsName) (sym (names_kept slot v slots)) named)
 
 named_from : (environment : List ℕ) (n k : ℕ) (slots : List Slot) → AreNamed slots → position_from (is_named environment) n slots ≡ Some k → IsName environment
-named_from environment n k [] named is = absurd cc
+named_from environment n k [] named is = absurd (none-some k is)
 named_from environment n k (x ∷ xs) named is = decided (is_named environment x) refl is (named_from environment (n + 1) k xs (All-tail IsName x.environment (names_of xs) named))
   where
     decided : (t : Bool) → is_named environment x ≡ t → cond t (Some n) (position_from (is_named environment) (n + 1) xs) ≡ Some k

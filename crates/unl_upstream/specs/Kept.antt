@@ -136,20 +136,20 @@ acknowledged [] = []
 acknowledged (one ∷ others) = if_kept one.command one.result (acknowledged others)
 
 -- 1 if the keeper failed, else 0
-abbrev pub fault_of : Result ℕ KeepCommandRefusal → ℕ
-fault_of (Ok number) = 0
-fault_of (Err NoSuchEnvironment) = 0
-fault_of (Err NoSuchFeature) = 0
-fault_of (Err NoSuchSegment) = 0
-fault_of (Err (TooMany n)) = 0
-fault_of (Err (KeeperFull count)) = 0
-fault_of (Err KeeperFault) = 1
-fault_of (Err Memory) = 0
+abbrev pub keeper_faults : Result ℕ KeepCommandRefusal → ℕ
+keeper_faults (Ok number) = 0
+keeper_faults (Err NoSuchEnvironment) = 0
+keeper_faults (Err NoSuchFeature) = 0
+keeper_faults (Err NoSuchSegment) = 0
+keeper_faults (Err (TooMany n)) = 0
+keeper_faults (Err (KeeperFull count)) = 0
+keeper_faults (Err KeeperFault) = 1
+keeper_faults (Err Memory) = 0
 
 -- the number of attempts at which the keeper failed
 abbrev pub faults_among : List KeepAttempt → ℕ
 faults_among [] = 0
-faults_among (one ∷ others) = fault_of one.result + faults_among others
+faults_among (one ∷ others) = keeper_faults one.result + faults_among others
 
 -- the commands whose put failed since the last successful put, after one more attempt
 abbrev pub failed_by : List Command → Command → Result ℕ KeepCommandRefusal → List Command

@@ -11,7 +11,8 @@ use Rattle.unl_http_api.specs.Session.{Reads}
 use Rattle.unl_upstream.specs.declared.command.Command.{Command}
 use Rattle.unl_upstream.specs.History.{after_commands}
 use Rattle.unl_upstream.specs.Kept.{AttemptsInOrder, SomeAttempts, KeptState, KeepAttempt, acknowledged, faults_among}
-use Rattle.unl_upstream.specs.KeptServing.{ServesKept, KeptServing, RunsOutAtRequest, NoKeeperFault, Step, serving, tried_in}
+use Rattle.unl_upstream.specs.KeptServing.{KeptServing, KeptServingRunsOut, NoKeeperFault, ServesKept, ServesKeptRequest}
+use Rattle.unl_upstream.specs.KeptServing.{kept_serving_state, tried_in}
 use Rattle.unl_upstream.specs.Served.{draws_after}
 use Rattle.unl_upstream.specs.Served.{ServesAllLinksBy, LinkServedBy}
 use Rattle.unl_upstream.specs.Upstream.{UpstreamState}
@@ -19,7 +20,7 @@ use Rattle.unl_upstream.specs.Upstream.{UpstreamState}
 -- A link that gave these bytes was served; the pair is what it had sent, and its fault count. A number of its requests were
 -- answered, each with the next draw. Attempts to keep their commands are all that changed the upstream and its keeper.
 abbrev pub LinkServed : KeptState → Coming → List ℕ → List ℕ × ℕ → KeptState → Coming → Type 0
-LinkServed = LinkServedBy Step RunsOutAtRequest ServesKept
+LinkServed = LinkServedBy ServesKeptRequest KeptServingRunsOut ServesKept
 
 -- ---- links one after another
 
@@ -63,8 +64,8 @@ pub record LinkEffect
   pub counted : length requests ≡ served.count
   pub text : List ℕ
   pub reached : KeptServing
-  pub answered : Answered Step 0 (serving before 0 coming) requests text reached
-  pub gives : commands ≡ acknowledged (tried_in 0 (serving before 0 coming) requests text reached answered)
+  pub answered : Answered ServesKeptRequest 0 (kept_serving_state before 0 coming) requests text reached
+  pub gives : commands ≡ acknowledged (tried_in 0 (kept_serving_state before 0 coming) requests text reached answered)
   pub takes : (taken ≡ served.count) ⊎ ((served.end ≡ Memory) × (taken ≡ served.count + 1))
 
 -- Links were served one after another. The first began after `commands` from `start`, with `drawn` draws taken; the last ended
@@ -90,7 +91,7 @@ NoKeeperFaults start reopened coming commands drawn state [] (back ∷ backs) co
 NoKeeperFaults start reopened coming commands drawn state (bytes ∷ links) [] commands_after drawn_after after linked = ⊤
 NoKeeperFaults start reopened coming commands drawn state (bytes ∷ links) (back ∷ backs) commands_after drawn_after after
     (more, taken, middle, names, named, others) =
-    NoKeeperFault 0 (serving state 0 (draws_after drawn coming)) names.requests names.text names.reached names.answered
+    NoKeeperFault 0 (kept_serving_state state 0 (draws_after drawn coming)) names.requests names.text names.reached names.answered
     × NoKeeperFaults start reopened coming (commands ++ more) (drawn + taken) middle links backs commands_after drawn_after after others
 
 -- Links were served, and the state after them is described by commands and draws from `start` on. Attempts to keep the

@@ -43,12 +43,12 @@ RepliesByCommand None before q draw reply after = (after ≡ before) × (upstrea
 RepliesByCommand (Some command) before q draw reply after = RepliesTo command before reply after
 
 -- a request is answered: its command, if it gives one, is kept, and any other request is answered as without a keeper
-abbrev pub Gives : KeptState → Request → Draw → Reply → KeptState → Type 0
-Gives before q draw reply after = RepliesByCommand (command_given before.up.secret q) before q draw reply after
+abbrev pub AnswersByKeeping : KeptState → Request → Draw → Reply → KeptState → Type 0
+AnswersByKeeping before q draw reply after = RepliesByCommand (command_given before.up.secret q) before q draw reply after
 
 -- running out of memory changes nothing
-abbrev pub GivesUp : KeptState → Request → Draw → KeptState → Type 0
-GivesUp before q draw after = after ≡ before
+abbrev pub KeptStateUnchanged : KeptState → Request → Draw → KeptState → Type 0
+KeptStateUnchanged before q draw after = after ≡ before
 
 -- the attempt to keep the command of one request, if it gives one
 abbrev pub tried_of : (given : Option Command) (before : KeptState) (q : Request) (draw : Draw) (reply : Reply) (after : KeptState)
@@ -59,7 +59,7 @@ tried_of (Some command) before q draw reply after by_command = record { command 
 -- A request is answered, and what held for the upstream and its keeper still holds. Unless the keeper failed at its command,
 -- the reply is not 503 `KeeperFault`.
 pub record CarriesAnswer (before : KeptState) (q : Request) (draw : Draw) (reply : Reply) (after : KeptState) : Type 0 where
-  pub gives : Gives before q draw reply after
+  pub gives : AnswersByKeeping before q draw reply after
   pub tried : List KeepAttempt
   pub are : tried ≡ tried_of (command_given before.up.secret q) before q draw reply after gives
   pub carries : Carries tried before after
@@ -72,20 +72,20 @@ abbrev pub KeptServing : Type 0
 KeptServing = HandlerState KeptState
 
 -- these three as one record
-abbrev pub serving : KeptState → ℕ → Coming → KeptServing
-serving state count coming = handler_state state count coming
+abbrev pub kept_serving_state : KeptState → ℕ → Coming → KeptServing
+kept_serving_state state count coming = handler_state state count coming
 
 -- one request is answered, with the next draw
-abbrev pub Step : KeptServing → Request → Reply → KeptServing → Type 0
-Step = Answers Gives
+abbrev pub ServesKeptRequest : KeptServing → Request → Reply → KeptServing → Type 0
+ServesKeptRequest = Answers AnswersByKeeping
 
 -- a draw was taken, and then memory ran out
-abbrev pub RunsOutAtRequest : KeptServing → Request → KeptServing → Type 0
-RunsOutAtRequest = RunsOutOfMemory GivesUp
+abbrev pub KeptServingRunsOut : KeptServing → Request → KeptServing → Type 0
+KeptServingRunsOut = RunsOutOfMemory KeptStateUnchanged
 
 -- the attempts to keep the commands of answered requests, in order
 abbrev pub tried_in : (count : ℕ) (before : KeptServing) (qs : List Request) (text : List ℕ) (after : KeptServing)
-    → Answered Step count before qs text after → List KeepAttempt
+    → Answered ServesKeptRequest count before qs text after → List KeepAttempt
 tried_in count before [] text after answered = []
 tried_in count before (q ∷ qs) text after (reply, middle, more, step, split, rest) =
     tried_of (command_given before.state.up.secret q) before.state q step.draw reply middle.state step.given
@@ -93,7 +93,7 @@ tried_in count before (q ∷ qs) text after (reply, middle, more, step, split, r
 
 -- none of the replies to these requests is 503 `KeeperFault`
 abbrev pub NoKeeperFault : (count : ℕ) (before : KeptServing) (qs : List Request) (text : List ℕ) (after : KeptServing)
-    → Answered Step count before qs text after → Type 0
+    → Answered ServesKeptRequest count before qs text after → Type 0
 NoKeeperFault count before [] text after answered = ⊤
 NoKeeperFault count before (q ∷ qs) text after (reply, middle, more, step, split, rest) =
     (reply ≢ refused KeeperFault) × NoKeeperFault (count + 1) middle qs more after rest
@@ -101,7 +101,7 @@ NoKeeperFault count before (q ∷ qs) text after (reply, middle, more, step, spl
 -- In every case `count` requests were answered in order, and attempts to keep their commands are all that changed the
 -- upstream and its keeper. If the keeper failed at none of them, no reply is 503 `KeeperFault`.
 pub record ServesKept (before : KeptServing) (end : End) (count : ℕ) (after : KeptServing) : Type 0 where
-  pub reaches : Reaches Step RunsOutAtRequest before end after count
+  pub reaches : Reaches ServesKeptRequest KeptServingRunsOut before end after count
   pub tried : List KeepAttempt
   pub are : tried ≡ tried_in 0 before reaches.requests reaches.text reaches.reached reaches.answered
   pub keeps : AttemptsInOrder tried before.state after.state
@@ -110,4 +110,4 @@ pub record ServesKept (before : KeptServing) (end : End) (count : ℕ) (after : 
 
 -- a link was served
 abbrev pub ServesLink : KeptState → Coming → LinkState → LinkState → KeptState → Coming → Type 0
-ServesLink = ServesLinkBy Step RunsOutAtRequest ServesKept
+ServesLink = ServesLinkBy ServesKeptRequest KeptServingRunsOut ServesKept

@@ -55,9 +55,9 @@ WhyRowFails before keeper keeper_after up Fault = Rose keeper.faults keeper_afte
 WhyRowFails before keeper keeper_after up Memory = ⊤
 
 -- the fault that a refusal of the keeper becomes on reopening
-abbrev pub fault_of : KeepRefusal → ReopenFault
-fault_of put_refusal.Fault = Fault
-fault_of put_refusal.Memory = Memory
+abbrev pub reopen_fault_of : KeepRefusal → ReopenFault
+reopen_fault_of put_refusal.Fault = Fault
+reopen_fault_of put_refusal.Memory = Memory
 
 -- ---- all rows
 

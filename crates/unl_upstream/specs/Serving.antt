@@ -13,28 +13,28 @@ use Rattle.unl_upstream.specs.Upstream.{UpstreamState}
 -- ---- one request
 
 -- a request is answered with this reply, which leaves this upstream
-abbrev pub Gives : UpstreamState → Request → Draw → Reply → UpstreamState → Type 0
-Gives up q draw given up_after = upstream_answer up q draw ≡ record { reply = given; up = up_after }
+abbrev pub AnswersRequest : UpstreamState → Request → Draw → Reply → UpstreamState → Type 0
+AnswersRequest up q draw given up_after = upstream_answer up q draw ≡ record { reply = given; up = up_after }
 
 -- running out of memory changes nothing
-abbrev pub GivesUp : UpstreamState → Request → Draw → UpstreamState → Type 0
-GivesUp up q draw up_after = up_after ≡ up
+abbrev pub UpstreamUnchanged : UpstreamState → Request → Draw → UpstreamState → Type 0
+UpstreamUnchanged up q draw up_after = up_after ≡ up
 
 -- an upstream, the number of requests of the connection that it has answered, and the upcoming draws
 abbrev pub Serving : Type 0
 Serving = HandlerState UpstreamState
 
 -- these three as one record
-abbrev pub serving : UpstreamState → ℕ → Coming → Serving
-serving up count coming = handler_state up count coming
+abbrev pub serving_state : UpstreamState → ℕ → Coming → Serving
+serving_state up count coming = handler_state up count coming
 
 -- one request is answered, with the next draw
-abbrev pub Step : Serving → Request → Reply → Serving → Type 0
-Step = Answers Gives
+abbrev pub ServesRequest : Serving → Request → Reply → Serving → Type 0
+ServesRequest = Answers AnswersRequest
 
 -- a draw was taken, and then memory ran out
-abbrev pub RunsOutAtRequest : Serving → Request → Serving → Type 0
-RunsOutAtRequest = RunsOutOfMemory GivesUp
+abbrev pub ServingRunsOut : Serving → Request → Serving → Type 0
+ServingRunsOut = RunsOutOfMemory UpstreamUnchanged
 
 -- ---- the commands among requests
 
@@ -45,7 +45,7 @@ commands_given secret (q ∷ qs) = option_to_list (command_given secret q) ++ co
 
 -- `count` requests were answered, and their commands are all that changed the upstream. Its versions now represent those too
 -- that were accepted.
-pub record Obeys (up : UpstreamState) (count : ℕ) (up_after : UpstreamState) : Type 0 where
+pub record ObeysRequests (up : UpstreamState) (count : ℕ) (up_after : UpstreamState) : Type 0 where
   pub requests : List Request
   pub counted : length requests ≡ count
   pub obeyed : up_after ≡ after_commands (commands_given up.secret requests) up

@@ -22,11 +22,18 @@ impl Command {
     pub fn environment(&self) -> &str
         ensures { result.now ≡ environment_of self.now }
     {
+        self.environment_text().as_str()
+    }
+
+    /// Returns the environment that the command is for, as a text.
+    fn environment_text(&self) -> &Text
+        ensures { result.now ≡ environment_of self.now }
+    {
         match self {
-            Command::PutFeature { environment, .. } => environment.as_str(),
-            Command::RemoveFeature { environment, .. } => environment.as_str(),
-            Command::PutSegment { environment, .. } => environment.as_str(),
-            Command::RemoveSegment { environment, .. } => environment.as_str(),
+            Command::PutFeature { environment, .. }
+            | Command::RemoveFeature { environment, .. }
+            | Command::PutSegment { environment, .. }
+            | Command::RemoveSegment { environment, .. } => environment,
         }
     }
 }

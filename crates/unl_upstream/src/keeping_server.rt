@@ -4,7 +4,8 @@ ghost use Rattle.unl_server.specs.Links.{link_state};
 ghost use Rattle.std.specs.Prelude.{◌≡◌, true, IfOk, OnErr};
 ghost use Rattle.unl_upstream.specs.Command.{IsValidCommand};
 ghost use Rattle.unl_upstream.specs.Kept.{kept_state};
-ghost use Rattle.unl_upstream.specs.KeptServing.{CarriesAnswer, Gives, ServesKept, RunsOutAtRequest, RepliesTo, Step, serving};
+ghost use Rattle.unl_upstream.specs.KeptServing.{AnswersByKeeping, CarriesAnswer, RepliesTo, ServesKept};
+ghost use Rattle.unl_upstream.specs.KeptServing.{KeptServingRunsOut, ServesKeptRequest, kept_serving_state};
 
 use crate::answering::{numbered, refused};
 use crate::command::Command;
@@ -50,7 +51,7 @@ fn answer_one<K: Keeper>(
 ) -> Result<Reply, Memory>
     requires { (K.state keeper.old).opened ≡ true }
     ensures stays { (K.state keeper.new).opened ≡ true }
-    ensures gives { IfOk result (λ reply. Gives (kept_state up.old (K.state keeper.old)) request.now draw.entry.now reply
+    ensures gives { IfOk result (λ reply. AnswersByKeeping (kept_state up.old (K.state keeper.old)) request.now draw.entry.now reply
         (kept_state up.new (K.state keeper.new))) }
     ensures same { OnErr result (kept_state up.new (K.state keeper.new) ≡ kept_state up.old (K.state keeper.old)) }
 {
@@ -104,8 +105,8 @@ pub(crate) struct ByKept<'a, K>(PhantomData<&'a K>);
 
 impl<'a, K: Keeper> RequestHandler for ByKept<'a, K> {
     ghost use Rattle.std.specs.Prelude.{◌≡◌, true};
-    ghost use Rattle.std.proofs.Common.{rules};
-    ghost use Rattle.unl_upstream.specs.KeptServing.{Gives, GivesUp, kept_in};
+    ghost use Rattle.std.proofs.Common.{◌∙◌, refl};
+    ghost use Rattle.unl_upstream.specs.KeptServing.{AnswersByKeeping, KeptStateUnchanged, kept_in};
 
     type State = DurableUpstream<'a, K>;
 
@@ -113,9 +114,9 @@ impl<'a, K: Keeper> RequestHandler for ByKept<'a, K> {
 
     ghost keeps = { λ state after. (after.up.ghost_name ≡ state.up.ghost_name) × (after.keeper.ghost_name ≡ state.keeper.ghost_name) };
 
-    ghost gives = { λ state request draw reply after. Gives (kept_in K.state state) request draw reply (kept_in K.state after) };
+    ghost gives = { λ state request draw reply after. AnswersByKeeping (kept_in K.state state) request draw reply (kept_in K.state after) };
 
-    ghost gives_up = { λ state request draw after. GivesUp (kept_in K.state state) request draw (kept_in K.state after) };
+    ghost gives_up = { λ state request draw after. KeptStateUnchanged (kept_in K.state state) request draw (kept_in K.state after) };
 
     fn answer(
         alloc: Global,
@@ -128,9 +129,9 @@ impl<'a, K: Keeper> RequestHandler for ByKept<'a, K> {
         Ok(reply)
     }
 
-    ghost keeps_itself = { Prim.search rules };
+    ghost keeps_itself = { λ state. (refl, refl) };
 
-    ghost keeps_on = { Prim.search rules };
+    ghost keeps_on = { λ first next last one two. (two.0 ∙ one.0, two.1 ∙ one.1) };
 }
 
 /// Serves a connection as [`Upstream::serve`] does, but keeps each command before acknowledging it.
@@ -146,16 +147,16 @@ pub fn serve_kept<K: Keeper, L: Link, R: Draws>(
 
     // The whole conversation: its session, its replies, how it ended, how many requests were answered (each with the next
     // draw), and the cause of each failure.
-    ensures converses { Converses Step RunsOutAtRequest
+    ensures converses { Converses ServesKeptRequest KeptServingRunsOut
         (link_state (L.left link.old) (L.sent link.old) (L.Source.faults link.old))
-        (serving (kept_state up.old (K.state keeper.old)) 0 (R.coming draws.old)) result.1
-        (serving (kept_state up.new (K.state keeper.new)) result.0 (R.coming draws.new)) result.0
+        (kept_serving_state (kept_state up.old (K.state keeper.old)) 0 (R.coming draws.old)) result.1
+        (kept_serving_state (kept_state up.new (K.state keeper.new)) result.0 (R.coming draws.new)) result.0
         (link_state (L.left link.new) (L.sent link.new) (L.Source.faults link.new)) }
 
     // In every case, attempts to keep the commands of the answered requests are all that changed the upstream and its keeper.
     ensures keeps { ServesKept
-        (serving (kept_state up.old (K.state keeper.old)) 0 (R.coming draws.old)) result.1 result.0
-        (serving (kept_state up.new (K.state keeper.new)) result.0 (R.coming draws.new)) }
+        (kept_serving_state (kept_state up.old (K.state keeper.old)) 0 (R.coming draws.old)) result.1 result.0
+        (kept_serving_state (kept_state up.new (K.state keeper.new)) result.0 (R.coming draws.new)) }
 {
     let mut kept = DurableUpstream { up, keeper };
     let conversed = serve_requests::<ByKept<K>, L, R>(alloc, &mut kept, link, draws);

@@ -9,7 +9,7 @@ use thiserror::Error;
 use unl_documents::Memory;
 
 /// Why a command is refused: the first of these variants that applies, in this order, or `Memory`.
-#[derive(Clone, Copy, Debug, PartialEq, Eq, Error)]
+#[derive(Clone, Copy, Debug, Error)]
 pub enum CommandRefusal {
     /// The upstream has no environment of this name.
     #[error("there is no such environment")]
@@ -47,7 +47,7 @@ impl From<AllocError> for CommandRefusal {
 
 /// Why a command is not kept: the first refusal that applies, in the order of `NoSuchEnvironment` to `KeeperFull`, or a
 /// failure of the keeper, or `Memory`.
-#[derive(Clone, Copy, Debug, PartialEq, Eq, Error)]
+#[derive(Clone, Copy, Debug, Error)]
 pub enum KeepCommandRefusal {
     /// The upstream has no environment of this name.
     #[error("there is no such environment")]

@@ -29,9 +29,9 @@ pub enum ReopenFault {
 }
 
 impl From<KeepRefusal> for ReopenFault {
-    ghost use Rattle.unl_upstream.specs.Reopening.{fault_of};
+    ghost use Rattle.unl_upstream.specs.Reopening.{reopen_fault_of};
 
-    ghost from_gives = { λ refusal e. e ≡ fault_of refusal };
+    ghost from_gives = { λ refusal e. e ≡ reopen_fault_of refusal };
 
     fn from(refusal: KeepRefusal) -> ReopenFault {
         match refusal {

@@ -1,7 +1,7 @@
 //! Serves a connection with an upstream.
 ghost use Rattle.unl_server.specs.Conversation.{Converses};
 ghost use Rattle.unl_server.specs.Links.{link_state};
-ghost use Rattle.unl_upstream.specs.Serving.{RunsOutAtRequest, Obeys, Step, serving};
+ghost use Rattle.unl_upstream.specs.Serving.{ServingRunsOut, ObeysRequests, ServesRequest, serving_state};
 
 use crate::upstream::Upstream;
 use std::alloc::Global;
@@ -14,7 +14,7 @@ use unl_server::{RequestHandler, serve_requests};
 pub(crate) struct ByUpstream;
 
 impl RequestHandler for ByUpstream {
-    ghost use Rattle.unl_upstream.specs.Serving.{Gives, GivesUp};
+    ghost use Rattle.unl_upstream.specs.Serving.{AnswersRequest, UpstreamUnchanged};
 
     type State = Upstream;
 
@@ -22,9 +22,9 @@ impl RequestHandler for ByUpstream {
 
     ghost keeps = { λ up up_after. Unit {0} };
 
-    ghost gives = { Gives };
+    ghost gives = { AnswersRequest };
 
-    ghost gives_up = { GivesUp };
+    ghost gives_up = { UpstreamUnchanged };
 
     fn answer(
         alloc: Global,
@@ -53,13 +53,13 @@ impl Upstream {
     ) -> (usize, End)
         // The whole conversation: its session, its replies, how it ended, how many requests were answered (each with the next
         // draw), and the cause of each failure.
-        ensures converses { Converses Step RunsOutAtRequest
+        ensures converses { Converses ServesRequest ServingRunsOut
             (link_state (L.left link.old) (L.sent link.old) (L.Source.faults link.old))
-            (serving self.old 0 (R.coming draws.old)) result.1 (serving self.new result.0 (R.coming draws.new)) result.0
+            (serving_state self.old 0 (R.coming draws.old)) result.1 (serving_state self.new result.0 (R.coming draws.new)) result.0
             (link_state (L.left link.new) (L.sent link.new) (L.Source.faults link.new)) }
 
         // In every case, the commands of the answered requests are all that changed the upstream.
-        ensures obeyed { Obeys self.old result.0 self.new }
+        ensures obeyed { ObeysRequests self.old result.0 self.new }
     {
         serve_requests::<ByUpstream, L, R>(alloc, self, link, draws)
     }

@@ -3,6 +3,7 @@ ghost use Rattle.std.specs.Prelude.{◌≡◌, ◌≢◌, ◌≤◌, true, [], �
 ghost use Rattle.std.specs.List.{list_all};
 ghost use Rattle.std.specs.Str.{bytes_eq};
 ghost use Rattle.unl_core.specs.Board.{AreDifferent, AreSlots};
+ghost use Rattle.unl_delta.specs.Batch.{empty_at};
 ghost use Rattle.unl_documents.specs.Results.{Gives};
 ghost use Rattle.unl_documents.specs.Texts.{is_name};
 ghost use Rattle.unl_upstream.specs.declared.refusal.CommandRefusal.TheVariants.{Memory as memory};
@@ -45,7 +46,6 @@ impl Upstream {
     /// Creates an upstream of up to eight environments with different names. Each environment is empty, at number 0 of the
     /// epoch. The book of tokens is published once on the board. An upstream that lost its state must begin with a higher
     /// epoch than before, so that its clients take what it has.
-    #[tactic(auto, using(crate::proofs::Slots::slots_opened, crate::proofs::Slots::named_opened))]
     pub fn new(
         alloc: Global,
         boot: u64,
@@ -60,13 +60,31 @@ impl Upstream {
         ensures opens { IfOk result (λ up. up ≡ opening boot secret.now environments.now book epoch) }
         ensures versions { IfOk result (AreHistories epoch []) }
     {
+        Upstream::opening(alloc, boot, secret, environments, book, epoch)
+    }
+
+    /// Creates an upstream in its initial state.
+    #[tactic(auto, using(crate::proofs::Slots::slots_opened, crate::proofs::Slots::named_opened))]
+    fn opening(
+        alloc: Global,
+        boot: u64,
+        secret: &str,
+        environments: &List<Text>,
+        book: Book,
+        epoch: u64,
+    ) -> Result<Upstream, Memory>
+        requires few { length environments.now ≤ 8 }
+        requires different { AreDifferent environments.now }
+        requires named { list_all is_name environments.now ≡ true }
+        ensures { IfOk result (λ up. up ≡ opening boot secret.now environments.now book epoch) }
+    {
+        let secret = Text::new(alloc, secret)?;
+        let book = Shared::new(alloc, book)?;
+        let slots = opening_slots(alloc, environments.as_slice(), epoch)?;
         let mut board = Board::new(alloc, boot, "", environments)?;
-        board.slots = List::from_vec(opening_slots(alloc, environments.as_slice(), epoch)?);
-        install(&mut board, Install::Tokens(Shared::new(alloc, book)?));
-        Ok(Upstream {
-            board,
-            secret: Text::new(alloc, secret)?,
-        })
+        board.slots = List::from_vec(slots);
+        install(&mut board, Install::Tokens(book));
+        Ok(Upstream { board, secret })
     }
 
     /// Returns the current board. Allocates nothing.
@@ -166,9 +184,18 @@ fn opening_slots(alloc: Global, environments: &[Text], epoch: u64) -> Result<Vec
 fn opening_slot(alloc: Global, environment: &str, epoch: u64) -> Result<Slot, Memory>
     ensures { IfOk result (λ slot. slot ≡ opening_slot epoch environment.now) }
 {
-    let snapshot = Snapshot::build(alloc, EnvVersion::at(alloc, epoch))?;
+    let environment = Text::new(alloc, environment)?;
+    let snapshot = opening_snapshot(alloc, epoch)?;
     Ok(Slot {
-        environment: Text::new(alloc, environment)?,
-        snapshot: Some(Shared::new(alloc, snapshot)?),
+        environment,
+        snapshot: Some(snapshot),
     })
+}
+
+/// Returns an empty version at number 0 of the epoch.
+fn opening_snapshot(alloc: Global, epoch: u64) -> Result<Shared<Snapshot>, Memory>
+    ensures { IfOk result (λ snapshot. snapshot ≡ empty_at epoch) }
+{
+    let snapshot = Snapshot::build(alloc, EnvVersion::at(alloc, epoch))?;
+    Shared::new(alloc, snapshot)
 }

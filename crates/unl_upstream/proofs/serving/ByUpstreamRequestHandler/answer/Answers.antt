@@ -3,4 +3,4 @@ use Rattle.unl_upstream.proofs.serving.ByUpstreamRequestHandler.answer.Goals as 
 
 pub returns-clause-status : goal.returns-clause-status
 returns-clause-status c =
-    answered_status c.in_ok-reply.reply c.args.state.now _ c.args.request.now c.args.draw.now c.in_ok-reply.ensures.answer
+    answered_status c.in_ok-reply.reply c.args.state.now c.answer.new.self c.args.request.now c.args.draw.now c.in_ok-reply.ensures.answer
