@@ -2,17 +2,17 @@
 use Rattle.std.proofs.Common.{◌≡◌, ◌∙◌, inl, inr, ℕ, List, Result, Ok, Err, IfOk, sym, ap, subst}
 use Rattle.unl_base.specs.Doors.{IsClosedAt}
 use Rattle.unl_durable_upstream.specs.Databases.{IsClosedWith, IsNewDoor, ProgramEnds, RunsFile, ServesAndCloses, unopened}
-use Rattle.unl_durable_upstream.specs.Given.{IsReading}
-use Rattle.unl_durable_upstream.specs.declared.given.ProgramArguments.{ProgramArguments}
+use Rattle.unl_durable_upstream.specs.Arguments.{IsReading}
+use Rattle.unl_durable_upstream.specs.declared.arguments.ProgramArguments.{ProgramArguments}
 use Rattle.unl_durable_upstream.specs.Serving.{Ends, Facing}
-use Rattle.unl_durable_upstream.specs.declared.fault.KeepingFault.{KeepingFault}
-use Rattle.unl_durable_upstream.specs.declared.fault.KeepingFault.TheVariants.{BadArguments, File, Row, Keeper, Door, Memory}
+use Rattle.unl_durable_upstream.specs.declared.fault.ProgramFault.{ProgramFault}
+use Rattle.unl_durable_upstream.specs.declared.fault.ProgramFault.TheVariants.{BadArguments, File, Row, Keeper, Door, Memory}
 use Rattle.unl_keeper.specs.State.{KeeperState}
 use Rattle.unl_upstream.specs.Kept.{KeptState, kept_state}
 use Rattle.unl_upstream.specs.Upstream.{UpstreamState}
 
 -- serving failed, so the database was not closed
-failed : (initial : UpstreamState) (port : ℕ) (fault : KeepingFault) (last : KeptState) (before after : Facing)
+failed : (initial : UpstreamState) (port : ℕ) (fault : ProgramFault) (last : KeptState) (before after : Facing)
     → Ends (kept_state initial unopened) port (Err fault) last before after → ServesAndCloses initial port (Err fault) before after
 failed initial port BadArguments last before after ends = absurd ends
 failed initial port (File error) last before after ends = absurd ends
@@ -22,7 +22,7 @@ failed initial port Door last before after ends = (last, ends)
 failed initial port Memory last before after ends = inl (ap (λ (f : Facing). f.door) ends.same)
 
 -- serving ended, and the database was closed where it ended well
-closed : (initial : UpstreamState) (port : ℕ) (served result : Result ℕ KeepingFault) (last : KeptState) (before after : Facing)
+closed : (initial : UpstreamState) (port : ℕ) (served result : Result ℕ ProgramFault) (last : KeptState) (before after : Facing)
     → Ends (kept_state initial unopened) port served last before after → IsClosedWith served result
     → ServesAndCloses initial port result before after
 closed initial port (Ok served) (Ok count) last before after ends is =
@@ -34,10 +34,10 @@ closed initial port (Ok served) (Err Keeper) last before after ends is = absurd 
 closed initial port (Ok served) (Err Door) last before after ends is = absurd is
 closed initial port (Ok served) (Err Memory) last before after ends is = inr (served, (last, ends))
 closed initial port (Err fault) result last before after ends is =
-    subst (λ (r : Result ℕ KeepingFault). ServesAndCloses initial port r before after) (sym is) (failed initial port fault last before after ends)
+    subst (λ (r : Result ℕ ProgramFault). ServesAndCloses initial port r before after) (sym is) (failed initial port fault last before after ends)
 
 -- the same, from a keeper that was not opened yet
-pub serves_and_closes : (initial : UpstreamState) (port : ℕ) (keeper : KeeperState) (served result : Result ℕ KeepingFault)
+pub serves_and_closes : (initial : UpstreamState) (port : ℕ) (keeper : KeeperState) (served result : Result ℕ ProgramFault)
     (before after : Facing) → keeper ≡ unopened → ((last : KeptState) × Ends (kept_state initial keeper) port served last before after)
     → IsClosedWith served result → ServesAndCloses initial port result before after
 serves_and_closes initial port keeper served result before after is ends closes =
@@ -45,12 +45,12 @@ serves_and_closes initial port keeper served result before after is ends closes 
     (subst (λ (k : KeeperState). Ends (kept_state initial k) port served ends.0 before after) is ends.1) closes
 
 -- the door failed only if it did so while links were served
-pub door_failed : (served result : Result ℕ KeepingFault) → IsClosedWith served result → result ≡ Err Door → served ≡ Err Door
+pub door_failed : (served result : Result ℕ ProgramFault) → IsClosedWith served result → result ≡ Err Door → served ≡ Err Door
 door_failed (Ok served) result is fails = absurd (subst (IsClosedWith (Ok served)) fails is)
 door_failed (Err fault) result is fails = sym is ∙ fails
 
 -- the door is closed if all ended well
-pub closed_at : (initial : UpstreamState) (port : ℕ) (result : Result ℕ KeepingFault) (before after : Facing)
+pub closed_at : (initial : UpstreamState) (port : ℕ) (result : Result ℕ ProgramFault) (before after : Facing)
     → ServesAndCloses initial port result before after → IfOk result (λ served. IsClosedAt port before.door after.door)
 closed_at initial port (Ok served) before after ends = ends.1.serves.1
 closed_at initial port (Err fault) before after ends = tt
@@ -58,9 +58,9 @@ closed_at initial port (Err fault) before after ends = tt
 -- ---- the program
 
 -- the arguments were read, and the file was run with a new door
-pub runs_given : (words : List (List ℕ)) (result : Result ℕ KeepingFault) (given : ProgramArguments) (before after : Facing)
-    → RunsFile given.options result before after → IsReading words (Ok given) → IsNewDoor before.door → ProgramEnds result
-runs_given words result given before after runs reads is_new = (
+pub reads_and_runs : (words : List (List ℕ)) (result : Result ℕ ProgramFault) (arguments : ProgramArguments) (before after : Facing)
+    → RunsFile arguments.options result before after → IsReading words (Ok arguments) → IsNewDoor before.door → ProgramEnds result
+reads_and_runs words result arguments before after runs reads is_new = (
   words,
-  inr (record { given = given; reads = reads; before = before; after = after; is_new = is_new; runs = runs }),
+  inr (record { arguments = arguments; reads = reads; before = before; after = after; is_new = is_new; runs = runs }),
 )

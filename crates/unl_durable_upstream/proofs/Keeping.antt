@@ -43,16 +43,16 @@ links_named opened last before after served links returned has serves =
 -- ---- what is kept
 
 -- attempts to keep commands are all that changed the upstream and its keeper, however serving ended
-attempts_of : (opened last : KeptState) (port : ℕ) (links : Result ℕ Failed) (before after : Facing) → HasKept opened.keeper
-    → LinksEnd opened port links last before after → AttemptsPreserve opened last
+attempts_of : (opened last : KeptState) (port : ℕ) (ended : Result ℕ Failed) (before after : Facing) → HasKept opened.keeper
+    → LinksEnd opened port ended last before after → AttemptsPreserve opened last
 attempts_of opened last port (Ok served) before after has ends = ends.0.carries
 attempts_of opened last port (Err failed) before after has (inl same) = subst (AttemptsPreserve opened) (sym same.0) (holds_still opened has)
 attempts_of opened last port (Err failed) before after has (inr ends) = ends.1.carries
 
 -- what is kept in the end, of an upstream that was reopened before these attempts
-keeps_acknowledged : (start opened last : KeptState) (reopened : ℕ) → Reopened start reopened opened → AttemptsPreserve opened last
-    → KeepsAcknowledged start.up opened last
-keeps_acknowledged start opened last reopened opens all =
+keeps_acknowledged : (start opened last : KeptState) (command_count : ℕ) → Reopened start command_count opened
+    → AttemptsPreserve opened last → KeepsAcknowledged start.up opened last
+keeps_acknowledged start opened last command_count opens all =
     let represents : IsAfterKept start.up last = all.carries.represents start.up opens.represents in
     let left : LeavesOne last (failed_after [] all.some.tried) = all.carries.left [] opens.left in record {
       tried = all.some.tried;
@@ -68,15 +68,15 @@ keeps_acknowledged start opened last reopened opens all =
     }
 
 -- an upstream that was reopened and then served links
-pub opens_and_serves : (start opened last : KeptState) (port reopened : ℕ) (links : Result ℕ Failed) (before after : Facing)
-    → HasKept opened.keeper → IsSameKeeper start.keeper opened.keeper → Reopened start reopened opened
-    → LinksEnd opened port links last before after → OpensAndServes start port links last before after
-opens_and_serves start opened last port reopened links before after has same opens serves = record {
-  reopened = reopened;
+pub opens_and_serves : (start opened last : KeptState) (port command_count : ℕ) (ended : Result ℕ Failed) (before after : Facing)
+    → HasKept opened.keeper → IsSameKeeper start.keeper opened.keeper → Reopened start command_count opened
+    → LinksEnd opened port ended last before after → OpensAndServes start port ended last before after
+opens_and_serves start opened last port command_count ended before after has same opens serves = record {
+  command_count = command_count;
   opened = opened;
   same = same;
   opens = opens;
   serves = serves;
-  keeps = keeps_acknowledged start opened last reopened opens (attempts_of opened last port links before after has serves);
-  named = λ served given returned observable. links_named opened last before after served given returned has observable;
+  keeps = keeps_acknowledged start opened last command_count opens (attempts_of opened last port ended before after has serves);
+  named = λ served links returned observable. links_named opened last before after served links returned has observable;
 }

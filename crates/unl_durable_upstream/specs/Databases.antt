@@ -6,11 +6,11 @@ use Rattle.unl_base.specs.declared.draws.Draw.{Draw}
 use Rattle.unl_server.specs.Handling.{Coming}
 use Rattle.unl_durable_upstream.specs.Beginning.{upstream_of}
 use Rattle.unl_durable_upstream.specs.Faults.{IsOfDatabase}
-use Rattle.unl_durable_upstream.specs.Given.{IsReading}
+use Rattle.unl_durable_upstream.specs.Arguments.{IsReading}
 use Rattle.unl_durable_upstream.specs.Serving.{Ends, Facing, code_of, facing}
-use Rattle.unl_durable_upstream.specs.declared.fault.KeepingFault.{KeepingFault}
-use Rattle.unl_durable_upstream.specs.declared.fault.KeepingFault.TheVariants.{BadArguments, File, Row, Keeper, Door, Memory}
-use Rattle.unl_durable_upstream.specs.declared.given.ProgramArguments.{ProgramArguments}
+use Rattle.unl_durable_upstream.specs.declared.fault.ProgramFault.{ProgramFault}
+use Rattle.unl_durable_upstream.specs.declared.fault.ProgramFault.TheVariants.{BadArguments, File, Row, Keeper, Door, Memory}
+use Rattle.unl_durable_upstream.specs.declared.arguments.ProgramArguments.{ProgramArguments}
 use Rattle.unl_keeper.specs.State.{KeeperState}
 use Rattle.unl_upstream.specs.Kept.{KeptState, kept_state}
 use Rattle.unl_upstream.specs.Upstream.{UpstreamState}
@@ -23,12 +23,12 @@ abbrev pub unopened : KeeperState
 unopened = record { opened = false; faults = 0; count = 0; rows = None }
 
 -- the initial upstream was reopened from the database, and served links, with this end
-abbrev pub ServesDatabase : UpstreamState → ℕ → Result ℕ KeepingFault → Facing → Facing → Type 0
+abbrev pub ServesDatabase : UpstreamState → ℕ → Result ℕ ProgramFault → Facing → Facing → Type 0
 ServesDatabase initial port result before after = (last : KeptState) × Ends (kept_state initial unopened) port result last before after
 
 -- How serving a database and then closing it ends. `File` is a fault of closing it, after serving ended well. Where memory ran
 -- out, no link was handed out, or that was while the database was closed.
-abbrev pub ServesAndCloses : UpstreamState → ℕ → Result ℕ KeepingFault → Facing → Facing → Type 0
+abbrev pub ServesAndCloses : UpstreamState → ℕ → Result ℕ ProgramFault → Facing → Facing → Type 0
 ServesAndCloses initial port (Ok served) before after = ServesDatabase initial port (Ok served) before after
 ServesAndCloses initial port (Err BadArguments) before after = ⊥
 ServesAndCloses initial port (Err (File error)) before after = (served : ℕ) × ServesDatabase initial port (Ok served) before after
@@ -38,14 +38,15 @@ ServesAndCloses initial port (Err Door) before after = ServesDatabase initial po
 ServesAndCloses initial port (Err Memory) before after =
     (after.door ≡ before.door) ⊎ ((served : ℕ) × ServesDatabase initial port (Ok served) before after)
 
--- the result after the database was closed, from the result of serving it; it is closed only if serving ended well
-abbrev pub IsClosedWith : Result ℕ KeepingFault → Result ℕ KeepingFault → Type 0
+-- The result once the database was closed (the second), from that of serving it (the first). It is closed only if serving ended
+-- well, and a fault is then one of closing it.
+abbrev pub IsClosedWith : Result ℕ ProgramFault → Result ℕ ProgramFault → Type 0
 IsClosedWith (Ok served) (Ok count) = count ≡ served
 IsClosedWith (Ok served) (Err fault) = IsOfDatabase fault
 IsClosedWith (Err fault) result = result ≡ Err fault
 
--- A draw was taken, and its word is the boot number of the upstream with these options, which then ended so.
-pub record Runs (options : UpstreamArguments) (result : Result ℕ KeepingFault) (before after : Facing) : Type 0 where
+-- A draw was taken, and its word is the boot number of the upstream with these options. Serving its database then ended so.
+pub record Runs (options : UpstreamArguments) (result : Result ℕ ProgramFault) (before after : Facing) : Type 0 where
   pub draw : Draw
   pub coming : Coming
   pub drawn : TakesDraw before.coming draw coming
@@ -56,12 +57,12 @@ pub record Runs (options : UpstreamArguments) (result : Result ℕ KeepingFault)
 -- ---- the program
 
 -- nothing was served, since the database could not be opened or memory ran out
-abbrev pub IsUnserved : Result ℕ KeepingFault → Facing → Facing → Type 0
+abbrev pub IsUnserved : Result ℕ ProgramFault → Facing → Facing → Type 0
 IsUnserved (Ok served) before after = ⊥
 IsUnserved (Err fault) before after = IsOfDatabase fault × (after ≡ before)
 
 -- how a run over a file ends: nothing was served, or its database was
-pub record RunsFile (options : UpstreamArguments) (result : Result ℕ KeepingFault) (before after : Facing) : Type 0 where
+pub record RunsFile (options : UpstreamArguments) (result : Result ℕ ProgramFault) (before after : Facing) : Type 0 where
   pub ends : IsUnserved result before after ⊎ Runs options result before after
 
 -- the door has listened on no port, and no link was handed out or taken back
@@ -71,24 +72,24 @@ pub record IsNewDoor (door : DoorState) : Type 0 where
   pub back : door.back ≡ 0
 
 -- the arguments were read, and a run over the file ended so, with a new door
-pub record RunsGiven (words : List (List ℕ)) (result : Result ℕ KeepingFault) : Type 0 where
-  pub given : ProgramArguments
-  pub reads : IsReading words (Ok given)
+pub record ReadsAndRuns (words : List (List ℕ)) (result : Result ℕ ProgramFault) : Type 0 where
+  pub arguments : ProgramArguments
+  pub reads : IsReading words (Ok arguments)
   pub before : Facing
   pub after : Facing
   pub is_new : IsNewDoor before.door
-  pub runs : RunsFile given.options result before after
+  pub runs : RunsFile arguments.options result before after
 
 -- the arguments were not read, with this fault
-abbrev pub IsUnread : List (List ℕ) → Result ℕ KeepingFault → Type 0
+abbrev pub IsUnread : List (List ℕ) → Result ℕ ProgramFault → Type 0
 IsUnread words (Ok served) = ⊥
 IsUnread words (Err fault) = IsReading words (Err fault)
 
--- how the program ends, with the arguments that it was given
-abbrev pub ProgramEnds : Result ℕ KeepingFault → Type 0
-ProgramEnds result = (words : List (List ℕ)) × (IsUnread words result ⊎ RunsGiven words result)
+-- how the program ends, with the arguments of its command line
+abbrev pub ProgramEnds : Result ℕ ProgramFault → Type 0
+ProgramEnds result = (words : List (List ℕ)) × (IsUnread words result ⊎ ReadsAndRuns words result)
 
 -- the exit code of the program: 5 if it ended well and the count of its links could not be printed
-abbrev pub exit_code_of : Result ℕ KeepingFault → Bool → ℕ
+abbrev pub exit_code_of : Result ℕ ProgramFault → Bool → ℕ
 exit_code_of (Ok served) printed = if printed then 0 else 5
 exit_code_of (Err fault) printed = code_of fault

@@ -1,5 +1,5 @@
+pub mod Arguments
 pub mod Beginning
 pub mod Databases
 pub mod Faults
-pub mod Given
 pub mod Serving

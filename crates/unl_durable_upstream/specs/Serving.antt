@@ -5,8 +5,8 @@ use Rattle.unl_base.specs.Doors.{DoorState, IsClosedAt, ListenedAt}
 use Rattle.unl_base.specs.declared.Failed.{Failed}
 use Rattle.unl_server.specs.Handling.{Coming}
 use Rattle.unl_server.specs.Linked.{ServesLinks as ServesObservable, linking}
-use Rattle.unl_durable_upstream.specs.declared.fault.KeepingFault.{KeepingFault}
-use Rattle.unl_durable_upstream.specs.declared.fault.KeepingFault.TheVariants.{BadArguments, File, Row, Keeper, Door, Memory}
+use Rattle.unl_durable_upstream.specs.declared.fault.ProgramFault.{ProgramFault}
+use Rattle.unl_durable_upstream.specs.declared.fault.ProgramFault.TheVariants.{BadArguments, File, Row, Keeper, Door, Memory}
 use Rattle.unl_upstream.specs.declared.command.Command.{Command}
 use Rattle.unl_upstream.specs.History.{after_commands}
 use Rattle.unl_keeper.specs.State.{KeeperState}
@@ -19,7 +19,7 @@ use Rattle.unl_upstream.specs.declared.reopening.ReopenFault.{ReopenFault}
 use Rattle.unl_upstream.specs.declared.reopening.ReopenFault.TheVariants as reopening
 
 -- the exit code of the program for a fault
-abbrev pub code_of : KeepingFault → ℕ
+abbrev pub code_of : ProgramFault → ℕ
 code_of BadArguments = 2
 code_of (Row place) = 3
 code_of Memory = 6
@@ -38,8 +38,8 @@ facing door coming = record { door = door; coming = coming }
 
 -- ---- the links
 
--- An upstream and its keeper served `served` links. Whether or not the door's links are observable, attempts to keep the
--- commands of their requests are all that changed the upstream and the keeper.
+-- An upstream and its keeper served `served` links. Attempts to keep the commands of their requests are all that changed the
+-- upstream and the keeper, whether or not the door's links are observable.
 pub record ServesLinks (opened last : KeptState) (before after : Facing) (served : ℕ) : Type 0 where
   pub serves_links : ServesKeptLinks (linking opened before.coming before.door) (linking last after.coming after.door) served
   pub carries : AttemptsPreserve opened last
@@ -89,18 +89,18 @@ pub record KeepsAcknowledged (initial : UpstreamState) (opened last : KeptState)
   -- the keeper's fault count rose by at least the number of puts that failed
   pub faults : RoseBy (faults_among tried) opened.keeper.faults last.keeper.faults
 
--- The upstream was reopened from its keeper's rows, and then links were served.
+-- The upstream was reopened from its keeper's rows, which held `command_count` commands. Then links were served, and that ended so.
 pub record OpensAndServes
-    (start : KeptState) (port : ℕ) (links : Result ℕ Failed) (last : KeptState) (before after : Facing) : Type 0 where
-  pub reopened : ℕ
+    (start : KeptState) (port : ℕ) (ended : Result ℕ Failed) (last : KeptState) (before after : Facing) : Type 0 where
+  pub command_count : ℕ
   pub opened : KeptState
   pub same : IsSameKeeper start.keeper opened.keeper
-  pub opens : Reopens start (Ok reopened) opened
-  pub serves : LinksEnd opened port links last before after
+  pub opens : Reopens start (Ok command_count) opened
+  pub serves : LinksEnd opened port ended last before after
   pub keeps : KeepsAcknowledged start.up opened last
-  pub named : (served : ℕ) (given : List (List ℕ)) (returned : List (List ℕ × ℕ))
-      → ServesObservable LinkServed (linking opened before.coming before.door) (linking last after.coming after.door) served given returned
-      → NamesLinks opened last before after served given returned
+  pub named : (served : ℕ) (links : List (List ℕ)) (returned : List (List ℕ × ℕ))
+      → ServesObservable LinkServed (linking opened before.coming before.door) (linking last after.coming after.door) served links returned
+      → NamesLinks opened last before after served links returned
 
 -- ---- how it ends
 
@@ -124,7 +124,7 @@ pub record RefusesRow (start : KeptState) (place : ℕ) (last : KeptState) (befo
   pub fails : FailsToReopen start fault last before after
 
 -- how reopening and serving ends, on a door that was to listen on this port
-abbrev pub Ends : KeptState → ℕ → Result ℕ KeepingFault → KeptState → Facing → Facing → Type 0
+abbrev pub Ends : KeptState → ℕ → Result ℕ ProgramFault → KeptState → Facing → Facing → Type 0
 Ends start port (Ok served) last before after = OpensAndServes start port (Ok served) last before after
 Ends start port (Err BadArguments) last before after = ⊥
 Ends start port (Err (File error)) last before after = ⊥

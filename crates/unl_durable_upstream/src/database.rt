@@ -4,13 +4,13 @@ ghost use Rattle.unl_base.specs.Doors.{IsClosedAt};
 ghost use Rattle.unl_base.specs.Faults.{Rose};
 ghost use Rattle.unl_durable_upstream.specs.Databases.{IsClosedWith, Runs, RunsFile, ServesAndCloses};
 ghost use Rattle.unl_durable_upstream.specs.Serving.{Ends, facing};
-ghost use Rattle.unl_durable_upstream.specs.declared.fault.KeepingFault.TheVariants.{Door as door_fault};
+ghost use Rattle.unl_durable_upstream.specs.declared.fault.ProgramFault.TheVariants.{Door as door_fault};
 ghost use Rattle.unl_upstream.specs.Kept.{KeptState, kept_state};
 ghost use Rattle.unl_upstream.specs.Reopening.{IsOpening};
 ghost use Rattle.unl_words.specs.Ranges.{IsUpstream};
 
-use crate::fault::KeepingFault;
-use crate::given::ProgramArguments;
+use crate::arguments::ProgramArguments;
+use crate::fault::ProgramFault;
 use crate::reporting::ReportingKeeper;
 use crate::serving::{begin, serve_reopened};
 use sqlite::{Connection, Error, File, FileStore};
@@ -23,7 +23,7 @@ use unl_keeper::{Keeper, SqliteKeeper};
 use unl_upstream::Upstream;
 use unl_usage::report_unopened;
 
-// The two functions below have no contract, so that no proof carries the state of the database.
+// `connect` and `disconnect` have no contract, so that no proof carries the state of the database.
 
 /// Opens the database at a path, or creates it.
 fn connect(system: &HostRuntime, path: &str) -> Result<Connection<FileStore<File>>, Error> {
@@ -35,40 +35,40 @@ fn disconnect<F: Disk + Drop>(connection: Connection<FileStore<F>>) -> Result<()
     connection.close()
 }
 
-/// Opens the database at the path of the arguments in `system`, serves it as [`serve_over`] does, and reports why it can't be
-/// opened or read.
+/// Opens the database at the path of the arguments by `system`, and serves it as [`serve_over`] does. Reports on the error stream
+/// of `rt` why it can't be opened or read.
 ///
 /// # Errors
 /// `File`: the database could not be opened or closed. Others as for [`serve_over`].
 pub fn serve_file<D: Door, R: Draws, W: Wait + Eprint>(
     system: &HostRuntime,
     rt: &W,
-    given: &ProgramArguments,
+    arguments: &ProgramArguments,
     door: &mut D,
     draws: &mut R,
-) -> Result<u64, KeepingFault>
-    requires { IsUpstream given.now.options }
-    ensures runs { RunsFile given.now.options result
+) -> Result<u64, ProgramFault>
+    requires { IsUpstream arguments.now.options }
+    ensures runs { RunsFile arguments.now.options result
         (facing (D.state door.old) (R.coming draws.old)) (facing (D.state door.new) (R.coming draws.new)) }
     ensures door { result ≡ Err door_fault → Rose (D.faults door.old) (D.faults door.new) }
 {
-    let path = given.path.as_str();
+    let path = arguments.path.as_str();
     match connect(system, path) {
         Ok(connection) => {
-            let served = serve_over(rt, system.alloc(), given, connection, door, draws);
+            let served = serve_over(rt, system.alloc(), arguments, connection, door, draws);
             report_keeper(rt, path, &served);
             served
         }
         Err(error) => {
             report_unopened(rt, path, &error);
-            Err(KeepingFault::from(error))
+            Err(ProgramFault::from(error))
         }
     }
 }
 
-/// Reports the path of a file whose commands cannot be read.
-fn report_keeper<E: Eprint>(rt: &E, path: &str, ended: &Result<u64, KeepingFault>) {
-    if let Err(KeepingFault::Keeper) = ended {
+/// Reports that the commands of the file at `path` can't be read, if serving it `ended` so.
+fn report_keeper<E: Eprint>(rt: &E, path: &str, ended: &Result<u64, ProgramFault>) {
+    if let Err(ProgramFault::Keeper) = ended {
         report_unopened(rt, path, &"its table of commands can't be read");
     }
 }
@@ -83,21 +83,21 @@ fn report_keeper<E: Eprint>(rt: &E, path: &str, ended: &Result<u64, KeepingFault
 pub fn serve_over<F: Disk + Drop, D: Door, R: Draws, W: Wait + Eprint>(
     rt: &W,
     alloc: Global,
-    given: &ProgramArguments,
+    arguments: &ProgramArguments,
     connection: Connection<FileStore<F>>,
     door: &mut D,
     draws: &mut R,
-) -> Result<u64, KeepingFault>
-    requires { IsUpstream given.now.options }
-    ensures runs { Runs given.now.options result
+) -> Result<u64, ProgramFault>
+    requires { IsUpstream arguments.now.options }
+    ensures runs { Runs arguments.now.options result
         (facing (D.state door.old) (R.coming draws.old)) (facing (D.state door.new) (R.coming draws.new)) }
     ensures door { result ≡ Err door_fault → Rose (D.faults door.old) (D.faults door.new) }
-    ensures closed { IfOk result (λ served. IsClosedAt given.now.options.port (D.state door.old) (D.state door.new)) }
+    ensures closed { IfOk result (λ served. IsClosedAt arguments.now.options.port (D.state door.old) (D.state door.new)) }
 {
     let boot = draws.draw().word;
-    match begin(alloc, boot, &given.options) {
-        Ok(up) => serve_database(rt, alloc, given, up, connection, door, draws),
-        Err(Memory) => Err(KeepingFault::Memory),
+    match begin(alloc, boot, &arguments.options) {
+        Ok(up) => serve_database(rt, alloc, arguments, up, connection, door, draws),
+        Err(Memory) => Err(ProgramFault::Memory),
     }
 }
 
@@ -105,19 +105,19 @@ pub fn serve_over<F: Disk + Drop, D: Door, R: Draws, W: Wait + Eprint>(
 fn serve_database<F: Disk + Drop, D: Door, R: Draws, W: Wait + Eprint>(
     rt: &W,
     alloc: Global,
-    given: &ProgramArguments,
+    arguments: &ProgramArguments,
     up: Upstream,
     connection: Connection<FileStore<F>>,
     door: &mut D,
     draws: &mut R,
-) -> Result<u64, KeepingFault>
+) -> Result<u64, ProgramFault>
     requires { IsOpening up }
-    ensures ends { ServesAndCloses up given.now.options.port result
+    ensures ends { ServesAndCloses up arguments.now.options.port result
         (facing (D.state door.old) (R.coming draws.old)) (facing (D.state door.new) (R.coming draws.new)) }
     ensures door { result ≡ Err door_fault → Rose (D.faults door.old) (D.faults door.new) }
 {
     let keeper = SqliteKeeper::new(connection);
-    let (served, keeper) = serve_keeper(rt, alloc, given, up, keeper, door, draws);
+    let (served, keeper) = serve_keeper(rt, alloc, arguments, up, keeper, door, draws);
     close(served, keeper)
 }
 
@@ -126,20 +126,20 @@ fn serve_database<F: Disk + Drop, D: Door, R: Draws, W: Wait + Eprint>(
 fn serve_keeper<K: Keeper + Drop, D: Door, R: Draws, W: Wait + Eprint>(
     rt: &W,
     alloc: Global,
-    given: &ProgramArguments,
+    arguments: &ProgramArguments,
     mut up: Upstream,
     keeper: K,
     door: &mut D,
     draws: &mut R,
-) -> (Result<u64, KeepingFault>, K)
+) -> (Result<u64, ProgramFault>, K)
     requires { IsOpening up }
-    ensures ends { (last : KeptState) × Ends (kept_state up (K.state keeper)) given.now.options.port
+    ensures ends { (last : KeptState) × Ends (kept_state up (K.state keeper)) arguments.now.options.port
         result.0 last (facing (D.state door.old) (R.coming draws.old)) (facing (D.state door.new) (R.coming draws.new)) }
     ensures door { result.0 ≡ Err door_fault → Rose (D.faults door.old) (D.faults door.new) }
 {
-    let port = given.options.port;
-    let epoch = given.options.epoch;
-    let mut keeper = ReportingKeeper::new(rt, given.path.as_str(), keeper);
+    let port = arguments.options.port;
+    let epoch = arguments.options.epoch;
+    let mut keeper = ReportingKeeper::new(rt, arguments.path.as_str(), keeper);
     let served = serve_reopened(rt, alloc, port, epoch, &mut up, &mut keeper, door, draws);
     (served, keeper.into_keeper())
 }
@@ -149,9 +149,9 @@ fn serve_keeper<K: Keeper + Drop, D: Door, R: Draws, W: Wait + Eprint>(
 /// # Errors
 /// That of serving. `File`: the database could not be closed. `Memory`: out of memory while it was closed.
 fn close<F: Disk + Drop>(
-    served: Result<u64, KeepingFault>,
+    served: Result<u64, ProgramFault>,
     keeper: SqliteKeeper<FileStore<F>>,
-) -> Result<u64, KeepingFault>
+) -> Result<u64, ProgramFault>
     ensures { IsClosedWith served result }
 {
     match served {
@@ -167,12 +167,12 @@ fn close<F: Disk + Drop>(
 fn close_after<F: Disk + Drop>(
     count: u64,
     keeper: SqliteKeeper<FileStore<F>>,
-) -> Result<u64, KeepingFault>
+) -> Result<u64, ProgramFault>
     ensures { IsClosedWith (Ok count) result }
 {
     let (connection, _) = keeper.into_connection();
     match disconnect(connection) {
         Ok(()) => Ok(count),
-        Err(error) => Err(KeepingFault::from(error)),
+        Err(error) => Err(ProgramFault::from(error)),
     }
 }

@@ -2,15 +2,15 @@
 ghost use Rattle.std.specs.Prelude.{◌≡◌};
 ghost use Rattle.unl_durable_upstream.specs.Faults.{IsOfDatabase, fault_of};
 ghost use Rattle.unl_durable_upstream.specs.Serving.{code_of};
-ghost use Rattle.unl_durable_upstream.specs.declared.fault.KeepingFault.TheVariants.{Memory as out_of_memory};
+ghost use Rattle.unl_durable_upstream.specs.declared.fault.ProgramFault.TheVariants.{Memory as out_of_memory};
 
 use sqlite::ErrorCode;
 use std::alloc::AllocError;
 use thiserror::Error;
 
-/// Why the program ended before its door was closed.
+/// Why the program failed.
 #[derive(Debug, Drop, Error)]
-pub enum KeepingFault {
+pub enum ProgramFault {
     /// There is no path, or the arguments after it are not options of `upstream`.
     #[error("unl_durable_upstream: bad words")]
     BadArguments,
@@ -31,37 +31,37 @@ pub enum KeepingFault {
     Memory,
 }
 
-impl KeepingFault {
+impl ProgramFault {
     /// Returns the exit code of the program.
     pub fn code(&self) -> u8
         ensures { result ≡ code_of self.now }
     {
         match self {
-            KeepingFault::BadArguments => 2,
-            KeepingFault::Row(_) => 3,
-            KeepingFault::Memory => 6,
-            KeepingFault::Door => 7,
-            KeepingFault::File(_) => 8,
-            KeepingFault::Keeper => 8,
+            ProgramFault::BadArguments => 2,
+            ProgramFault::Row(_) => 3,
+            ProgramFault::Memory => 6,
+            ProgramFault::Door => 7,
+            ProgramFault::File(_) => 8,
+            ProgramFault::Keeper => 8,
         }
     }
 }
 
-impl From<sqlite::Error> for KeepingFault {
+impl From<sqlite::Error> for ProgramFault {
     ghost from_gives = { λ error fault. (fault ≡ fault_of error) × IsOfDatabase fault };
 
-    fn from(error: sqlite::Error) -> KeepingFault {
+    fn from(error: sqlite::Error) -> ProgramFault {
         match error {
-            sqlite::Error::SqliteFailure(ErrorCode::OutOfMemory) => KeepingFault::Memory,
-            other => KeepingFault::File(other),
+            sqlite::Error::SqliteFailure(ErrorCode::OutOfMemory) => ProgramFault::Memory,
+            other => ProgramFault::File(other),
         }
     }
 }
 
-impl From<AllocError> for KeepingFault {
+impl From<AllocError> for ProgramFault {
     ghost from_gives = { λ _ fault. fault ≡ out_of_memory };
 
-    fn from(_: AllocError) -> KeepingFault {
-        KeepingFault::Memory
+    fn from(_: AllocError) -> ProgramFault {
+        ProgramFault::Memory
     }
 }

@@ -5,15 +5,15 @@
 ghost use Rattle.std.specs.Prelude.{◌≡◌};
 ghost use Rattle.unl_durable_upstream.specs.Databases.{ProgramEnds, exit_code_of};
 
+mod arguments;
 mod database;
 mod fault;
-mod given;
 mod reporting;
 mod serving;
 
+use arguments::read_program_arguments;
 use database::serve_file;
-use fault::KeepingFault;
-use given::read_given;
+use fault::ProgramFault;
 use std::net::Net;
 use std::process::ExitCode;
 use std::random::RandomSource;
@@ -24,39 +24,44 @@ use unl_usage::{Program, report_refusal, warn_of_epoch};
 
 fn main(rt: HostRuntime) -> ExitCode {
     let ended = run(&rt, rt);
-    if let Err(KeepingFault::BadArguments) = &ended {
+    if let Err(ProgramFault::BadArguments) = &ended {
         report_refusal(&rt, Program::DurableUpstream);
     }
     let printed = print_end(&rt, &ended);
     ExitCode::from(exit_code(&ended, printed))
 }
 
-/// Reads the arguments, and serves an upstream over the database at their path until its door is closed. The files are those of
-/// `system`, the connections those of `rt`. Returns how many links were served.
+/// Reads the arguments, and serves an upstream over the database at their path until its door is closed. Files are opened by
+/// `system`, sockets by `rt`. Returns how many links were served.
 ///
 /// # Errors
-/// As for `read_given` and `serve_file`. `Memory`: out of memory.
+/// As for `read_program_arguments` and `serve_file`. `Memory`: out of memory.
 fn run<N: Net + Clock + RandomSource + Eprint + Wait + Copy + Drop>(
     system: &HostRuntime,
     rt: N,
-) -> Result<u64, KeepingFault>
+) -> Result<u64, ProgramFault>
     ensures { ProgramEnds result }
 {
-    let given = match read_given(system) {
-        Ok(given) => given,
+    let arguments = match read_program_arguments(system) {
+        Ok(arguments) => arguments,
         Err(fault) => return Err(fault),
     };
     let alloc = system.alloc();
-    warn_of_epoch(system, alloc, given.path.as_str(), given.options.epoch);
+    warn_of_epoch(
+        system,
+        alloc,
+        arguments.path.as_str(),
+        arguments.options.epoch,
+    );
     let mut draws = SystemDraws::new(rt);
-    match RealDoor::new(alloc, rt, given.bound(), 0) {
-        Ok(mut door) => serve_file(system, &rt, &given, &mut door, &mut draws),
-        Err(fault) => Err(KeepingFault::from(fault)),
+    match RealDoor::new(alloc, rt, arguments.bound(), 0) {
+        Ok(mut door) => serve_file(system, &rt, &arguments, &mut door, &mut draws),
+        Err(fault) => Err(ProgramFault::from(fault)),
     }
 }
 
 /// Prints how many links were served, or why the program ended before, and returns whether that succeeded.
-fn print_end(rt: &HostRuntime, ended: &Result<u64, KeepingFault>) -> bool {
+fn print_end(rt: &HostRuntime, ended: &Result<u64, ProgramFault>) -> bool {
     let printed = match ended {
         Ok(served) => println!(rt; "connections {served}"),
         Err(fault) => println!(rt; "{fault}"),
@@ -65,7 +70,7 @@ fn print_end(rt: &HostRuntime, ended: &Result<u64, KeepingFault>) -> bool {
 }
 
 /// Returns the exit code of the program.
-fn exit_code(ended: &Result<u64, KeepingFault>, is_printed: bool) -> u8
+fn exit_code(ended: &Result<u64, ProgramFault>, is_printed: bool) -> u8
     ensures { result ≡ exit_code_of ended.now is_printed }
 {
     match ended {

@@ -18,7 +18,7 @@ pub struct ReportingKeeper<'a, K: Keeper + Drop, E: Eprint> {
 }
 
 impl<'a, K: Keeper + Drop, E: Eprint> ReportingKeeper<'a, K, E> {
-    /// Reports on the error stream of `rt`, by the path of the database's file.
+    /// Forwards to `keeper`, and reports on the error stream of `rt`. A report begins with the path of the database's file.
     pub fn new(rt: &'a E, path: &'a str, keeper: K) -> Self
         ensures { result.keeper ≡ keeper }
     {
@@ -58,7 +58,7 @@ impl<'a, K: Keeper + Drop, E: Eprint> ReportingKeeper<'a, K, E> {
     }
 }
 
-/// Returns whether a call failed at the database, and not for lack of memory.
+/// Returns whether a call failed at the database. Running out of memory is no such failure.
 fn is_fault<T: Drop>(outcome: &Result<T, KeepRefusal>) -> bool {
     match outcome {
         Err(KeepRefusal::Fault) => true,

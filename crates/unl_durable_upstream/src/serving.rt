@@ -3,12 +3,12 @@ ghost use Rattle.std.specs.Prelude.{◌≡◌, true, Err, IfOk, OnErr};
 ghost use Rattle.unl_base.specs.Faults.{Rose};
 ghost use Rattle.unl_durable_upstream.specs.Beginning.{upstream_of};
 ghost use Rattle.unl_durable_upstream.specs.Serving.{Ends, LinksEnd, facing};
-ghost use Rattle.unl_durable_upstream.specs.declared.fault.KeepingFault.TheVariants.{Door as door_fault, Keeper as keeper_fault};
+ghost use Rattle.unl_durable_upstream.specs.declared.fault.ProgramFault.TheVariants.{Door as door_fault, Keeper as keeper_fault};
 ghost use Rattle.unl_upstream.specs.Kept.{kept_state};
 ghost use Rattle.unl_upstream.specs.Reopening.{IsOpening};
 ghost use Rattle.unl_words.specs.Ranges.{IsUpstream};
 
-use crate::fault::KeepingFault;
+use crate::fault::ProgramFault;
 use std::alloc::Global;
 use std::sync::Wait;
 use unl_base::{Door, Draws, Failed};
@@ -47,7 +47,7 @@ pub fn begin(alloc: Global, boot: u64, options: &UpstreamArguments) -> Result<Up
 /// # Errors
 /// `Row`: a row of the keeper is missing, or holds no command that is accepted. `Keeper`: the keeper failed while the
 /// upstream was reopened. `Memory`: out of memory while the upstream was reopened. `Door`: the door could not listen on the
-/// port, or could not hand out a link. A keeper that fails while links are served ends nothing.
+/// port, or could not hand out a link. A keeper that fails while links are served does not end serving.
 pub fn serve_reopened<K: Keeper, D: Door, R: Draws, W: Wait + Eprint>(
     rt: &W,
     alloc: Global,
@@ -57,7 +57,7 @@ pub fn serve_reopened<K: Keeper, D: Door, R: Draws, W: Wait + Eprint>(
     keeper: &mut K,
     door: &mut D,
     draws: &mut R,
-) -> Result<u64, KeepingFault>
+) -> Result<u64, ProgramFault>
     requires { IsOpening up.old }
     ensures ends { Ends (kept_state up.old (K.state keeper.old)) port result (kept_state up.new (K.state keeper.new))
         (facing (D.state door.old) (R.coming draws.old)) (facing (D.state door.new) (R.coming draws.new)) }
@@ -69,13 +69,13 @@ pub fn serve_reopened<K: Keeper, D: Door, R: Draws, W: Wait + Eprint>(
             report_commands(rt, count, epoch);
             match serve_links(rt, alloc, port, up, keeper, door, draws) {
                 Ok(served) => Ok(served),
-                Err(_) => Err(KeepingFault::Door),
+                Err(_) => Err(ProgramFault::Door),
             }
         }
-        Err(ReopenFault::BadRow(place, _)) => Err(KeepingFault::Row(place)),
-        Err(ReopenFault::NoRow(place)) => Err(KeepingFault::Row(place)),
-        Err(ReopenFault::Fault) => Err(KeepingFault::Keeper),
-        Err(ReopenFault::Memory) => Err(KeepingFault::Memory),
+        Err(ReopenFault::BadRow(place, _)) => Err(ProgramFault::Row(place)),
+        Err(ReopenFault::NoRow(place)) => Err(ProgramFault::Row(place)),
+        Err(ReopenFault::Fault) => Err(ProgramFault::Keeper),
+        Err(ReopenFault::Memory) => Err(ProgramFault::Memory),
     }
 }
 

@@ -16,7 +16,7 @@ returns-in-Ok-clause-runs g c = record {
 
 pub returns-in-Ok-clause-closed : goal.returns-in-Ok-clause-closed
 returns-in-Ok-clause-closed g c =
-    closed_at c.in-Ok.up c.args.given.now.options.port c.serve_database.result
+    closed_at c.in-Ok.up c.args.arguments.now.options.port c.serve_database.result
     (facing (g.D.Door.state c.args.door.now) (g.R.Draws.coming c.draw-boot.new.self))
     (facing (g.D.Door.state c.serve_database.new.door) (g.R.Draws.coming c.serve_database.new.draws)) c.serve_database.ensures.ends
 
@@ -25,7 +25,7 @@ returns-in-Err-clause-runs g c = record {
   draw = c.draw-boot.result;
   coming = g.R.Draws.coming c.draw-boot.new.self;
   drawn = c.draw-boot.ensures.drawn;
-  initial = upstream_of c.draw-boot.result.word c.args.given.now.options;
+  initial = upstream_of c.draw-boot.result.word c.args.arguments.now.options;
   begins = refl;
   ends = inl refl;
 }

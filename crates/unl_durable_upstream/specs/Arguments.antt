@@ -1,9 +1,9 @@
 -- What the command line means: the path of a file, and the options of the upstream.
 use Rattle.std.specs.Prelude.{◌≡◌, ◌⊎◌, ⊤, ℕ, nat_lt, List, [], ◌∷◌, codes, if◌then◌else◌, Option, Some, None, Result, Ok, Err}
 use Rattle.std.specs.Prelude.{string_bytes}
-use Rattle.unl_durable_upstream.specs.declared.fault.KeepingFault.{KeepingFault}
-use Rattle.unl_durable_upstream.specs.declared.fault.KeepingFault.TheVariants.{BadArguments, File, Row, Keeper, Door, Memory}
-use Rattle.unl_durable_upstream.specs.declared.given.ProgramArguments.{ProgramArguments}
+use Rattle.unl_durable_upstream.specs.declared.fault.ProgramFault.{ProgramFault}
+use Rattle.unl_durable_upstream.specs.declared.fault.ProgramFault.TheVariants.{BadArguments, File, Row, Keeper, Door, Memory}
+use Rattle.unl_durable_upstream.specs.declared.arguments.ProgramArguments.{ProgramArguments}
 use Rattle.unl_words.specs.Words.{words_of}
 use Rattle.unl_words.specs.declared.refusal.WordsRefusal.TheVariants.{Bad}
 use Rattle.unl_words.specs.declared.words.Words.{Words}
@@ -24,9 +24,10 @@ NamesAnotherCommand Explain = ⊤
 NamesAnotherCommand (Load seed count) = ⊤
 
 -- The first argument is the path, and the others are the options of `upstream`.
-abbrev pub IsGiven : List (List ℕ) → ProgramArguments → Type 0
-IsGiven [] given = ⊥
-IsGiven (first ∷ others) given = (string_bytes given.path ≡ first) × (words_of (codes "upstream" ∷ others) ≡ Ok (Upstream given.options))
+abbrev pub IsPathAndOptions : List (List ℕ) → ProgramArguments → Type 0
+IsPathAndOptions [] arguments = ⊥
+IsPathAndOptions (first ∷ others) arguments =
+    (string_bytes arguments.path ≡ first) × (words_of (codes "upstream" ∷ others) ≡ Ok (Upstream arguments.options))
 
 -- There is no first argument, or the others are not the options of `upstream`.
 abbrev pub AreBad : List (List ℕ) → Type 0
@@ -35,8 +36,8 @@ AreBad (first ∷ others) = (words_of (codes "upstream" ∷ others) ≡ Err Bad)
     ⊎ ((words : Words) × NamesAnotherCommand words × (words_of (codes "upstream" ∷ others) ≡ Ok words))
 
 -- the result of reading these arguments
-abbrev pub IsReading : List (List ℕ) → Result ProgramArguments KeepingFault → Type 0
-IsReading words (Ok given) = IsGiven words given
+abbrev pub IsReading : List (List ℕ) → Result ProgramArguments ProgramFault → Type 0
+IsReading words (Ok arguments) = IsPathAndOptions words arguments
 IsReading words (Err BadArguments) = AreBad words
 IsReading words (Err (File error)) = ⊥
 IsReading words (Err (Row place)) = ⊥

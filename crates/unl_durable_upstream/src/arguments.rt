@@ -1,10 +1,10 @@
 //! The command line of the program: a path, then the options of an upstream.
 ghost use Rattle.std.specs.Prelude.{◌≡◌, ℕ, List, IfNone, IfOk, IfSome, map, string_bytes};
-ghost use Rattle.unl_durable_upstream.specs.Given.{IsReading, NamesAnotherCommand, bound_of};
+ghost use Rattle.unl_durable_upstream.specs.Arguments.{IsReading, NamesAnotherCommand, bound_of};
 ghost use Rattle.unl_words.specs.Ranges.{IsUpstream};
 ghost use Rattle.unl_words.specs.declared.words.Words.TheVariants.{Upstream};
 
-use crate::fault::KeepingFault;
+use crate::fault::ProgramFault;
 use std::alloc::Global;
 use std::mem;
 use unl_usage::{ArgumentsFault, read_arguments};
@@ -37,35 +37,35 @@ impl ProgramArguments {
 /// takes them.
 ///
 /// # Errors
-/// `BadArguments`: there is no path, `read_words` refuses the options, or an argument is not UTF-8. `Memory`: out of memory.
-pub fn read_given(rt: &HostRuntime) -> Result<ProgramArguments, KeepingFault>
+/// `BadArguments`: there is no path, or `read_arguments` or `read_words` refuses what there is. `Memory`: out of memory.
+pub fn read_program_arguments(rt: &HostRuntime) -> Result<ProgramArguments, ProgramFault>
     ensures reads { (words : List (List ℕ)) × IsReading words result }
-    ensures valid { IfOk result (λ given. IsUpstream given.options) }
+    ensures valid { IfOk result (λ arguments. IsUpstream arguments.options) }
 {
     match read_arguments(rt) {
         Ok(words) => read_path_first(rt.alloc(), words),
-        Err(ArgumentsFault::Bad) => Err(KeepingFault::BadArguments),
-        Err(ArgumentsFault::Memory) => Err(KeepingFault::Memory),
+        Err(ArgumentsFault::Bad) => Err(ProgramFault::BadArguments),
+        Err(ArgumentsFault::Memory) => Err(ProgramFault::Memory),
     }
 }
 
 /// Takes the first argument as the path, and puts the command name `upstream` in its place before the options are read.
-fn read_path_first(alloc: Global, mut words: Vec<String>) -> Result<ProgramArguments, KeepingFault>
+fn read_path_first(alloc: Global, mut words: Vec<String>) -> Result<ProgramArguments, ProgramFault>
     ensures reads { IsReading (map string_bytes words.items) result }
-    ensures valid { IfOk result (λ given. IsUpstream given.options) }
+    ensures valid { IfOk result (λ arguments. IsUpstream arguments.options) }
 {
     let command = String::from_str(alloc, "upstream")?;
     let Some(first) = words.first_mut() else {
-        return Err(KeepingFault::BadArguments);
+        return Err(ProgramFault::BadArguments);
     };
     let path = mem::replace(first, command);
     match read_words(alloc, &words) {
         Ok(read) => match upstream_options(read) {
             Some(options) => Ok(ProgramArguments { path, options }),
-            None => Err(KeepingFault::BadArguments),
+            None => Err(ProgramFault::BadArguments),
         },
-        Err(WordsRefusal::Bad) => Err(KeepingFault::BadArguments),
-        Err(WordsRefusal::Memory) => Err(KeepingFault::Memory),
+        Err(WordsRefusal::Bad) => Err(ProgramFault::BadArguments),
+        Err(WordsRefusal::Memory) => Err(ProgramFault::Memory),
     }
 }
 
