@@ -113,9 +113,9 @@ stops_at_once port before after middle same shut unread silent =
     }
 
 -- how an edge ends after it took a draw
-runs_so : (words : EdgeArguments) (end : ServingEnd) (before after : Scene) (draw : Draw) (coming : Coming) → TakesDraw before.draws draw coming
+edge_runs : (words : EdgeArguments) (end : ServingEnd) (before after : Scene) (draw : Draw) (coming : Coming) → TakesDraw before.draws draw coming
     → EdgeEnds (service_of words draw.word) words.port end (record before { draws = coming }) after → EdgeRuns words end before after
-runs_so words end before after draw coming taken ends = by_end end ends
+edge_runs words end before after draw coming taken ends = by_end end ends
   where
     runs : (end : ServingEnd) → EdgeEnds (service_of words draw.word) words.port end (record before { draws = coming }) after → RunsEdge words end before after
     runs end ends = record { draw = draw; coming = coming; taken = taken; ends = ends }
@@ -134,7 +134,7 @@ pub begun_ends : (words : EdgeArguments) (duty : Duty) (board : Board) (end : Se
     → EdgeRuns words end before after
 begun_ends words duty board end before middle after draw coming polls begins same taken ends =
     subst (λ (scene : Scene). EdgeRuns words end scene after) (sym same)
-    (runs_so words end middle after draw coming taken
+    (edge_runs words end middle after draw coming taken
     (subst (λ (service : EdgeService). EdgeEnds service words.port end (record middle { draws = coming }) after)
     (λ i. service_at (polls i) (begins i) words.workers) ends))
 

@@ -244,10 +244,10 @@ ends_kept start port end made last before after is_new_keeper ends back = by_end
 -- ---- the draw before
 
 -- how an upstream ends after it took a draw
-pub runs_so : (words : UpstreamArguments) (end : UpstreamEnd) (before after : Scene) (start : UpstreamState) (coming : Coming)
+pub upstream_runs : (words : UpstreamArguments) (end : UpstreamEnd) (before after : Scene) (start : UpstreamState) (coming : Coming)
     → Begins words before.draws start coming → UpstreamEnds start words.port end (record before { draws = coming }) after
     → UpstreamRuns words end before after
-runs_so words end before after start coming begins ends = by_end end ends
+upstream_runs words end before after start coming begins ends = by_end end ends
   where
     runs : (end : UpstreamEnd) → UpstreamEnds start words.port end (record before { draws = coming }) after
         → RunsUpstream words end before after

@@ -65,13 +65,13 @@ at_memory (Err Memory) scene = refl
 
 -- what holds for the arguments as they were read holds for the arguments
 pub ends_by : (given reading : WordsReading) (status : Status) (before after : Scene)
-    → Gives Memory given reading → Ends given status before after → (given ≡ Err Memory → (status ≡ OutOfMemory) × (after ≡ before))
-    → Ends reading status before after
-ends_by (Ok x) reading status before after gives ends none = subst (λ w. Ends w status before after) (sym gives) ends
-ends_by (Err Bad) reading status before after gives ends none = subst (λ w. Ends w status before after) (sym (gives (λ same. absurd (cc same)))) ends
-ends_by (Err Memory) reading status before after gives ends none =
-    subst (λ (scene : Scene). Ends reading status before scene) (sym (none refl).1)
-    (subst (λ (s : Status). Ends reading s before before) (sym (none refl).0) (at_memory reading before))
+    → Gives Memory given reading → Ends given status before after → LeavesAlone given before after → Ends reading status before after
+ends_by (Ok x) reading status before after gives ends leaves = subst (λ w. Ends w status before after) (sym gives) ends
+ends_by (Err Bad) reading status before after gives ends leaves =
+    subst (λ w. Ends w status before after) (sym (gives (λ same. absurd (cc same)))) ends
+ends_by (Err Memory) reading status before after gives ends leaves =
+    subst (λ (scene : Scene). Ends reading status before scene) (sym leaves)
+    (subst (λ (s : Status). Ends reading s before before) (sym ends) (at_memory reading before))
 
 -- nothing changed
 unchanged : (reading : WordsReading) (scene : Scene) → LeavesAlone reading scene scene
@@ -86,13 +86,13 @@ unchanged (Err Bad) scene = refl
 unchanged (Err Memory) scene = refl
 
 -- what the arguments as they were read leave unchanged, the arguments leave unchanged
-pub leaves_by : (given reading : WordsReading) (status : Status) (before after : Scene)
-    → Gives Memory given reading → LeavesAlone given before after → (given ≡ Err Memory → (status ≡ OutOfMemory) × (after ≡ before))
-    → LeavesAlone reading before after
-leaves_by (Ok x) reading status before after gives leaves none = subst (λ w. LeavesAlone w before after) (sym gives) leaves
-leaves_by (Err Bad) reading status before after gives leaves none = subst (λ w. LeavesAlone w before after) (sym (gives (λ same. absurd (cc same)))) leaves
-leaves_by (Err Memory) reading status before after gives leaves none =
-    subst (λ (scene : Scene). LeavesAlone reading before scene) (sym (none refl).1) (unchanged reading before)
+pub leaves_by : (given reading : WordsReading) (before after : Scene)
+    → Gives Memory given reading → LeavesAlone given before after → LeavesAlone reading before after
+leaves_by (Ok x) reading before after gives leaves = subst (λ w. LeavesAlone w before after) (sym gives) leaves
+leaves_by (Err Bad) reading before after gives leaves =
+    subst (λ w. LeavesAlone w before after) (sym (gives (λ same. absurd (cc same)))) leaves
+leaves_by (Err Memory) reading before after gives leaves =
+    subst (λ (scene : Scene). LeavesAlone reading before scene) (sym leaves) (unchanged reading before)
 
 -- ---- causes
 

@@ -13,7 +13,7 @@ use Rattle.unl_input.proofs.Silent.{prints_cause_alone, within_limits_of}
 use Rattle.unl_upstream.specs.Command.{command_in}
 use Rattle.unl_upstream.specs.History.{accepted, after_commands, if_accepted, up_after}
 use Rattle.unl_upstream.specs.Kept.{most_rows, with_room}
-use Rattle.unl_edge.specs.PlainLines.{obeyed_as, obeyed_by, obeyed_line, refusal_name as plain_name}
+use Rattle.unl_edge.specs.PlainLines.{command_refusal_name, obeyed_as, obeyed_by, obeyed_line}
 use Rattle.unl_upstream.specs.Upstream.{AppliedCommand, CommandResult, UpstreamState, apply_command, refused_as}
 use Rattle.unl_upstream.proofs.Carrying.{both_behind}
 use Rattle.unl_upstream.specs.declared.command.Command.{Command}
@@ -141,7 +141,7 @@ lines_keep start last read is =
 -- ---- the same lines without a keeper
 
 -- the names of refusals are the same
-same_name : (refusal : CommandRefusal) → refusal_name (refused_as refusal) ≡ plain_name refusal
+same_name : (refusal : CommandRefusal) → refusal_name (refused_as refusal) ≡ command_refusal_name refusal
 same_name plain.NoSuchEnvironment = refl
 same_name plain.NoSuchFeature = refl
 same_name plain.NoSuchSegment = refl

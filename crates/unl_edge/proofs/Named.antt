@@ -4,7 +4,7 @@ use Rattle.std.specs.Prelude.{option_map}
 use Rattle.unl_edge.specs.Upstreams.{Facing, NamesLinks}
 use Rattle.unl_keeper.specs.State.{HasKept}
 use Rattle.unl_server.specs.Handling.{Coming}
-use Rattle.unl_server.specs.Linked.{ServesLinks, linking}
+use Rattle.unl_server.specs.Linked.{ServesLinks as ServesObservable, linking}
 use Rattle.unl_upstream.specs.declared.command.Command.{Command}
 use Rattle.unl_upstream.specs.Kept.{Carries, KeptState, acknowledged, kept_commands}
 use Rattle.unl_upstream.specs.KeptLinks.{IsNamed, LinkServed, Linked, AllLinksEffect}
@@ -21,7 +21,7 @@ none_drawn (Some list) = refl
 pub links_named : (opened kept last : KeptState) (commands : List Command) (before after : Facing) (served : ℕ) (links : List (List ℕ))
     (returned : List (List ℕ × ℕ)) → HasKept kept.keeper → kept_commands kept.keeper ≡ option_map (λ kept. kept ++ commands) (kept_commands opened.keeper)
     → IsNamed opened.up opened.keeper.count commands kept
-    → ServesLinks LinkServed (linking kept before.coming before.door) (linking last after.coming after.door) served links returned
+    → ServesObservable LinkServed (linking kept before.coming before.door) (linking last after.coming after.door) served links returned
     → NamesLinks opened commands kept last before after served links returned
 links_named opened kept last commands before after served links returned has keeps named serves =
     let names : AllLinksEffect opened.up opened.keeper.count before.coming commands 0 kept serves.given_links serves.backs last after.coming =

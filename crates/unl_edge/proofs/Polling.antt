@@ -17,8 +17,8 @@ ends_so (Ok u) Done Stopped before after done = inl done
 ends_so (Err e) Done Stopped before after stopped = inr stopped
 
 -- what a turn says of a poller with this duty, whatever its tags and metrics are
-abbrev Ends : Result Unit Memory → Duty → List (Option (List ℕ)) → Book → Installed → PeerView → PollState → Type 0
-Ends result duty tags metrics installed peer after =
+abbrev TurnEndsByResult : Result Unit Memory → Duty → List (Option (List ℕ)) → Book → Installed → PeerView → PollState → Type 0
+TurnEndsByResult result duty tags metrics installed peer after =
     installed.front + duty.slots + 1 < 2 ^ 64 - 1 → duty.slots ≤ length installed.places
     → ByResult result (MakesTurn duty.known duty.upstream duty.slot_pollers) (StopsInTurn duty.known duty.upstream duty.slot_pollers)
     (poll_state installed tags metrics peer) after
@@ -26,7 +26,7 @@ Ends result duty tags metrics installed peer after =
 -- metrics were drained, and then a turn was made
 pub later_made : (duty drained last : Duty) (installed installed_last : Installed) (peer peer_last : PeerView) (result : Result Unit Memory)
     → drained ≡ record duty { metrics = drained.metrics } → DrainsShared duty.metrics drained.metrics → KeepsDuty drained last
-    → Ends result drained drained.tags drained.metrics installed peer (poll_state installed_last last.tags last.metrics peer_last)
+    → TurnEndsByResult result drained drained.tags drained.metrics installed peer (poll_state installed_last last.tags last.metrics peer_last)
     → LaterTurn duty (poll_state installed duty.tags duty.metrics peer) (poll_state installed_last last.tags last.metrics peer_last)
     × SameWork duty last
 later_made duty drained last installed installed_last peer peer_last result same drains keeps ends = (
@@ -44,8 +44,11 @@ later_made duty drained last installed installed_last peer peer_last result same
   },
 )
   where
-    at_duty : Ends result duty duty.tags drained.metrics installed peer (poll_state installed_last last.tags last.metrics peer_last)
-    at_duty = subst (λ (d : Duty). Ends result d d.tags drained.metrics installed peer (poll_state installed_last last.tags last.metrics peer_last)) same ends
+    at_duty :
+        TurnEndsByResult result duty duty.tags drained.metrics installed peer (poll_state installed_last last.tags last.metrics peer_last)
+    at_duty =
+        subst (λ (d : Duty). TurnEndsByResult result d d.tags drained.metrics installed peer
+        (poll_state installed_last last.tags last.metrics peer_last)) same ends
 
 -- ---- several
 

@@ -16,6 +16,7 @@ use Rattle.unl_edge.specs.declared.link_handler.EdgeLinkHandler.{EdgeLinkHandler
 use Rattle.unl_edge.proofs.Polling.{polls_same}
 use Rattle.unl_edge.proofs.Working.{work_concurrently}
 use Rattle.unl_edge_state.specs.Editions.{BoardAt, orderly_opening}
+use Rattle.unl_edge_state.specs.Writing.{LeadsTo}
 use Rattle.unl_publication.specs.declared.knowledge.Knowledge.{Knowledge}
 use Rattle.unl_refresh.specs.Exchange.{PeerView}
 use Rattle.unl_refresh.specs.Turns.{Duty, KeepsDuty, MakesTurn, PollState, poll_state}
@@ -107,11 +108,11 @@ pub work_on_each : {W R L : Type 0} (coming_of : R → Coming) (left sent : L �
     → IfOk served (λ outcome. AllZip (ServesSlot ServesAt ReadsOnAt coming_of) before outcome.slots.items)
     → IfOk served (λ outcome. 0 < length before
     → EachLinkServedOnce ServesAt coming_of left sent faults door door_after outcome.accepted.links before outcome.slots.items)
-    → IfOk result (λ accepted. 0 < workers → WorkOnEachLink workers known.opening (length known.installs) door door_after accepted.links)
+    → IfOk result (λ accepted. 0 < workers → WorkOnEachLink workers known.opening known.installs door door_after accepted.links)
 unfolding work_concurrently
 work_on_each coming_of left sent faults door door_after known before workers (Ok outcome) result is many learned all every =
     subst (λ (r : Result AcceptOutcome PoolFault).
-    IfOk r (λ accepted. 0 < workers → WorkOnEachLink workers known.opening (length known.installs) door door_after accepted.links))
+    IfOk r (λ accepted. 0 < workers → WorkOnEachLink workers known.opening known.installs door door_after accepted.links))
     (sym is)
     (λ some. record {
       work = work_concurrently coming_of known before outcome.slots.items workers many learned all;
@@ -120,7 +121,7 @@ work_on_each coming_of left sent faults door door_after known before workers (Ok
     })
 work_on_each coming_of left sent faults door door_after known before workers (Err fault) result is many learned all every =
     subst (λ (r : Result AcceptOutcome PoolFault).
-    IfOk r (λ accepted. 0 < workers → WorkOnEachLink workers known.opening (length known.installs) door door_after accepted.links))
+    IfOk r (λ accepted. 0 < workers → WorkOnEachLink workers known.opening known.installs door door_after accepted.links))
     (sym is) tt
 
 -- ---- an edge service
@@ -130,15 +131,17 @@ pub each_after_turn : (service : EdgeService) (now : Duty) (begun ended : PollSt
     (served : Result AcceptOutcome PoolFault)
     → MakesTurn service.duty.known service.duty.upstream service.duty.slot_pollers
     (poll_state service.opening service.duty.tags service.duty.metrics peer) begun
-    → KeepsDuty service.duty now → OnOk served (PollsOn now begun ended) → ended.peer ≡ peer_after
-    → IfOk served
-    (λ accepted. 0 < service.workers → WorkOnEachLink service.workers service.edition begun.installed.front door door_after accepted.links)
+    → KeepsDuty service.duty now → OnOk served (PollsOn now begun ended) → ended.peer ≡ peer_after → (edition : Option BoardAt) (installs : List Install)
+    → edition ≡ service.edition → LeadsTo edition installs begun.installed
+    → IfOk served (λ accepted. 0 < service.workers → WorkOnEachLink service.workers edition installs door door_after accepted.links)
     → IfOk served (λ accepted. 0 < service.workers → ServesEachLink service peer peer_after door door_after accepted.links)
-each_after_turn service now begun ended peer peer_after door door_after (Ok accepted) turn keeps polls same every = λ some.
-    let each = every some in
+each_after_turn service now begun ended peer peer_after door door_after (Ok accepted) turn keeps polls same edition installs opens leads every = λ some.
+    let each = subst (λ (e : Option BoardAt). WorkOnEachLink service.workers e installs door door_after accepted.links) opens (every some) in
     record {
       runs = record {
         first = begun.installed;
+        installs = installs;
+        leads = subst (λ (e : Option BoardAt). LeadsTo e installs begun.installed) opens leads;
         polls = record {
           begun = begun;
           installed = refl;
@@ -151,7 +154,7 @@ each_after_turn service now begun ended peer peer_after door door_after (Ok acce
       };
       each = each.each;
     }
-each_after_turn service now begun ended peer peer_after door door_after (Err fault) turn keeps polls same every = tt
+each_after_turn service now begun ended peer peer_after door door_after (Err fault) turn keeps polls same edition installs opens leads every = tt
 
 -- the same edge service, by its parts
 pub same_service : (duty : Duty) (board : Board) (begun : Installed) (edition : Option BoardAt) (workers readers : ℕ)

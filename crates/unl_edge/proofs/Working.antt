@@ -1,17 +1,17 @@
 -- What happened at the worker slots, as the work of workers.
-use Rattle.std.proofs.Common.{◌≡◌, ◌≤◌, ◌+◌, ◌∙◌, ℕ, zero, suc, List, [], ◌∷◌, ◌++◌, length, map, Option, Result, Ok, Err}
+use Rattle.std.proofs.Common.{◌≡◌, ◌≤◌, ◌+◌, ◌∙◌, ℕ, zero, suc, List, [], ◌∷◌, ◌++◌, length, map, Option, Some, Result, Ok, Err}
 use Rattle.std.proofs.Common.{ap, arith, refl, subst, sym}
-use Rattle.std.specs.Prelude.{All, OnOk}
+use Rattle.std.specs.Prelude.{All, IfSome, OnOk}
 use Rattle.std.specs.List.{AllZip}
 use Rattle.std.proofs.lemmas.List.{length-map}
 use Rattle.std.proofs.lemmas.List.Elements.{All-cons, All-head, All-nil, All-push, All-tail}
 use Rattle.unl_base.specs.Doors.{DoorState}
 use Rattle.unl_core.specs.declared.board.Install.{Install}
 use Rattle.unl_edge.specs.LinkHandling.{HasLearned, IsOfOrigin, ReadsOnAt, ServesAt}
-use Rattle.unl_edge.specs.EdgeServices.{ServesLinks, WorkConcurrently, Worker, Works, worker_of}
+use Rattle.unl_edge.specs.EdgeServices.{WorkConcurrently, Worker, WorkerServesLinks, Works, worker_of}
 use Rattle.unl_edge.specs.declared.link_handler.EdgeLinkHandler.{EdgeLinkHandler}
 use Rattle.unl_edge_state.specs.Editions.{BoardAt}
-use Rattle.unl_edge_state.specs.Reading.{IsNewReader, SeesInOrder, seen_by, learned_front_of}
+use Rattle.unl_edge_state.specs.Reading.{BeginsWith, IsNewReader, SeesInOrder, seen_by, learned_front_of}
 use Rattle.unl_edge_state.proofs.Looks.{sees_in_order}
 use Rattle.unl_edge_state.specs.Writing.{Writing, installed_by}
 use Rattle.unl_edge.specs.Edges.{accepted_in}
@@ -23,6 +23,7 @@ use Rattle.unl_edge_state.specs.declared.reader.EdgeReader.{EdgeReader}
 use Rattle.unl_server.specs.Handling.{Coming}
 use Rattle.unl_metrics.specs.Book.{Book}
 use Rattle.unl_publication.specs.declared.knowledge.Knowledge.{Knowledge}
+use Rattle.unl_publication.specs.Rule.{shared_knowledge}
 use Rattle.unl_connection.specs.Notes.{Rise}
 use Rattle.unl_connection.specs.declared.served.ServedOne.{ServedOne}
 use Rattle.unl_refresh.proofs.Connecting.{connects_still}
@@ -45,7 +46,7 @@ works_by serving = record { reader = serving.server.desk.reader; book = serving.
 
 -- links that were served
 links_served : {W : Type 0} (n : ℕ) (before after : Serving (EdgeLinkHandler W)) → ServesMany ServesAt n before after
-    → ServesLinks n (works_by before) (works_by after)
+    → WorkerServesLinks n (works_by before) (works_by after)
 unfolding works_by
 links_served zero before after many = ap works_by many
 links_served (suc n) before after many =
@@ -87,6 +88,26 @@ all_open {W} {R} coming_of known (pool_slot ∷ pool_slots) learned =
     (All-head (λ (p : WorkerSlot (EdgeLinkHandler W) R). HasLearned known p.server.desk.reader) pool_slot pool_slots learned).opens
     (all_open coming_of known pool_slots (All-tail (λ (p : WorkerSlot (EdgeLinkHandler W) R). HasLearned known p.server.desk.reader) pool_slot pool_slots learned))
 
+-- a reader that learned what the writer knows
+pub begins_shared : (known : Knowledge BoardAt Install) (told : Option (Knowledge BoardAt Install)) (reader : EdgeReader)
+    → IfSome told (λ list. list ≡ shared_knowledge known)
+    → (list : Knowledge BoardAt Install) × (told ≡ Some list) × BeginsWith list.opening list.installs reader
+    → BeginsWith known.opening known.installs reader
+begins_shared known told reader shared said =
+    let same : said.0 ≡ shared_knowledge known =
+    subst (λ (o : Option (Knowledge BoardAt Install)). IfSome o (λ list. list ≡ shared_knowledge known)) said.1 shared in
+    subst (λ (list : Knowledge BoardAt Install). BeginsWith list.opening list.installs reader) same said.2
+
+-- the installs that they begin with
+pub all_begin : {W R : Type 0} (coming_of : R → Coming) (known : Knowledge BoardAt Install) (pool_slots : List (WorkerSlot (EdgeLinkHandler W) R))
+    → All (λ pool_slot. HasLearned known pool_slot.server.desk.reader) pool_slots
+    → All (λ worker. BeginsWith known.opening known.installs worker.reader) (map (worker_of coming_of) pool_slots)
+all_begin coming_of known [] learned = All-nil (λ (worker : Worker). BeginsWith known.opening known.installs worker.reader)
+all_begin {W} {R} coming_of known (pool_slot ∷ pool_slots) learned =
+    All-cons (λ (worker : Worker). BeginsWith known.opening known.installs worker.reader) (worker_of coming_of pool_slot) (map (worker_of coming_of) pool_slots)
+    (All-head (λ (p : WorkerSlot (EdgeLinkHandler W) R). HasLearned known p.server.desk.reader) pool_slot pool_slots learned).begins
+    (all_begin coming_of known pool_slots (All-tail (λ (p : WorkerSlot (EdgeLinkHandler W) R). HasLearned known p.server.desk.reader) pool_slot pool_slots learned))
+
 -- what their readers see
 pub all_ordered : {W R : Type 0} (coming_of : R → Coming) (pool_slots : List (WorkerSlot (EdgeLinkHandler W) R))
     → All (λ worker. SeesInOrder worker.reader) (map (worker_of coming_of) pool_slots)
@@ -118,13 +139,14 @@ others_new readers rest reader steps all =
 -- the workers worked concurrently
 unfoldable pub work_concurrently : {W R : Type 0} (coming_of : R → Coming) (known : Knowledge BoardAt Install) (before after : List (WorkerSlot (EdgeLinkHandler W) R))
     (workers : ℕ) → length before ≡ workers → All (λ pool_slot. HasLearned known pool_slot.server.desk.reader) before
-    → AllZip (ServesSlot ServesAt ReadsOnAt coming_of) before after → WorkConcurrently workers known.opening (length known.installs)
+    → AllZip (ServesSlot ServesAt ReadsOnAt coming_of) before after → WorkConcurrently workers known.opening known.installs
 work_concurrently coming_of known before after workers many learned all = record {
   begun = map (worker_of coming_of) before;
   ended = map (worker_of coming_of) after;
   many = length-map before (worker_of coming_of) ∙ many;
   opens = all_open coming_of known before learned;
   learned = all_learned coming_of known before learned;
+  begins = all_begin coming_of known before learned;
   worked = all_served_links coming_of before after all;
   ordered = all_ordered coming_of after;
 }

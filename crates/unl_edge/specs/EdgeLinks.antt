@@ -1,6 +1,7 @@
 -- Each link that the door of an edge handed out was served once, by one of the workers.
 use Rattle.std.specs.Prelude.{◌≡◌, ℕ, List, [], ◌∷◌, Option, flat_map, length}
 use Rattle.unl_base.specs.Doors.{DoorState}
+use Rattle.unl_core.specs.declared.board.Install.{Install}
 use Rattle.unl_edge.specs.EdgeServices.{EdgeService, RunsService, WorkConcurrently, Worker}
 use Rattle.unl_edge.specs.LinkHandling.{ServesOver}
 use Rattle.unl_edge_state.specs.Editions.{BoardAt}
@@ -38,8 +39,8 @@ pub record EachLinkServed (door door_after : DoorState) (count : ℕ) (begun end
 
 -- workers served links concurrently, each link of the door once
 pub record WorkOnEachLink
-    (workers : ℕ) (edition : Option BoardAt) (front : ℕ) (door door_after : DoorState) (count : ℕ) : Type 0 where
-  pub work : WorkConcurrently workers edition front
+    (workers : ℕ) (edition : Option BoardAt) (installs : List Install) (door door_after : DoorState) (count : ℕ) : Type 0 where
+  pub work : WorkConcurrently workers edition installs
   pub each : EachLinkServed door door_after count work.begun work.ended
 
 -- an edge service ran, and its workers served each link of the door once

@@ -4,12 +4,14 @@ use Rattle.std.specs.List.{AllZip}
 use Rattle.unl_core.specs.Board.{empty_slot}
 use Rattle.unl_core.specs.DeskStates.{place_at}
 use Rattle.unl_core.specs.declared.board.Board.{Board}
+use Rattle.unl_core.specs.declared.board.Install.{Install}
 use Rattle.unl_delta.specs.Installing.{Installed}
 use Rattle.unl_edge.specs.LinkHandling.{ServesOver}
 use Rattle.unl_edge.specs.Polling.{PollsUpstream}
 use Rattle.unl_edge.specs.declared.link_handler.EdgeLinkHandler.{EdgeLinkHandler}
 use Rattle.unl_edge_state.specs.Editions.{BoardAt, orderly_opening}
-use Rattle.unl_edge_state.specs.Reading.{SeesInOrder, seen_by, learned_front_of}
+use Rattle.unl_edge_state.specs.Reading.{BeginsWith, SeesInOrder, seen_by, learned_front_of}
+use Rattle.unl_edge_state.specs.Writing.{LeadsTo}
 use Rattle.unl_edge_state.specs.declared.reader.EdgeReader.{EdgeReader}
 use Rattle.unl_server.specs.Handling.{Coming}
 use Rattle.unl_server.specs.Links.{LinkState}
@@ -69,37 +71,41 @@ abbrev pub worker_of : {W R : Type 0} → (R → Coming) → WorkerSlot (EdgeLin
 worker_of coming_of pool_slot =
     record { reader = pool_slot.server.desk.reader; book = pool_slot.server.book; coming = coming_of pool_slot.draws }
 
--- a link was served
+-- a worker served a link
 pub record ServesALink (before after : Worker) : Type 0 where
   pub link : LinkState
   pub link_after : LinkState
   pub served : ServesOver before.reader before.book before.coming link link_after after.reader after.book after.coming
 
--- `n` links were served, one after another
-abbrev pub ServesLinks : ℕ → Worker → Worker → Type 0
-ServesLinks zero before after = after ≡ before
-ServesLinks (suc n) before after = (middle : Worker) × ServesLinks n before middle × ServesALink middle after
+-- a worker served `n` links, one after another
+abbrev pub WorkerServesLinks : ℕ → Worker → Worker → Type 0
+WorkerServesLinks zero before after = after ≡ before
+WorkerServesLinks (suc n) before after = (middle : Worker) × WorkerServesLinks n before middle × ServesALink middle after
 
 -- a worker served some number of links
 abbrev pub Works : Worker → Worker → Type 0
-Works before after = (links : ℕ) × ServesLinks links before after
+Works before after = (links : ℕ) × WorkerServesLinks links before after
 
--- `workers` workers served links concurrently, over what was published after this board. Each had learned of at least `front`
--- publications before its first link. The list that each saw is orderly, and no board that it knows has an older version at a
+-- `workers` workers served links concurrently, over what was published after this board. Each began with exactly these installs,
+-- which it had learned before its first link. The list that each saw is orderly, and no board that it knows has an older version at a
 -- slot than one at a smaller front.
-pub record WorkConcurrently (workers : ℕ) (edition : Option BoardAt) (front : ℕ) : Type 0 where
+pub record WorkConcurrently (workers : ℕ) (edition : Option BoardAt) (installs : List Install) : Type 0 where
   pub begun : List Worker
   pub ended : List Worker
   pub many : length begun ≡ workers
   pub opens : All (λ worker. (seen_by worker.reader).opening ≡ edition) begun
-  pub learned : All (λ worker. front ≤ learned_front_of worker.reader) begun
+  pub learned : All (λ worker. length installs ≤ learned_front_of worker.reader) begun
+  pub begins : All (λ worker. BeginsWith edition installs worker.reader) begun
   pub worked : AllZip Works begun ended
   pub ordered : All (λ worker. SeesInOrder worker.reader) ended
 
 -- The upstream was polled: each exchange of the first turn had its request and its effect, whether it got a reply or the peer
 -- failed, and so had those of the later turns. All that the peer was sent are these requests, each as one more text of its history.
--- After the first turn the workers served links over no board earlier than the last one that it published.
+-- These installs are what the first turn published, and they lead to what was installed then. After it the workers began with them,
+-- and served links over no board earlier than the last one that it published.
 pub record RunsService (service : EdgeService) (peer peer_after : PeerView) : Type 0 where
   pub first : Installed
+  pub installs : List Install
+  pub leads : LeadsTo service.edition installs first
   pub polls : PollsUpstream service.duty service.opening peer first peer_after
-  pub work : WorkConcurrently service.workers service.edition first.front
+  pub work : WorkConcurrently service.workers service.edition installs

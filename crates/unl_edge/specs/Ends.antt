@@ -88,10 +88,10 @@ PrintsBadArguments words.OutOfMemory old new = new ≡ old
 -- ---- the program
 
 -- a command ended with `end`, which gives this status
-pub record Ended {E : Type 0} (status_of : E → Status) (Ends : E → Type 0) (status : Status) : Type 0 where
+pub record Ended {E : Type 0} (status_of : E → Status) (EndsSo : E → Type 0) (status : Status) : Type 0 where
   pub end : E
   pub is : status ≡ status_of end
-  pub ends : Ends end
+  pub ends : EndsSo end
 
 -- How the program ends, by the command of its arguments.
 abbrev pub Ends : WordsReading → Status → Scene → Scene → Type 0
@@ -131,7 +131,7 @@ LeavesAlone (Err Memory) before after = after ≡ before
 
 -- the exit code is that of a status with which the program ended
 abbrev pub Exits : ℕ → (Status → Type 0) → Type 0
-Exits code Ends = (status : Status) × (code ≡ code_of status) × Ends status
+Exits code EndsSo = (status : Status) × (code ≡ code_of status) × EndsSo status
 
 -- The code of an input or output fault is returned only if that endpoint failed; that of a door fault only if the door failed or no job
 -- could be started; that of a keeper fault only if the maker's fault count rose, and then no link was handed out.

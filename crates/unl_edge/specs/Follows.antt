@@ -2,13 +2,13 @@
 use Rattle.std.specs.Prelude.{None, Result}
 use Rattle.unl_edge.specs.Scene.{Scene}
 use Rattle.unl_follow.specs.Replica.{Subject}
-use Rattle.unl_follow.specs.Run.{Ends, Runs}
+use Rattle.unl_follow.specs.Run.{Ends as Endpoints, Runs}
 use Rattle.unl_follow.specs.declared.fault.FollowFault.{FollowFault}
 use Rattle.unl_refresh.specs.declared.ask.Ask.{Ask}
 use Rattle.unl_words.specs.declared.words.FollowArguments.{FollowArguments}
 
 -- the endpoints of the program that a run of turns uses
-abbrev pub ends_in : Scene → Ends
+abbrev pub ends_in : Scene → Endpoints
 ends_in scene =
     record { peer = scene.peer.state; faults = scene.peer.faults; coming = scene.draws; sent = scene.output.sent }
 

@@ -5,7 +5,7 @@ use Rattle.unl_edge.specs.declared.link_handler.EdgeLinkHandler.{EdgeLinkHandler
 use Rattle.unl_edge_state.specs.declared.reader.EdgeReader.{EdgeReader}
 use Rattle.unl_core.specs.declared.board.Install.{Install}
 use Rattle.unl_edge_state.specs.Editions.{BoardAt}
-use Rattle.unl_edge_state.specs.Reading.{board_of, next_of, seen_by, learned_front_of}
+use Rattle.unl_edge_state.specs.Reading.{BeginsWith, board_of, next_of, seen_by, learned_front_of}
 use Rattle.unl_server.specs.Handling.{Coming}
 use Rattle.unl_server.specs.Conversation.{Converses}
 use Rattle.unl_server.specs.Links.{LinkState}
@@ -23,10 +23,12 @@ pub record IsOfOrigin (known : Knowledge BoardAt Install) (reader : EdgeReader) 
   pub next : SameOrigin known (next_of reader)
   pub seen : (seen_by reader).opening ≡ known.opening
 
--- The reader has learned all that is known, so it answers from no earlier board; and it knows the same first board.
+-- The reader has learned all that is known, so it answers from no earlier board; and it knows the same first board. It begins with
+-- exactly the installs that are known.
 pub record HasLearned (known : Knowledge BoardAt Install) (reader : EdgeReader) : Type 0 where
   pub least : length known.installs ≤ learned_front_of reader
   pub opens : (seen_by reader).opening ≡ known.opening
+  pub begins : BeginsWith known.opening known.installs reader
 
 -- a bound from below on the fronts that a reader answers from: the number of publications that it learned of or saw
 abbrev pub least_front : EdgeReader → ℕ

@@ -10,17 +10,17 @@ use Rattle.unl_upstream.specs.Command.{command_in}
 use Rattle.unl_upstream.specs.Upstream.{UpstreamState, CommandResult, AppliedCommand, apply_command}
 
 -- the name of a refusal; out of memory is not one, and has none
-abbrev pub refusal_name : CommandRefusal → List ℕ
-refusal_name NoSuchEnvironment = codes "NoSuchEnvironment"
-refusal_name NoSuchFeature = codes "NoSuchFeature"
-refusal_name NoSuchSegment = codes "NoSuchSegment"
-refusal_name (TooMany n) = codes "TooMany"
-refusal_name Memory = []
+abbrev pub command_refusal_name : CommandRefusal → List ℕ
+command_refusal_name NoSuchEnvironment = codes "NoSuchEnvironment"
+command_refusal_name NoSuchFeature = codes "NoSuchFeature"
+command_refusal_name NoSuchSegment = codes "NoSuchSegment"
+command_refusal_name (TooMany n) = codes "TooMany"
+command_refusal_name Memory = []
 
 -- an accepted command prints nothing
 abbrev pub obeyed_as : CommandResult AppliedCommand → LineResult UpstreamState
 obeyed_as (Ok obeyed) = Ok (record { text = []; desk = obeyed.up })
-obeyed_as (Err refusal) = Err (refusal_name refusal)
+obeyed_as (Err refusal) = Err (command_refusal_name refusal)
 
 -- the command that a line spells is executed, if it spells one
 abbrev pub obeyed_by : UpstreamState → Reading Command → LineResult UpstreamState

@@ -119,6 +119,7 @@ where
     let (mut writer, turned) = turn_by(alloc, &mut poller, writer, peer);
     match turned {
         Ok(()) => {
+            writer.leads_here();
             let served = serve_after(
                 alloc,
                 rt,
@@ -172,7 +173,7 @@ where
         (poll_state (installed_by writer.new) poller.new.tags poller.new.metrics
         (peer_view (P.state peer.new) (P.Source.faults peer.new)))) }
     ensures each_link_served_once { IfOk result (λ accepted. 0 < length readers.items
-        → WorkOnEachLink (length readers.items) writer.old.known.opening (length writer.old.known.installs)
+        → WorkOnEachLink (length readers.items) writer.old.known.opening writer.old.known.installs
         (D.state door.old) (D.state door.new) accepted.links) }
     ensures causes { HasCauses (λ accepted. accepted) result
         (D.faults door.old) (D.faults door.new) (S.faults spawner.old) (S.faults spawner.new) }

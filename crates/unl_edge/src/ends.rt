@@ -5,7 +5,7 @@ ghost use Rattle.unl_edge.specs.Upstreams.{line_end};
 use unl_input::{LinesFault, WriteLineFault};
 
 /// The outcome of a check.
-#[derive(Clone, Copy, Debug, PartialEq, Eq)]
+#[derive(Clone, Copy)]
 pub enum CheckEnd {
     /// All tests passed.
     Passed,
@@ -22,7 +22,7 @@ pub enum CheckEnd {
 }
 
 /// The outcome of serving the links of a door.
-#[derive(Clone, Copy, Debug, PartialEq, Eq)]
+#[derive(Clone, Copy)]
 pub enum ServingEnd {
     /// The door was closed, and the count of the links was printed.
     Closed,
@@ -48,7 +48,7 @@ impl ServingEnd {
 }
 
 /// The outcome of an upstream.
-#[derive(Clone, Copy, Debug, PartialEq, Eq)]
+#[derive(Clone, Copy)]
 pub enum UpstreamEnd {
     /// Memory ran out before it took lines.
     OutOfMemory,
@@ -63,7 +63,7 @@ pub enum UpstreamEnd {
 }
 
 /// The outcome for arguments that name no command.
-#[derive(Clone, Copy, Debug, PartialEq, Eq)]
+#[derive(Clone, Copy)]
 pub enum ArgumentsEnd {
     /// The arguments are bad, and that was printed.
     Bad,

@@ -10,7 +10,7 @@ use unl_input::{LinesFault, WriteLineFault};
 use unl_load::LoadFault;
 
 /// How the program ends.
-#[derive(Clone, Copy, Debug, PartialEq, Eq)]
+#[derive(Clone, Copy)]
 pub enum Status {
     /// All of the input was processed; all tests of a check passed; a door was closed.
     Done,

@@ -51,7 +51,7 @@ fn worker_slot_of<'a, R: Draws + Drop, W: Wait>(
     ensures draws { R.coming draws.new ≡ R.coming draws.old }
     ensures learned { IfOk result (λ pool_slot. HasLearned writer.old.known pool_slot.server.desk.reader) }
 {
-    reader.learn(writer.tell());
+    reader.learn_all(writer.tell())?;
     let handler = EdgeLinkHandler::new(alloc, rt, shared, reader)?;
     Ok(WorkerSlot::new(handler, draws.split()))
 }

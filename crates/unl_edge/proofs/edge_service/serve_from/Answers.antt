@@ -19,4 +19,5 @@ returns-in-Ok-clause-each_link_served_once g c =
       opening = installed_by c.args.writer;
       edition = c.args.writer.known.opening;
       workers = length c.args.readers.items;
-    }) _ _ _ _ _ _ _ c.serve_after-served.result turn c.turn_by-writer.ensures.same c.serve_after-served.ensures.polls refl (search rules)
+    }) _ _ _ _ _ _ _ c.serve_after-served.result turn c.turn_by-writer.ensures.same c.serve_after-served.ensures.polls refl _ _
+    c.turn_by-writer.ensures.origin.1 c.leads_here.ensures c.serve_after-served.ensures.each_link_served_once

@@ -1,11 +1,11 @@
 use Rattle.std.proofs.Common.{refl}
-use Rattle.unl_edge.proofs.Commands.{runs_so}
+use Rattle.unl_edge.proofs.Commands.{upstream_runs}
 use Rattle.unl_edge.proofs.upstreams.run_upstream.Goals as goal
 
 pub returns-in-Ok-clause-runs : goal.returns-in-Ok-clause-runs
 returns-in-Ok-clause-runs g c =
     rw (← c.world.view_is)
-    (runs_so c.args.words.now c.run_kept.result _
+    (upstream_runs c.args.words.now c.run_kept.result _
     c.run_kept.new.world c.in-Ok.fresh (g.R.Draws.coming c.draw-boot.new.self)
     (record { draw = c.draw-boot.result; taken = c.draw-boot.ensures.drawn; opens = c.in-Ok.ensures })
     c.run_kept.ensures.ends)

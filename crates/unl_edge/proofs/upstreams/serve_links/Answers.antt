@@ -27,3 +27,13 @@ returns-then-is_err-clause-ends g c =
       inl (refl, listened_nowhere _ _ _ _ couldnt listens),
       refl,
     )
+
+-- the count was printed, in full, in part or not at all
+pub returns-in-Ok-print_connections-clause-ends : goal.returns-in-Ok-print_connections-clause-ends
+returns-in-Ok-print_connections-clause-ends g c = (c.in-Ok.served, search rules, search rules, search rules)
+
+pub returns-in-Err-WriteFault-clause-ends : goal.returns-in-Err-WriteFault-clause-ends
+returns-in-Err-WriteFault-clause-ends g c = (c.in-Ok.served, search rules, search rules, search rules)
+
+pub returns-in-Err-Memory-clause-ends : goal.returns-in-Err-Memory-clause-ends
+returns-in-Err-Memory-clause-ends g c = (c.in-Ok.served, search rules, search rules, search rules)
