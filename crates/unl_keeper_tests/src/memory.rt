@@ -1,4 +1,4 @@
-//! Reopening a keeper in memory that has rows, which no program does.
+//! A test that reopens a keeper in memory which has rows already. No program does that.
 use crate::upstreams::{opened, put, state_of_dev};
 use std::alloc::Global;
 use unl_documents::List;

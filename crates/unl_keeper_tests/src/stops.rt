@@ -1,4 +1,4 @@
-//! A test that stops the machine at each of its disk calls in turn, while commands are kept.
+//! A test that stops the machine at each of its disk calls in turn, while an upstream keeps commands.
 ghost use Rattle.std.specs.Prelude.{◌≡◌, true};
 
 use crate::machine::Machine;
@@ -32,7 +32,7 @@ fn put_all<K: Keeper>(alloc: Global, up: &mut Upstream, keeper: &mut K) -> u64
     done
 }
 
-/// Opens a database, or returns its files.
+/// Opens a database over these files, or returns them if that fails.
 fn open<D: Disk + Drop>(
     alloc: Global,
     files: Files<D>,
@@ -75,7 +75,7 @@ fn found<D: Disk + Drop>(alloc: Global, files: Files<D>) -> Option<u64> {
     }
 }
 
-/// Returns what a stop leaves of a file: all that was written, or if it `loses` the rest, what was synced.
+/// Returns what a stop leaves of a file: all that was written, or if the stop `loses` what was not synced, only the rest.
 fn after(machine: Machine<Memory>, loses: bool) -> Memory {
     let mut disk = machine.into_inner();
     if loses {
@@ -84,29 +84,29 @@ fn after(machine: Machine<Memory>, loses: bool) -> Memory {
     disk
 }
 
-/// Returns two empty files of a machine that stops when this clock is at 0.
-fn files_of(alloc: Global, clock: &Rc<Cell<u64>>) -> Option<Files<Machine<Memory>>> {
+/// Returns two empty files of a machine that stops when no call is left.
+fn files_of(alloc: Global, calls_left: &Rc<Cell<u64>>) -> Option<Files<Machine<Memory>>> {
     Some(Files {
-        log: Machine::new(Memory::new(alloc), clock.clone().ok()?),
-        db: Machine::new(Memory::new(alloc), clock.clone().ok()?),
+        log: Machine::new(Memory::new(alloc), calls_left.clone().ok()?),
+        db: Machine::new(Memory::new(alloc), calls_left.clone().ok()?),
     })
 }
 
 /// Runs on a machine that stops after this number of disk calls. Returns how many commands were acknowledged, how many are
 /// found after reopening, and whether the machine used up its calls.
 fn stops_at(alloc: Global, calls: u64, loses: bool) -> Option<(u64, u64, bool)> {
-    let clock = Rc::new(alloc, Cell::new(calls)).ok()?;
-    let (done, Files { log, db }) = run(alloc, files_of(alloc, &clock)?);
+    let calls_left = Rc::new(alloc, Cell::new(calls)).ok()?;
+    let (done, Files { log, db }) = run(alloc, files_of(alloc, &calls_left)?);
     let files = Files {
         log: after(log, loses),
         db: after(db, loses),
     };
-    Some((done, found(alloc, files)?, clock.get() == 0))
+    Some((done, found(alloc, files)?, calls_left.get() == 0))
 }
 
 /// Runs with 0, 1, 2 and so on allowed disk calls, and returns the first number that a run does not use up. Returns `None` if
-/// some run, reopened, has neither what it acknowledged nor that and one more command, or if the last run lacks one of the
-/// ten.
+/// some reopened upstream has neither exactly the acknowledged commands nor these and one more, or if that of the last run does
+/// not have all ten.
 fn calls_of_a_run(alloc: Global, loses: bool) -> Option<u64> {
     for calls in 0..MOST {
         let (done, found, stopped) = stops_at(alloc, calls, loses)?;

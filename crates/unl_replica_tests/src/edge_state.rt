@@ -1,4 +1,4 @@
-//! Tests of an edge writer that publishes concurrently with its readers.
+//! A test of an edge writer that publishes while its readers answer requests in threads of their own.
 use std::alloc::Global;
 use std::sync::Wait;
 use std::test::Fail;
@@ -13,10 +13,10 @@ use unl_tokens::Book;
 
 const TOKENS: &[u8] = br#"{"tokens":[{"token":"*:dev.f","type":"frontend"}]}"#;
 
-/// The front and the status of an answer.
-type Look = (u64, u16);
+/// The front of an answer (how many publications its board had), and its status.
+type FrontAndStatus = (u64, u16);
 
-/// Returns a writer and two readers of a board with one empty slot, of an orderly publication or not.
+/// Creates a writer and two readers of a board with one empty slot, by `begin` or by `begin_orderly`.
 fn begun<'a, W: Wait>(
     rt: &'a W,
     alloc: Global,
@@ -30,7 +30,7 @@ fn begun<'a, W: Wait>(
     begin(rt, alloc, board, 2)
 }
 
-/// Publishes a book.
+/// Publishes a token book.
 fn publish_book<W: Wait>(alloc: Global, writer: &mut EdgeWriter<'_, W>) -> Result<(), Memory> {
     let Ok(book) = Book::read(alloc, TOKENS) else {
         return Err(Memory);
@@ -45,8 +45,8 @@ fn publish_book<W: Wait>(alloc: Global, writer: &mut EdgeWriter<'_, W>) -> Resul
     }
 }
 
-/// Requests the toggles of a token.
-fn ask(alloc: Global, reader: &mut EdgeReader) -> Result<Look, Memory> {
+/// Requests the toggles that a token may see.
+fn ask(alloc: Global, reader: &mut EdgeReader) -> Result<FrontAndStatus, Memory> {
     let request = Request {
         method: Method::Get,
         target: List::from_slice(alloc, b"/api/frontend")?,
@@ -60,10 +60,10 @@ fn ask(alloc: Global, reader: &mut EdgeReader) -> Result<Look, Memory> {
     Ok((front, answer.reply.status))
 }
 
-/// The status of an answer: at front 0 the token is unknown; later its environment has no state.
+/// The status of an answer at front 0, where the token is unknown, and at each later one, where its environment has no state.
 const STATUSES: [u16; 2] = [403, 503];
 
-/// Publishes a book 20 times.
+/// A job that publishes a token book 20 times.
 struct Publishing<'a, 'w, W: Wait> {
     writer: &'a mut EdgeWriter<'w, W>,
     alloc: Global,
@@ -88,7 +88,7 @@ impl<W: Wait> Job for Publishing<'_, '_, W> {
     fn cancel(&mut self) {}
 }
 
-/// Sends 200 requests. Each answer must be that of the board at its front, and the fronts must not fall.
+/// A job that sends 200 requests. Each answer must be that of the board at its front, and the fronts must not fall.
 #[derive(Drop)]
 struct Asking {
     reader: EdgeReader,
@@ -137,7 +137,7 @@ fn askers(alloc: Global, readers: Vec<EdgeReader>) -> Result<Vec<Asking>, Memory
     Ok(asking)
 }
 
-/// Publishes on this thread while each reader answers requests in its own thread.
+/// Publishes on this thread while each reader answers requests in its own thread. Returns whether every answer was right.
 fn publish_concurrently<R: Threads + Wait>(
     rt: &R,
     alloc: Global,
@@ -163,14 +163,19 @@ fn publish_concurrently<R: Threads + Wait>(
     }
 }
 
-/// Whether what the writer reports has its list, for each of the two readers.
+/// Whether the writer can report its list of installs to two readers.
 fn reports_lists<W: Wait>(writer: &mut EdgeWriter<'_, W>) -> bool {
     let first = writer.tell();
     let second = writer.tell();
     first.has_list() && second.has_list()
 }
 
-fn side_by_side<R: Threads + Wait>(rt: &R, alloc: Global, orderly: bool) -> Result<bool, Memory> {
+/// Publishes while two readers answer. Returns whether every answer was right, and whether the writer could report its list to both.
+fn readers_answer_while_it_publishes<R: Threads + Wait>(
+    rt: &R,
+    alloc: Global,
+    orderly: bool,
+) -> Result<bool, Memory> {
     let (mut writer, readers) = begun(rt, alloc, orderly)?;
     let whole = reports_lists(&mut writer);
     let good = match askers(alloc, readers) {
@@ -182,8 +187,8 @@ fn side_by_side<R: Threads + Wait>(rt: &R, alloc: Global, orderly: bool) -> Resu
 }
 
 #[test]
-fn a_writer_publishes_beside_readers(rt: HostRuntime) -> Result<(), Fail> {
-    assert!(rt; side_by_side(&rt, rt.alloc(), false)?);
-    assert!(rt; side_by_side(&rt, rt.alloc(), true)?);
+fn a_writer_publishes_while_readers_answer(rt: HostRuntime) -> Result<(), Fail> {
+    assert!(rt; readers_answer_while_it_publishes(&rt, rt.alloc(), false)?);
+    assert!(rt; readers_answer_while_it_publishes(&rt, rt.alloc(), true)?);
     Ok(())
 }

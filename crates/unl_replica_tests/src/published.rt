@@ -1,4 +1,4 @@
-//! A test of published values, with a reader that learns of publications and one that does not.
+//! A test of published values, with a reader that learns of each publication from what the writer reports, and one that does not.
 ghost use Rattle.std.specs.Prelude.{◌≡◌, ◌<◌, ◌≤◌, IfOk, IfSome};
 ghost use Rattle.unl_publication.specs.Looking.{SameOrigin};
 ghost use Rattle.unl_publication.specs.Seen.{next, published, reported_list};
@@ -9,7 +9,7 @@ use std::sync::Wait;
 use std::test::Fail;
 use unl_publication::{Counted, Publisher, Reader, Ruled, Told, Writer, new_reader};
 
-/// A number that is published, and its front.
+/// A number that is published, and how often it was (its front).
 #[derive(Drop)]
 struct Setting {
     number: u64,
@@ -57,31 +57,31 @@ fn opening() -> Setting
 }
 
 /// A reader of settings.
-type Readers = Reader<Setting, u64, Ruled<u64>>;
+type SettingReader = Reader<Setting, u64, Ruled<u64>>;
 
 /// A publisher of settings.
-type Settings<'a, W> = Publisher<'a, W, Setting, u64, Ruled<u64>>;
+type SettingPublisher<'a, W> = Publisher<'a, W, Setting, u64, Ruled<u64>>;
 
-/// What a look saw: the front, and the sum of the number there and one that was asked. `None` if the look failed.
+/// What a reader saw at a look: the front, and the sum of the number there and one that was passed. `None` if the look failed.
 type Look = Option<(u64, u64)>;
 
-/// Looks once, and returns the front and the sum of the number seen and `asked`.
-fn answer(reader: Readers, asked: u64) -> (Readers, Look)
+/// Looks once, and returns the front and the sum of the number seen and `added`.
+fn look_once(reader: SettingReader, added: u64) -> (SettingReader, Look)
     ensures { SameOrigin (next result.0) (next reader) }
 {
     match reader.enter() {
         Ok(guard) => {
             let front = guard.front();
-            let given = guard.value().number.saturating_add(asked);
-            (guard.leave(), Some((front, given)))
+            let sum = guard.value().number.saturating_add(added);
+            (guard.leave(), Some((front, sum)))
         }
         Err(reader) => (reader, None),
     }
 }
 
-/// Publishes a number and returns what `tell` gives.
+/// Publishes a number, and returns what the writer reports then.
 fn publish_and_tell<W: Wait>(
-    writer: &mut Settings<'_, W>,
+    writer: &mut SettingPublisher<'_, W>,
     number: u64,
 ) -> Result<Told<Setting, u64, Ruled<u64>>, AllocError>
     ensures writer { SameOrigin (published writer.new) (published writer.old) }
@@ -93,34 +93,36 @@ fn publish_and_tell<W: Wait>(
     }
 }
 
-/// The reader learns once after each of two looks, then twice without a look, and at last of an older publication. The other one
-/// looks after the first publication.
-fn look<W: Wait>(
-    writer: &mut Settings<'_, W>,
-    reader: Readers,
-    other: Readers,
+/// The first reader looks at the opening value, and after each of two publications of which it learns. Then it learns of two more
+/// without a look between them, and at last of one that is older than what it knows. The other reader learns of nothing, and looks
+/// once, after the first publication. Returns what the two saw.
+fn look_and_learn<W: Wait>(
+    writer: &mut SettingPublisher<'_, W>,
+    reader: SettingReader,
+    other: SettingReader,
 ) -> Result<([Look; 5], Look), AllocError>
     requires { SameOrigin (next reader) (published writer.old) }
 {
-    let (mut reader, zero) = answer(reader, 100);
+    let (mut reader, zero) = look_once(reader, 100);
     reader.learn(publish_and_tell(writer, 7)?);
-    let (mut reader, one) = answer(reader, 100);
-    let (_, not_learned) = answer(other, 200);
+    let (mut reader, one) = look_once(reader, 100);
+    let (_, not_learned) = look_once(other, 200);
     reader.learn(publish_and_tell(writer, 8)?);
-    let (mut reader, two) = answer(reader, 100);
+    let (mut reader, two) = look_once(reader, 100);
     let first = publish_and_tell(writer, 9)?;
     let second = publish_and_tell(writer, 10)?;
     let third = publish_and_tell(writer, 11)?;
     reader.learn(first);
     reader.learn(third);
-    let (mut reader, five) = answer(reader, 100);
+    let (mut reader, five) = look_once(reader, 100);
     reader.learn(second);
-    let (_, still) = answer(reader, 100);
+    let (_, still) = look_once(reader, 100);
     Ok(([zero, one, two, five, still], not_learned))
 }
 
-/// Returns whether the writer reports its list at first, and what two readers see, with room for this many seats.
-fn looks<W: Wait>(
+/// Creates a writer with room for this many readers. Returns whether it can report its list of publications at first, and what two
+/// readers see.
+fn seen_with_seats<W: Wait>(
     rt: &W,
     alloc: Global,
     seats: usize,
@@ -133,7 +135,7 @@ fn looks<W: Wait>(
     let has_list = writer.tell().has_list();
     let mut writer = Publisher::new(rt, writer);
     let seen = match (reader, other) {
-        (Ok(reader), Ok(other)) => look(&mut writer, reader, other),
+        (Ok(reader), Ok(other)) => look_and_learn(&mut writer, reader, other),
         _ => Err(AllocError),
     };
     writer.end();
@@ -141,7 +143,7 @@ fn looks<W: Wait>(
     Ok((has_list, learned, not_learned))
 }
 
-/// What the reader that learns sees.
+/// What the reader that learns sees at its five looks.
 const LEARNED: [Look; 5] = [
     Some((0, 100)),
     Some((1, 107)),
@@ -154,7 +156,7 @@ const LEARNED: [Look; 5] = [
 #[test]
 fn a_reader_learns_again_and_again(rt: HostRuntime) -> Result<(), Fail> {
     for seats in 2..5 {
-        let (has_list, learned, not_learned) = looks(&rt, rt.alloc(), seats)?;
+        let (has_list, learned, not_learned) = seen_with_seats(&rt, rt.alloc(), seats)?;
         assert!(rt; has_list == (seats > 2));
         assert!(rt; learned == LEARNED);
         assert!(rt; not_learned == Some((0, 200)) || not_learned == Some((1, 207)));

@@ -10,7 +10,7 @@ use unl_documents::List;
 use unl_http_api::End;
 use unl_metrics::MetricsBook;
 
-/// What a connection is sent, how many of its requests are answered, and how it ends.
+/// The bytes that a connection is sent, how many of its requests are answered, and how it ends.
 type Outcome = (&'static [u8], usize, End);
 
 /// Returns the desk of a board without tokens.
@@ -29,7 +29,7 @@ fn serve(alloc: Global, link: &mut MemoryLink) -> Option<(usize, End)> {
     Some((served.len(), end))
 }
 
-/// Returns a link whose reads give at most `most` of the bytes at a time.
+/// Returns a link to read these bytes from, at most `most` of them at a time.
 fn link_of(alloc: Global, bytes: &[u8], most: usize) -> Option<MemoryLink>
     requires { 0 < most }
 {
@@ -37,7 +37,7 @@ fn link_of(alloc: Global, bytes: &[u8], most: usize) -> Option<MemoryLink>
     MemoryLink::new(alloc, bytes, most, 10_000, Vec::new(alloc)).ok()
 }
 
-/// Serves a connection whose reads give at most `most` of the bytes at a time. Returns whether it has this outcome.
+/// Serves a connection on which these bytes come, at most `most` of them at a time. Returns whether it has this outcome.
 fn has_outcome(alloc: Global, bytes: &[u8], most: usize, outcome: Outcome) -> bool
     requires { 0 < most }
 {
@@ -50,6 +50,7 @@ fn has_outcome(alloc: Global, bytes: &[u8], most: usize, outcome: Outcome) -> bo
     }
 }
 
+/// A request for the health.
 const HEALTH: &[u8] = b"GET /internal-backstage/health HTTP/1.1\r\nHost: x\r\n\r\n";
 
 const HEALTHY: Outcome = (
@@ -58,8 +59,8 @@ const HEALTHY: Outcome = (
     End::Closed,
 );
 
-/// A request whose body is a whole request for the health, and then such a request.
-const SPELLED_IN_A_BODY: &[u8] = b"POST /no HTTP/1.1\r\nHost: x\r\nContent-Length: 52\r\n\r\n\
+/// A request whose body has the text of a request for the health, followed by such a request.
+const REQUEST_IN_A_BODY: &[u8] = b"POST /no HTTP/1.1\r\nHost: x\r\nContent-Length: 52\r\n\r\n\
     GET /internal-backstage/health HTTP/1.1\r\nHost: x\r\n\r\n\
     GET /internal-backstage/health HTTP/1.1\r\nHost: x\r\n\r\n";
 
@@ -75,7 +76,7 @@ fn requests_however_they_are_split(rt: HostRuntime) {
     for most in 1..120 {
         assert!(rt; has_outcome(rt.alloc(), HEALTH, most, HEALTHY), "{most}");
         assert!(rt;
-            has_outcome(rt.alloc(), SPELLED_IN_A_BODY, most, TWO_REPLIES),
+            has_outcome(rt.alloc(), REQUEST_IN_A_BODY, most, TWO_REPLIES),
             "{most}"
         );
     }
@@ -94,12 +95,12 @@ fn a_request_cut_short(rt: HostRuntime) {
     }
 }
 
-/// The reply to a request for `/no`.
+/// The reply to a request for `/no`, which is no route.
 const NO_ROUTE: &[u8] =
     b"HTTP/1.1 404 Not Found\r\nContent-Type: application/json\r\nContent-Length: 23\r\n\r\n{\"error\":\"NoSuchRoute\"}";
 
-/// The same, to a request after which the connection ends.
-const NO_ROUTE_AT_LAST: &[u8] =
+/// The same reply where the connection ends after it.
+const NO_ROUTE_AND_CLOSE: &[u8] =
     b"HTTP/1.1 404 Not Found\r\nContent-Type: application/json\r\nContent-Length: 23\r\nConnection: close\r\n\r\n\
     {\"error\":\"NoSuchRoute\"}";
 
@@ -139,7 +140,7 @@ const LONG_HEAD: Outcome = (
     End::Refused(431),
 );
 
-/// The bytes of a connection, and its outcome.
+/// The bytes that come on a connection, and its outcome.
 const ENDS: [(&[u8], Outcome); 19] = [
     (b"GET /no HTTP/1.1\r\nHost: x\r\n", CUT_OFF),
     (
@@ -156,11 +157,11 @@ const ENDS: [(&[u8], Outcome); 19] = [
     ),
     (
         b"GET /no HTTP/1.1\r\nHost: x\r\nConnection: keep-alive, Close\r\n\r\nGET",
-        (NO_ROUTE_AT_LAST, 1, End::Asked),
+        (NO_ROUTE_AND_CLOSE, 1, End::Asked),
     ),
     (
         b"GET /no HTTP/1.0\r\n\r\nGET",
-        (NO_ROUTE_AT_LAST, 1, End::Asked),
+        (NO_ROUTE_AND_CLOSE, 1, End::Asked),
     ),
     (
         b"GET /no HTTP/1.0\r\nConnection: Keep-Alive\r\n\r\n",
@@ -168,7 +169,7 @@ const ENDS: [(&[u8], Outcome); 19] = [
     ),
     (
         b"GET /no HTTP/1.0\r\nConnection: x\r\nConnection: keep-alive\r\n\r\n",
-        (NO_ROUTE_AT_LAST, 1, End::Asked),
+        (NO_ROUTE_AND_CLOSE, 1, End::Asked),
     ),
     (
         b"POST /no HTTP/1.1\r\nHost: x\r\nTransfer-Encoding: chunked\r\n\r\nabcde",
@@ -220,7 +221,7 @@ fn ends(rt: HostRuntime) {
     }
 }
 
-/// Returns the beginning of a request for the health, filled up to this length, with this end.
+/// Returns the beginning of a request for the health, padded by a long field to this length, with this end.
 fn head_of(alloc: Global, length: usize, end: &[u8]) -> Option<Vec<u8>> {
     let mut bytes = HEALTH.get(..HEALTH.len() - 2)?.to_vec(alloc).ok()?;
     bytes.extend_from_slice(b"X: ").ok()?;
@@ -229,7 +230,7 @@ fn head_of(alloc: Global, length: usize, end: &[u8]) -> Option<Vec<u8>> {
     Some(bytes)
 }
 
-/// The length of a head, its end, and the outcome.
+/// The length of a request's head, how it ends, and the outcome.
 const HEADS: [(usize, &[u8], Outcome); 4] = [
     (8_191, b"", CUT_OFF),
     (8_192, b"", LONG_HEAD),

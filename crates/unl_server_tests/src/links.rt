@@ -1,4 +1,4 @@
-//! A test of the queue of links, which is compared with a queue without threads.
+//! A test of the queue of links, which is compared with its model: a queue for one thread.
 ghost use Rattle.std.specs.Prelude.{◌≡◌, ◌<◌};
 ghost use Rattle.crossbeam_queue.specs.Passes.{view};
 ghost use Rattle.unl_workers.specs.Passes.{IsPassOfQueue};
@@ -48,7 +48,7 @@ fn put_both<W: Wait>(
     }
 }
 
-/// Takes the oldest link of both queues, unless that would block. Returns whether both gave the same.
+/// Takes the oldest link of both queues, unless that would block. Returns whether both returned the same.
 fn take_one<W: Wait>(
     rt: &W,
     queue: &LinkQueue<u64>,
@@ -68,7 +68,7 @@ fn take_one<W: Wait>(
     }
 }
 
-/// Takes from both queues this many times. Returns whether both gave the same each time.
+/// Takes from both queues this many times. Returns whether both returned the same each time.
 fn take_both<W: Wait>(
     rt: &W,
     queue: &LinkQueue<u64>,
@@ -90,8 +90,8 @@ fn take_both<W: Wait>(
     true
 }
 
-/// Fills both queues, and makes them shorter, longer, empty and closed. Returns whether both always gave the same, or `None` if
-/// memory runs out.
+/// Puts links into both queues and takes links out of them in turn, also when they are full, empty or closed. Returns whether both
+/// always returned the same, or `None` if out of memory.
 fn agree<W: Wait>(rt: &W, alloc: Global) -> Option<bool> {
     let Ok((queue, mut pass)) = LinkQueue::new(alloc) else {
         return None;

@@ -11,35 +11,35 @@ use unl_net::{RealPeer, SystemDraws};
 /// The result of a read of a stream.
 #[derive(Clone, Copy)]
 enum Step {
-    /// These bytes.
-    Gives(&'static str),
+    /// It returns these bytes.
+    Bytes(&'static str),
     /// A signal interrupts it.
     Signal,
-    /// The other side reset the connection.
-    Broken,
+    /// It fails: the other side has reset the connection.
+    Reset,
 }
 
-/// A stream whose reads return these results, and then its end.
+/// A stream whose reads have these results, one after another, and then find its end. It takes whatever is written.
 #[derive(Drop)]
-struct Voice {
+struct ScriptedStream {
     steps: &'static [Step],
 }
 
-impl Read for Voice {
+impl Read for ScriptedStream {
     fn read(&mut self, room: &mut [u8]) -> io::Result<usize> {
         let Some((step, others)) = self.steps.split_first() else {
             return Ok(0);
         };
         self.steps = others;
         match step {
-            Step::Gives(text) => text.as_bytes().read(room),
+            Step::Bytes(text) => text.as_bytes().read(room),
             Step::Signal => Err(io::Error::from(ErrorKind::Interrupted)),
-            Step::Broken => Err(io::Error::from(ErrorKind::ConnectionReset)),
+            Step::Reset => Err(io::Error::from(ErrorKind::ConnectionReset)),
         }
     }
 }
 
-impl Write for Voice {
+impl Write for ScriptedStream {
     fn write(&mut self, piece: &[u8]) -> io::Result<usize> {
         Ok(piece.len())
     }
@@ -49,13 +49,13 @@ impl Write for Voice {
     }
 }
 
-impl AsRawFd for Voice {
+impl AsRawFd for ScriptedStream {
     fn as_raw_fd(&self) -> RawFd {
         0
     }
 }
 
-impl OpenStream for Voice {
+impl OpenStream for ScriptedStream {
     fn set_read_timeout(&self, _limit: Option<Duration>) -> io::Result<()> {
         Ok(())
     }
@@ -67,26 +67,26 @@ impl OpenStream for Voice {
 
 /// A listener to which no client connects.
 #[derive(Drop)]
-struct Gate;
+struct NoListener;
 
-impl AsRawFd for Gate {
+impl AsRawFd for NoListener {
     fn as_raw_fd(&self) -> RawFd {
         0
     }
 }
 
-impl OpenListener for Gate {
-    type Stream = Voice;
+impl OpenListener for NoListener {
+    type Stream = ScriptedStream;
 
-    fn accept(&self) -> io::Result<(Voice, SocketAddr)> {
+    fn accept(&self) -> io::Result<(ScriptedStream, SocketAddr)> {
         Err(io::Error::from(ErrorKind::Unsupported))
     }
 }
 
-/// A network at which nothing can be bound. Its streams give these texts, one after another, and then connects are refused. While
-/// it hangs a connect takes all the time that it may.
+/// A network that follows a script, with its own clock and log. The first connects succeed: one for each of `replies`, which are
+/// what the reads of their streams have. Further connects are refused. While it hangs, a connect takes all of its time limit and fails.
 #[derive(Drop)]
-struct Town {
+struct ScriptedNet {
     seconds: Cell<u64>,
     logged: Cell<InlineText<800>>,
     hangs: Cell<bool>,
@@ -94,9 +94,9 @@ struct Town {
     replies: &'static [&'static [Step]],
 }
 
-/// A network whose peers give these replies.
-fn town_of(replies: &'static [&'static [Step]]) -> Town {
-    Town {
+/// Creates a network whose streams have these replies.
+fn net_of(replies: &'static [&'static [Step]]) -> ScriptedNet {
+    ScriptedNet {
         seconds: Cell::new(0),
         logged: Cell::new(InlineText::new()),
         hangs: Cell::new(false),
@@ -105,20 +105,20 @@ fn town_of(replies: &'static [&'static [Step]]) -> Town {
     }
 }
 
-impl Net for Town {
-    type Stream = Voice;
+impl Net for ScriptedNet {
+    type Stream = ScriptedStream;
 
-    type Listener = Gate;
+    type Listener = NoListener;
 
-    fn bind(&self, _address: SocketAddr) -> io::Result<Gate> {
+    fn bind(&self, _address: SocketAddr) -> io::Result<NoListener> {
         Err(io::Error::from(ErrorKind::Unsupported))
     }
 
-    fn connect(&self, _address: SocketAddr) -> io::Result<Voice> {
+    fn connect(&self, _address: SocketAddr) -> io::Result<ScriptedStream> {
         Err(io::Error::from(ErrorKind::Unsupported))
     }
 
-    fn connect_timeout(&self, _address: SocketAddr, limit: Duration) -> io::Result<Voice> {
+    fn connect_timeout(&self, _address: SocketAddr, limit: Duration) -> io::Result<ScriptedStream> {
         let connects = self.connects.get();
         self.connects.set(connects.saturating_add(1));
         if self.hangs.get() {
@@ -127,13 +127,13 @@ impl Net for Town {
             return Err(io::Error::from(ErrorKind::TimedOut));
         }
         match self.replies.get(connects) {
-            Some(steps) => Ok(Voice { steps }),
+            Some(steps) => Ok(ScriptedStream { steps }),
             None => Err(io::Error::from_raw_os_error(111)),
         }
     }
 }
 
-impl Clock for Town {
+impl Clock for ScriptedNet {
     fn monotonic(&self) -> io::Result<Duration> {
         Ok(Duration::from_secs(self.seconds.get()))
     }
@@ -143,7 +143,7 @@ impl Clock for Town {
     }
 }
 
-impl Eprint for Town {
+impl Eprint for ScriptedNet {
     fn eprint<D: Display + Drop>(&self, value: D) -> io::Result<()> {
         self.logged.set(self.logged.get().and(value, 800));
         Ok(())
@@ -155,7 +155,7 @@ impl Eprint for Town {
     }
 }
 
-/// Writes a request to a peer, and reads twice. Returns what the write and the first read gave.
+/// Writes a request to a peer, and reads twice. Returns the results of the write and of the first read.
 fn exchange<P: Peer>(
     peer: &mut P,
     request: &[u8],
@@ -170,42 +170,57 @@ fn exchange<P: Peer>(
     (written, read)
 }
 
+/// A request for a delta.
 const DELTA: &[u8] =
     b"GET /api/client/delta?a=b HTTP/1.0\r\nHost: h\r\nAuthorization: *:dev.secret\r\n\r\n";
 
-const OTHER: &[u8] =
+/// The same with another token.
+const OTHER_DELTA: &[u8] =
     b"GET /api/client/delta?a=b HTTP/1.0\r\nHost: h\r\nAuthorization: *:prod.secret\r\n\r\n";
 
+/// A request for the token book.
 const BOOK: &[u8] = b"POST /edge/validate HTTP/1.0\r\nHost: h\r\n\r\n{}";
 
-const REFUSED: &[Step] = &[
-    Step::Gives("HTTP/1.1 403 Forbidden\r\n"),
-    Step::Gives("HTTP/1.1 500 "),
+/// A reply in two pieces. Only the first one has its status.
+const FORBIDDEN: &[Step] = &[
+    Step::Bytes("HTTP/1.1 403 Forbidden\r\n"),
+    Step::Bytes("HTTP/1.1 500 "),
 ];
 
-const DONE: &[Step] = &[Step::Signal, Step::Gives("HTTP/1.1 200 OK\r\n")];
+/// A reply with status 200, before which a signal interrupts the read.
+const SUCCESS: &[Step] = &[Step::Signal, Step::Bytes("HTTP/1.1 200 OK\r\n")];
 
-const SAME: &[Step] = &[Step::Gives("HTTP/1.1 304 Not Modified\r\n")];
+const NOT_MODIFIED: &[Step] = &[Step::Bytes("HTTP/1.1 304 Not Modified\r\n")];
 
-/// The requests on the next connections.
-const ASKED: [&[u8]; 10] = [
-    BOOK, DELTA, OTHER, DELTA, OTHER, DELTA, DELTA, DELTA, BOOK, DELTA,
+/// The requests, each on a connection of its own.
+const REQUESTS: [&[u8]; 10] = [
+    BOOK,
+    DELTA,
+    OTHER_DELTA,
+    DELTA,
+    OTHER_DELTA,
+    DELTA,
+    DELTA,
+    DELTA,
+    BOOK,
+    DELTA,
 ];
 
-/// The replies to these. After them a connect is refused.
+/// The replies to these requests.
 const REPLIES: [&[Step]; 10] = [
-    DONE,
-    REFUSED,
-    DONE,
-    REFUSED,
-    SAME,
-    SAME,
-    &[Step::Broken],
+    SUCCESS,
+    FORBIDDEN,
+    SUCCESS,
+    FORBIDDEN,
+    NOT_MODIFIED,
+    NOT_MODIFIED,
+    &[Step::Reset],
     &[],
-    &[Step::Gives("nothing like a status")],
-    DONE,
+    &[Step::Bytes("nothing like a status")],
+    SUCCESS,
 ];
 
+/// What the peer logs.
 const PEER_LINES: &str = "upstream 127.0.0.1:7: GET /api/client/delta: 403
 upstream 127.0.0.1:7: GET /api/client/delta: 200, but not taken
 upstream 127.0.0.1:7: GET /api/client/delta: 304
@@ -219,32 +234,32 @@ upstream 127.0.0.1:7: reachable again
 
 #[test]
 fn a_peer_logs_what_changes(rt: HostRuntime) {
-    let town = town_of(&REPLIES);
-    let mut peer = RealPeer::new(&town, "127.0.0.1:7");
-    for request in ASKED {
+    let net = net_of(&REPLIES);
+    let mut peer = RealPeer::new(&net, "127.0.0.1:7");
+    for request in REQUESTS {
         assert!(rt; peer.connect() == Ok(()));
         assert!(rt; exchange(&mut peer, request).0 == Ok(request.len()));
     }
     assert!(rt; peer.connect() == Err(Failed));
     assert!(rt; peer.connect() == Err(Failed));
-    town.connects.set(0);
+    net.connects.set(0);
     assert!(rt; peer.connect() == Ok(()));
-    assert_eq!(rt; town.logged.get().as_str(), PEER_LINES);
+    assert_eq!(rt; net.logged.get().as_str(), PEER_LINES);
 }
 
 #[test]
 fn a_server_that_hangs_is_waited_for_once(rt: HostRuntime) {
-    let town = town_of(&[DONE, DONE]);
-    let mut peer = RealPeer::new(&town, "127.0.0.1:7");
-    town.hangs.set(true);
-    assert!(rt; (peer.connect(), town.seconds.get()) == (Err(Failed), 30));
-    town.hangs.set(false);
-    town.seconds.set(34);
-    assert!(rt; (peer.connect(), town.connects.get()) == (Err(Failed), 1));
-    town.seconds.set(35);
+    let net = net_of(&[SUCCESS, SUCCESS]);
+    let mut peer = RealPeer::new(&net, "127.0.0.1:7");
+    net.hangs.set(true);
+    assert!(rt; (peer.connect(), net.seconds.get()) == (Err(Failed), 30));
+    net.hangs.set(false);
+    net.seconds.set(34);
+    assert!(rt; (peer.connect(), net.connects.get()) == (Err(Failed), 1));
+    net.seconds.set(35);
     assert!(rt; peer.connect() == Ok(()));
-    // An exchange ends thirty seconds after its connect, and the server is then left alone too.
-    town.seconds.set(65);
+    // An exchange fails thirty seconds after its connect, and then too the server is not asked for a while.
+    net.seconds.set(65);
     assert!(rt; exchange(&mut peer, BOOK) == (Err(Failed), Err(Failed)));
     assert!(rt; peer.connect() == Err(Failed));
 }

@@ -1,4 +1,4 @@
-//! A pool of workers without threads, which serves as many links as its queue holds.
+//! A test of a pool whose workers run one after another, without threads: it serves as many links as its queue holds.
 ghost use Rattle.std.specs.Prelude.{◌≤◌};
 
 use std::alloc::Global;
@@ -8,7 +8,7 @@ use unl_base::{CountPace, Door, Draws, Failed, Link, ListDraws, OneByOne, Sink, 
 use unl_server::Server;
 use unl_workers::{AcceptOutcome, LinkHandler, PeriodicTask, WorkerSlot, run_pool};
 
-/// Reads once from each link, and counts the links that give a byte.
+/// A handler that reads once from each link, and counts the links that had a byte to read.
 #[derive(Drop)]
 struct Counting {
     links: u64,
@@ -38,7 +38,7 @@ impl LinkHandler for Counting {
     ghost always = { λ server. tt };
 }
 
-/// Does nothing.
+/// A periodic task that does nothing.
 #[derive(Drop)]
 struct Idle;
 
@@ -110,11 +110,11 @@ impl Link for TestLink {
 #[derive(Drop)]
 struct TestDoor {
     ports: Vec<u16>,
-    given: u64,
-    back: u64,
+    handed_out: u64,
+    taken_back: u64,
     faults: u64,
-    ghost lent: { back ≤ given },
-    ghost within: { given ≤ 64 },
+    ghost in_order: { taken_back ≤ handed_out },
+    ghost within: { handed_out ≤ 64 },
 }
 
 impl Door for TestDoor {
@@ -124,9 +124,9 @@ impl Door for TestDoor {
 
     ghost state = { λ door. record {
       ports = door.ports.items;
-      closed = nat_eq door.given 64;
-      given = door.given;
-      back = door.back;
+      closed = nat_eq door.handed_out 64;
+      given = door.handed_out;
+      back = door.taken_back;
       links = None;
       returned = None;
     } };
@@ -142,21 +142,21 @@ impl Door for TestDoor {
     }
 
     fn accept(&mut self) -> Result<Option<TestLink>, Failed> {
-        if self.given == 64 {
+        if self.handed_out == 64 {
             return Ok(None);
         }
-        self.given += 1;
+        self.handed_out += 1;
         Ok(Some(TestLink { is_read: false }))
     }
 
     fn give_back(&mut self, _link: TestLink) {
-        self.back += 1;
+        self.taken_back += 1;
     }
 
-    ghost within = { λ door. door.lent };
+    ghost within = { λ door. door.in_order };
 }
 
-/// Returns the slot of a worker that has counted nothing.
+/// Returns a slot whose worker has counted no link.
 fn slot(alloc: Global) -> WorkerSlot<Counting, ListDraws> {
     WorkerSlot::new(Counting { links: 0 }, ListDraws::new(Vec::new(alloc)))
 }
@@ -170,14 +170,14 @@ fn links_counted(slots: &[WorkerSlot<Counting, ListDraws>]) -> u64 {
     links
 }
 
-/// Serves the links of a door by two workers, one after another. Returns what the door handed out, the number of links counted,
-/// and that of turns made.
+/// Serves the links of a door by two workers, which run one after another. Returns how accepting ended, the number of links that
+/// the workers counted, and the number of turns that the periodic task made.
 fn serve<W: Threads + Wait + Sync>(rt: &W, alloc: Global) -> Option<(AcceptOutcome, u64, u64)> {
     let slots = vec![in alloc; slot(alloc), slot(alloc)].ok()?;
     let mut door = TestDoor {
         ports: Vec::new(alloc),
-        given: 0,
-        back: 0,
+        handed_out: 0,
+        taken_back: 0,
         faults: 0,
     };
     if door.listen(1).is_err() {

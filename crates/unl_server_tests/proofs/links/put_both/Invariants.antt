@@ -3,7 +3,7 @@ use Rattle.crossbeam_queue.specs.Passes.{view}
 use Rattle.unl_workers.specs.Passes.{IsPassOfQueue}
 use Rattle.unl_server_tests.proofs.links.put_both.Given as goal
 
--- the pass may still put links
+-- the pass is still one of the queue, and may put links
 abbrev pub invariant-loop-link : goal.invariant-loop-link
 invariant-loop-link g l = record {
   queue : IsPassOfQueue l.queue l.pass;
