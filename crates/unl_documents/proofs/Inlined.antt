@@ -13,7 +13,7 @@ use Rattle.unl_documents.specs.declared.feature.Feature.{Feature}
 use Rattle.unl_documents.specs.declared.segment.Segment.{Segment}
 use Rattle.unl_documents.specs.declared.state.State.{State}
 use Rattle.unl_documents.specs.declared.strategy.Strategy.{Strategy}
-use Rattle.unl_documents.specs.Inline.{segment_of, holds_for_nobody, constraints_for, all_constraints, inlined_strategy, inlined_feature, inlined, counts, first_excess}
+use Rattle.unl_documents.specs.Inline.{segment_with, holds_for_nobody, constraints_for, all_constraints, inlined_strategy, inlined_feature, inlined, counts, first_excess}
 use Rattle.unl_documents.specs.Limits.{Anything}
 use Rattle.unl_documents.specs.Operators.{operator_of}
 use Rattle.unl_documents.specs.States.{IsValidState, name_key}
@@ -82,7 +82,7 @@ either false x rest valid later = later
 for_one : (segments : List Segment) (id : ℕ) → All IsValidSegment segments → All IsValidConstraint (constraints_for segments id)
 unfolding constraints_for
 for_one [] id valid = All-cons IsValidConstraint holds_for_nobody [] nobody (All-nil IsValidConstraint)
-for_one (x ∷ xs) id valid = either (x.id == id) x (segment_of id xs) (All-head IsValidSegment x xs valid) (for_one xs id (All-tail IsValidSegment x xs valid))
+for_one (x ∷ xs) id valid = either (x.id == id) x (segment_with id xs) (All-head IsValidSegment x xs valid) (for_one xs id (All-tail IsValidSegment x xs valid))
 
 for_all : (segments : List Segment) (ids : List ℕ) → All IsValidSegment segments → All IsValidConstraint (flat_map (constraints_for segments) ids)
 for_all segments [] valid = All-nil IsValidConstraint

@@ -16,7 +16,7 @@ use Rattle.unl_documents.specs.Reads.{AreEach, IsList, IsObject, HasOr, ReadsFea
 use Rattle.unl_documents.specs.States.{no_meta, meta_of, IsValidState}
 use Rattle.unl_documents.specs.Valid.{IsValidFeature, IsValidSegment}
 use Rattle.unl_documents.specs.Writing.{feature_data, segment_data, meta_with, meta_data, feed_data}
-use Rattle.unl_documents.specs.Writing.{list as list_data}
+use Rattle.unl_documents.specs.Writing.{list_data}
 use Rattle.unl_documents.proofs.RoundTrip.{features, segments}
 use Rattle.unl_documents.proofs.FeedTrip.{meta_back}
 use Rattle.unl_documents.proofs.Sound.{object_is, meta_is, feature_is, segment_is}

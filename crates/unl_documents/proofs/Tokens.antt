@@ -25,7 +25,7 @@ use Rattle.unl_documents.specs.Key.{key_of}
 use Rattle.unl_documents.specs.Operators.{spelling}
 use Rattle.unl_documents.specs.Parameters.{AreRising}
 use Rattle.unl_documents.specs.Tokens.{tokens_of, all_tokens, tokens_if, tokens_at, tokens_at_some, pair_tokens, Wrote}
-use Rattle.unl_documents.specs.Writing.{with, with_some, count, list, unless_zero, override_data, payload_data, variant_data, dependency_data, constraint_data, segment_data, parameters_data, strategy_data, feature_data, meta_with, meta_data, query_data, feed_data}
+use Rattle.unl_documents.specs.Writing.{with, with_some, count, list_data, unless_zero, override_data, payload_data, variant_data, dependency_data, constraint_data, segment_data, parameters_data, strategy_data, feature_data, meta_with, meta_data, query_data, feed_data}
 use Rattle.unl_documents.proofs.RoundTrip.{in_order, with_pairs-in_order}
 
 -- Writing one token.
@@ -64,7 +64,7 @@ text_of d old new before none wrote =
 
 pub override_tokens : (o : Override)
     → tokens_of (override_data o)
-    ≡ begin_object ∷ (tokens_at field.ContextName (string o.field) ++ (tokens_at field.Values (list string o.values) ++ end_object ∷ []))
+    ≡ begin_object ∷ (tokens_at field.ContextName (string o.field) ++ (tokens_at field.Values (list_data string o.values) ++ end_object ∷ []))
 unfolding override_data
 override_tokens o = refl
 
@@ -76,57 +76,57 @@ payload_tokens p = refl
 
 pub dependency_tokens : (d : Dependency)
     → tokens_of (dependency_data d)
-    ≡ begin_object ∷ (tokens_at field.Enabled (boolean d.enabled) ++ (tokens_at field.Feature (string d.feature) ++ (tokens_at field.Variants (list string d.variants) ++ end_object ∷ [])))
+    ≡ begin_object ∷ (tokens_at field.Enabled (boolean d.enabled) ++ (tokens_at field.Feature (string d.feature) ++ (tokens_at field.Variants (list_data string d.variants) ++ end_object ∷ [])))
 unfolding dependency_data
 dependency_tokens d = refl
 
 pub segment_tokens : (s : Segment)
     → tokens_of (segment_data s)
-    ≡ begin_object ∷ (tokens_at field.Constraints (list constraint_data s.constraints) ++ (tokens_at field.Id (count s.id) ++ end_object ∷ []))
+    ≡ begin_object ∷ (tokens_at field.Constraints (list_data constraint_data s.constraints) ++ (tokens_at field.Id (count s.id) ++ end_object ∷ []))
 unfolding segment_data
 segment_tokens s = refl
 
 pub strategy_tokens : (s : Strategy)
     → tokens_of (strategy_data s)
-    ≡ begin_object ∷ (tokens_at field.Constraints (list constraint_data s.constraints) ++ (tokens_at field.Name (string s.name)
+    ≡ begin_object ∷ (tokens_at field.Constraints (list_data constraint_data s.constraints) ++ (tokens_at field.Name (string s.name)
     ++ (key (key_of field.Parameters) ∷ (tokens_of (parameters_data s.parameters)
-    ++ (tokens_at field.Segments (list count s.segments) ++ (tokens_at field.Variants (list variant_data s.variants) ++ end_object ∷ []))))))
+    ++ (tokens_at field.Segments (list_data count s.segments) ++ (tokens_at field.Variants (list_data variant_data s.variants) ++ end_object ∷ []))))))
 unfolding strategy_data
 strategy_tokens s = refl
 
 pub query_tokens : (head : FeedHead)
     → tokens_of (query_data head)
-    ≡ begin_object ∷ (tokens_at field.Environment (string head.environment) ++ (tokens_at field.Projects (list string head.projects) ++ end_object ∷ []))
+    ≡ begin_object ∷ (tokens_at field.Environment (string head.environment) ++ (tokens_at field.Projects (list_data string head.projects) ++ end_object ∷ []))
 unfolding query_data
 query_tokens head = refl
 
 pub feed_tokens : (head : FeedHead) (state : State)
     → tokens_of (feed_data head state)
-    ≡ begin_object ∷ (tokens_at field.Features (list feature_data state.features) ++ (key (key_of field.Meta) ∷ (tokens_of (meta_data head)
+    ≡ begin_object ∷ (tokens_at field.Features (list_data feature_data state.features) ++ (key (key_of field.Meta) ∷ (tokens_of (meta_data head)
     ++ (key (key_of field.Query) ∷ (tokens_of (query_data head)
-    ++ (tokens_at field.Segments (list segment_data state.segments) ++ (tokens_at field.Version (count 2) ++ end_object ∷ [])))))))
+    ++ (tokens_at field.Segments (list_data segment_data state.segments) ++ (tokens_at field.Version (count 2) ++ end_object ∷ [])))))))
 unfolding feed_data
 feed_tokens head state = refl
 
 constraint_keys : (value : Option Data) (c : Constraint)
     → tokens_of (object (with_some field.Value value (with field.ContextName (string c.field) (with field.Operator (string (spelling c.operator))
-    (with field.Values (list string c.values) (with field.CaseInsensitive (boolean c.caseless) (with field.Inverted (boolean c.inverted) no_members)))))))
+    (with field.Values (list_data string c.values) (with field.CaseInsensitive (boolean c.caseless) (with field.Inverted (boolean c.inverted) no_members)))))))
     ≡ begin_object ∷ (tokens_at field.CaseInsensitive (boolean c.caseless) ++ (tokens_at field.ContextName (string c.field) ++ (tokens_at field.Inverted (boolean c.inverted)
-    ++ (tokens_at field.Operator (string (spelling c.operator)) ++ (tokens_at_some field.Value value ++ (tokens_at field.Values (list string c.values) ++ end_object ∷ []))))))
+    ++ (tokens_at field.Operator (string (spelling c.operator)) ++ (tokens_at_some field.Value value ++ (tokens_at field.Values (list_data string c.values) ++ end_object ∷ []))))))
 constraint_keys None c = refl
 constraint_keys (Some d) c = refl
 
 pub constraint_tokens : (c : Constraint)
     → tokens_of (constraint_data c)
     ≡ begin_object ∷ (tokens_at field.CaseInsensitive (boolean c.caseless) ++ (tokens_at field.ContextName (string c.field) ++ (tokens_at field.Inverted (boolean c.inverted)
-    ++ (tokens_at field.Operator (string (spelling c.operator)) ++ (tokens_at_some field.Value (option_map string c.value) ++ (tokens_at field.Values (list string c.values) ++ end_object ∷ []))))))
+    ++ (tokens_at field.Operator (string (spelling c.operator)) ++ (tokens_at_some field.Value (option_map string c.value) ++ (tokens_at field.Values (list_data string c.values) ++ end_object ∷ []))))))
 unfolding constraint_data
 constraint_tokens c = constraint_keys (option_map string c.value) c
 
 variant_keys : (stickiness payload : Option Data) (v : Variant)
     → tokens_of (object (with_some field.Stickiness stickiness (with_some field.Payload payload (with field.Name (string v.name)
-    (with field.Weight (count v.weight) (with field.Overrides (list override_data v.overrides) no_members))))))
-    ≡ begin_object ∷ (tokens_at field.Name (string v.name) ++ (tokens_at field.Overrides (list override_data v.overrides) ++ (tokens_at_some field.Payload payload
+    (with field.Weight (count v.weight) (with field.Overrides (list_data override_data v.overrides) no_members))))))
+    ≡ begin_object ∷ (tokens_at field.Name (string v.name) ++ (tokens_at field.Overrides (list_data override_data v.overrides) ++ (tokens_at_some field.Payload payload
     ++ (tokens_at_some field.Stickiness stickiness ++ (tokens_at field.Weight (count v.weight) ++ end_object ∷ [])))))
 variant_keys None None v = refl
 variant_keys None (Some p) v = refl
@@ -135,27 +135,27 @@ variant_keys (Some s) (Some p) v = refl
 
 pub variant_tokens : (v : Variant)
     → tokens_of (variant_data v)
-    ≡ begin_object ∷ (tokens_at field.Name (string v.name) ++ (tokens_at field.Overrides (list override_data v.overrides) ++ (tokens_at_some field.Payload (option_map payload_data v.payload)
+    ≡ begin_object ∷ (tokens_at field.Name (string v.name) ++ (tokens_at field.Overrides (list_data override_data v.overrides) ++ (tokens_at_some field.Payload (option_map payload_data v.payload)
     ++ (tokens_at_some field.Stickiness (option_map string v.stickiness) ++ (tokens_at field.Weight (count v.weight) ++ end_object ∷ [])))))
 unfolding variant_data
 variant_tokens v = variant_keys (option_map string v.stickiness) (option_map payload_data v.payload) v
 
 feature_keys : (description : Option Data) (f : Feature)
     → tokens_of (object (with_some field.Description description (with field.Name (string f.name) (with field.Project (string f.project) (with field.Kind (string f.kind)
-    (with field.Enabled (boolean f.enabled) (with field.Stale (boolean f.stale) (with field.ImpressionData (boolean f.impression) (with field.Strategies (list strategy_data f.strategies)
-    (with field.Variants (list variant_data f.variants) (with field.Dependencies (list dependency_data f.dependencies) no_members)))))))))))
-    ≡ begin_object ∷ (tokens_at field.Dependencies (list dependency_data f.dependencies) ++ (tokens_at_some field.Description description ++ (tokens_at field.Enabled (boolean f.enabled)
+    (with field.Enabled (boolean f.enabled) (with field.Stale (boolean f.stale) (with field.ImpressionData (boolean f.impression) (with field.Strategies (list_data strategy_data f.strategies)
+    (with field.Variants (list_data variant_data f.variants) (with field.Dependencies (list_data dependency_data f.dependencies) no_members)))))))))))
+    ≡ begin_object ∷ (tokens_at field.Dependencies (list_data dependency_data f.dependencies) ++ (tokens_at_some field.Description description ++ (tokens_at field.Enabled (boolean f.enabled)
     ++ (tokens_at field.ImpressionData (boolean f.impression) ++ (tokens_at field.Name (string f.name) ++ (tokens_at field.Project (string f.project) ++ (tokens_at field.Stale (boolean f.stale)
-    ++ (tokens_at field.Strategies (list strategy_data f.strategies) ++ (tokens_at field.Kind (string f.kind) ++ (tokens_at field.Variants (list variant_data f.variants) ++ end_object ∷ []))))))))))
+    ++ (tokens_at field.Strategies (list_data strategy_data f.strategies) ++ (tokens_at field.Kind (string f.kind) ++ (tokens_at field.Variants (list_data variant_data f.variants) ++ end_object ∷ []))))))))))
 feature_keys None f = refl
 feature_keys (Some d) f = refl
 
 pub feature_tokens : (f : Feature)
     → tokens_of (feature_data f)
-    ≡ begin_object ∷ (tokens_at field.Dependencies (list dependency_data f.dependencies) ++ (tokens_at_some field.Description (option_map string f.description)
+    ≡ begin_object ∷ (tokens_at field.Dependencies (list_data dependency_data f.dependencies) ++ (tokens_at_some field.Description (option_map string f.description)
     ++ (tokens_at field.Enabled (boolean f.enabled) ++ (tokens_at field.ImpressionData (boolean f.impression) ++ (tokens_at field.Name (string f.name)
-    ++ (tokens_at field.Project (string f.project) ++ (tokens_at field.Stale (boolean f.stale) ++ (tokens_at field.Strategies (list strategy_data f.strategies)
-    ++ (tokens_at field.Kind (string f.kind) ++ (tokens_at field.Variants (list variant_data f.variants) ++ end_object ∷ []))))))))))
+    ++ (tokens_at field.Project (string f.project) ++ (tokens_at field.Stale (boolean f.stale) ++ (tokens_at field.Strategies (list_data strategy_data f.strategies)
+    ++ (tokens_at field.Kind (string f.kind) ++ (tokens_at field.Variants (list_data variant_data f.variants) ++ end_object ∷ []))))))))))
 unfolding feature_data
 feature_tokens f = feature_keys (option_map string f.description) f
 

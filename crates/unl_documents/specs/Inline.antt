@@ -13,8 +13,8 @@ use Rattle.unl_documents.specs.declared.state.State.{State}
 use Rattle.unl_documents.specs.declared.strategy.Strategy.{Strategy}
 
 -- The first segment with this id, if there is one.
-abbrev pub segment_of : ℕ → List Segment → Option Segment
-segment_of id segments = find (λ s. s.id == id) segments
+abbrev pub segment_with : ℕ → List Segment → Option Segment
+segment_with id segments = find (λ s. s.id == id) segments
 
 -- The constraint that holds for nobody: `userId` IN no values.
 abbrev pub holds_for_nobody : Constraint
@@ -23,7 +23,7 @@ holds_for_nobody = record { field = codes "userId"; operator = In; values = []; 
 -- The constraints inlined for an id: those of its segment, or the one that holds for nobody if there is no such
 -- segment.
 unfoldable pub constraints_for : List Segment → ℕ → List Constraint
-constraints_for segments id = option_map_or (λ s. s.constraints) (segment_of id segments) (holds_for_nobody ∷ [])
+constraints_for segments id = option_map_or (λ s. s.constraints) (segment_with id segments) (holds_for_nobody ∷ [])
 
 -- The strategy's own constraints, followed by those for each of its segment ids in order.
 unfoldable pub all_constraints : List Segment → Strategy → List Constraint

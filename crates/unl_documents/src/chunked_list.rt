@@ -1,6 +1,6 @@
 //! Long lists that are cheap to copy: a copy shares all chunks of items with its original.
-ghost use Rattle.std.specs.Prelude.{◌≡◌, ◌==◌, ◌+◌, ◌-◌, ◌<◌, ◌≤◌, [], ◌∷◌, ◌++◌, IfOk, IfSome, OnOk, OnErr, All};
-ghost use Rattle.std.specs.Prelude.{length, option_map, slice_get, take, drop};
+ghost use Rattle.std.specs.Prelude.{◌≡◌, ◌==◌, ◌+◌, ◌-◌, ◌<◌, ◌≤◌, [], ◌∷◌, ◌++◌, IfOk, IfSome, OnOk, OnErr, All, Some};
+ghost use Rattle.std.specs.Prelude.{length, option_map, remove, slice_get, take, drop};
 ghost use Rattle.unl_documents.specs.Chunks.{joined, NoneIsEmpty};
 
 use crate::copied::TryClone;
@@ -70,6 +70,14 @@ impl<T: Drop> ChunkedList<T> {
         self.chunks.as_slice()
     }
 
+    /// Returns the chunks that hold the items, in a list.
+    pub fn into_chunks(self) -> List<Chunk<T>>
+        ensures items { joined result ≡ self }
+        ensures full { NoneIsEmpty result }
+    {
+        self.chunks
+    }
+
     /// Returns the number of items.
     ///
     /// # Errors
@@ -78,7 +86,7 @@ impl<T: Drop> ChunkedList<T> {
     pub fn len(&self) -> Result<usize, Memory>
         ensures { IfOk result (λ count. count ≡ length self.now) }
     {
-        count_of(self.chunks.as_slice())
+        item_count(self.chunks.as_slice())
     }
 
     /// Returns whether there are no items.
@@ -112,37 +120,79 @@ impl<T: Drop> TryClone for ChunkedList<T> {
     }
 }
 
-/// Returns the list of `chunks` with the chunk at index `place` replaced by `chunk`. `chunk` is split if it has more than 128
-/// items and left out if it is empty.
+/// Removes and returns the chunk at index `place`: the chunk itself if it has no other owner, and otherwise a copy.
+pub fn take_chunk<T: Drop>(
+    alloc: Global,
+    chunks: &mut List<Chunk<T>>,
+    place: usize,
+) -> Result<List<Shared<T>>, Memory>
+    requires { place < length chunks.old }
+    ensures chunk { IfOk result (λ chunk. Some chunk ≡ slice_get chunks.old place) }
+    ensures others { OnOk result (chunks.new ≡ remove chunks.old place) }
+{
+    let chunk = chunks.remove(place);
+    owned(alloc, chunk)
+}
+
+/// Returns the items of a chunk: the chunk itself if it has no other owner, and otherwise a copy.
+fn owned<T: Drop>(alloc: Global, chunk: Chunk<T>) -> Result<List<Shared<T>>, Memory>
+    ensures { IfOk result (λ list. list ≡ chunk) }
+{
+    match chunk.into_owned() {
+        Ok(list) => Ok(list),
+        Err(chunk) => owners(alloc, chunk.get().as_slice()),
+    }
+}
+
+/// Returns the list of `chunks` with `chunk` inserted at index `place`. `chunk` is split if it has more than 128 items and
+/// left out if it is empty.
 pub fn with_chunk<T: Drop>(
     alloc: Global,
-    chunks: &[Chunk<T>],
+    mut chunks: List<Chunk<T>>,
     place: usize,
     chunk: List<Shared<T>>,
 ) -> Result<ChunkedList<T>, Memory>
-    requires inside { place < length chunks.now }
-    requires full { NoneIsEmpty chunks.now }
-    ensures { IfOk result (λ s. s ≡ joined (take place chunks.now) ++ chunk ++ joined (drop (place + 1) chunks.now)) }
+    requires inside { place ≤ length chunks }
+    requires full { NoneIsEmpty chunks }
+    ensures { IfOk result (λ s. s ≡ joined (take place chunks) ++ chunk ++ joined (drop place chunks)) }
 {
-    let mut changed = List::new(alloc);
+    if chunk.is_empty() || chunk.len() > MOST {
+        return with_cut(alloc, chunks.as_slice(), place, chunk.as_slice());
+    }
+    chunks.insert(place, Shared::new(alloc, chunk)?)?;
+    Ok(ChunkedList { chunks })
+}
+
+/// As [`with_chunk`], for a chunk that is always split.
+fn with_cut<T: Drop>(
+    alloc: Global,
+    chunks: &[Chunk<T>],
+    place: usize,
+    chunk: &[Shared<T>],
+) -> Result<ChunkedList<T>, Memory>
+    requires inside { place ≤ length chunks.now }
+    requires full { NoneIsEmpty chunks.now }
+    ensures { IfOk result (λ s. s ≡ joined (take place chunks.now) ++ chunk.now ++ joined (drop place chunks.now)) }
+{
+    let mut changed = List::with_room(alloc, chunks.len())?;
     push_owners(&mut changed, before(chunks, place))?;
-    push_chunk(alloc, &mut changed, chunk)?;
-    push_owners(&mut changed, behind(chunks, place))?;
+    push_cut(alloc, &mut changed, chunk)?;
+    push_owners(&mut changed, from(chunks, place))?;
     Ok(ChunkedList { chunks: changed })
 }
 
 fn before<T>(chunks: &[T], place: usize) -> &[T]
-    requires { place < length chunks.now }
+    requires { place ≤ length chunks.now }
     ensures { result.now ≡ take place chunks.now }
 {
     &chunks[..place]
 }
 
-fn behind<T>(chunks: &[T], place: usize) -> &[T]
-    requires { place < length chunks.now }
-    ensures { result.now ≡ drop (place + 1) chunks.now }
+fn from<T>(chunks: &[T], place: usize) -> &[T]
+    requires { place ≤ length chunks.now }
+    ensures { result.now ≡ drop place chunks.now }
 {
-    &chunks[place + 1..]
+    &chunks[place..]
 }
 
 /// Appends another owner of each value.
@@ -211,7 +261,7 @@ fn size_of_chunks(count: usize) -> usize
 fn owners<T: Drop>(alloc: Global, values: &[Shared<T>]) -> Result<List<Shared<T>>, Memory>
     ensures { IfOk result (λ list. list ≡ values.now) }
 {
-    let mut list = List::new(alloc);
+    let mut list = List::with_room(alloc, values.len())?;
     push_owners(&mut list, values)?;
     Ok(list)
 }
@@ -237,11 +287,28 @@ fn appended<T: Drop>(
     match last_with_room(chunks, items.len()) {
         None => with_chunks(alloc, chunks, items),
         Some(last) => {
-            let mut chunk = owners(alloc, last.as_slice())?;
+            let room = last.len().saturating_add(items.len());
+            let mut chunk = List::with_room(alloc, room)?;
+            push_owners(&mut chunk, last.as_slice())?;
             push_owners(&mut chunk, items)?;
-            with_chunk(alloc, chunks, chunks.len() - 1, chunk)
+            with_last(alloc, before(chunks, chunks.len() - 1), chunk)
         }
     }
+}
+
+/// Returns the list of `chunks`, followed by one more chunk.
+fn with_last<T: Drop>(
+    alloc: Global,
+    chunks: &[Chunk<T>],
+    last: List<Shared<T>>,
+) -> Result<ChunkedList<T>, Memory>
+    requires { NoneIsEmpty chunks.now }
+    ensures { IfOk result (λ s. s ≡ joined chunks.now ++ last) }
+{
+    let mut more = List::with_room(alloc, chunks.len().saturating_add(1))?;
+    push_owners(&mut more, chunks)?;
+    push_chunk(alloc, &mut more, last)?;
+    Ok(ChunkedList { chunks: more })
 }
 
 /// Returns the last chunk, if it has room for `count` more items.
@@ -271,17 +338,26 @@ fn with_chunks<T: Drop>(
 }
 
 /// Returns the total number of items in the chunks.
-fn count_of<T: Drop>(chunks: &[Chunk<T>]) -> Result<usize, Memory>
+///
+/// # Errors
+///
+/// `Memory`: the number doesn't fit into a `usize`.
+pub fn item_count<T: Drop>(chunks: &[Chunk<T>]) -> Result<usize, Memory>
     ensures { IfOk result (λ count. count ≡ length (joined chunks.now)) }
 {
     let mut count = 0;
     for chunk in chunks {
-        count = sum_of(count, chunk.get().len())?;
+        count = checked_sum(count, chunk.get().len())?;
     }
     Ok(count)
 }
 
-fn sum_of(count: usize, more: usize) -> Result<usize, Memory>
+/// Returns the sum of two counts.
+///
+/// # Errors
+///
+/// `Memory`: the sum doesn't fit into a `usize`.
+pub fn checked_sum(count: usize, more: usize) -> Result<usize, Memory>
     ensures { IfOk result (λ sum. sum ≡ count + more) }
 {
     count.checked_add(more).ok_or(Memory)

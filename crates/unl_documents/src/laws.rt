@@ -48,7 +48,7 @@ pub fn states_are_read()
 pub fn feeds_are_read()
     ensures read { (value : Data) (f : Feed) → (document feed_of value ≡ Ok f) ↔ (ReadsFeed value f × (first_fault_of_feed value ≡ None)) }
     ensures fault { (value : Data) (e : BadDocument) → (document feed_of value ≡ Err e) ↔ (first_fault_of_feed value ≡ Some e) }
-    ensures beside { (value : Data) → fault_of (meta_of value) ≡ first (faults_of_meta value) }
+    ensures meta { (value : Data) → fault_of (meta_of value) ≡ first (faults_of_meta value) }
 {}
 
 /// The fault of an object nested in a document is the first of the faults of its keys, in the order in which they are

@@ -1,6 +1,6 @@
 //! Finding the segments that strategies refer to.
 ghost use Rattle.std.specs.Prelude.{◌≡◌, option_map};
-ghost use Rattle.unl_documents.specs.Inline.{segment_of as segment_with};
+ghost use Rattle.unl_documents.specs.Inline.{segment_with};
 
 use crate::list::List;
 use crate::segment::Segment;

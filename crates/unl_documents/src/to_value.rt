@@ -4,7 +4,7 @@ ghost use Rattle.serde_json.specs.Data.{Data};
 ghost use Rattle.serde_json.specs.View.{view, members_view};
 ghost use Rattle.serde_json.specs.Data.{boolean, string as text_data};
 ghost use Rattle.unl_documents.specs.Chunks.{joined};
-ghost use Rattle.unl_documents.specs.Writing.{with, with_some, count, list, unless_zero as those_but_zero};
+ghost use Rattle.unl_documents.specs.Writing.{with, with_some, count, list_data, unless_zero as those_but_zero};
 
 use crate::chunked_list::{Chunk, ChunkedList};
 use crate::field::Field;
@@ -58,7 +58,7 @@ impl ToValue for u64 {
 }
 
 impl<W: ToValue> ToValue for List<W> {
-    ghost written = { list W.written };
+    ghost written = { list_data W.written };
 
     fn write(&self, alloc: Global) -> Result<Value, Memory> {
         let values = each_written(alloc, self.as_slice())?;
@@ -67,7 +67,7 @@ impl<W: ToValue> ToValue for List<W> {
 }
 
 impl<W: ToValue> ToValue for ChunkedList<W> {
-    ghost written = { list W.written };
+    ghost written = { list_data W.written };
 
     fn write(&self, alloc: Global) -> Result<Value, Memory> {
         let values = each_of_chunks(alloc, self.chunks())?;

@@ -16,5 +16,5 @@ pub returns-clause-fault : goal.returns-clause-fault
 unfolding first_fault_of_feed
 returns-clause-fault c value e = faulty (document feed_of value) e _ (document_first feed_of faults_of_feed value (feed_first value))
 
-pub returns-clause-beside : goal.returns-clause-beside
-returns-clause-beside c value = meta_first value
+pub returns-clause-meta : goal.returns-clause-meta
+returns-clause-meta c value = meta_first value

@@ -2,7 +2,7 @@ use Rattle.std.proofs.Common.{sym, ap, ◌∙◌}
 use Rattle.std.specs.Prelude.{map}
 use Rattle.unl_documents.specs.Chunks.{joined}
 use Rattle.unl_documents.specs.Tokens.{tokens_of}
-use Rattle.unl_documents.specs.Writing.{list}
+use Rattle.unl_documents.specs.Writing.{list_data}
 use Rattle.unl_documents.proofs.Tokens.{one, then, spelled, list_tokens}
 use Rattle.unl_documents.proofs.write_json.ChunkedListWriteJson.print.Goals as goal
 
@@ -10,5 +10,5 @@ pub returns : goal.returns
 returns g c =
     let begun = one c.in_ok-begin_array.ensures in
     let ended = one c.in_ok-end_array.ensures in
-    let same = ap (λ xs. tokens_of (list g.P.ToValue.written xs)) (sym c.chunks.ensures.items) in
+    let same = ap (λ xs. tokens_of (list_data g.P.ToValue.written xs)) (sym c.chunks.ensures.items) in
     spelled (same ∙ list_tokens (map g.P.ToValue.written (joined c.chunks.result.now))) (then begun (then c.in_ok-print_chunks.ensures ended))
