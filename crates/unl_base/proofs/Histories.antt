@@ -1,5 +1,5 @@
 -- The history of what a peer was sent.
-use Rattle.std.proofs.Common.{◌≡◌, ◌∙◌, ℕ, Bool, true, false, List, [], ◌∷◌, ◌++◌, Option, Some, None, ap, is_some, refl, sym, true≢false}
+use Rattle.std.proofs.Common.{◌≡◌, ◌∙◌, ℕ, List, [], ◌∷◌, ◌++◌, Option, Some, None, refl}
 use Rattle.std.specs.Option.{option_and_then, option_map}
 use Rattle.unl_base.specs.Peers.{PeerState, history_of}
 use Rattle.unl_base.specs.Streams.{Sends}
@@ -25,14 +25,3 @@ pub one_more_text : (peer after : PeerState) (text : List ℕ) → after.earlier
     → history_of after ≡ option_map (λ texts. texts ++ text ∷ []) (history_of peer)
 one_more_text peer after text kept sends =
     (λ i. joined (kept i) ((sends ∙ nothing_first peer.sent text) i)) ∙ one_more peer.earlier peer.sent text
-
--- If what was sent earlier is observable exactly where what was sent since is, then so is the history.
-pub history_known : (peer : PeerState) → is_some peer.earlier ≡ is_some peer.sent → is_some (history_of peer) ≡ is_some peer.sent
-history_known peer known = by_cases peer.earlier peer.sent known
-  where
-    by_cases : (earlier : Option (List (List ℕ))) (sent : Option (List ℕ)) → is_some earlier ≡ is_some sent
-        → is_some (joined earlier sent) ≡ is_some sent
-    by_cases None None known = refl
-    by_cases None (Some sent) known = known
-    by_cases (Some list) None known = refl
-    by_cases (Some list) (Some sent) known = refl

@@ -16,7 +16,3 @@ pub listens_after : (port : ℕ) (could : Bool) (before door : DoorState) → co
     → door ≡ listening_at port could before → IsListening door
 listens_after port could before door did listens =
     subst IsListening (sym (listens ∙ ap (λ (b : Bool). listening_at port b before) did)) (listens_now port before)
-
--- A door whose ports are those of a door that listens is listening too.
-pub listens_still : (before door : DoorState) → door.ports ≡ before.ports → IsListening before → IsListening door
-listens_still before door same listens = λ none. listens (sym same ∙ none)

@@ -2,7 +2,7 @@
 use Rattle.std.proofs.Common.{◌≡◌, ◌≤◌, ◌<◌, ◌+◌, ◌-◌, ℕ, List, [], ◌∷◌, take, drop, map, length, slice_set, slice_index_or, Option, Some, None, true, All, IfSome, arith, ap, is_some, refl, subst}
 use Rattle.std.proofs.lemmas.List.{drop-set-lt, take-set-le, take_more_set, drop_more}
 use Rattle.std.proofs.lemmas.List.Elements.{All-tail, All-push, All-head}
-use Rattle.unl_base.specs.Memory.{IsNew, IsNext, IsStocked, IsThere, Stock, MemoryLinkState, sent_and_faults, to_come}
+use Rattle.unl_base.specs.Memory.{IsNewLink, IsNextLink, IsStocked, IsThere, Stock, MemoryLinkState, sent_and_faults, to_come}
 
 -- The observable part of a door's links.
 abbrev seen : List (Option MemoryLinkState) → ℕ → ℕ → Stock
@@ -14,7 +14,7 @@ pub gone : (links : List (Option MemoryLinkState)) (given back : ℕ) (left : Op
 gone links given back left more stocked = record {
   within = omega (arith, stocked.within);
   new = rw (drop-set-lt (given + 1) links given left (omega arith))
-      (All-tail IsNew (slice_index_or links given None) (drop (given + 1) links) (subst (All IsNew) (drop_more links given None more) stocked.new));
+      (All-tail IsNewLink (slice_index_or links given None) (drop (given + 1) links) (subst (All IsNewLink) (drop_more links given None more) stocked.new));
   there = rw (take-set-le back links given left stocked.within) stocked.there;
 }
 
@@ -29,24 +29,24 @@ came links given back wire out held stocked = record {
 }
 
 -- A new link is present.
-pub new_there : (link : Option MemoryLinkState) → IsNew link → is_some link ≡ true
+pub new_there : (link : Option MemoryLinkState) → IsNewLink link → is_some link ≡ true
 new_there None new = absurd new
 new_there (Some wire) new = refl
 
 -- A new link is the next link of the list that begins with its bytes.
-pub new_is : (link : Option MemoryLinkState) (more : List (List ℕ)) → IsNew link → IfSome link (λ wire. IsNext (to_come link ∷ more) wire)
+pub new_is : (link : Option MemoryLinkState) (more : List (List ℕ)) → IsNewLink link → IfSome link (λ wire. IsNextLink (to_come link ∷ more) wire)
 new_is None more new = absurd new
 new_is (Some wire) more new = record { gives = refl; silent = new.0; faultless = new.1 }
 
 -- The next link to come is new.
 pub next_new : (links : List (Option MemoryLinkState)) (given back : ℕ) (default : Option MemoryLinkState) → given < length links → IsStocked links given back
-    → IsNew (slice_index_or links given default)
+    → IsNewLink (slice_index_or links given default)
 next_new links given back default more stocked =
-    All-head IsNew (slice_index_or links given default) (drop (given + 1) links) (subst (All IsNew) (drop_more links given default more) stocked.new)
+    All-head IsNewLink (slice_index_or links given default) (drop (given + 1) links) (subst (All IsNewLink) (drop_more links given default more) stocked.new)
 
 -- The next link to come gives the first of the texts to come.
 pub next_is : (links : List (Option MemoryLinkState)) (given back : ℕ) (default : Option MemoryLinkState) → given < length links → IsStocked links given back
-    → IfSome (slice_index_or links given default) (λ wire. IsNext (map to_come (drop given links)) wire)
+    → IfSome (slice_index_or links given default) (λ wire. IsNextLink (map to_come (drop given links)) wire)
 next_is links given back default more stocked =
     rw (drop_more links given default more)
     (new_is (slice_index_or links given default) (map to_come (drop (given + 1) links)) (next_new links given back default more stocked))

@@ -54,7 +54,7 @@ abbrev pub ServedOnlyAt : ℕ → ℕ → DoorState → DoorState → Type 0
 ServedOnlyAt port served before door = ((served ≡ 0) × (door.ports ≡ before.ports)) ⊎ ListenedAt port before door
 
 -- The door is open: it has another link to hand out.
-pub record IsOpen (door : DoorState) : Type 0 where
+pub record IsOpenDoor (door : DoorState) : Type 0 where
   pub not_closed : door.closed ≡ false
   pub some_left : IfSome door.links (λ links. ¬ (links ≡ []))
 
@@ -67,7 +67,7 @@ handing_out closed door =
 -- link of an open door.
 abbrev pub Accepts : {A : Type 0} → Option A → DoorState → DoorState → Type 0
 Accepts None old new = IsClosed old × (new ≡ old)
-Accepts (Some link) old new = IsOpen old × (new ≡ handing_out new.closed old)
+Accepts (Some link) old new = IsOpenDoor old × (new ≡ handing_out new.closed old)
 
 -- A link that was just handed out gives the first of the texts to come, has sent nothing and has a fault count of 0.
 pub record IsFresh (door : DoorState) (left sent : Option (List ℕ)) (faults : ℕ) : Type 0 where

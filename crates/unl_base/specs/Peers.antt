@@ -15,8 +15,8 @@ pub record PeerState : Type 0 where
   pub replies : Option (List (List ℕ))
 
 -- A stream that is neither a link nor a peer has no state besides its bytes.
-abbrev pub nothing_beside : PeerState
-nothing_beside = record { connected = false; left = None; sent = None; earlier = None; replies = None }
+abbrev pub no_other_parts : PeerState
+no_other_parts = record { connected = false; left = None; sent = None; earlier = None; replies = None }
 
 -- All that a peer was sent, a text for each connection in order, after a first text of what was sent before the first
 -- connection. The last text is what was sent since the last successful connect.

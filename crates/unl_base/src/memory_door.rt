@@ -1,8 +1,8 @@
 //! A door whose links are in memory.
-ghost use Rattle.std.specs.Prelude.{◌≡◌, ◌<◌, ◌+◌, ◌-◌, ◌∷◌, ◌++◌, ◌↔◌, [], Some, All, drop, length, map};
+ghost use Rattle.std.specs.Prelude.{◌≡◌, ◌<◌, ◌+◌, ◌-◌, ◌∷◌, ◌++◌, ◌↔◌, [], Some, All, drop, map};
 ghost use Rattle.std.specs.Prelude.{if◌then◌else◌, is_ok, option_map, slice_get, IfOk, IfSome, IsNone, OnErr};
 ghost use Rattle.unl_base.specs.Doors.{Accepts, count_of};
-ghost use Rattle.unl_base.specs.Memory.{FailsAsListed, FailsIfListed, IsNew, IsNext, calls_of, door_of, sent_and_faults, to_come};
+ghost use Rattle.unl_base.specs.Memory.{FailsAsListed, FailsIfListed, IsNewLink, IsNextLink, calls_of, door_of, sent_and_faults, to_come};
 
 use crate::Failed;
 use crate::door::Door;
@@ -35,7 +35,7 @@ impl Model for Stock {
 
 impl Stock {
     fn new(links: Vec<Option<MemoryLink>>) -> Self
-        requires { All IsNew links.items }
+        requires { All IsNewLink links.items }
         ensures { result ≡ record { links = map to_come links.items; out = 0; returned = [] } }
     {
         Stock {
@@ -48,7 +48,7 @@ impl Stock {
     /// Hands out the next link; `None` if there are none left.
     fn take(&mut self) -> Option<MemoryLink>
         ensures ends { IsNone result ↔ (self.old.links ≡ []) }
-        ensures comes { IfSome result (λ link. IsNext self.old.links link) }
+        ensures comes { IfSome result (λ link. IsNextLink self.old.links link) }
         ensures rest { self.new
             ≡ record { links = drop 1 self.old.links; out = self.old.out + count_of result; returned = self.old.returned } }
     {
@@ -106,7 +106,7 @@ impl MemoryDoor {
     /// and has a fault count of 0. The calls of `listen` and `accept` are numbered together from 0; those whose numbers
     /// are in `failing` fail.
     pub fn new(links: Vec<Option<MemoryLink>>, failing: Vec<u64>) -> Self
-        requires { All IsNew links.items }
+        requires { All IsNewLink links.items }
         ensures { result ≡ record {
           ports = [];
           stock = record { links = map to_come links.items; out = 0; returned = [] };
@@ -159,7 +159,7 @@ impl Door for MemoryDoor {
     fn accept(&mut self) -> Result<Option<MemoryLink>, Failed>
         requires { ¬ (self.old.ports ≡ []) }
         ensures accepts { IfOk result (λ link. Accepts link (door_of self.old) (door_of self.new)) }
-        ensures comes { IfOk result (λ link. IfSome link (λ wire. IsNext self.old.stock.links wire)) }
+        ensures comes { IfOk result (λ link. IfSome link (λ wire. IsNextLink self.old.stock.links wire)) }
         ensures kept { OnErr result (self.new.stock ≡ self.old.stock) }
         ensures same { self.new.ports ≡ self.old.ports }
         ensures fails_as_listed { FailsAsListed result self.old.calls self.new.calls }

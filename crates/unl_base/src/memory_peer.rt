@@ -1,7 +1,7 @@
 //! A peer whose replies are in memory.
 ghost use Rattle.std.specs.Prelude.{◌≡◌, ◌<◌, ◌≤◌, ◌∷◌, ◌++◌, [], None, drop, take, length, map, IfOk, OnErr, OnOk};
 ghost use Rattle.unl_base.specs.Doors.{next_of};
-ghost use Rattle.unl_base.specs.Memory.{FailsAsListed, FailsIfListed, ReadsLine, Writes, calls_of, on_line, peer_of};
+ghost use Rattle.unl_base.specs.Memory.{FailsAsListed, FailsIfListed, ReadsLine, WritesStore, calls_of, on_line, peer_of};
 ghost use Rattle.unl_base.specs.Peers.{after_connect, after_failed_connect};
 
 use crate::link::{Link, Sink, Source};
@@ -131,7 +131,7 @@ impl Source for MemoryPeer {
 
     ghost faults = { λ peer. peer.calls.faults };
 
-    ghost beside = { λ peer. record (peer_of peer) { left = None } };
+    ghost other_parts = { λ peer. record (peer_of peer) { left = None } };
 
     /// Reads as many bytes of the reply as fit into `room`. Fails exactly on the calls listed in `failing`.
     fn read(&mut self, room: &mut [u8]) -> Result<usize, Failed>
@@ -160,12 +160,12 @@ impl Sink for MemoryPeer {
 
     ghost faults = { λ peer. peer.calls.faults };
 
-    ghost beside = { λ peer. record (peer_of peer) { sent = None } };
+    ghost other_parts = { λ peer. record (peer_of peer) { sent = None } };
 
     /// Takes all of `piece`. Fails exactly if `piece` is past the capacity or the call is listed in `failing`.
     fn write(&mut self, piece: &[u8]) -> Result<usize, Failed>
         requires { 0 < length piece.now }
-        ensures writes { Writes result piece.now self.old.calls self.new.calls self.old.store self.new.store }
+        ensures writes { WritesStore result piece.now self.old.calls self.new.calls self.old.store self.new.store }
         ensures line { self.new.line ≡ self.old.line }
         ensures replies { self.new.replies ≡ self.old.replies }
         ensures earlier { self.new.earlier ≡ self.old.earlier }
@@ -188,9 +188,9 @@ impl Link for MemoryPeer {
 
     ghost one_count = { λ peer. refl };
 
-    ghost reads_beside = { λ peer. refl };
+    ghost reads_other_parts = { λ peer. refl };
 
-    ghost writes_beside = { λ peer. refl };
+    ghost writes_other_parts = { λ peer. refl };
 }
 
 impl Peer for MemoryPeer {

@@ -32,8 +32,8 @@ pub trait Peer: Link {
     ghost earlier_known: { (peer : Self) → is_some (state peer).earlier ≡ is_some (state peer).sent };
 
     /// A read changes only the bytes still to be read.
-    ghost reads: { (peer : Self) → state peer ≡ record (Self.Source.beside peer) { left = Self.Source.left peer } };
+    ghost reads: { (peer : Self) → state peer ≡ record (Self.Source.other_parts peer) { left = Self.Source.left peer } };
 
     /// A write changes only the bytes sent.
-    ghost writes: { (peer : Self) → state peer ≡ record (Self.Sink.beside peer) { sent = Self.Sink.sent peer } };
+    ghost writes: { (peer : Self) → state peer ≡ record (Self.Sink.other_parts peer) { sent = Self.Sink.sent peer } };
 }

@@ -1,6 +1,6 @@
 //! Draws whose moments come from a clock and whose words come from a random number generator.
 ghost use Rattle.rand_core.specs.Stream.{next_u64};
-ghost use Rattle.std.specs.Prelude.{◌≡◌, ◌≤◌, None, IfOk};
+ghost use Rattle.std.specs.Prelude.{◌≡◌, ◌≤◌, None};
 ghost use Rattle.unl_base.specs.Draws.{IsInLimit};
 
 use crate::draws::{Draw, Draws};

@@ -4,8 +4,8 @@ use Rattle.std.specs.Prelude.{option_to_list, is_some, ◌||◌, ◌==◌, if◌
 use Rattle.std.specs.Cmp.Lexicographic.{slice_cmp}
 use Rattle.std.specs.Ordering.{match_ordering}
 use Rattle.std.proofs.lemmas.List.Sums.{fold-append}
-use Rattle.unl_context.specs.declared.known.Known.{Known}
-use Rattle.unl_context.specs.declared.known.Known.TheVariants as field
+use Rattle.unl_context.specs.declared.known.KnownField.{KnownField}
+use Rattle.unl_context.specs.declared.known.KnownField.TheVariants as field
 use Rattle.unl_context.specs.declared.properties.Property.{Property}
 use Rattle.unl_context.specs.declared.query.Settings.{Settings}
 use Rattle.unl_context.specs.Context.{Fields, nothing, with_known}
@@ -68,7 +68,7 @@ plain_grows c key value = by (known_by key)
     skipping true = omega arith
     skipping false = put_grows key value c.properties
 
-    known : (k : Known) → Grows c (with_known k value c)
+    known : (k : KnownField) → Grows c (with_known k value c)
     known field.UserId = omega arith
     known field.SessionId = omega arith
     known field.RemoteAddress = omega arith
@@ -76,7 +76,7 @@ plain_grows c key value = by (known_by key)
     known field.AppName = omega arith
     known field.CurrentTime = omega arith
 
-    by : (found : Option Known) → Grows c (elim found as (λ _. Fields) [ Some k ↦ with_known k value c | None ↦ set_other key value c ])
+    by : (found : Option KnownField) → Grows c (elim found as (λ _. Fields) [ Some k ↦ with_known k value c | None ↦ set_other key value c ])
     by None = skipping (is_some (inner_name key) || length key == 0)
     by (Some k) = known k
 

@@ -4,8 +4,8 @@ use Rattle.std.specs.Option.{option_or}
 use Rattle.std.specs.Str.{bytes_eq}
 use Rattle.std.proofs.lemmas.Bool.{cases_Bool}
 use Rattle.std.proofs.lemmas.Slice.Eq.{bytes_eq-Decides}
-use Rattle.unl_context.specs.declared.known.Known.{Known}
-use Rattle.unl_context.specs.declared.known.Known.TheVariants as known
+use Rattle.unl_context.specs.declared.known.KnownField.{KnownField}
+use Rattle.unl_context.specs.declared.known.KnownField.TheVariants as known
 use Rattle.unl_context.specs.Context.{Fields, HasRisingNames, nothing, known_field, with_known}
 use Rattle.unl_context.specs.Known.{known_by}
 use Rattle.unl_context.specs.Query.{inner_name, set_plain, set_inner, set_by, set_other, with_property}
@@ -14,7 +14,7 @@ use Rattle.unl_context.proofs.Lasting.{last_counts}
 use Rattle.unl_context.proofs.Rising.{no_names, rising_put}
 
 -- A statement that holds for each of the six names holds for all.
-each : (P : Known → Type 0) → P known.UserId → P known.SessionId → P known.RemoteAddress → P known.Environment → P known.AppName → P known.CurrentTime → (k : Known) → P k
+each : (P : KnownField → Type 0) → P known.UserId → P known.SessionId → P known.RemoteAddress → P known.Environment → P known.AppName → P known.CurrentTime → (k : KnownField) → P k
 each P a b c d e f known.UserId = a
 each P a b c d e f known.SessionId = b
 each P a b c d e f known.RemoteAddress = c
@@ -23,12 +23,12 @@ each P a b c d e f known.AppName = e
 each P a b c d e f known.CurrentTime = f
 
 -- Setting a property changes no field.
-stays : (k : Known) (name value : List ℕ) (c : Fields) → known_field k (with_property name value c) ≡ known_field k c
+stays : (k : KnownField) (name value : List ℕ) (c : Fields) → known_field k (with_property name value c) ≡ known_field k c
 stays k name value c = each (λ k. known_field k (with_property name value c) ≡ known_field k c) refl refl refl refl refl refl k
 
 -- ---- the six fields
 
-abbrev Sets : Known → Fields → List ℕ → List ℕ → Type 0
+abbrev Sets : KnownField → Fields → List ℕ → List ℕ → Type 0
 Sets k c value key = known_field k (set_plain c (key, value)) ≡ (if is_key k key then Some value else known_field k c)
 
 -- Case split: a key equals this string or it does not.
@@ -40,7 +40,7 @@ decided P literal key here other =
     ]
 
 -- Any other key does not change this field.
-other_key : (k : Known) (c : Fields) (value key : List ℕ) → known_by key ≡ None → is_key k key ≡ false → Sets k c value key
+other_key : (k : KnownField) (c : Fields) (value key : List ℕ) → known_by key ≡ None → is_key k key ≡ false → Sets k c value key
 unfolding set_plain
 other_key k c value key unknown other = by (known_by key) unknown
   where
@@ -48,11 +48,11 @@ other_key k c value key unknown other = by (known_by key) unknown
     skipping true = refl
     skipping false = stays k key value c
 
-    by : (found : Option Known) → found ≡ None → known_field k (elim found as (λ _. Fields) [ Some j ↦ with_known j value c | None ↦ set_other key value c ]) ≡ (if is_key k key then Some value else known_field k c)
+    by : (found : Option KnownField) → found ≡ None → known_field k (elim found as (λ _. Fields) [ Some j ↦ with_known j value c | None ↦ set_other key value c ]) ≡ (if is_key k key then Some value else known_field k c)
     by None is = rw other (skipping (is_some (inner_name key) || length key == 0))
     by (Some j) is = absurd cc
 
-field_sets : (k : Known) (c : Fields) (key value : List ℕ) → Sets k c value key
+field_sets : (k : KnownField) (c : Fields) (key value : List ℕ) → Sets k c value key
 unfolding set_plain known_by
 field_sets k c key value =
     decided (Sets k c value) (codes "userId") key (each (λ k. Sets k c value (codes "userId")) refl refl refl refl refl refl k) (λ a.
@@ -63,7 +63,7 @@ field_sets k c key value =
     decided (Sets k c value) (codes "currentTime") key (each (λ k. Sets k c value (codes "currentTime")) refl refl refl refl refl refl k) (λ g.
     other_key k c value key (rw (a, b, d, e, f, g) refl) (each (λ k. is_key k key ≡ false) a b d e f g k)))))))
 
-inner_stays : (k : Known) (pairs : List (List ℕ × List ℕ)) (c : Fields) → known_field k (fold set_inner c pairs) ≡ known_field k c
+inner_stays : (k : KnownField) (pairs : List (List ℕ × List ℕ)) (c : Fields) → known_field k (fold set_inner c pairs) ≡ known_field k c
 unfolding set_inner
 inner_stays k [] c = refl
 inner_stays k ((key, value) ∷ pairs) c = inner_stays k pairs (set_inner c (key, value)) ∙ by (inner_name key)
@@ -107,7 +107,7 @@ plain_rises c key value up = by (known_by key)
     skipping true = up
     skipping false = rising_put key value c.properties up
 
-    by : (found : Option Known) → Rise (elim found as (λ _. Fields) [ Some k ↦ with_known k value c | None ↦ set_other key value c ])
+    by : (found : Option KnownField) → Rise (elim found as (λ _. Fields) [ Some k ↦ with_known k value c | None ↦ set_other key value c ])
     by None = skipping (is_some (inner_name key) || length key == 0)
     by (Some k) = each (λ k. Rise (with_known k value c)) up up up up up up k
 

@@ -5,7 +5,7 @@ use mathlib.Core.Option.{some, some-injective, some-ne-none}
 use lib.ListN.{get_elem?}
 use Rattle.atomic_table.proofs.Lists.{at_set, at_snoc}
 use Rattle.unl_publication.specs.declared.knowledge.Knowledge.{Knowledge}
-use Rattle.unl_publication.specs.Rule.{Rise, StartsWith, knows_nothing, AreAllowed, KnowsAllowed, Fits, IsKept, Opens, Publishes, Enters, shared_knowledge, with_installs}
+use Rattle.unl_publication.specs.Rule.{Rise, StartsWith, knows_nothing, AreAllowed, Fits, IsKept, Opens, Publishes, Enters, shared_knowledge, with_installs}
 
 -- ---- numbers that never fall
 

@@ -71,9 +71,6 @@ module _ {S I : Type 0} (installed : S → I → S) where
     keeps = keeps past v w ahead t;
   }
 
-  pub Follows-itself : (v : Knowledge S I) → Follows installed v v
-  Follows-itself v = record { rises = omega arith; keeps = λ k b e. e }
-
   -- The value shown is known.
   pub value_at-here : (w : Knowledge S I) (opening : S) → length w.before ≤ length w.installs → w.opening ≡ Some opening → value_at installed w (front_seen w) ≡ Some (fold installed opening w.installs)
   value_at-here w opening short is =

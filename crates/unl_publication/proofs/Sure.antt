@@ -7,7 +7,7 @@ use Rattle.std.specs.declared.option.Option.{Option}
 use Rattle.std.specs.declared.option.Option.TheVariants.{None}
 use Rattle.std.proofs.lemmas.List.Sums.{fold-append}
 use Rattle.unl_publication.specs.declared.knowledge.Knowledge.{Knowledge}
-use Rattle.unl_publication.specs.Rule.{AreAllowed, KnowsAllowed, MayPublish, Opens, Rise, Enters, knows_nothing, knows_opening, shared_knowledge, with_installs}
+use Rattle.unl_publication.specs.Rule.{KnowsAllowed, MayPublish, Opens, Rise, Enters, knows_nothing, knows_opening, shared_knowledge, with_installs}
 use Rattle.unl_publication.specs.Meaning.{known, before_of, value_at}
 use Rattle.unl_publication.specs.Looking.{AreBothAllowed, Shows, AreFronts, IsAhead, IsBetweenLooks, IsLooking, Takes}
 use Rattle.unl_publication.proofs.Meant.{length-first_of}

@@ -1,5 +1,5 @@
 //! Creates a writer and its readers.
-ghost use Rattle.std.specs.Prelude.{◌≡◌, ℕ, ◌^◌, ◌<◌, ◌≤◌, false, All, IfOk, None, length};
+ghost use Rattle.std.specs.Prelude.{◌≡◌, ℕ, ◌<◌, ◌≤◌, false, All, IfOk, None, length};
 ghost use Rattle.unl_publication.specs.Rule.{knows_opening, shared_knowledge};
 ghost use Rattle.unl_publication.specs.Seen.{IsFresh, is_closed, written};
 

@@ -1,8 +1,8 @@
 //! A writer that is changed in place.
-ghost use Rattle.std.specs.Prelude.{◌≡◌, true, false, [], ◌∷◌, length, fold, Some, is_some, unwrap_or, option_map};
+ghost use Rattle.std.specs.Prelude.{◌≡◌, true, false, [], ◌∷◌, length, fold, Some, is_some};
 ghost use Rattle.std.specs.Prelude.{IfSome, IsErr, MatchResult, OnOk};
 ghost use Rattle.unl_publication.specs.Meaning.{front_seen};
-ghost use Rattle.unl_publication.specs.Rule.{KnowsAllowed, MayPublish, knows_nothing, shared_knowledge, with_installs};
+ghost use Rattle.unl_publication.specs.Rule.{KnowsAllowed, MayPublish, shared_knowledge, with_installs};
 
 use crate::rule::Rules;
 use crate::value::Counted;

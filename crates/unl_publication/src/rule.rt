@@ -1,11 +1,11 @@
-//! The invariant that each step keeps, and what each step makes known.
+//! The invariant that each access to the shared value keeps, and what each access makes known.
 use crate::knowledge::Knowledge;
 use crate::value::Counted;
 use atomic_table::{Join, Split};
 use crossbeam_utils::rule::{Outcome, Protocol};
 use std::marker::{Brand, PhantomData};
 
-/// The invariant of the publications: `Ruled`, or a caller's own type with the same members. The invariant is `IsKept`:
+/// The invariant of the publications: `Ruled`, or another protocol equivalent to it. The invariant is `IsKept`:
 /// there is one opening value and one list of installs, the value before each install allows it, and the writer and each
 /// reader know a prefix of that list.
 pub trait Rules<T: Counted<I>, I: Drop>: Protocol<T, Knowledge<T::State, I>> {
@@ -13,11 +13,11 @@ pub trait Rules<T: Counted<I>, I: Drop>: Protocol<T, Knowledge<T::State, I>> {
     ghost use Rattle.unl_publication.specs.declared.knowledge.Knowledge.{Knowledge};
     ghost use Rattle.unl_publication.specs.Rule.{IsKept, knows_nothing};
 
-    /// What the protocol holds of the value and of everyone's knowledge implies `IsKept`.
+    /// The protocol's `holds` implies `IsKept`.
     ghost kept: { (x : T) (views : List (Knowledge T.State I)) → Self.holds x views
         → IsKept T.applied T.front_of T.allows (T.state x) views };
 
-    /// `IsKept` implies what the protocol holds.
+    /// `IsKept` implies the protocol's `holds`.
     ghost keeps: { (x : T) (views : List (Knowledge T.State I))
         → IsKept T.applied T.front_of T.allows (T.state x) views → Self.holds x views };
 
@@ -48,30 +48,33 @@ impl<T: Counted<I>, I: Drop> Rules<T, I> for Ruled<I> {
     ghost begins = { refl };
 }
 
-/// The installs of one publication. Each call chooses them.
+/// The installs of one publication. Each call passes them as a type parameter.
 pub trait Given<I> {
     ghost use Rattle.std.specs.Prelude.{List};
 
     ghost given: { List I };
 }
 
+/// A call that passes `Brand` has the installs picked by its proof. The value here is only a placeholder.
 impl<I> Given<I> for Brand {
     ghost use Rattle.std.specs.Prelude.{[]};
 
     ghost given = { [] };
 }
 
-/// The name of the table that a writer begins with.
+/// The name of the table that a writer begins with. The call passes it as a type parameter.
 pub trait AtTable {
     ghost use Rattle.std.specs.Prelude.{ℕ};
 
     ghost table: { ℕ };
 }
 
+/// A call that passes `Brand` has the name picked by its proof. The value here is only a placeholder.
 impl AtTable for Brand {
     ghost table = { 0 };
 }
 
+/// What the writer's first access makes known: its table and the opening value.
 pub(crate) struct Open<K> {
     of: PhantomData<K>,
 }
@@ -82,6 +85,7 @@ impl<T: Counted<I>, I: Drop, K: AtTable> Outcome<T, Knowledge<T::State, I>> for 
     ghost then = { λ v x _ w. Opens K.table (T.state x) v w };
 }
 
+/// What a publication makes known to the writer: the installs that were given are appended to its list, and each was allowed.
 pub(crate) struct Publish<K> {
     of: PhantomData<K>,
 }
@@ -92,7 +96,7 @@ impl<T: Counted<I>, I: Drop, K: Given<I>> Outcome<T, Knowledge<T::State, I>> for
     ghost then = { λ v _ _ w. Publishes T.applied T.allows K.given v w };
 }
 
-/// What a reader knew before a look. Each look chooses it.
+/// What a reader knew before a look. Each call passes it as a type parameter.
 pub trait Past<S> {
     ghost use Rattle.std.specs.Prelude.{List, ℕ};
     ghost use Rattle.std.specs.declared.option.Option.{Option};
@@ -102,6 +106,7 @@ pub trait Past<S> {
     ghost fronts: { List ℕ };
 }
 
+/// A call that passes `Brand` has these members picked by its proof. The values here are only placeholders.
 impl<S> Past<S> for Brand {
     ghost use Rattle.std.specs.Prelude.{[]};
 
@@ -110,6 +115,7 @@ impl<S> Past<S> for Brand {
     ghost fronts = { [] };
 }
 
+/// What a look makes known to a reader: a list that starts with the one it had, and the value after that list.
 pub(crate) struct Enter<K> {
     of: PhantomData<K>,
 }
@@ -120,6 +126,7 @@ impl<T: Counted<I>, I: Drop, K: Past<T::State>> Outcome<T, Knowledge<T::State, I
     ghost then = { λ v x _ w. Enters T.applied T.front_of T.allows K.before K.fronts (T.state x) v w };
 }
 
+/// The writer tells what it knows: the table, the opening value and the list. It still knows them itself.
 pub(crate) struct Tell;
 
 impl<S, I> Split<Knowledge<S, I>> for Tell {
@@ -130,6 +137,7 @@ impl<S, I> Split<Knowledge<S, I>> for Tell {
     ghost right = { shared_knowledge };
 }
 
+/// A new reader learns what it was told: it then knows that and nothing else.
 pub(crate) struct Learn;
 
 impl<S, I> Join<Knowledge<S, I>> for Learn {

@@ -1,5 +1,5 @@
 //! The writer of the published value.
-ghost use Rattle.std.specs.Prelude.{◌≡◌, ◌^◌, ◌<◌, ◌≤◌, false, [], ◌∷◌, ◌++◌, ℕ, length, drop, fold};
+ghost use Rattle.std.specs.Prelude.{◌≡◌, ◌^◌, ◌<◌, false, [], ◌∷◌, ℕ, length, drop, fold};
 ghost use Rattle.std.specs.Prelude.{IfOk, IfSome, IsErr, MatchResult, OnOk};
 ghost use Rattle.std.specs.Prelude.{true, Some, is_some};
 ghost use Rattle.left_right.specs.Sides.{view};

@@ -1,11 +1,11 @@
 -- The requests that were read from a link.
 use Rattle.std.proofs.Common.{◌≡◌, ℕ, ◌+◌, ◌⊎◌, inl, inr, List, [], ◌∷◌, ◌++◌, Option, refl, sym, subst}
-use Rattle.unl_server.specs.Conversation.{Answered, Concludes, CutInRefusal, CutInReply, GivesUp, IsUnreplied, Serves}
+use Rattle.unl_server.specs.Conversation.{AreAnswered, Concludes, CutInRefusal, CutInReply, GivesUp, IsUnreplied, Serves}
 use Rattle.unl_http_api.specs.declared.end.End.{End}
 use Rattle.unl_http_api.specs.declared.end.End.TheVariants as ends
 use Rattle.unl_http_api.specs.declared.reply.Reply.{Reply}
 use Rattle.unl_http_api.specs.declared.request.Request.{Request}
-use Rattle.unl_http_api.specs.Session.{Reads}
+use Rattle.unl_http_api.specs.Session.{ReadsRequests}
 use Rattle.unl_http_api.proofs.SessionLemmas.{Reads-append, Reads_more}
 
 -- The bytes begin with some requests, which were answered. If memory ran out, one more may have taken a draw.
@@ -14,10 +14,10 @@ pub record Asks
     (end : End) (after : S) : Type 0 where
   pub requests : List Request
   pub rest : List ℕ
-  pub reads : Reads bytes requests rest
+  pub reads : ReadsRequests bytes requests rest
   pub text : List ℕ
   pub reached : S
-  pub answered : Answered Step 0 before requests text reached
+  pub answered : AreAnswered Step 0 before requests text reached
   pub next : (after ≡ reached) ⊎ ((end ≡ ends.Memory) × (request : Request) × RunsOut reached request after)
 
 -- all requests of a session were answered
@@ -40,7 +40,7 @@ by_prefix : {S : Type 0} {Step : S → Request → Reply → S → Type 0} {Runs
 by_prefix bytes read rest before after end split asks = record {
   requests = asks.requests;
   rest = asks.rest ++ rest;
-  reads = subst (λ (b : List ℕ). Reads b asks.requests (asks.rest ++ rest)) (sym split) (Reads-append read asks.requests asks.rest rest asks.reads);
+  reads = subst (λ (b : List ℕ). ReadsRequests b asks.requests (asks.rest ++ rest)) (sym split) (Reads-append read asks.requests asks.rest rest asks.reads);
   text = asks.text;
   reached = asks.reached;
   answered = asks.answered;
@@ -76,11 +76,11 @@ by_refusal bytes before after end sent sent_after cut = record {
 -- one more request was answered
 answered_more : {S : Type 0} (Step : S → Request → Reply → S → Type 0)
     (count : ℕ) (qs : List Request) (text : List ℕ) (before middle after : S) (q : Request) (reply : Reply)
-    → Answered Step count before qs text middle → Step middle q reply after → (longer : List ℕ) × Answered Step count before (qs ++ q ∷ []) longer after
+    → AreAnswered Step count before qs text middle → Step middle q reply after → (longer : List ℕ) × AreAnswered Step count before (qs ++ q ∷ []) longer after
 answered_more {S} Step count [] text before middle after q reply answered step =
     (_, (reply, after, [], subst (λ (s : S). Step s q reply after) answered.1 step, refl, (refl, refl)))
 answered_more Step count (p ∷ qs) text before middle after q reply answered step =
-    let others : (longer : List ℕ) × Answered Step (count + 1) answered.1 (qs ++ q ∷ []) longer after =
+    let others : (longer : List ℕ) × AreAnswered Step (count + 1) answered.1 (qs ++ q ∷ []) longer after =
     answered_more Step (count + 1) qs answered.2 answered.1 middle after q reply answered.5 step in
     (_, (answered.0, answered.1, others.0, answered.3, refl, others.1))
 
@@ -100,10 +100,10 @@ by_memory {S} {Step} {RunsOut} bytes before after sent sent_after faults faults_
       next = next;
     }
 
-    one_more : (request : Request) (rest : List ℕ) (reply : Reply) → Reads bytes (gives.requests ++ request ∷ []) rest → Step gives.replied request reply after
+    one_more : (request : Request) (rest : List ℕ) (reply : Reply) → ReadsRequests bytes (gives.requests ++ request ∷ []) rest → Step gives.replied request reply after
         → Asks Step RunsOut bytes before ends.Memory after
     one_more request rest reply reads step =
-        let more : (longer : List ℕ) × Answered Step 0 before (gives.requests ++ request ∷ []) longer after =
+        let more : (longer : List ℕ) × AreAnswered Step 0 before (gives.requests ++ request ∷ []) longer after =
         answered_more Step 0 gives.requests gives.text before gives.replied after request reply gives.answered step in
         record {
           requests = gives.requests ++ request ∷ [];

@@ -9,7 +9,7 @@ use Rattle.unl_http_api.specs.Session.{Session, AreWhole, IsRegular}
 use Rattle.unl_http_api.proofs.SessionLemmas.{Session_unique}
 use Rattle.unl_http_api.proofs.WholeLemmas.{whole_session}
 use Rattle.unl_server.specs.Conversation.{Serves, Concludes, AnswersAll, Converses, GivesUp, Reaches}
-use Rattle.unl_server.specs.Links.{LinkState}
+use Rattle.unl_server.specs.Links.{LinkView}
 
 -- a count that rose from a later value rose from an earlier one
 pub Rose_earlier : (a b c : ℕ) → a ≤ b → Rose b c → Rose a c
@@ -74,8 +74,8 @@ completes_whole Step bytes asked sent before result after left_after sent_after 
     )
 
 -- all clauses of a conversation
-pub converses_so : {S : Type 0} (Step : S → Request → Reply → S → Type 0) (RunsOut : S → Request → S → Type 0) (link : LinkState)
-    (before : S) (end : End) (after : S) (count : ℕ) (link_after : LinkState)
+pub converses_so : {S : Type 0} (Step : S → Request → Reply → S → Type 0) (RunsOut : S → Request → S → Type 0) (link : LinkView)
+    (before : S) (end : End) (after : S) (count : ℕ) (link_after : LinkView)
     → ((bytes : List ℕ) → link.left ≡ Some bytes → Concludes Step bytes link.sent before end after link_after.left link_after.sent)
     → ((bytes : List ℕ) → link.left ≡ Some bytes → end ≡ Memory
     → GivesUp Step RunsOut bytes link.sent link.faults before after link_after.sent link_after.faults)

@@ -9,11 +9,11 @@ use Rattle.unl_http_api.specs.declared.reply.Reply.{Reply}
 use Rattle.unl_http_api.specs.declared.request.Request.{Request}
 use Rattle.unl_http_api.specs.Reply.{reply_text, refusal_text}
 use Rattle.unl_http_api.specs.Requests.{IsBad, IsUnfinished}
-use Rattle.unl_http_api.specs.Session.{Reads, StayOpen, Session}
+use Rattle.unl_http_api.specs.Session.{ReadsRequests, StayOpen, Session}
 use Rattle.unl_base.proofs.Sending.{Sends_nothing, Sends_more}
 use Rattle.unl_http_api.proofs.SessionLemmas.{Reads_more, Reads-append, Session-asked, Session-limit, Session-refused, Session-closed, Session-cut_off}
-use Rattle.unl_server.specs.Conversation.{Answered, farewell, Serves, CutInReply, CutInRefusal, Concludes}
-use Rattle.unl_server.specs.Exchange.{Connection, Exchanges, Stops, ServesTurn}
+use Rattle.unl_server.specs.Conversation.{AreAnswered, farewell, Serves, CutInReply, CutInRefusal, Concludes}
+use Rattle.unl_server.specs.Exchange.{ConnectionState, Exchanges, Stops, ServesTurn}
 use Rattle.unl_server.proofs.ReceiveLemmas.{Takes_nothing, Takes_more}
 
 -- ---- the text of the replies
@@ -21,8 +21,8 @@ use Rattle.unl_server.proofs.ReceiveLemmas.{Takes_nothing, Takes_more}
 -- one more reply follows
 pub Answered_more : {S : Type 0} (Step : S → Request → Reply → S → Type 0) (count : ℕ) (before middle after : S)
     (qs : List Request) (text : List ℕ) (q : Request) (reply : Reply) (last : Bool)
-    → Answered Step count before qs text middle → Step middle q reply after → last ≡ (count + length qs == 999)
-    → Answered Step count before (qs ++ q ∷ []) (text ++ reply_text reply (q.close || last)) after
+    → AreAnswered Step count before qs text middle → Step middle q reply after → last ≡ (count + length qs == 999)
+    → AreAnswered Step count before (qs ++ q ∷ []) (text ++ reply_text reply (q.close || last)) after
 Answered_more {S} Step count before middle after [] text q reply last answered step is = (
   reply,
   after,
@@ -47,35 +47,35 @@ Answered_more {S} Step count before middle after (p ∷ qs) text q reply last (f
 -- ---- a conversation so far
 
 -- these requests were read and answered
-pub record Talk {S : Type 0} (Step : S → Request → Reply → S → Type 0) (start now : Connection S) (requests : List Request) : Type 0 where
+pub record Talk {S : Type 0} (Step : S → Request → Reply → S → Type 0) (start now : ConnectionState S) (requests : List Request) : Type 0 where
   pub read : List ℕ
   pub took : Takes start.left read now.left
-  pub reads : Reads read requests now.held
+  pub reads : ReadsRequests read requests now.held
   pub text : List ℕ
-  pub answered : Answered Step 0 start.state requests text now.state
+  pub answered : AreAnswered Step 0 start.state requests text now.state
   pub sends : Sends start.sent text now.sent
 
 -- one more request was read
 turn_reads : {S : Type 0} (Sent : Option (List ℕ) → List ℕ → Option (List ℕ) → Type 0) (Step : S → Request → Reply → S → Type 0)
-    (start now new : Connection S) (requests : List Request) (last close : Bool) (talk : Talk Step start now requests)
+    (start now new : ConnectionState S) (requests : List Request) (last close : Bool) (talk : Talk Step start now requests)
     → (turn : Exchanges Sent Step last close now new)
-    → Reads (talk.read ++ turn.read) (requests ++ turn.request ∷ []) new.held
+    → ReadsRequests (talk.read ++ turn.read) (requests ++ turn.request ∷ []) new.held
 turn_reads Sent Step start now new requests last close talk turn =
     Reads_more (talk.read ++ turn.read) requests turn.request (now.held ++ turn.read) new.held
     (Reads-append talk.read requests now.held turn.read talk.reads) turn.begins
 
 -- and it was answered
 turn_answered : {S : Type 0} (Sent : Option (List ℕ) → List ℕ → Option (List ℕ) → Type 0)
-    (Step : S → Request → Reply → S → Type 0) (start now new : Connection S) (requests : List Request) (last close : Bool)
+    (Step : S → Request → Reply → S → Type 0) (start now new : ConnectionState S) (requests : List Request) (last close : Bool)
     (talk : Talk Step start now requests) → last ≡ (length requests == 999) → (turn : Exchanges Sent Step last close now new)
-    → Answered Step 0 start.state (requests ++ turn.request ∷ [])
+    → AreAnswered Step 0 start.state (requests ++ turn.request ∷ [])
     (talk.text ++ reply_text turn.replies.reply (turn.request.close || last)) new.state
 turn_answered Sent Step start now new requests last close talk is turn =
     Answered_more Step 0 start.state now.state new.state requests talk.text turn.request turn.replies.reply last
     talk.answered turn.replies.steps (is ∙ ap (λ (n : ℕ). n == 999) (omega arith))
 
 -- one more request was read and answered
-pub Talk_more : {S : Type 0} (Step : S → Request → Reply → S → Type 0) (start now new : Connection S)
+pub Talk_more : {S : Type 0} (Step : S → Request → Reply → S → Type 0) (start now new : ConnectionState S)
     (requests : List Request) (last close : Bool) → Talk Step start now requests → last ≡ (length requests == 999)
     → (turn : Exchanges Sends Step last close now new) → Talk Step start new (requests ++ turn.request ∷ [])
 Talk_more Step start now new requests last close talk is turn = record {
@@ -110,7 +110,7 @@ Talk_begin Step left sent state = record {
 }
 
 -- a conversation with these requests and this end serves the session of the bytes
-concluded : {S : Type 0} (Step : S → Request → Reply → S → Type 0) (start now : Connection S) (requests : List Request)
+concluded : {S : Type 0} (Step : S → Request → Reply → S → Type 0) (start now : ConnectionState S) (requests : List Request)
     (bytes : List ℕ) (end : End) → Talk Step start now requests → Session bytes requests end
     → (sent_after : Option (List ℕ)) → Sends now.sent (farewell end) sent_after
     → Serves Step bytes start.sent start.state end now.state sent_after
@@ -123,7 +123,7 @@ concluded Step start now requests bytes end talk session sent_after goodbye = re
 }
 
 -- the last request asked to close
-concludes_asked : {S : Type 0} (Step : S → Request → Reply → S → Type 0) (start now new : Connection S)
+concludes_asked : {S : Type 0} (Step : S → Request → Reply → S → Type 0) (start now new : ConnectionState S)
     (requests : List Request) (last : Bool) (bytes : List ℕ) → Talk Step start now requests
     → last ≡ (length requests == 999) → StayOpen requests → length requests < 1000 → start.left ≡ Some bytes
     → Exchanges Sends Step last true now new → Serves Step bytes start.sent start.state Asked new.state new.sent
@@ -136,7 +136,7 @@ concludes_asked Step start now new requests last bytes talk is stay few known tu
     new.sent (Sends_nothing new.sent)
 
 -- the limit of requests was reached
-pub concludes_limit : {S : Type 0} (Step : S → Request → Reply → S → Type 0) (start now : Connection S)
+pub concludes_limit : {S : Type 0} (Step : S → Request → Reply → S → Type 0) (start now : ConnectionState S)
     (requests : List Request) (bytes : List ℕ) → Talk Step start now requests → StayOpen requests
     → length requests ≡ 1000 → start.left ≡ Some bytes → Serves Step bytes start.sent start.state Limit now.state now.sent
 concludes_limit Step start now requests bytes talk stay full known =
@@ -149,10 +149,10 @@ concludes_limit Step start now requests bytes talk stay full known =
 -- the bytes read when the connection stopped
 stopped : {S : Type 0} (Sent : Option (List ℕ) → List ℕ → Option (List ℕ) → Type 0)
     (P : List ℕ → Option (List ℕ) → Type 0) (goodbye : List ℕ) (Step : S → Request → Reply → S → Type 0)
-    (start now new : Connection S) (requests : List Request) (bytes : List ℕ) → (talk : Talk Step start now requests)
+    (start now new : ConnectionState S) (requests : List Request) (bytes : List ℕ) → (talk : Talk Step start now requests)
     → (stop : Stops Sent P goodbye now new) → start.left ≡ Some bytes
     → (rest : List ℕ) × (new.left ≡ Some rest) × (bytes ≡ (talk.read ++ stop.read) ++ rest)
-    × Reads (talk.read ++ stop.read) requests (now.held ++ stop.read)
+    × ReadsRequests (talk.read ++ stop.read) requests (now.held ++ stop.read)
 stopped Sent P goodbye Step start now new requests bytes talk stop known =
     let took = Takes_more start.left now.left new.left talk.read stop.read talk.took stop.took in
     let prefix = Takes_known bytes (talk.read ++ stop.read) new.left
@@ -168,7 +168,7 @@ all_read bytes read rest left known split ended =
 
 -- the connection stopped where the session ends
 stops_serves : {S : Type 0} (P : List ℕ → Option (List ℕ) → Type 0) (goodbye : List ℕ)
-    (Step : S → Request → Reply → S → Type 0) (start now new : Connection S) (requests : List Request) (bytes : List ℕ)
+    (Step : S → Request → Reply → S → Type 0) (start now new : ConnectionState S) (requests : List Request) (bytes : List ℕ)
     (end : End) → Talk Step start now requests → Stops Sends P goodbye now new → goodbye ≡ farewell end
     → Session bytes requests end → Serves Step bytes start.sent start.state end new.state new.sent
 stops_serves {S} P goodbye Step start now new requests bytes end talk stop is session =
@@ -177,7 +177,7 @@ stops_serves {S} P goodbye Step start now new requests bytes end talk stop is se
     (subst (λ (t : List ℕ). Sends now.sent t new.sent) is stop.sends))
 
 -- unfinished bytes end as closed or as cut off
-either_end : {P Q : Type 0} (read : List ℕ) (requests : List Request) (rest : List ℕ) → Reads read requests rest
+either_end : {P Q : Type 0} (read : List ℕ) (requests : List Request) (rest : List ℕ) → ReadsRequests read requests rest
     → StayOpen requests → length requests < 1000 → IsUnfinished rest → (Session read requests Closed → P)
     → (Session read requests CutOff → Q) → P ⊎ Q
 either_end read requests [] reads stay few unfinished closed cut_off =
@@ -196,7 +196,7 @@ SendsPrefix_after old mid new a b sends prefix = record {
 }
 
 -- a write failed in the middle of a reply
-cut_in_reply : {S : Type 0} (Step : S → Request → Reply → S → Type 0) (start now new : Connection S)
+cut_in_reply : {S : Type 0} (Step : S → Request → Reply → S → Type 0) (start now new : ConnectionState S)
     (requests : List Request) (last close : Bool) (bytes : List ℕ) → Talk Step start now requests
     → last ≡ (length requests == 999) → StayOpen requests → length requests < 1000 → start.left ≡ Some bytes
     → Exchanges SendsPrefix Step last close now new → CutInReply Step bytes start.sent start.state new.state new.sent
@@ -209,7 +209,7 @@ cut_in_reply Step start now new requests last close bytes talk is stay few known
       request = turn.request;
       rest = new.held ++ prefix.0;
       text = talk.text ++ reply_text turn.replies.reply (turn.request.close || last);
-      reads = subst (λ (b : List ℕ). Reads b (requests ++ turn.request ∷ []) (new.held ++ prefix.0)) (sym prefix.2)
+      reads = subst (λ (b : List ℕ). ReadsRequests b (requests ++ turn.request ∷ []) (new.held ++ prefix.0)) (sym prefix.2)
           (Reads-append (talk.read ++ turn.read) (requests ++ turn.request ∷ []) new.held prefix.0 reads);
       first = record { few = few; open_all = stay };
       answered = turn_answered SendsPrefix Step start now new requests last close talk is turn;
@@ -218,7 +218,7 @@ cut_in_reply Step start now new requests last close bytes talk is stay few known
     }
 
 -- a write failed in the middle of a refusal
-cut_in_refusal : {S : Type 0} (Step : S → Request → Reply → S → Type 0) (start now new : Connection S)
+cut_in_refusal : {S : Type 0} (Step : S → Request → Reply → S → Type 0) (start now new : ConnectionState S)
     (requests : List Request) (bytes : List ℕ) (status : ℕ) → Talk Step start now requests → StayOpen requests
     → length requests < 1000 → start.left ≡ Some bytes
     → Stops SendsPrefix (λ bytes left. IsBad bytes status) (refusal_text status) now new
@@ -230,13 +230,13 @@ cut_in_refusal {S} Step start now new requests bytes status talk stay few known 
       text = talk.text;
       session = subst (λ (b : List ℕ). Session b requests (Refused status)) (sym prefix.2)
           (Session-refused (talk.read ++ stop.read) prefix.0 requests (now.held ++ stop.read) status prefix.3 stay few stop.found);
-      answered = subst (λ (s : S). Answered Step 0 start.state requests talk.text s) (sym stop.same) talk.answered;
+      answered = subst (λ (s : S). AreAnswered Step 0 start.state requests talk.text s) (sym stop.same) talk.answered;
       sends = SendsPrefix_after start.sent now.sent new.sent talk.text (refusal_text status) talk.sends stop.sends;
     }
 
 -- every end is the session's
 pub concludes : {S : Type 0} (Step : S → Request → Reply → S → Type 0) (RunsOut : S → Request → S → Type 0)
-    (start now new : Connection S) (requests : List Request) (last : Bool) (bytes : List ℕ) (end : End)
+    (start now new : ConnectionState S) (requests : List Request) (last : Bool) (bytes : List ℕ) (end : End)
     → Talk Step start now requests → last ≡ (length requests == 999) → StayOpen requests → length requests < 1000
     → start.left ≡ Some bytes → ServesTurn Step RunsOut last now (Some end) new
     → Concludes Step bytes start.sent start.state end new.state new.left new.sent

@@ -9,13 +9,13 @@ use Rattle.unl_http_api.specs.declared.request.Request.{Request}
 use Rattle.unl_server.specs.Handling.{Coming}
 use Rattle.unl_server.specs.Conversation.{Concludes, Converses, GivesUp, Serves}
 use Rattle.unl_server.specs.ServingDoor.{ServerAndDoor, ServesDoorLinks, ServesDoorLink}
-use Rattle.unl_server.specs.Linked.{HandsBack, Linked, ServesLinks, linking}
-use Rattle.unl_server.specs.Links.{LinkState, link_state}
+use Rattle.unl_server.specs.Linked.{HandsBack, AreServed, ServesLinks, linking}
+use Rattle.unl_server.specs.Links.{LinkView, link_view}
 
 -- ---- a chain
 
 -- one more link
-pub door_links_more : {S : Type 0} (Serves : S → Coming → LinkState → LinkState → S → Coming → Type 0) (n : ℕ)
+pub door_links_more : {S : Type 0} (Serves : S → Coming → LinkView → LinkView → S → Coming → Type 0) (n : ℕ)
     (before middle after : ServerAndDoor S)
     → ServesDoorLinks Serves n before middle → ServesDoorLink Serves middle after → ServesDoorLinks Serves (n + 1) before after
 door_links_more {S} Serves n before middle after links link =
@@ -25,13 +25,13 @@ door_links_more {S} Serves n before middle after links link =
     both = (middle, links, link)
 
 -- no more link
-pub door_links_same : {S : Type 0} (Serves : S → Coming → LinkState → LinkState → S → Coming → Type 0) (n : ℕ)
+pub door_links_same : {S : Type 0} (Serves : S → Coming → LinkView → LinkView → S → Coming → Type 0) (n : ℕ)
     (before middle after : ServerAndDoor S)
     → ServesDoorLinks Serves n before middle → after ≡ middle → ServesDoorLinks Serves n before after
 door_links_same Serves n before middle after links same = subst (ServesDoorLinks Serves n before) (sym same) links
 
 -- a property that holds for no link, and is preserved by one more, holds for all
-pub door_links_all : {S : Type 0} (Serves : S → Coming → LinkState → LinkState → S → Coming → Type 0)
+pub door_links_all : {S : Type 0} (Serves : S → Coming → LinkView → LinkView → S → Coming → Type 0)
     (P : ℕ → ServerAndDoor S → Type 0) (before : ServerAndDoor S)
     → P 0 before → ((n : ℕ) (middle after : ServerAndDoor S) → P n middle → ServesDoorLink Serves middle after → P (suc n) after)
     → (n : ℕ) (after : ServerAndDoor S) → ServesDoorLinks Serves n before after → P n after
@@ -67,8 +67,8 @@ sent_at {S} {Step} {RunsOut} bytes before after ends.Memory left_after sent_afte
 
 -- what a link sends is observable if its bytes are
 pub sent_observable : {S : Type 0} {Step : S → Request → Reply → S → Type 0} {RunsOut : S → Request → S → Type 0}
-    {before after : S} {end : End} {count : ℕ} (bytes : List ℕ) (link_after : LinkState)
-    → Converses Step RunsOut (link_state (Some bytes) (Some []) 0) before end after count link_after
+    {before after : S} {end : End} {count : ℕ} (bytes : List ℕ) (link_after : LinkView)
+    → Converses Step RunsOut (link_view (Some bytes) (Some []) 0) before end after count link_after
     → (text : List ℕ) × (link_after.sent ≡ Some text)
 sent_observable {before} {after} {end} bytes link_after said =
     sent_at bytes before after end link_after.left link_after.sent link_after.faults (said.session bytes refl) (said.memory bytes refl)
@@ -76,26 +76,26 @@ sent_observable {before} {after} {end} bytes link_after said =
 -- A link with these bytes, on which nothing was sent and nothing failed before, was served, and what it sent is observable.
 pub record ServedObservably
     {S : Type 0} (LinkServed : S → Coming → List ℕ → List ℕ × ℕ → S → Coming → Type 0) (before : S) (coming : Coming)
-    (bytes : List ℕ) (link_after : LinkState) (after : S) (coming_after : Coming) : Type 0 where
+    (bytes : List ℕ) (link_after : LinkView) (after : S) (coming_after : Coming) : Type 0 where
   pub text : List ℕ
   pub sent : link_after.sent ≡ Some text
   pub served : LinkServed before coming bytes (text, link_after.faults) after coming_after
 
 -- serving implies `LinkServed` for each link whose bytes are observable
 abbrev pub Observable :
-    {S : Type 0} → (S → Coming → LinkState → LinkState → S → Coming → Type 0)
+    {S : Type 0} → (S → Coming → LinkView → LinkView → S → Coming → Type 0)
     → (S → Coming → List ℕ → List ℕ × ℕ → S → Coming → Type 0) → Type 0
 Observable {S} Serves LinkServed =
-    (before : S) (coming : Coming) (bytes : List ℕ) (link_after : LinkState) (after : S) (coming_after : Coming)
-    → Serves before coming (link_state (Some bytes) (Some []) 0) link_after after coming_after
+    (before : S) (coming : Coming) (bytes : List ℕ) (link_after : LinkView) (after : S) (coming_after : Coming)
+    → Serves before coming (link_view (Some bytes) (Some []) 0) link_after after coming_after
     → ServedObservably LinkServed before coming bytes link_after after coming_after
 
 linked_more : {S : Type 0} (LinkServed : S → Coming → List ℕ → List ℕ × ℕ → S → Coming → Type 0) (server : S) (coming : Coming)
     (links : List (List ℕ)) (backs : List (List ℕ × ℕ)) (middle : S) (coming_middle : Coming) (bytes : List ℕ)
     (back : List ℕ × ℕ) (after : S) (coming_after : Coming)
-    → Linked LinkServed server coming links backs middle coming_middle
+    → AreServed LinkServed server coming links backs middle coming_middle
     → LinkServed middle coming_middle bytes back after coming_after
-    → Linked LinkServed server coming (links ++ bytes ∷ []) (backs ++ back ∷ []) after coming_after
+    → AreServed LinkServed server coming (links ++ bytes ∷ []) (backs ++ back ∷ []) after coming_after
 linked_more {S} LinkServed server coming [] [] middle coming_middle bytes back after coming_after linked one = (
   after,
   coming_after,
@@ -125,7 +125,7 @@ first_of [] some = absurd (some refl)
 first_of (bytes ∷ links) some = refl
 
 -- one more link was served
-serves_more : {S : Type 0} (Serves : S → Coming → LinkState → LinkState → S → Coming → Type 0)
+serves_more : {S : Type 0} (Serves : S → Coming → LinkView → LinkView → S → Coming → Type 0)
     (LinkServed : S → Coming → List ℕ → List ℕ × ℕ → S → Coming → Type 0) → Observable Serves LinkServed
     → (before middle after : ServerAndDoor S) (n : ℕ) (links : List (List ℕ)) (returned : List (List ℕ × ℕ))
     → ServesLinks LinkServed (linking before.server before.coming before.door) (linking middle.server middle.coming middle.door)
@@ -136,14 +136,14 @@ serves_more : {S : Type 0} (Serves : S → Coming → LinkState → LinkState �
 serves_more {S} Serves LinkServed observable before middle after n links returned ones one =
     let some : ¬ (ones.rest ≡ []) = rw (ones.left) at one.is_open.some_left in
     let bytes : List ℕ = next_of ones.rest in
-    let same : one.link ≡ link_state (Some bytes) (Some []) 0 =
-    (λ i. link_state
+    let same : one.link ≡ link_view (Some bytes) (Some []) 0 =
+    (λ i. link_view
     ((one.fresh.gives ∙ ap (λ (list : Option (List (List ℕ))). option_map next_of list) ones.left) i)
     ((one.fresh.silent ∙ ap (λ (list : Option (List (List ℕ × ℕ))). option_map (λ _. []) list) ones.returned_after) i)
     (one.fresh.faultless i)) in
     let seen : ServedObservably LinkServed middle.server middle.coming bytes one.link_after after.server after.coming =
     observable middle.server middle.coming bytes one.link_after after.server after.coming
-    (subst (λ (link : LinkState). Serves middle.server middle.coming link one.link_after after.server after.coming) same one.served) in
+    (subst (λ (link : LinkView). Serves middle.server middle.coming link one.link_after after.server after.coming) same one.served) in
     let back : List ℕ × ℕ = (seen.text, one.link_after.faults) in
     let handed : middle.door.returned ≡ (handing_out one.closed middle.door).returned = refl in
     record {
@@ -163,7 +163,7 @@ serves_more {S} Serves LinkServed observable before middle after n links returne
     }
 
 -- the links of a door were served, as far as they are observable
-pub hands_back : {S : Type 0} (Serves : S → Coming → LinkState → LinkState → S → Coming → Type 0)
+pub hands_back : {S : Type 0} (Serves : S → Coming → LinkView → LinkView → S → Coming → Type 0)
     (LinkServed : S → Coming → List ℕ → List ℕ × ℕ → S → Coming → Type 0) → Observable Serves LinkServed
     → (n : ℕ) (before after : ServerAndDoor S) → ServesDoorLinks Serves n before after
     → HandsBack LinkServed (linking before.server before.coming before.door) (linking after.server after.coming after.door) n

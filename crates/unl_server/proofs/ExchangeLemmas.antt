@@ -8,14 +8,14 @@ use Rattle.unl_http_api.specs.declared.request.Request.{Request}
 use Rattle.unl_http_api.specs.Requests.{BeginsWith, IsBad}
 use Rattle.unl_http_api.specs.Reply.{reply_text, refusal_text}
 use Rattle.unl_server.specs.declared.receive.Received.TheVariants.{Request as Whole, Bad}
-use Rattle.unl_server.specs.Exchange.{Connection, ServesTurn, Writes, Replies, Replied, Refuses}
+use Rattle.unl_server.specs.Exchange.{ConnectionState, ServesTurn, Writes, Replies, Replied, SendsRefusal}
 use Rattle.unl_server.specs.Receive.{Receives}
 
 -- bad bytes end the connection, and are refused if the refusal was sent
 pub turn_refused : {S : Type 0} (Step : S → Request → Reply → S → Type 0) (RunsOut : S → Request → S → Type 0) (last : Bool)
-    (old new : Connection S) (status : ℕ) (end : End) (held : List ℕ) (left sent : Option (List ℕ))
+    (old new : ConnectionState S) (status : ℕ) (end : End) (held : List ℕ) (left sent : Option (List ℕ))
     → Receives old.held old.left (Bad status) held left → new.left ≡ left → new.state ≡ old.state → sent ≡ old.sent
-    → Refuses status sent end new.sent → ServesTurn Step RunsOut last old (Some end) new
+    → SendsRefusal status sent end new.sent → ServesTurn Step RunsOut last old (Some end) new
 turn_refused Step RunsOut last old new status (Refused reported) held left sent receives same same_state unsent refuses = record {
   read = receives.read;
   took = subst (λ (l : Option (List ℕ)). Takes old.left receives.read l) (sym same) receives.took;
@@ -44,7 +44,7 @@ turn_refused Step RunsOut last old new status CutOff held left sent receives sam
 
 -- a refusal that was not sent in full
 pub refused_end : (status : ℕ) (sent sent_after : Option (List ℕ)) (text : List ℕ) (end : End) → text ≡ refusal_text status
-    → Writes text sent (Some end) sent_after → Refuses status sent end sent_after
+    → Writes text sent (Some end) sent_after → SendsRefusal status sent end sent_after
 refused_end status sent sent_after text WriteFault is writes =
     subst (λ (t : List ℕ). SendsPrefix sent t sent_after) is writes
 refused_end status sent sent_after text Memory is writes = tt
@@ -57,7 +57,7 @@ refused_end status sent sent_after text CutOff is writes = absurd writes
 
 -- a reply that was not sent in full
 pub turn_cut : {S : Type 0} (Step : S → Request → Reply → S → Type 0) (RunsOut : S → Request → S → Type 0)
-    (last close : Bool) (old new : Connection S) (request : Request) (end : End) (held : List ℕ)
+    (last close : Bool) (old new : ConnectionState S) (request : Request) (end : End) (held : List ℕ)
     (left sent : Option (List ℕ)) → Receives old.held old.left (Whole request) held left → new.left ≡ left
     → new.held ≡ held → sent ≡ old.sent → close ≡ (request.close || last)
     → Replied Step RunsOut request close old.state new.state sent (Some end) new.sent

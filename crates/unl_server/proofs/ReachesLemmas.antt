@@ -10,19 +10,19 @@ use Rattle.unl_http_api.specs.declared.reply.Reply.{Reply}
 use Rattle.unl_http_api.specs.declared.request.Request.{Request}
 use Rattle.unl_http_api.specs.Reply.{reply_text}
 use Rattle.unl_http_api.specs.Requests.{BeginsWith}
-use Rattle.unl_http_api.specs.Session.{Reads, StayOpen}
+use Rattle.unl_http_api.specs.Session.{ReadsRequests, StayOpen}
 use Rattle.unl_http_api.proofs.RequestLemmas.{BeginsWith-append}
 use Rattle.unl_http_api.proofs.SessionLemmas.{Reads-append}
-use Rattle.unl_server.specs.Handling.{Answers, RunsOutOfMemory}
+use Rattle.unl_server.specs.Handling.{HandlesRequest, RunsOutOfMemory}
 use Rattle.unl_server.specs.Conversation.{IsUnreplied, GivesUp, Reaches}
-use Rattle.unl_server.specs.Exchange.{Connection, Unreplied, Breaks, ServesTurn, Sends500}
+use Rattle.unl_server.specs.Exchange.{ConnectionState, Unreplied, Breaks, ServesTurn, Sends500}
 use Rattle.unl_server.proofs.ConversationLemmas.{Answered_more, Takes_known, Talk}
 
 -- ---- out of memory
 
 -- a request without a complete reply begins the bytes that were left
 breaks_known : {S : Type 0} (Step : S → Request → Reply → S → Type 0) (RunsOut : S → Request → S → Type 0)
-    (now new : Connection S) (rest : List ℕ) → now.left ≡ Some rest → Breaks Step RunsOut now new
+    (now new : ConnectionState S) (rest : List ℕ) → now.left ≡ Some rest → Breaks Step RunsOut now new
     → IsUnreplied Step RunsOut (now.held ++ rest) now.state new.state
 breaks_known Step RunsOut now new rest left broken =
     let prefix = Takes_known rest broken.read new.left
@@ -38,7 +38,7 @@ breaks_known Step RunsOut now new rest left broken =
 
 -- what a turn leaves when memory runs out
 next_known : {S : Type 0} (Step : S → Request → Reply → S → Type 0) (RunsOut : S → Request → S → Type 0)
-    (now new : Connection S) (rest : List ℕ) → now.left ≡ Some rest
+    (now new : ConnectionState S) (rest : List ℕ) → now.left ≡ Some rest
     → (new.state ≡ now.state) ⊎ Breaks Step RunsOut now new
     → (new.state ≡ now.state) ⊎ IsUnreplied Step RunsOut (now.held ++ rest) now.state new.state
 next_known Step RunsOut now new rest left (inl same) = inl same
@@ -51,7 +51,7 @@ rose_earlier a b c up (inr rose) = inr (omega (arith, up, rose))
 
 -- memory ran out after these requests
 pub gives_up : {S : Type 0} (Step : S → Request → Reply → S → Type 0) (RunsOut : S → Request → S → Type 0)
-    (start now new : Connection S) (requests : List Request) (last : Bool) (bytes : List ℕ) (end : End)
+    (start now new : ConnectionState S) (requests : List Request) (last : Bool) (bytes : List ℕ) (end : End)
     (faults between faults_after : ℕ) → Talk Step start now requests → StayOpen requests → length requests < 1000
     → start.left ≡ Some bytes → end ≡ Memory → ServesTurn Step RunsOut last now (Some end) new → faults ≤ between
     → Sends500 now.sent between new.sent faults_after
@@ -62,7 +62,7 @@ gives_up Step RunsOut start now new requests last bytes end faults between fault
     record {
       requests = requests;
       rest = now.held ++ prefix.0;
-      reads = subst (λ (b : List ℕ). Reads b requests (now.held ++ prefix.0)) (sym prefix.2)
+      reads = subst (λ (b : List ℕ). ReadsRequests b requests (now.held ++ prefix.0)) (sym prefix.2)
           (Reads-append talk.read requests now.held prefix.0 talk.reads);
       first = record { few = few; open_all = stay };
       text = talk.text;
@@ -90,16 +90,16 @@ pub record Counts
   pub runs_out : (s t : S) (q : Request) → RunsOut s q t → count t ≡ count s
 
 -- the handler's own count is such a count
-pub Answers_count : {S : Type 0} (gives : S → Request → Draw → Reply → S → Type 0) (gives_up : S → Request → Draw → S → Type 0)
-    → Counts (Answers gives) (RunsOutOfMemory gives_up) (λ s. s.count)
-Answers_count gives gives_up = record {
+pub Answers_count : {S : Type 0} (gives : S → Request → Draw → Reply → S → Type 0) (out_of_memory : S → Request → Draw → S → Type 0)
+    → Counts (HandlesRequest gives) (RunsOutOfMemory out_of_memory) (λ s. s.count)
+Answers_count gives out_of_memory = record {
   step = λ s t q r one. one.counted;
   runs_out = λ s t q none. none.counted;
 }
 
 -- one more request was answered in the last turn
 reaches_more : {S : Type 0} (Step : S → Request → Reply → S → Type 0) (RunsOut : S → Request → S → Type 0) (count : S → ℕ)
-    → Counts Step RunsOut count → (start now : Connection S) (after : S) (requests : List Request) (end : End)
+    → Counts Step RunsOut count → (start now : ConnectionState S) (after : S) (requests : List Request) (end : End)
     (request : Request) (reply : Reply) → Talk Step start now requests → length requests ≡ count now.state
     → Step now.state request reply after → Reaches Step RunsOut start.state end after (count after)
 reaches_more Step RunsOut count counts start now after requests end request reply talk counted step = record {
@@ -114,7 +114,7 @@ reaches_more Step RunsOut count counts start now after requests end request repl
 
 -- no more requests were answered
 pub reaches_same : {S : Type 0} (Step : S → Request → Reply → S → Type 0) (RunsOut : S → Request → S → Type 0)
-    (count : S → ℕ) (start now : Connection S) (after : S) (requests : List Request) (end : End)
+    (count : S → ℕ) (start now : ConnectionState S) (after : S) (requests : List Request) (end : End)
     → Talk Step start now requests → length requests ≡ count now.state → after ≡ now.state
     → Reaches Step RunsOut start.state end after (count after)
 reaches_same Step RunsOut count start now after requests end talk counted same = record {
@@ -128,7 +128,7 @@ reaches_same Step RunsOut count start now after requests end talk counted same =
 
 -- the last request was read, and memory ran out while it was answered or afterwards
 reaches_running_out : {S : Type 0} (Step : S → Request → Reply → S → Type 0) (RunsOut : S → Request → S → Type 0)
-    (count : S → ℕ) → Counts Step RunsOut count → (start now : Connection S) (after : S) (requests : List Request)
+    (count : S → ℕ) → Counts Step RunsOut count → (start now : ConnectionState S) (after : S) (requests : List Request)
     (request : Request) → Talk Step start now requests → length requests ≡ count now.state
     → Unreplied Step RunsOut now.state request after → Reaches Step RunsOut start.state Memory after (count after)
 reaches_running_out Step RunsOut count counts start now after requests request talk counted (inl lacks) = record {
@@ -144,7 +144,7 @@ reaches_running_out Step RunsOut count counts start now after requests request t
 
 -- as many requests were answered as were counted, however the last turn ended
 pub reaches : {S : Type 0} (Step : S → Request → Reply → S → Type 0) (RunsOut : S → Request → S → Type 0)
-    (count : S → ℕ) → Counts Step RunsOut count → (start now new : Connection S) (requests : List Request) (last : Bool)
+    (count : S → ℕ) → Counts Step RunsOut count → (start now new : ConnectionState S) (requests : List Request) (last : Bool)
     (end : End) → Talk Step start now requests → length requests ≡ count now.state
     → ServesTurn Step RunsOut last now (Some end) new → Reaches Step RunsOut start.state end new.state (count new.state)
 reaches Step RunsOut count counts start now new requests last Asked talk counted turn =

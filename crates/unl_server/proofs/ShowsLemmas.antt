@@ -4,9 +4,9 @@ use Rattle.unl_http_api.specs.declared.end.End.{End}
 use Rattle.unl_http_api.specs.declared.end.End.TheVariants.{Closed, Asked, Limit, Refused, CutOff, ReadFault, WriteFault, Memory}
 use Rattle.unl_http_api.specs.declared.reply.Reply.{Reply}
 use Rattle.unl_http_api.specs.declared.request.Request.{Request}
-use Rattle.unl_server.specs.Conversation.{Answered, AnswersAll, Concludes, Converses, GivesUp, IsUnreplied, Reaches, Serves}
+use Rattle.unl_server.specs.Conversation.{AreAnswered, AnswersAll, Concludes, Converses, GivesUp, IsUnreplied, Reaches, Serves}
 use Rattle.unl_server.specs.Exchange.{Unreplied}
-use Rattle.unl_server.specs.Links.{LinkState}
+use Rattle.unl_server.specs.Links.{LinkView}
 
 -- this state is the last one, or memory ran out at one more request
 abbrev pub IsNear :
@@ -19,7 +19,7 @@ pub record Shows
     (Seen : T → Request → Reply → T → Type 0) (Misses : T → Request → T → Type 0) (view : S → T)
     (before after : S) : Type 0 where
   pub chain : (state : S) (qs : List Request) (text : List ℕ) → IsNear Step RunsOut state after
-      → Answered Step 0 before qs text state → Answered Seen 0 (view before) qs text (view state)
+      → AreAnswered Step 0 before qs text state → AreAnswered Seen 0 (view before) qs text (view state)
   pub last : (state : S) (q : Request) → Unreplied Step RunsOut state q after → Unreplied Seen Misses (view state) q (view after)
   pub runs_out : (state : S) (q : Request) → RunsOut state q after → Misses (view state) q (view after)
 
@@ -166,7 +166,7 @@ Reaches_seen {Step} {RunsOut} {view} {after} end count shows reaches = record {
 -- all clauses of a conversation
 pub Converses_seen : {S T : Type 0} {Step : S → Request → Reply → S → Type 0} {RunsOut : S → Request → S → Type 0}
     {Seen : T → Request → Reply → T → Type 0} {Misses : T → Request → T → Type 0} {view : S → T} {before after : S}
-    (link : LinkState) (end : End) (count : ℕ) (link_after : LinkState) → Shows Step RunsOut Seen Misses view before after
+    (link : LinkView) (end : End) (count : ℕ) (link_after : LinkView) → Shows Step RunsOut Seen Misses view before after
     → Converses Step RunsOut link before end after count link_after
     → Converses Seen Misses link (view before) end (view after) count link_after
 Converses_seen link end count link_after shows said = record {

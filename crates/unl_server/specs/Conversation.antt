@@ -9,18 +9,18 @@ use Rattle.unl_http_api.specs.declared.reply.Reply.{Reply}
 use Rattle.unl_http_api.specs.declared.request.Request.{Request}
 use Rattle.unl_http_api.specs.Reply.{reply_text, refusal_text}
 use Rattle.unl_http_api.specs.Requests.{BeginsWith}
-use Rattle.unl_http_api.specs.Session.{AreWhole, IsOpen, IsRegular, Reads, Session}
+use Rattle.unl_http_api.specs.Session.{AreWhole, IsOpen, IsRegular, ReadsRequests, Session}
 use Rattle.unl_server.specs.Exchange.{Unreplied, Sends500}
-use Rattle.unl_server.specs.Links.{LinkState}
+use Rattle.unl_server.specs.Links.{LinkView}
 
 -- The text is the replies to the requests, one step each, after `count` earlier requests. The connection ends after a reply
 -- to a request that asks for it, and after the 1,000th.
-abbrev pub Answered : {S : Type 0} → (S → Request → Reply → S → Type 0) → ℕ → S → List Request → List ℕ → S → Type 0
-Answered {S} Step count before [] text after = (text ≡ []) × (after ≡ before)
-Answered {S} Step count before (q ∷ qs) text after =
+abbrev pub AreAnswered : {S : Type 0} → (S → Request → Reply → S → Type 0) → ℕ → S → List Request → List ℕ → S → Type 0
+AreAnswered {S} Step count before [] text after = (text ≡ []) × (after ≡ before)
+AreAnswered {S} Step count before (q ∷ qs) text after =
     (reply : Reply) × (middle : S) × (more : List ℕ) × Step before q reply middle
     × (text ≡ reply_text reply (q.close || count == 999) ++ more)
-    × Answered Step (count + 1) middle qs more after
+    × AreAnswered Step (count + 1) middle qs more after
 
 -- what is sent after the replies
 abbrev pub farewell : End → List ℕ
@@ -40,7 +40,7 @@ pub record Serves
   pub requests : List Request
   pub text : List ℕ
   pub session : Session bytes requests end
-  pub answered : Answered Step 0 before requests text after
+  pub answered : AreAnswered Step 0 before requests text after
   pub sends : Sends sent (text ++ farewell end) sent_after
 
 -- A read failed. The bytes read until then, which are all but the bytes left, form a session of their own, whose requests
@@ -63,9 +63,9 @@ pub record CutInReply
   pub request : Request
   pub rest : List ℕ
   pub text : List ℕ
-  pub reads : Reads bytes (earlier ++ request ∷ []) rest
+  pub reads : ReadsRequests bytes (earlier ++ request ∷ []) rest
   pub first : IsOpen 1000 earlier
-  pub answered : Answered Step 0 before (earlier ++ request ∷ []) text after
+  pub answered : AreAnswered Step 0 before (earlier ++ request ∷ []) text after
   pub sends : SendsPrefix sent text sent_after
 
 -- a write failed in a refusal: the session ends with it, and only a prefix of the replies and the refusal was sent
@@ -76,7 +76,7 @@ pub record CutInRefusal
   pub status : ℕ
   pub text : List ℕ
   pub session : Session bytes requests (Refused status)
-  pub answered : Answered Step 0 before requests text after
+  pub answered : AreAnswered Step 0 before requests text after
   pub sends : SendsPrefix sent (text ++ refusal_text status) sent_after
 
 -- a request begins the bytes, and its reply was not sent in full
@@ -95,11 +95,11 @@ pub record GivesUp
     (sent : Option (List ℕ)) (faults : ℕ) (before after : S) (sent_after : Option (List ℕ)) (faults_after : ℕ) : Type 0 where
   pub requests : List Request
   pub rest : List ℕ
-  pub reads : Reads bytes requests rest
+  pub reads : ReadsRequests bytes requests rest
   pub first : IsOpen 1000 requests
   pub text : List ℕ
   pub replied : S
-  pub answered : Answered Step 0 before requests text replied
+  pub answered : AreAnswered Step 0 before requests text replied
   pub next : (after ≡ replied) ⊎ IsUnreplied Step RunsOut rest replied after
   pub sent_before : Option (List ℕ)
   pub sends : Sends sent text sent_before
@@ -126,7 +126,7 @@ pub record AnswersAll
     {S : Type 0} (Step : S → Request → Reply → S → Type 0) (requests : List Request) (sent : Option (List ℕ)) (before : S)
     (end : End) (after : S) (sent_after : Option (List ℕ)) : Type 0 where
   pub text : List ℕ
-  pub answered : Answered Step 0 before requests text after
+  pub answered : AreAnswered Step 0 before requests text after
   pub sends : Sends sent (text ++ farewell end) sent_after
 
 -- `count` requests were answered one after another, whether or not the bytes are observable. If memory ran out, one more
@@ -137,14 +137,14 @@ pub record Reaches
   pub requests : List Request
   pub text : List ℕ
   pub reached : S
-  pub answered : Answered Step 0 before requests text reached
+  pub answered : AreAnswered Step 0 before requests text reached
   pub counted : length requests ≡ count
   pub next : (after ≡ reached) ⊎ ((end ≡ Memory) × (request : Request) × RunsOut reached request after)
 
 -- A conversation on a link, from beginning to end, with `count` answered requests.
 pub record Converses
-    {S : Type 0} (Step : S → Request → Reply → S → Type 0) (RunsOut : S → Request → S → Type 0) (link : LinkState) (before : S)
-    (end : End) (after : S) (count : ℕ) (link_after : LinkState) : Type 0 where
+    {S : Type 0} (Step : S → Request → Reply → S → Type 0) (RunsOut : S → Request → S → Type 0) (link : LinkView) (before : S)
+    (end : End) (after : S) (count : ℕ) (link_after : LinkView) : Type 0 where
   -- the end is that of the session, and its requests were answered one after another
   pub session : (bytes : List ℕ) → link.left ≡ Some bytes
       → Concludes Step bytes link.sent before end after link_after.left link_after.sent

@@ -26,7 +26,7 @@ Unreplied Step RunsOut before request after =
 
 -- the state of a connection: the bytes received and not consumed, the bytes to come, the handler's state, and the bytes
 -- sent
-pub record Connection (S : Type 0) : Type 0 where
+pub record ConnectionState (S : Type 0) : Type 0 where
   pub held : List ℕ
   pub left : Option (List ℕ)
   pub state : S
@@ -35,7 +35,7 @@ pub record Connection (S : Type 0) : Type 0 where
 -- a request was read and its reply sent
 pub record Exchanges
     {S : Type 0} (Sent : Option (List ℕ) → List ℕ → Option (List ℕ) → Type 0)
-    (Step : S → Request → Reply → S → Type 0) (last close : Bool) (old new : Connection S) : Type 0 where
+    (Step : S → Request → Reply → S → Type 0) (last close : Bool) (old new : ConnectionState S) : Type 0 where
   pub request : Request
   pub read : List ℕ
   pub took : Takes old.left read new.left
@@ -46,7 +46,7 @@ pub record Exchanges
 -- the bytes ended the connection, and nothing was sent except what this end sends
 pub record Stops
     {S : Type 0} (Sent : Option (List ℕ) → List ℕ → Option (List ℕ) → Type 0)
-    (P : List ℕ → Option (List ℕ) → Type 0) (farewell : List ℕ) (old new : Connection S) : Type 0 where
+    (P : List ℕ → Option (List ℕ) → Type 0) (farewell : List ℕ) (old new : ConnectionState S) : Type 0 where
   pub read : List ℕ
   pub took : Takes old.left read new.left
   pub found : P (old.held ++ read) new.left
@@ -56,7 +56,7 @@ pub record Stops
 -- a request was read, and its reply was not sent in full
 pub record Breaks
     {S : Type 0} (Step : S → Request → Reply → S → Type 0) (RunsOut : S → Request → S → Type 0)
-    (old new : Connection S) : Type 0 where
+    (old new : ConnectionState S) : Type 0 where
   pub request : Request
   pub read : List ℕ
   pub took : Takes old.left read new.left
@@ -66,8 +66,8 @@ pub record Breaks
 -- The effect of one turn: the connection stays open after a request that does not close it, or it ends. If memory ran out,
 -- a request was read whose reply was not sent in full, or none was read.
 abbrev pub ServesTurn :
-    {S : Type 0} → (S → Request → Reply → S → Type 0) → (S → Request → S → Type 0) → Bool → Connection S → Option End
-    → Connection S → Type 0
+    {S : Type 0} → (S → Request → Reply → S → Type 0) → (S → Request → S → Type 0) → Bool → ConnectionState S → Option End
+    → ConnectionState S → Type 0
 ServesTurn Step RunsOut last old None new = Exchanges Sends Step last false old new
 ServesTurn Step RunsOut last old (Some Asked) new = Exchanges Sends Step last true old new
 ServesTurn Step RunsOut last old (Some Closed) new = Stops Sends (λ bytes left. (bytes ≡ []) × HasEnded left) [] old new
@@ -101,11 +101,11 @@ Replied Step RunsOut request close before after sent (Some Memory) sent_after = 
 Replied Step RunsOut request close before after sent (Some end) sent_after = ⊥
 
 -- the effect of refusing
-abbrev pub Refuses : ℕ → Option (List ℕ) → End → Option (List ℕ) → Type 0
-Refuses status sent (Refused reported) sent_after = (reported ≡ status) × Sends sent (refusal_text status) sent_after
-Refuses status sent WriteFault sent_after = SendsPrefix sent (refusal_text status) sent_after
-Refuses status sent Memory sent_after = ⊤
-Refuses status sent end sent_after = ⊥
+abbrev pub SendsRefusal : ℕ → Option (List ℕ) → End → Option (List ℕ) → Type 0
+SendsRefusal status sent (Refused reported) sent_after = (reported ≡ status) × Sends sent (refusal_text status) sent_after
+SendsRefusal status sent WriteFault sent_after = SendsPrefix sent (refusal_text status) sent_after
+SendsRefusal status sent Memory sent_after = ⊤
+SendsRefusal status sent end sent_after = ⊥
 
 -- the 500 reply was sent after memory ran out, in full, or a prefix of it if the link failed
 pub record Sends500 (sent : Option (List ℕ)) (faults : ℕ) (sent_after : Option (List ℕ)) (faults_after : ℕ) : Type 0 where

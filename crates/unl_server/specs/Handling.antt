@@ -20,7 +20,7 @@ abbrev pub handler_state : {S : Type 0} → S → ℕ → Coming → HandlerStat
 handler_state state count coming = record { state = state; count = count; coming = coming }
 
 -- a draw was taken, the handler gave this reply to the request with it, and the request was counted
-pub record Answers
+pub record HandlesRequest
     {S : Type 0} (gives : S → Request → Draw → Reply → S → Type 0)
     (before : HandlerState S) (request : Request) (reply : Reply) (after : HandlerState S) : Type 0 where
   pub draw : Draw
@@ -30,9 +30,9 @@ pub record Answers
 
 -- a draw was taken, and then memory ran out; the request was not counted
 pub record RunsOutOfMemory
-    {S : Type 0} (gives_up : S → Request → Draw → S → Type 0)
+    {S : Type 0} (out_of_memory : S → Request → Draw → S → Type 0)
     (before : HandlerState S) (request : Request) (after : HandlerState S) : Type 0 where
   pub draw : Draw
   pub taken : TakesDraw before.coming draw after.coming
-  pub given_up : gives_up before.state request draw after.state
+  pub ran_out : out_of_memory before.state request draw after.state
   pub counted : after.count ≡ before.count

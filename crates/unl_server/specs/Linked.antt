@@ -7,15 +7,15 @@ use Rattle.unl_server.specs.Handling.{Coming}
 
 -- Links with these bytes were served one after another, beginning with this server and these coming draws, and came back
 -- with these sent bytes and fault counts.
-abbrev pub Linked :
+abbrev pub AreServed :
     {S : Type 0} → (S → Coming → List ℕ → List ℕ × ℕ → S → Coming → Type 0) → S → Coming → List (List ℕ) → List (List ℕ × ℕ)
     → S → Coming → Type 0
-Linked LinkServed server coming [] [] after coming_after = (after ≡ server) × (coming_after ≡ coming)
-Linked LinkServed server coming [] (back ∷ backs) after coming_after = ⊥
-Linked LinkServed server coming (bytes ∷ links) [] after coming_after = ⊥
-Linked {S} LinkServed server coming (bytes ∷ links) (back ∷ backs) after coming_after =
+AreServed LinkServed server coming [] [] after coming_after = (after ≡ server) × (coming_after ≡ coming)
+AreServed LinkServed server coming [] (back ∷ backs) after coming_after = ⊥
+AreServed LinkServed server coming (bytes ∷ links) [] after coming_after = ⊥
+AreServed {S} LinkServed server coming (bytes ∷ links) (back ∷ backs) after coming_after =
     (middle : S) × (coming_middle : Coming) × LinkServed server coming bytes back middle coming_middle
-    × Linked LinkServed middle coming_middle links backs after coming_after
+    × AreServed LinkServed middle coming_middle links backs after coming_after
 
 -- the state while links are served: the server, the coming draws, and what the door records about its links
 pub record Linking (S : Type 0) : Type 0 where
@@ -48,7 +48,7 @@ pub record ServesLinks
   pub left : after.links ≡ Some rest
   pub returned_after : after.returned ≡ Some (returned ++ backs)
   pub counted : length given_links ≡ served
-  pub linked : Linked LinkServed before.server before.coming given_links backs after.server after.coming
+  pub linked : AreServed LinkServed before.server before.coming given_links backs after.server after.coming
 
 -- `served` links were handed out, and as many were returned. If the door's links are observable, each was served.
 pub record HandsBack

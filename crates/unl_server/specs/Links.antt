@@ -2,11 +2,11 @@
 use Rattle.std.specs.Prelude.{ℕ, List, Option}
 
 -- the bytes that can still be read from a link, the bytes sent to it, and its fault count
-pub record LinkState : Type 0 where
+pub record LinkView : Type 0 where
   pub left : Option (List ℕ)
   pub sent : Option (List ℕ)
   pub faults : ℕ
 
 -- these three as a record
-abbrev pub link_state : Option (List ℕ) → Option (List ℕ) → ℕ → LinkState
-link_state left sent faults = record { left = left; sent = sent; faults = faults }
+abbrev pub link_view : Option (List ℕ) → Option (List ℕ) → ℕ → LinkView
+link_view left sent faults = record { left = left; sent = sent; faults = faults }

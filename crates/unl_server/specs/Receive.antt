@@ -24,7 +24,7 @@ pub record Receives
   pub next : IsNextItem (held ++ read) left_after found held_after
 
 -- bytes were read from the link and appended to those held, which were not too many
-pub record TakesPiece
+pub record ReceivesPiece
     (held : List ℕ) (left : Option (List ℕ)) (held_after : List ℕ) (left_after : Option (List ℕ)) : Type 0 where
   pub piece : List ℕ
   pub some : 0 < length piece
@@ -33,7 +33,7 @@ pub record TakesPiece
   pub room : length held < 1056768
 
 -- one turn: the next item was found, or more bytes were read
-abbrev pub Turns :
+abbrev pub ReceivesTurn :
     List ℕ → Option (List ℕ) → Option Received → List ℕ → Option (List ℕ) → Type 0
-Turns held left (Some found) held_after left_after = Receives held left found held_after left_after
-Turns held left None held_after left_after = TakesPiece held left held_after left_after
+ReceivesTurn held left (Some found) held_after left_after = Receives held left found held_after left_after
+ReceivesTurn held left None held_after left_after = ReceivesPiece held left held_after left_after

@@ -1,7 +1,7 @@
 //! Serves the requests of one connection.
-ghost use Rattle.unl_server.specs.Handling.{Answers, RunsOutOfMemory, handler_state};
+ghost use Rattle.unl_server.specs.Handling.{HandlesRequest, RunsOutOfMemory, handler_state};
 ghost use Rattle.unl_server.specs.Conversation.{Converses};
-ghost use Rattle.unl_server.specs.Links.{link_state};
+ghost use Rattle.unl_server.specs.Links.{link_view};
 
 use crate::receive::PIECE;
 use crate::request_handler::{MOST_REQUESTS, RequestHandler};
@@ -19,10 +19,10 @@ pub fn serve_requests<A: RequestHandler, L: Link, R: Draws>(
     draws: &mut R,
 ) -> (usize, End)
     requires { A.fits 0 state.old }
-    ensures converses { Converses (Answers A.gives) (RunsOutOfMemory A.gives_up)
-        (link_state (L.left link.old) (L.sent link.old) (L.Source.faults link.old))
+    ensures converses { Converses (HandlesRequest A.gives) (RunsOutOfMemory A.out_of_memory)
+        (link_view (L.left link.old) (L.sent link.old) (L.Source.faults link.old))
         (handler_state state.old 0 (R.coming draws.old)) result.1 (handler_state state.new result.0 (R.coming draws.new)) result.0
-        (link_state (L.left link.new) (L.sent link.new) (L.Source.faults link.new)) }
+        (link_view (L.left link.new) (L.sent link.new) (L.Source.faults link.new)) }
     ensures fits { A.fits result.0 state.new }
     ensures keeps { A.keeps state.old state.new }
 {

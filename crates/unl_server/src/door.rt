@@ -4,7 +4,7 @@ ghost use Rattle.unl_base.specs.Doors.{IsClosed, IsListening, taking_back};
 ghost use Rattle.unl_base.specs.Faults.{HasCause};
 ghost use Rattle.unl_server.specs.Handling.{Coming};
 ghost use Rattle.unl_server.specs.ServingDoor.{ServesDoor, ServesNextLink, server_and_door};
-ghost use Rattle.unl_server.specs.Links.{LinkState, link_state};
+ghost use Rattle.unl_server.specs.Links.{LinkView, link_view};
 
 use std::alloc::Global;
 use std::sync::Wait;
@@ -20,14 +20,14 @@ pub trait Server {
 
     /// The effect of serving a link: the server and the coming draws before, the link before and after, the server and the
     /// draws after.
-    ghost serves: { Self → Coming → LinkState → LinkState → Self → Coming → Type 0 };
+    ghost serves: { Self → Coming → LinkView → LinkView → Self → Coming → Type 0 };
 
     /// Serves a link, and does what is due between two links. If the link fails, or memory runs out, only this link ends.
     fn serve_link<L: Link, R: Draws>(&mut self, alloc: Global, link: &mut L, draws: &mut R)
         requires { fits self.old }
         ensures serves { serves self.old (R.coming draws.old)
-            (link_state (L.left link.old) (L.sent link.old) (L.Source.faults link.old))
-            (link_state (L.left link.new) (L.sent link.new) (L.Source.faults link.new)) self.new (R.coming draws.new) }
+            (link_view (L.left link.old) (L.sent link.old) (L.Source.faults link.old))
+            (link_view (L.left link.new) (L.sent link.new) (L.Source.faults link.new)) self.new (R.coming draws.new) }
         ensures fits { fits self.new }
         ensures keeps { keeps self.old self.new };
 
@@ -115,9 +115,9 @@ fn serve_and_return<S: Server, D: Door, R: Draws>(
 )
     requires handed_out { (D.state door.old).back < (D.state door.old).given }
     requires fits { S.fits server.old }
-    ensures served { (after : LinkState)
+    ensures served { (after : LinkView)
         × S.serves server.old (R.coming draws.old)
-        (link_state (D.L.Source.left link) (D.L.Sink.sent link) (D.L.Source.faults link)) after server.new (R.coming draws.new)
+        (link_view (D.L.Source.left link) (D.L.Sink.sent link) (D.L.Source.faults link)) after server.new (R.coming draws.new)
         × (D.state door.new ≡ taking_back after.sent after.faults (D.state door.old)) }
     ensures fits { S.fits server.new }
     ensures keeps { S.keeps server.old server.new }

@@ -2,7 +2,7 @@
 ghost use Rattle.std.specs.Prelude.{◌≡◌, ◌<◌, ◌≤◌, ◌==◌, if◌then◌else◌, length};
 ghost use Rattle.unl_base.specs.Faults.{Rose};
 ghost use Rattle.unl_http_api.specs.Requests.{IsUnfinished};
-ghost use Rattle.unl_server.specs.Receive.{Receives, Turns};
+ghost use Rattle.unl_server.specs.Receive.{Receives, ReceivesTurn};
 
 use std::alloc::Global;
 use unl_base::{Failed, Link};
@@ -56,7 +56,7 @@ fn turn<L: Link>(
     room: &mut [u8],
 ) -> Option<Received>
     requires { 0 < length room.old }
-    ensures turn { Turns reader.old (L.left link.old) result reader.new (L.left link.new) }
+    ensures turn { ReceivesTurn reader.old (L.left link.old) result reader.new (L.left link.new) }
     ensures sent { L.sent link.new ≡ L.sent link.old }
     ensures later { L.Source.faults link.old ≤ L.Source.faults link.new }
     ensures cause { result ≡ Some Received.ReadFault → Rose (L.Source.faults link.old) (L.Source.faults link.new) }
@@ -74,7 +74,7 @@ fn read_piece<L: Link>(reader: &mut Reader, link: &mut L, room: &mut [u8]) -> Op
     requires room { 0 < length room.old }
     requires unfinished { IsUnfinished reader.old }
     requires few { length reader.old < 1056768 }
-    ensures turn { Turns reader.old (L.left link.old) result reader.new (L.left link.new) }
+    ensures turn { ReceivesTurn reader.old (L.left link.old) result reader.new (L.left link.new) }
     ensures sent { L.sent link.new ≡ L.sent link.old }
     ensures later { L.Source.faults link.old ≤ L.Source.faults link.new }
     ensures cause { result ≡ Some Received.ReadFault → Rose (L.Source.faults link.old) (L.Source.faults link.new) }

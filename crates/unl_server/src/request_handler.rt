@@ -28,7 +28,7 @@ pub trait RequestHandler {
     ghost gives: { Self.State → Request → Draw → Reply → Self.State → Type 0 };
 
     /// The effect of running out of memory at a request: the state before, the request, its draw, and the state after.
-    ghost gives_up: { Self.State → Request → Draw → Self.State → Type 0 };
+    ghost out_of_memory: { Self.State → Request → Draw → Self.State → Type 0 };
 
     /// Handles a request. `count` requests were answered on its connection before.
     ///
@@ -45,7 +45,7 @@ pub trait RequestHandler {
         requires few { count < 1000 }
         ensures gives { IfOk result (λ reply. gives state.old request.now draw.entry.now reply state.new) }
         ensures status { IfOk result (λ reply. IsStatusCode reply.status) }
-        ensures gives_up { OnErr result (gives_up state.old request.now draw.entry.now state.new) }
+        ensures out_of_memory { OnErr result (out_of_memory state.old request.now draw.entry.now state.new) }
         ensures fits { OnOk result (fits (count + 1) state.new) }
         ensures still_fits { OnErr result (fits count state.new) }
         ensures keeps { keeps state.old state.new };

@@ -3,8 +3,8 @@ ghost use Rattle.std.specs.Prelude.{◌≡◌, ◌<◌, ◌≤◌, if◌then◌e
 ghost use Rattle.http.specs.StatusCode.{IsStatusCode};
 ghost use Rattle.unl_base.specs.Faults.{Rose};
 ghost use Rattle.unl_http_api.specs.Reply.{reply_text};
-ghost use Rattle.unl_server.specs.Handling.{Answers, RunsOutOfMemory, handler_state};
-ghost use Rattle.unl_server.specs.Exchange.{ServesTurn, Refuses, Replied, Sends500, Writes};
+ghost use Rattle.unl_server.specs.Handling.{HandlesRequest, RunsOutOfMemory, handler_state};
+ghost use Rattle.unl_server.specs.Exchange.{ServesTurn, SendsRefusal, Replied, Sends500, Writes};
 
 use crate::receive::{PIECE, Received, receive};
 use crate::request_handler::{MOST_REQUESTS, RequestHandler};
@@ -26,7 +26,7 @@ pub(crate) fn serve_request<A: RequestHandler, L: Link, R: Draws>(
 ) -> Option<End>
     requires fits { A.fits count.old state.old }
     requires few { count.old < MOST_REQUESTS }
-    ensures turn { ServesTurn (Answers A.gives) (RunsOutOfMemory A.gives_up) last
+    ensures turn { ServesTurn (HandlesRequest A.gives) (RunsOutOfMemory A.out_of_memory) last
         (record {
           held = reader.old;
           left = L.left link.old;
@@ -83,7 +83,7 @@ fn reply_to<A: RequestHandler, L: Link, R: Draws>(
 ) -> Option<End>
     requires fits { A.fits count.old state.old }
     requires few { count.old < MOST_REQUESTS }
-    ensures replied { Replied (Answers A.gives) (RunsOutOfMemory A.gives_up) request.now close
+    ensures replied { Replied (HandlesRequest A.gives) (RunsOutOfMemory A.out_of_memory) request.now close
         (handler_state state.old count.old (R.coming draws.old)) (handler_state state.new count.new (R.coming draws.new))
         (L.sent link.old) result (L.sent link.new) }
     ensures fits { A.fits count.new state.new }
@@ -106,7 +106,7 @@ fn reply_to<A: RequestHandler, L: Link, R: Draws>(
 /// Refuses invalid bytes with their status.
 fn refuse<L: Link>(alloc: Global, link: &mut L, status: u16) -> End
     requires { IsStatusCode status }
-    ensures refuses { Refuses status (L.sent link.old) result (L.sent link.new) }
+    ensures refuses { SendsRefusal status (L.sent link.old) result (L.sent link.new) }
     ensures left { L.left link.new ≡ L.left link.old }
     ensures later { L.Source.faults link.old ≤ L.Source.faults link.new }
     ensures cause { result ≡ End.WriteFault → Rose (L.Source.faults link.old) (L.Source.faults link.new) }

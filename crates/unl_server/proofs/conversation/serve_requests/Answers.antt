@@ -43,7 +43,7 @@ returns-in-Some-clause-converses g c =
     so_far.stay few known turn.turn)
     (λ bytes known sent_500. gives_up _ _ _ _ _ so_far.requests _ bytes c.in-Some.end _ _ _ so_far.talk so_far.stay few known sent_500
     turn.turn so_far.later (turn.sent_500 (ap Some sent_500)))
-    (reaches _ _ _ (Answers_count g.A.RequestHandler.gives g.A.RequestHandler.gives_up) _ _ _ so_far.requests _ c.in-Some.end
+    (reaches _ _ _ (Answers_count g.A.RequestHandler.gives g.A.RequestHandler.out_of_memory) _ _ _ so_far.requests _ c.in-Some.end
     so_far.talk (omega (arith, so_far.asked, so_far.counted)) turn.turn)
     (omega (arith, so_far.later, turn.later))
     (λ is. Rose_earlier _ _ _ so_far.later (turn.read_cause (ap Some is)))

@@ -1,7 +1,7 @@
 use Rattle.std.proofs.Common.{◌≡◌, ◌≤◌, List, [], length}
 use Rattle.unl_http_api.specs.declared.request.Request.{Request}
 use Rattle.unl_http_api.specs.Session.{StayOpen}
-use Rattle.unl_server.specs.Handling.{Answers, handler_state}
+use Rattle.unl_server.specs.Handling.{HandlesRequest, handler_state}
 use Rattle.unl_server.proofs.ConversationLemmas.{Talk}
 use Rattle.unl_server.proofs.conversation.serve_requests.Given as goal
 
@@ -9,7 +9,7 @@ use Rattle.unl_server.proofs.conversation.serve_requests.Given as goal
 abbrev pub invariant-loop-turn : goal.invariant-loop-turn
 invariant-loop-turn g l = record {
   requests : List Request;
-  talk : Talk (Answers g.A.RequestHandler.gives)
+  talk : Talk (HandlesRequest g.A.RequestHandler.gives)
       (record {
         held = [];
         left = g.L.Source.left l.initial.link;

@@ -1,6 +1,6 @@
 use Rattle.std.proofs.Common.{ap, ◌∙◌}
 use Rattle.unl_base.specs.Doors.{taking_back}
-use Rattle.unl_server.specs.Links.{link_state}
+use Rattle.unl_server.specs.Links.{link_view}
 use Rattle.unl_server.proofs.door.serve_next.Goals as goal
 
 pub returns-in-Some-clause-serves : goal.returns-in-Some-clause-serves
@@ -9,7 +9,7 @@ returns-in-Some-clause-serves g c =
     let fresh = rw (c.in-Some.is) at c.in_ok-link.ensures.fresh in
     let served = c.serve_and_return.ensures.served in
     record {
-      link = link_state _ _ _;
+      link = link_view _ _ _;
       link_after = served.0;
       closed = _;
       is_open = accepted.0;

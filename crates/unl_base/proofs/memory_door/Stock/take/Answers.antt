@@ -1,6 +1,6 @@
 use Rattle.std.proofs.Common.{◌≡◌, ◌∙◌, ◌<◌, ◌+◌, Option, Some, None, refl, IfSome, drop, length, slice_index_or, ap, is_some, sym, subst, arith, true, true≢false}
 use Rattle.unl_base.specs.Doors.{count_of}
-use Rattle.unl_base.specs.Memory.{IsNext, Stock, MemoryLinkState}
+use Rattle.unl_base.specs.Memory.{IsNextLink, Stock, MemoryLinkState}
 use Rattle.unl_base.proofs.Stocks.{gone, gone_view, new_there, next_is, next_new, some_to_come}
 use Rattle.unl_base.proofs.memory_door.Stock.take.Goals as goal
 
@@ -40,8 +40,8 @@ returns-clause-ends c =
 pub returns-clause-comes : goal.returns-clause-comes
 returns-clause-comes c =
     let stock = c.self.inside in
-    subst (λ (o : Option MemoryLinkState). IfSome o (λ wire. IsNext c.args.self.now.links wire)) (sym (next c))
-    (subst (λ (s : Stock). IfSome (slice_index_or stock.links.items stock.given c.index_mut.result.now) (λ wire. IsNext s.links wire)) c.self.view_is
+    subst (λ (o : Option MemoryLinkState). IfSome o (λ wire. IsNextLink c.args.self.now.links wire)) (sym (next c))
+    (subst (λ (s : Stock). IfSome (slice_index_or stock.links.items stock.given c.index_mut.result.now) (λ wire. IsNextLink s.links wire)) c.self.view_is
     (next_is stock.links.items stock.given stock.back _ (more c) c.self.invariant.1))
 
 pub returns-clause-rest : goal.returns-clause-rest

@@ -1,5 +1,4 @@
 use Rattle.std.proofs.Common.{ap, ◌∙◌}
-use Rattle.left_right.specs.Sides.{view}
 use Rattle.unl_publication.proofs.Sure.{Shows-from}
 use Rattle.unl_publication.proofs.writer.Writer.value.Goals as goal
 
