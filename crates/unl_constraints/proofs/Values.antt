@@ -1,16 +1,15 @@
 -- The effect of sorting, folding and removing duplicates on a constraint's values.
-use Rattle.std.proofs.Common.{◌≡◌, ℕ, Bool, true, false, ◌||◌, ◌&&◌, cond, List, [], ◌∷◌, map, nat_eq, nat_cmp, inl, inr, refl, sym, ap, ◌∙◌}
-use Rattle.std.specs.Cmp.Lexicographic.{pointwise, slice_cmp, texts_ties}
+use Rattle.std.proofs.Common.{◌≡◌, ℕ, Bool, true, false, ◌||◌, ◌&&◌, List, [], ◌∷◌, map, nat_eq, inl, inr, refl, sym, ap, ◌∙◌}
+use Rattle.std.specs.Cmp.Lexicographic.{pointwise, texts_ties}
 use Rattle.std.specs.List.{list_any, dedup, dedup_from}
-use Rattle.std.specs.Ordering.{is_eq}
 use Rattle.std.proofs.lemmas.Bool.{cases_Bool}
 use Rattle.std.proofs.lemmas.List.{map-id}
 use Rattle.std.proofs.lemmas.Map.Text.{is_eq-slice_cmp}
 use Rattle.std.proofs.lemmas.Slice.Eq.{bytes_eq-Decides}
 use Rattle.unl_documents.specs.declared.constraint.Constraint.{Constraint}
-use Rattle.unl_constraints.specs.Operands.{kind_of, is_part, is_folded, compared_values}
+use Rattle.unl_constraints.specs.Operands.{kind_of, is_part, compared_values}
 use Rattle.unl_constraints.specs.Texts.{compared}
-use Rattle.unl_constraints.specs.declared.operand.Kind.TheVariants as kind
+use Rattle.unl_constraints.specs.declared.operand.OperandKind.TheVariants as kind
 
 same_text : (x y : List ℕ) → pointwise nat_eq x y ≡ true → x ≡ y
 same_text x y same = (bytes_eq-Decides x y).0 (sym (is_eq-slice_cmp x y) ∙ sym (texts_ties x y) ∙ same)

@@ -13,14 +13,14 @@ use Rattle.unl_constraints.specs.Decimal.{number_of, IsRead}
 use Rattle.unl_constraints.specs.Instant.{instant_of}
 use Rattle.unl_constraints.specs.Texts.{compared, is_among}
 use Rattle.unl_constraints.specs.Version.{version_of}
-use Rattle.unl_constraints.specs.declared.operand.Kind.{Kind}
-use Rattle.unl_constraints.specs.declared.operand.Kind.TheVariants as kind
+use Rattle.unl_constraints.specs.declared.operand.OperandKind.{OperandKind}
+use Rattle.unl_constraints.specs.declared.operand.OperandKind.TheVariants as kind
 use Rattle.unl_constraints.specs.declared.operand.Operand.{Operand}
 use Rattle.unl_constraints.specs.declared.operand.ScalarOperand.{ScalarOperand}
 use Rattle.unl_constraints.specs.declared.operand.ScalarOperand.TheVariants as single
 
 -- What the operator compares.
-abbrev pub kind_of : Operator → Kind
+abbrev pub kind_of : Operator → OperandKind
 kind_of In = kind.Member
 kind_of NotIn = kind.Member
 kind_of StrContains = kind.Part
@@ -39,7 +39,7 @@ kind_of SemverLt = kind.Version
 kind_of (Unknown name) = kind.Member
 
 -- The values are compared as substrings of the field.
-abbrev pub is_part : Kind → Bool
+abbrev pub is_part : OperandKind → Bool
 is_part kind.Part = true
 is_part k = false
 
@@ -57,7 +57,7 @@ pub record AreValues (c : Constraint) (values : List (List ℕ)) : Type 0 where
   pub same : (text : List ℕ) → is_among values text ≡ is_among (compared_values c) text
 
 -- `s` is the constraint's value, parsed as this kind of comparison needs.
-abbrev pub IsScalarOperand : Kind → Option (List ℕ) → ScalarOperand → Type 0
+abbrev pub IsScalarOperand : OperandKind → Option (List ℕ) → ScalarOperand → Type 0
 IsScalarOperand kind.Member text s = Unit {0}
 IsScalarOperand kind.Part text s = Unit {0}
 IsScalarOperand kind.Number text (single.Number n) = IsRead (option_and_then number_of text) n

@@ -1,5 +1,5 @@
 //! The right sides of constraints, parsed as their operators need.
-ghost use Rattle.std.specs.Prelude.{◌≡◌, ℕ, List, Bool, IfOk, OnOk, map, option_map, option_and_then};
+ghost use Rattle.std.specs.Prelude.{◌≡◌, ℕ, List, Bool, IfOk, map, option_map, option_and_then};
 ghost use Rattle.std.specs.List.{list_any};
 ghost use Rattle.semver.specs.Identifiers.{parts_of};
 ghost use Rattle.unl_documents.specs.Parameters.{AreRising};
@@ -11,7 +11,7 @@ ghost use Rattle.unl_constraints.specs.Operands.{kind_of as kind_by, is_folded a
 ghost use Rattle.unl_constraints.specs.Operands.{IsScalarOperand, IsOperand};
 ghost use Rattle.unl_constraints.specs.Texts.{compared as compared_by, is_among as among, has_some_part_at as some_there};
 ghost use Rattle.unl_constraints.specs.Version.{version_of};
-ghost use Rattle.unl_constraints.specs.declared.operand.Kind.TheVariants as kind;
+ghost use Rattle.unl_constraints.specs.declared.operand.OperandKind.TheVariants as kind;
 
 use crate::decimal::Decimal;
 use crate::instant::read_instant;
@@ -21,12 +21,12 @@ use crate::texts::{
 use crate::version::read_version;
 use semver::Version;
 use std::alloc::Global;
-use unl_context::Known;
+use unl_context::KnownField;
 use unl_documents::{Constraint, List, Memory, Operator, Text};
 
 /// What an operator compares.
 #[derive(Clone, Copy)]
-pub(crate) enum Kind {
+pub(crate) enum OperandKind {
     /// The field with each whole value.
     Member,
     /// The field with substrings that it may contain.
@@ -47,7 +47,7 @@ pub(crate) struct Operand {
     /// The parsed value.
     pub single: ScalarOperand,
     /// Which of the context's six fields the constraint names, if it names one.
-    pub known: Option<Known>,
+    pub known: Option<KnownField>,
 }
 
 /// The value of a constraint, parsed as its operator needs.
@@ -87,7 +87,7 @@ pub(crate) trait OperandSide {
         ensures { IfOk result (λ r. r ≡ some_there place constraint.now.caseless text.now constraint.now.values) };
 
     /// Returns which of the context's six fields the constraint names, if it names one.
-    fn known(&self, constraint: &Constraint) -> Option<Known>
+    fn known(&self, constraint: &Constraint) -> Option<KnownField>
         requires { is_of constraint.now self.now }
         ensures { result ≡ known_by constraint.now.field };
 
@@ -116,7 +116,7 @@ impl OperandSide for Operand {
         has_some_part_at(alloc, place, constraint.caseless, text, values)
     }
 
-    fn known(&self, _constraint: &Constraint) -> Option<Known> {
+    fn known(&self, _constraint: &Constraint) -> Option<KnownField> {
         self.known
     }
 
@@ -145,8 +145,8 @@ impl OperandSide for ScalarOperand {
         has_some_raw_part_at(alloc, place, constraint.caseless, text, values)
     }
 
-    fn known(&self, constraint: &Constraint) -> Option<Known> {
-        Known::by(constraint.field.as_str())
+    fn known(&self, constraint: &Constraint) -> Option<KnownField> {
+        KnownField::by(constraint.field.as_str())
     }
 
     fn single(&self, _constraint: &Constraint) -> &ScalarOperand {
@@ -162,7 +162,7 @@ impl Operand {
         Ok(Operand {
             values: values_of(alloc, constraint)?,
             single: ScalarOperand::of(alloc, constraint)?,
-            known: Known::by(constraint.field.as_str()),
+            known: KnownField::by(constraint.field.as_str()),
         })
     }
 }
@@ -174,36 +174,36 @@ impl ScalarOperand {
     {
         let text = constraint.value.as_ref().map(Text::as_str);
         match kind_of(&constraint.operator) {
-            Kind::Member => Ok(ScalarOperand::Values),
-            Kind::Part => Ok(ScalarOperand::Values),
-            Kind::Number => Ok(ScalarOperand::Number(number(text))),
-            Kind::Instant => Ok(ScalarOperand::Instant(instant(alloc, text)?)),
-            Kind::Version => Ok(ScalarOperand::Version(version(alloc, text)?)),
+            OperandKind::Member => Ok(ScalarOperand::Values),
+            OperandKind::Part => Ok(ScalarOperand::Values),
+            OperandKind::Number => Ok(ScalarOperand::Number(number(text))),
+            OperandKind::Instant => Ok(ScalarOperand::Instant(instant(alloc, text)?)),
+            OperandKind::Version => Ok(ScalarOperand::Version(version(alloc, text)?)),
         }
     }
 }
 
 /// Returns what the operator compares.
-fn kind_of(operator: &Operator) -> Kind
+fn kind_of(operator: &Operator) -> OperandKind
     ensures { result ≡ kind_by operator.now }
 {
     match operator {
-        Operator::In => Kind::Member,
-        Operator::NotIn => Kind::Member,
-        Operator::StrContains => Kind::Part,
-        Operator::StrStartsWith => Kind::Part,
-        Operator::StrEndsWith => Kind::Part,
-        Operator::NumEq => Kind::Number,
-        Operator::NumGt => Kind::Number,
-        Operator::NumGte => Kind::Number,
-        Operator::NumLt => Kind::Number,
-        Operator::NumLte => Kind::Number,
-        Operator::DateAfter => Kind::Instant,
-        Operator::DateBefore => Kind::Instant,
-        Operator::SemverEq => Kind::Version,
-        Operator::SemverGt => Kind::Version,
-        Operator::SemverLt => Kind::Version,
-        Operator::Unknown(_) => Kind::Member,
+        Operator::In => OperandKind::Member,
+        Operator::NotIn => OperandKind::Member,
+        Operator::StrContains => OperandKind::Part,
+        Operator::StrStartsWith => OperandKind::Part,
+        Operator::StrEndsWith => OperandKind::Part,
+        Operator::NumEq => OperandKind::Number,
+        Operator::NumGt => OperandKind::Number,
+        Operator::NumGte => OperandKind::Number,
+        Operator::NumLt => OperandKind::Number,
+        Operator::NumLte => OperandKind::Number,
+        Operator::DateAfter => OperandKind::Instant,
+        Operator::DateBefore => OperandKind::Instant,
+        Operator::SemverEq => OperandKind::Version,
+        Operator::SemverGt => OperandKind::Version,
+        Operator::SemverLt => OperandKind::Version,
+        Operator::Unknown(_) => OperandKind::Member,
     }
 }
 
@@ -212,7 +212,7 @@ fn is_folded(constraint: &Constraint) -> bool
     ensures { result ≡ is_folded_by constraint.now }
 {
     match kind_of(&constraint.operator) {
-        Kind::Part => constraint.caseless,
+        OperandKind::Part => constraint.caseless,
         _ => false,
     }
 }
@@ -230,7 +230,7 @@ fn values_of(alloc: Global, constraint: &Constraint) -> Result<List<Text>, Memor
 fn compared_each(alloc: Global, folded: bool, texts: &[Text]) -> Result<Vec<Text>, Memory>
     ensures { IfOk result (λ all. all.items ≡ map (compared_by folded) texts.now) }
 {
-    let mut all = Vec::new(alloc);
+    let mut all = Vec::with_capacity(alloc, texts.len())?;
     for text in texts {
         all.push(compared(alloc, folded, text.as_str())?)?;
     }

@@ -15,7 +15,7 @@ use Rattle.unl_context.specs.Context.{Fields}
 use Rattle.unl_strategies.specs.declared.moment.Mark.TheVariants as mark
 use Rattle.unl_strategies.specs.Moment.{Moment}
 use Rattle.unl_strategies.proofs.Inlined.{same_active}
-use Rattle.unl_dependencies.specs.Evaluation.{active_from, first_active, is_on, random_of, group_of, variant_in, strategy_variant, own_variant, variant_of, off, on_with, evaluation_where, feature_named, agrees, is_met_by, is_met, dependencies_met, feature_evaluation, evaluation_of}
+use Rattle.unl_dependencies.specs.Evaluation.{active_from, first_active, is_on, random_of, group_of, variant_in, strategy_variant, own_variant, variant_of_feature, off, on_with, evaluation_where, feature_named, agrees, is_met_by, is_met, dependencies_met, feature_evaluation, evaluation_of}
 
 -- ---- strategies
 
@@ -53,8 +53,8 @@ same_own : (segments : List Segment) (f : Feature) (context : Fields) (moment : 
 unfolding inlined_feature own_variant
 same_own segments f context moment = refl
 
-same_variant_of : (segments : List Segment) (f : Feature) (context : Fields) (moment : Moment) (first : Option ℕ) → variant_of (inlined_feature segments f) context moment first ≡ variant_of f context moment first
-unfolding variant_of
+same_variant_of : (segments : List Segment) (f : Feature) (context : Fields) (moment : Moment) (first : Option ℕ) → variant_of_feature (inlined_feature segments f) context moment first ≡ variant_of_feature f context moment first
+unfolding variant_of_feature
 same_variant_of segments f context moment None = same_own segments f context moment
 same_variant_of segments f context moment (Some place) =
     let here = same_variant segments f context moment place in
@@ -65,7 +65,7 @@ same_where : (met : Bool) (segments : List Segment) (f : Feature) (context : Fie
 unfolding evaluation_where
 same_where met segments f context moment =
     let is = same_on met segments f context moment in
-    let variant = same_variant_of segments f context moment (first_active (inlined_feature segments f) [] context moment) ∙ ap (variant_of f context moment) (same_first segments f context moment) in
+    let variant = same_variant_of segments f context moment (first_active (inlined_feature segments f) [] context moment) ∙ ap (variant_of_feature f context moment) (same_first segments f context moment) in
     λ i. cond (is i) (on_with (variant i)) off
 
 -- ---- states

@@ -65,26 +65,28 @@ unfoldable pub own_variant : Feature → Fields → Moment → Option Variant
 own_variant f context moment = variant_in f.name f.variants context (random_of f mark.Own moment)
 
 -- The variant of the first active strategy, or else the feature's own.
-unfoldable pub variant_of : Feature → Fields → Moment → Option ℕ → Option Variant
-variant_of f context moment first = option_or (option_and_then (strategy_variant f context moment) first) (own_variant f context moment)
+unfoldable pub variant_of_feature : Feature → Fields → Moment → Option ℕ → Option Variant
+variant_of_feature f context moment first =
+    option_or (option_and_then (strategy_variant f context moment) first) (own_variant f context moment)
 
 -- The parts of a variant that an evaluation reports. Without a variant, the name is `disabled`.
-abbrev pub answer_of : Option Variant → VariantAnswer
-answer_of None = record { name = codes "disabled"; enabled = false; payload = None }
-answer_of (Some v) = record { name = v.name; enabled = true; payload = v.payload }
+abbrev pub variant_answer : Option Variant → VariantAnswer
+variant_answer None = record { name = codes "disabled"; enabled = false; payload = None }
+variant_answer (Some v) = record { name = v.name; enabled = true; payload = v.payload }
 
 -- The evaluation of a feature that is off, which has no variant.
 abbrev pub off : Evaluation
-off = record { on = false; variant = answer_of None }
+off = record { on = false; variant = variant_answer None }
 
 -- The evaluation of a feature that is on, with this variant.
 abbrev pub on_with : Option Variant → Evaluation
-on_with variant = record { on = true; variant = answer_of variant }
+on_with variant = record { on = true; variant = variant_answer variant }
 
 -- The evaluation of a feature, given whether its dependencies are met.
 unfoldable pub evaluation_where : Bool → Feature → List Segment → Fields → Moment → Evaluation
 evaluation_where met f segments context moment =
-    if is_on met f segments context moment then on_with (variant_of f context moment (first_active f segments context moment)) else off
+    if is_on met f segments context moment
+    then on_with (variant_of_feature f context moment (first_active f segments context moment)) else off
 
 -- The first feature with the given name.
 abbrev pub feature_named : List ℕ → List Feature → Option Feature

@@ -1,6 +1,6 @@
 //! The results of evaluations.
 ghost use Rattle.std.specs.Prelude.{◌≡◌, IfOk, codes, option_map};
-ghost use Rattle.unl_dependencies.specs.Evaluation.{off as off_evaluation, on_with as evaluation_on_with, answer_of};
+ghost use Rattle.unl_dependencies.specs.Evaluation.{off as off_evaluation, on_with as evaluation_on_with, variant_answer};
 ghost use Rattle.unl_dependencies.specs.Decision.{evaluation_by};
 
 use std::alloc::Global;
@@ -79,7 +79,7 @@ impl Evaluation {
 impl VariantAnswer {
     /// Copies the reported parts of a variant.
     fn of(alloc: Global, variant: Option<&Variant>) -> Result<VariantAnswer, Memory>
-        ensures { IfOk result (λ answer. answer ≡ answer_of (option_map (λ v. v.now) variant.entry)) }
+        ensures { IfOk result (λ answer. answer ≡ variant_answer (option_map (λ v. v.now) variant.entry)) }
     {
         match variant {
             None => Ok(VariantAnswer {

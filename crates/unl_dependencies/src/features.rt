@@ -1,5 +1,5 @@
 //! The data that evaluations are computed from.
-ghost use Rattle.std.specs.Prelude.{◌≡◌, All, IfOk, IfSome, option_map};
+ghost use Rattle.std.specs.Prelude.{◌≡◌, IfOk, IfSome, option_map};
 ghost use Rattle.unl_documents.specs.States.{IsValidState};
 ghost use Rattle.unl_documents.specs.Valid.{IsValidFeature};
 ghost use Rattle.unl_documents.specs.declared.feature.Feature.{Feature as FeatureDocument};

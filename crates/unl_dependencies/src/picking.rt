@@ -4,7 +4,8 @@ ghost use Rattle.unl_documents.specs.Valid.{IsValidFeature};
 ghost use Rattle.unl_variants.specs.Variant.{AreWithinLimits};
 ghost use Rattle.unl_dependencies.specs.Evaluation.{first_active as first_active_of};
 ghost use Rattle.unl_dependencies.specs.Evaluation.{strategy_variant as variant_of_strategy, own_variant as own_variant_of};
-ghost use Rattle.unl_dependencies.specs.Evaluation.{variant_of as variant_of_feature, variant_in as variant_chosen_in, evaluation_where};
+ghost use Rattle.unl_dependencies.specs.Evaluation.{variant_of_feature};
+ghost use Rattle.unl_dependencies.specs.Evaluation.{variant_in as variant_chosen_in, evaluation_where};
 ghost use Rattle.unl_dependencies.specs.Decision.{evaluation_by};
 ghost use Rattle.unl_strategies.specs.Random.{random_number, random_id as id_number};
 
@@ -99,7 +100,7 @@ fn first_among<F: Features>(
 
 /// Returns the variant of a feature that is on, given the index of its first active strategy: that strategy's variant, or
 /// else the feature's own. The feature is within its limits. Does not allocate.
-#[tactic(auto, unfolding(crate::specs::Evaluation::variant_of))]
+#[tactic(auto, unfolding(crate::specs::Evaluation::variant_of_feature))]
 pub fn variant_of<'a>(
     feature: &'a Feature,
     context: &Context,

@@ -7,12 +7,12 @@ use Rattle.std.proofs.lemmas.List.Folds.{list_all-append}
 use Rattle.unl_documents.specs.declared.constraint.Constraint.{Constraint}
 use Rattle.unl_documents.specs.declared.segment.Segment.{Segment}
 use Rattle.unl_documents.specs.declared.strategy.Strategy.{Strategy}
-use Rattle.unl_documents.specs.Inline.{segment_of, holds_for_nobody, constraints_for, all_constraints, inlined_strategy}
+use Rattle.unl_documents.specs.Inline.{segment_with, holds_for_nobody, constraints_for, all_constraints, inlined_strategy}
 use Rattle.unl_context.specs.Context.{Fields, field_of}
 use Rattle.unl_constraints.specs.Constraint.{is_in, fits, constraint_holds, all_hold}
 use Rattle.unl_constraints.specs.Texts.{is_among}
 use Rattle.unl_strategies.specs.Moment.{Moment}
-use Rattle.unl_strategies.specs.Strategy.{is_met, rule_holds, is_active}
+use Rattle.unl_strategies.specs.Strategy.{is_segment_met, rule_holds, is_active}
 
 -- ---- constraints
 
@@ -28,9 +28,9 @@ in_place : (found : Option Segment) (context : Fields) (now : ℕ) → all_hold 
 in_place None context now = nobody context now
 in_place (Some s) context now = refl
 
-for_one : (segments : List Segment) (context : Fields) (now id : ℕ) → all_hold (constraints_for segments id) context now ≡ is_met segments context now id
-unfolding constraints_for is_met
-for_one segments context now id = in_place (segment_of id segments) context now
+for_one : (segments : List Segment) (context : Fields) (now id : ℕ) → all_hold (constraints_for segments id) context now ≡ is_segment_met segments context now id
+unfolding constraints_for is_segment_met
+for_one segments context now id = in_place (segment_with id segments) context now
 
 both : (xs ys : List Constraint) (context : Fields) (now : ℕ) → all_hold (xs ++ ys) context now ≡ (all_hold xs context now && all_hold ys context now)
 unfolding all_hold
@@ -40,7 +40,7 @@ nothing : (context : Fields) (now : ℕ) → all_hold [] context now ≡ true
 unfolding all_hold
 nothing context now = refl
 
-for_all : (segments : List Segment) (context : Fields) (now : ℕ) (ids : List ℕ) → all_hold (flat_map (constraints_for segments) ids) context now ≡ list_all (is_met segments context now) ids
+for_all : (segments : List Segment) (context : Fields) (now : ℕ) (ids : List ℕ) → all_hold (flat_map (constraints_for segments) ids) context now ≡ list_all (is_segment_met segments context now) ids
 for_all segments context now [] = nothing context now
 for_all segments context now (id ∷ ids) =
     let first = for_one segments context now id in
@@ -61,7 +61,7 @@ pub same_active : (segments : List Segment) (s : Strategy) (feature : List ℕ) 
 unfolding inlined_strategy all_constraints is_active
 same_active segments s feature place context moment =
     let own = all_hold s.constraints context moment.now in
-    let met = list_all (is_met segments context moment.now) s.segments in
+    let met = list_all (is_segment_met segments context moment.now) s.segments in
     let rule = rule_holds s feature place context moment in
     let written : all_hold (all_constraints segments s) context moment.now ≡ (own && met) =
     both s.constraints (flat_map (constraints_for segments) s.segments) context moment.now ∙ ap (λ b. own && b) (for_all segments context moment.now s.segments) in

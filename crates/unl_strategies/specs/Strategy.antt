@@ -7,7 +7,7 @@ use Rattle.std.specs.Str.{bytes_eq}
 use Rattle.unl_documents.specs.declared.parameters.Pair.{Pair}
 use Rattle.unl_documents.specs.declared.segment.Segment.{Segment}
 use Rattle.unl_documents.specs.declared.strategy.Strategy.{Strategy}
-use Rattle.unl_documents.specs.Inline.{segment_of}
+use Rattle.unl_documents.specs.Inline.{segment_with}
 use Rattle.unl_context.specs.Context.{Fields, field_of, filled}
 use Rattle.unl_constraints.specs.Constraint.{all_hold}
 use Rattle.unl_strategies.specs.declared.moment.Mark.TheVariants as mark
@@ -94,12 +94,12 @@ rule_holds s feature index context moment =
     false)))))))
 
 -- The list has a segment with the id, and all constraints of that segment hold.
-unfoldable pub is_met : List Segment → Fields → ℕ → ℕ → Bool
-is_met segments context now id = option_map_or (λ s. all_hold s.constraints context now) (segment_of id segments) false
+unfoldable pub is_segment_met : List Segment → Fields → ℕ → ℕ → Bool
+is_segment_met segments context now id = option_map_or (λ s. all_hold s.constraints context now) (segment_with id segments) false
 
 -- All of the strategy's constraints hold, each segment that it refers to exists and holds, and its own rule holds.
 unfoldable pub is_active : Strategy → List ℕ → ℕ → List Segment → Fields → Moment → Bool
 is_active s feature index segments context moment =
     all_hold s.constraints context moment.now
-    && (list_all (is_met segments context moment.now) s.segments
+    && (list_all (is_segment_met segments context moment.now) s.segments
     && rule_holds s feature index context moment)

@@ -1,7 +1,7 @@
 //! The segments that strategies refer to.
 ghost use Rattle.std.specs.Prelude.{◌≡◌, IfOk};
 ghost use Rattle.std.specs.List.{list_all};
-ghost use Rattle.unl_strategies.specs.Strategy.{is_met as is_met_by};
+ghost use Rattle.unl_strategies.specs.Strategy.{is_segment_met};
 
 use std::alloc::Global;
 use unl_constraints::segment_holds;
@@ -17,7 +17,7 @@ pub(crate) fn all_met(
     context: &Context,
     now: u64,
 ) -> Result<bool, Memory>
-    ensures { IfOk result (λ b. b ≡ list_all (is_met_by segments.now context.now now) ids.now) }
+    ensures { IfOk result (λ b. b ≡ list_all (is_segment_met segments.now context.now now) ids.now) }
 {
     for id in ids {
         if !is_met(alloc, *id, segments, context, now)? {
@@ -28,7 +28,7 @@ pub(crate) fn all_met(
 }
 
 /// Whether the list has a segment with the id and the context satisfies it.
-#[tactic(auto, unfolding(crate::specs::Strategy::is_met))]
+#[tactic(auto, unfolding(crate::specs::Strategy::is_segment_met))]
 fn is_met(
     alloc: Global,
     id: u64,
@@ -36,7 +36,7 @@ fn is_met(
     context: &Context,
     now: u64,
 ) -> Result<bool, Memory>
-    ensures { IfOk result (λ b. b ≡ is_met_by segments.now context.now now id) }
+    ensures { IfOk result (λ b. b ≡ is_segment_met segments.now context.now now id) }
 {
     match segment_of(segments, id) {
         None => Ok(false),

@@ -18,7 +18,7 @@ use Rattle.std.proofs.lemmas.Option.{slice_get_cases, slice_get_past, slice_get_
 use Rattle.std.proofs.Math.ListN.{get_or-append}
 use Rattle.std.proofs.Math.Seq.{get_or-append_seam}
 use Rattle.unl_tokens.specs.declared.token.Token.{Token}
-use Rattle.unl_tokens.specs.Books.{has_text, place_of}
+use Rattle.unl_tokens.specs.Books.{has_text, place_of_text}
 use Rattle.unl_tokens.specs.Index.{text_at, ComesBefore, IsListed, IsTextIndex, is_below, IsPointOf, if_text}
 use Rattle.unl_tokens.proofs.Different.{different_text, none_passes, same_texts}
 use Rattle.unl_tokens.proofs.Same.{text_refl}
@@ -53,13 +53,13 @@ turned a b not other = nat_list_cmp_total.antisymm b a ∙ by (slice_cmp nat_cmp
 text_there : (tokens : List Token) (place : ℕ) (d : Token) → place < length tokens → text_at tokens place ≡ (get_or tokens place d).text
 text_there tokens place d lt = rw (slice_get-get_or tokens place d lt) refl
 
-place_there : (tokens : List Token) (text : List ℕ) (place : ℕ) → place_of text tokens ≡ Some place → (place < length tokens) × (text_at tokens place ≡ text)
+place_there : (tokens : List Token) (text : List ℕ) (place : ℕ) → place_of_text text tokens ≡ Some place → (place < length tokens) × (text_at tokens place ≡ text)
 place_there [] text place is = absurd (cc)
 place_there (t ∷ ts) text place is =
     let found = position-Some (has_text text) (t ∷ ts) place t is in
     (found.0, text_there (t ∷ ts) place t found.0 ∙ same_text _ _ (sym found.1))
 
-nowhere : (tokens : List Token) (text : List ℕ) (place : ℕ) → place_of text tokens ≡ None → place < length tokens → text_at tokens place ≢ text
+nowhere : (tokens : List Token) (text : List ℕ) (place : ℕ) → place_of_text text tokens ≡ None → place < length tokens → text_at tokens place ≢ text
 nowhere [] text place none lt = absurd (omega arith)
 nowhere (t ∷ ts) text place none lt = λ same. different_text _ _ (none_passes (has_text text) (t ∷ ts) place t none lt) (sym (text_there (t ∷ ts) place t lt) ∙ same)
 
@@ -110,7 +110,7 @@ picked tokens text (Some other) place is = by (bytes_eq (text_at tokens other) t
     by true known is = let same : other ≡ place = cc in (is, ap (text_at tokens) (sym same) ∙ same_text _ _ (sym known))
     by false known is = absurd (cc)
 
-none_there : (tokens : List Token) (text : List ℕ) (places : List ℕ) (at : ℕ) (found : Option ℕ) → IsTextIndex tokens places → place_of text tokens ≡ None → option_and_then (if_text tokens text) (slice_get places at) ≡ found → found ≡ None
+none_there : (tokens : List Token) (text : List ℕ) (places : List ℕ) (at : ℕ) (found : Option ℕ) → IsTextIndex tokens places → place_of_text text tokens ≡ None → option_and_then (if_text tokens text) (slice_get places at) ≡ found → found ≡ None
 none_there tokens text places at None index none is = refl
 none_there tokens text places at (Some place) index none is =
     let there = picked tokens text (slice_get places at) place is in
@@ -118,14 +118,14 @@ none_there tokens text places at (Some place) index none is =
     let lt : get_or places at 0 < length tokens = index.within at 0 (slice_get_within places at place there.0) in
     absurd (nowhere tokens text place none (omega (arith, here, lt)) there.1)
 
-pub finds : (tokens : List Token) (text : List ℕ) (places : List ℕ) (at : ℕ) → IsTextIndex tokens places → IsPointOf tokens text places at → option_and_then (if_text tokens text) (slice_get places at) ≡ place_of text tokens
-finds tokens text places at index point = by (place_of text tokens) refl
+pub finds : (tokens : List Token) (text : List ℕ) (places : List ℕ) (at : ℕ) → IsTextIndex tokens places → IsPointOf tokens text places at → option_and_then (if_text tokens text) (slice_get places at) ≡ place_of_text text tokens
+finds tokens text places at index point = by (place_of_text text tokens) refl
   where
-    by : (found : Option ℕ) → place_of text tokens ≡ found → option_and_then (if_text tokens text) (slice_get places at) ≡ found
+    by : (found : Option ℕ) → place_of_text text tokens ≡ found → option_and_then (if_text tokens text) (slice_get places at) ≡ found
     by None is = none_there tokens text places at _ index is refl
     by (Some place) is = let there = place_there tokens text place is in found_there tokens text places at place index point there.0 there.1
 
-pub place_below : (tokens : List Token) (text : List ℕ) (found : Option ℕ) → found ≡ place_of text tokens → IfSome found (λ place. place < length tokens)
+pub place_below : (tokens : List Token) (text : List ℕ) (found : Option ℕ) → found ≡ place_of_text text tokens → IfSome found (λ place. place < length tokens)
 place_below tokens text None is = tt
 place_below tokens text (Some place) is = (place_there tokens text place (sym is)).0
 
@@ -172,7 +172,7 @@ text_last tokens token =
     let more : length tokens < length (tokens ++ token ∷ []) = rw length-append (omega arith) in
     text_there (tokens ++ token ∷ []) (length tokens) token more ∙ ap (λ (t : Token). t.text) (get_or-append_seam tokens token [] token)
 
-pub grows : (tokens : List Token) (token : Token) (places : List ℕ) (at : ℕ) → IsTextIndex tokens places → place_of token.text tokens ≡ None → IsPointOf tokens token.text places at → at ≤ length places
+pub grows : (tokens : List Token) (token : Token) (places : List ℕ) (at : ℕ) → IsTextIndex tokens places → place_of_text token.text tokens ≡ None → IsPointOf tokens token.text places at → at ≤ length places
     → IsTextIndex (tokens ++ token ∷ []) (insert places at (length tokens))
 grows tokens token places at index fresh point inside =
     let all = tokens ++ token ∷ [] in
@@ -194,7 +194,7 @@ grows tokens token places at index fresh point inside =
 
 -- ---- replacing the token with the same text
 
-text_stays : (tokens : List Token) (place : ℕ) (token : Token) (k : ℕ) → place_of token.text tokens ≡ Some place → text_at (slice_set tokens place token) k ≡ text_at tokens k
+text_stays : (tokens : List Token) (place : ℕ) (token : Token) (k : ℕ) → place_of_text token.text tokens ≡ Some place → text_at (slice_set tokens place token) k ≡ text_at tokens k
 text_stays tokens place token k is =
     let there = place_there tokens token.text place is in
     elim ((slice_get_cases tokens k).1) [
@@ -207,7 +207,7 @@ text_stays tokens place token k is =
           rw (none, past.1) refl
     ]
 
-pub stays : (tokens : List Token) (place : ℕ) (token : Token) (places : List ℕ) → IsTextIndex tokens places → place_of token.text tokens ≡ Some place → IsTextIndex (slice_set tokens place token) places
+pub stays : (tokens : List Token) (place : ℕ) (token : Token) (places : List ℕ) → IsTextIndex tokens places → place_of_text token.text tokens ≡ Some place → IsTextIndex (slice_set tokens place token) places
 stays tokens place token places index is = record {
   within = λ k d lt. rw length-set (index.within k d lt);
   rising = λ i j d before lt. (λ n. slice_cmp nat_cmp (text_stays tokens place token (get_or places i d) is n) (text_stays tokens place token (get_or places j d) is n)) ∙ index.rising i j d before lt;

@@ -13,7 +13,7 @@ use Rattle.std.proofs.lemmas.Slice.Eq.{bytes_eq-Decides}
 use Rattle.unl_tokens.specs.declared.fault.BadBook.TheVariants.{TooMany}
 use Rattle.unl_tokens.specs.declared.token.Token.{Token}
 use Rattle.unl_tokens.specs.Books.{has_text, put_at, with_token, gathered, book_of, within_limit}
-use Rattle.unl_tokens.specs.Laws.{each_once, texts_of, last_of, LatestAreGathered, LatestAreRead, KnownOnce}
+use Rattle.unl_tokens.specs.Laws.{each_once, texts_of, last_with_text, LatestAreGathered, LatestAreRead, KnownOnce}
 use Rattle.unl_tokens.specs.Names.{is_one_of}
 use Rattle.unl_tokens.specs.Requests.{token_of, answered, known_after, known}
 use Rattle.unl_tokens.specs.Valid.{HaveDistinctTexts}
@@ -177,12 +177,12 @@ or_none : (a : Option Token) → option_or a None ≡ a
 or_none None = refl
 or_none (Some x) = refl
 
-fold_token : (t : List ℕ) (tokens book : List Token) → token_of t (fold with_token book tokens) ≡ option_or (last_of t tokens) (token_of t book)
-unfolding last_of
+fold_token : (t : List ℕ) (tokens book : List Token) → token_of t (fold with_token book tokens) ≡ option_or (last_with_text t tokens) (token_of t book)
+unfolding last_with_text
 fold_token t [] book = refl
 fold_token t (x ∷ tokens) book =
-    fold_token t tokens (with_token book x) ∙ ap (option_or (last_of t tokens)) (token_put t book x ∙ here (bytes_eq x.text t))
-    ∙ sym (or_assoc (last_of t tokens) (if bytes_eq x.text t then Some x else None) (token_of t book))
+    fold_token t tokens (with_token book x) ∙ ap (option_or (last_with_text t tokens)) (token_put t book x ∙ here (bytes_eq x.text t))
+    ∙ sym (or_assoc (last_with_text t tokens) (if bytes_eq x.text t then Some x else None) (token_of t book))
   where
     here : (b : Bool) → (if b then Some x else token_of t book) ≡ option_or (if b then Some x else None) (token_of t book)
     here true = refl
@@ -215,9 +215,9 @@ found_by_texts (x ∷ book) different =
 pub gathered_latest : LatestAreGathered
 gathered_latest tokens =
     let texts : texts_of (gathered tokens) ≡ each_once (texts_of tokens) = fold_texts tokens [] ∙ nothing_before (each_once (texts_of tokens)) in
-    let each : (text : List ℕ) → token_of text (gathered tokens) ≡ last_of text tokens = λ text. fold_token text tokens [] ∙ or_none (last_of text tokens) in
+    let each : (text : List ℕ) → token_of text (gathered tokens) ≡ last_with_text text tokens = λ text. fold_token text tokens [] ∙ or_none (last_with_text text tokens) in
     sym (found_by_texts (gathered tokens) (stays_different tokens [] nothing_differs))
-    ∙ ap (filter_map (λ text. token_of text (gathered tokens))) texts ∙ map_same (λ text. token_of text (gathered tokens)) (λ text. last_of text tokens) each (each_once (texts_of tokens))
+    ∙ ap (filter_map (λ text. token_of text (gathered tokens))) texts ∙ map_same (λ text. token_of text (gathered tokens)) (λ text. last_with_text text tokens) each (each_once (texts_of tokens))
 
 pub latest_read : LatestAreRead
 unfolding book_of

@@ -21,13 +21,13 @@ abbrev pub texts_of : List Token → List (List ℕ)
 texts_of tokens = map (λ token. token.text) tokens
 
 -- the last token with this text
-unfoldable pub last_of : List ℕ → List Token → Option Token
-last_of text [] = None
-last_of text (token ∷ tokens) = option_or (last_of text tokens) (if has_text text token then Some token else None)
+unfoldable pub last_with_text : List ℕ → List Token → Option Token
+last_with_text text [] = None
+last_with_text text (token ∷ tokens) = option_or (last_with_text text tokens) (if has_text text token then Some token else None)
 
 -- for each text, where it first occurs, the last token with that text
 abbrev pub latest : List Token → List Token
-latest tokens = filter_map (λ text. last_of text tokens) (each_once (texts_of tokens))
+latest tokens = filter_map (λ text. last_with_text text tokens) (each_once (texts_of tokens))
 
 -- the tokens of a list of entries become the book of the latest tokens
 abbrev pub LatestAreGathered : Type 0

@@ -1,7 +1,7 @@
 //! Tokens with an index by text.
 ghost use Rattle.std.specs.Prelude.{◌≡◌, ◌↔◌, ◌<◌, ◌≤◌, [], ◌∷◌, ◌++◌, None, Some, IsTrue, IfOk, IfSome, insert, length};
 ghost use Rattle.std.specs.Prelude.{option_and_then, slice_get, slice_set};
-ghost use Rattle.unl_tokens.specs.Books.{place_of as place_of_text, with_token};
+ghost use Rattle.unl_tokens.specs.Books.{place_of_text, with_token};
 ghost use Rattle.unl_tokens.specs.Index.{text_at, if_text, IsPointOf, IsTextIndex};
 
 use crate::token::Token;

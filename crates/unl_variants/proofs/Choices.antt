@@ -1,5 +1,5 @@
 -- The function computes the only choice that satisfies the relation.
-use Rattle.std.proofs.Common.{◌≡◌, ℕ, ◌+◌, ◌<◌, ◌≤◌, ◌%◌, Bool, true, false, cond, eqb, List, Option, Some, None, refl, sym, ap, ◌∙◌, arith, inl, inr}
+use Rattle.std.proofs.Common.{◌≡◌, ℕ, ◌<◌, ◌≤◌, Bool, true, false, List, Option, Some, None, refl, sym, ap, ◌∙◌, arith, inl, inr}
 use Rattle.std.specs.Prelude.{position, is_some, is_none, unwrap_or, MatchBool, IfSome, IfNone, ◌==◌, length}
 use Rattle.std.specs.List.{list_any}
 use Rattle.std.specs.Option.{option_or}
@@ -7,7 +7,7 @@ use Rattle.std.proofs.lemmas.Bool.{cases_lt, ne_eqb}
 use Rattle.unl_documents.specs.declared.variant.Variant.{Variant}
 use Rattle.unl_context.specs.Context.{Fields}
 use Rattle.unl_murmur.specs.Murmur3.{normalized_of}
-use Rattle.unl_variants.specs.Variant.{IsChosen, IsPicked, IsFirst, IsReached, choice_of, is_overridden, place_reached, target_of, total_weight}
+use Rattle.unl_variants.specs.Variant.{IsChosen, IsFirst, IsReached, choice_of, is_overridden, place_reached, target_of, total_weight}
 use Rattle.unl_variants.proofs.Firsts.{first_at, first_only, some_passes}
 use Rattle.unl_variants.proofs.Reaching.{place_is_reached, reached_once}
 

@@ -1,6 +1,6 @@
-use Rattle.std.proofs.Common.{◌≡◌, ◌<◌, sym, subst, rules, ◌∙◌, arith, None}
-use Rattle.std.specs.Prelude.{position, IfSome, IfNone}
-use Rattle.unl_variants.specs.Variant.{IsReached, is_overridden, total_weight, target_of}
+use Rattle.std.proofs.Common.{◌≡◌, ◌<◌, sym, subst, rules, ◌∙◌}
+use Rattle.std.specs.Prelude.{IfSome, IfNone}
+use Rattle.unl_variants.specs.Variant.{IsReached, total_weight, target_of}
 use Rattle.unl_variants.proofs.Choices.{overridden_is, drawn_is}
 use Rattle.unl_variants.proofs.choosing.chosen_place.Goals as goal
 
