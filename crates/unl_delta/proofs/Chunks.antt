@@ -1,25 +1,25 @@
 -- Chunks of items whose keys ascend: where a key is, or belongs.
 use Rattle.std.proofs.Common.{◌≡◌, ◌<◌, ◌≤◌, ◌+◌, ◌-◌, ℕ, zero, suc, Bool, true, false, Option, Some, None, List, [], ◌∷◌, ◌++◌, length, map, take, drop, get_or, Less, inl, inr, refl, sym, ap, subst, ◌∙◌, append_assoc, arith}
-use Rattle.std.specs.Prelude.{filter, find, nat_lt, slice_get}
-use Rattle.std.specs.List.{AllByRecursion as Every, flat_map, prefix_len}
+use Rattle.std.specs.Prelude.{filter, find, remove, slice_get}
+use Rattle.std.specs.List.{AllByRecursion as Every, prefix_len}
 use Rattle.std.specs.List.Sorted.{IsPartitionedBy}
 use Rattle.std.specs.Option.{option_map_or, option_or}
 use Rattle.std.specs.Ordering.{is_eq, is_lt}
 use Rattle.std.specs.Str.{bytes_eq}
-use Rattle.std.proofs.lemmas.Bool.{cases_Bool, lt-ltb}
+use Rattle.std.proofs.lemmas.Bool.{cases_Bool}
 use Rattle.std.proofs.lemmas.Cmp.{nat_list_cmp_total}
 use Rattle.std.proofs.lemmas.Grind.{flat_map-append}
 use Rattle.std.proofs.lemmas.List.{append-nil, drop_more, take_more}
-use Rattle.std.proofs.lemmas.List.Elements.{filter-append, recursion_from_All}
+use Rattle.std.proofs.lemmas.List.Elements.{All-append, All-drop, All-take, filter-append, recursion_from_All}
 use Rattle.std.proofs.lemmas.List.Folds.{find-append}
 use Rattle.std.proofs.lemmas.Map.Text.{is_eq-slice_cmp}
 use Rattle.std.proofs.lemmas.Option.{slice_get_within}
 use Rattle.unl_delta.specs.Keyed.{above, below, ends_before, is_before, put, without}
-use Rattle.unl_delta.specs.State.{later}
-use Rattle.unl_delta.proofs.Every.{every_append, every_weaker, filter_all, filter_in, filter_none}
-use Rattle.unl_delta.proofs.Numbers.{later_append}
+use Rattle.unl_delta.specs.Valid.{NeverFall}
+use Rattle.unl_delta.proofs.Every.{every_append, every_weaker, filter_all, filter_none}
+use Rattle.unl_delta.proofs.Numbers.{never_fall_lower}
 use Rattle.unl_delta.proofs.InPlace.{all_above, greater, none_below, none_found}
-use Rattle.unl_delta.proofs.Order.{cmp, Rises, less_apart, less_back, less_from_test, rises_from_rising, rising_again}
+use Rattle.unl_delta.proofs.Order.{cmp, Rises, less_back, less_from_test, rises_from_rising, rising_again}
 use Rattle.unl_documents.specs.Parameters.{AreRising}
 use Rattle.unl_documents.specs.Chunks.{joined, NoneIsEmpty}
 
@@ -247,6 +247,41 @@ pub find_in_chunk : {T : Type 0} (key : T → List ℕ) (k : List ℕ) (chunks :
 find_in_chunk {T} key k chunks items place chunk h same =
     find_parts key k (joined (take place chunks)) chunk (joined (drop (place + 1) chunks)) h.low h.high ∙ ap (λ (xs : List T). find (λ (y : T). bytes_eq (key y) k) xs) (sym h.parts ∙ same)
 
+-- the other chunks after the chunk at a position was removed
+pub record Removed {T : Type 0} (chunks others : List (List T)) (place : ℕ) : Type 0 where
+  pub full : NoneIsEmpty others
+  pub before : take place others ≡ take place chunks
+  pub behind : drop place others ≡ drop (place + 1) chunks
+
+take_removed : {A : Type 0} (xs : List A) (i : ℕ) → take i (remove xs i) ≡ take i xs
+take_removed [] zero = refl
+take_removed [] (suc i) = refl
+take_removed (x ∷ xs) zero = refl
+take_removed {A} (x ∷ xs) (suc i) = ap (λ (ys : List A). x ∷ ys) (take_removed xs i)
+
+drop_removed : {A : Type 0} (xs : List A) (i : ℕ) → drop i (remove xs i) ≡ drop (suc i) xs
+drop_removed [] zero = refl
+drop_removed [] (suc i) = refl
+drop_removed (x ∷ xs) zero = refl
+drop_removed (x ∷ xs) (suc i) = drop_removed xs i
+
+pub removed_chunk : {T : Type 0} (chunks others : List (List T)) (place : ℕ) → NoneIsEmpty chunks → others ≡ remove chunks place → Removed chunks others place
+removed_chunk {T} chunks others place full is =
+    let P : List T → Type 0 = λ chunk. 1 ≤ length chunk in
+    let next : suc place ≡ place + 1 = omega arith in
+    record {
+      full = rw is (All-append P (take place chunks) (drop (suc place) chunks) (All-take P place chunks full) (All-drop P (suc place) chunks full));
+      before = ap (take place) is ∙ take_removed chunks place;
+      behind = ap (drop place) is ∙ drop_removed chunks place ∙ ap (λ (n : ℕ). drop n chunks) next;
+    }
+
+-- the changed chunk, put back among the others
+pub put_back : {T : Type 0} (chunks others : List (List T)) (place : ℕ) (changed items : List T) → Removed chunks others place → (joined (take place chunks) ++ changed) ++ joined (drop (place + 1) chunks) ≡ items
+    → (joined (take place others) ++ changed) ++ joined (drop place others) ≡ items
+put_back {T} chunks others place changed items r is =
+    ap (λ (rs : List (List T)). (joined rs ++ changed) ++ joined (drop place others)) r.before
+    ∙ ap (λ (rs : List (List T)). (joined (take place chunks) ++ changed) ++ joined rs) r.behind ∙ is
+
 -- ---- all chunks end before the key
 
 -- if the key's position is after all chunks, all items come before the key
@@ -284,13 +319,22 @@ gathers_next {T} {U} f prefix chunks i here so_far next parts inside is before n
     now ∙ ap (λ (ys : List U). ys ++ f here) before ∙ append_assoc prefix (f (joined (take i chunks))) (f here)
     ∙ ap (λ (ys : List U). prefix ++ ys) (sym (parts (joined (take i chunks)) here) ∙ ap f (sym (ap (λ (rs : List (List T)). joined rs) taken ∙ all)))
 
--- one more item above the number, after items that all are
-pub later_keeps : {T : Type 0} (number : T → ℕ) (n : ℕ) (xs : List T) (i : ℕ) (x : T) → i < length xs → x ≡ get_or xs i x → n < number x → later number n (take i xs) ≡ take i xs → later number n (take (i + 1) xs) ≡ take (i + 1) xs
-unfolding later
-later_keeps {T} number n xs i x inside is above before =
-    let taken : take (i + 1) xs ≡ take i xs ++ x ∷ [] = take_more xs i x inside ∙ ap (λ (y : T). take i xs ++ y ∷ []) (sym is) in
-    let one : filter (λ y. nat_lt n (number y)) (x ∷ []) ≡ x ∷ [] = filter_in (λ y. nat_lt n (number y)) x [] (lt-ltb _ _ above) in
-    ap (later number n) taken ∙ later_append number n (take i xs) (x ∷ []) ∙ ap (λ (ys : List T). ys ++ filter (λ y. nat_lt n (number y)) (x ∷ [])) before ∙ ap (λ (ys : List T). take i xs ++ ys) one ∙ sym taken
+-- ---- numbers that never decrease, chunk by chunk
+
+never_fall_prefix : {T : Type 0} (number : T → ℕ) (low : ℕ) (xs ys : List T) → NeverFall number low (xs ++ ys) → NeverFall number low xs
+never_fall_prefix number low [] ys h = tt
+never_fall_prefix number low (x ∷ xs) ys h = (h.0, never_fall_prefix number (number x) xs ys h.1)
+
+never_fall_back : {T : Type 0} (number : T → ℕ) (low : ℕ) (xs ys : List T) → NeverFall number low (xs ++ ys) → NeverFall number 0 ys
+never_fall_back number low [] ys h = never_fall_lower number low 0 ys (omega arith) h
+never_fall_back number low (x ∷ xs) ys h = never_fall_back number (number x) xs ys h.1
+
+-- if the numbers of all items never decrease, nor do those of one chunk
+pub never_fall_in : {T : Type 0} (number : T → ℕ) (low : ℕ) (chunks : List (List T)) (i : ℕ) (here : List T) → i < length chunks → here ≡ get_or chunks i here → NeverFall number low (joined chunks) → NeverFall number 0 here
+never_fall_in number low [] i here inside is h = absurd (omega (arith, inside))
+never_fall_in {T} number low (chunk ∷ chunks) zero here inside is h =
+    subst (λ (xs : List T). NeverFall number 0 xs) (sym is) (never_fall_lower number low 0 chunk (omega arith) (never_fall_prefix number low chunk (joined chunks) h))
+never_fall_in number low (chunk ∷ chunks) (suc i) here inside is h = never_fall_in number 0 chunks i here (omega (arith, inside)) is (never_fall_back number low chunk (joined chunks) h)
 
 -- ---- the first item that passes a test, chunk by chunk
 

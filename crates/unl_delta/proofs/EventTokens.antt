@@ -10,7 +10,7 @@ use Rattle.unl_documents.specs.declared.field.Field.TheVariants as field
 use Rattle.unl_documents.specs.declared.segment.Segment.{Segment}
 use Rattle.unl_documents.specs.declared.state.State.{State}
 use Rattle.unl_documents.specs.Tokens.{tokens_of, tokens_at, tokens_at_some}
-use Rattle.unl_documents.specs.Writing.{count, list, unless_zero, feature_data, segment_data}
+use Rattle.unl_documents.specs.Writing.{count, list_data, unless_zero, feature_data, segment_data}
 use Rattle.unl_delta.specs.declared.batch.Batch.{Batch}
 use Rattle.unl_delta.specs.declared.event.Event.{Event}
 use Rattle.unl_delta.specs.declared.event.Event.TheVariants.{Hydration, FeatureUpdated, FeatureRemoved, SegmentUpdated, SegmentRemoved}
@@ -27,8 +27,8 @@ framed number between word = (begin_object ∷ tokens_at field.EventId (count nu
 
 pub hydration_tokens : (number : ℕ) (state : State)
     → tokens_of (event_data (Hydration number state))
-    ≡ (begin_object ∷ tokens_at field.EventId (count number)) ++ (tokens_at field.Features (list feature_data state.features)
-    ++ (tokens_at field.Segments (list segment_data state.segments) ++ (tokens_at field.Kind (string (codes "hydration")) ++ end_object ∷ [])))
+    ≡ (begin_object ∷ tokens_at field.EventId (count number)) ++ (tokens_at field.Features (list_data feature_data state.features)
+    ++ (tokens_at field.Segments (list_data segment_data state.segments) ++ (tokens_at field.Kind (string (codes "hydration")) ++ end_object ∷ [])))
 unfolding event_data
 hydration_tokens number state = refl
 
@@ -57,7 +57,7 @@ segment_removed_tokens number id = refl
 batch_keys : (epoch after : Option ℕ) (events : List Event)
     → tokens_of (batch_with epoch after events)
     ≡ begin_object ∷ (tokens_at_some field.After (option_map count after) ++ (tokens_at_some field.Epoch (option_map count epoch)
-    ++ (tokens_at field.Events (list event_data events) ++ end_object ∷ [])))
+    ++ (tokens_at field.Events (list_data event_data events) ++ end_object ∷ [])))
 unfolding batch_with
 batch_keys None None events = refl
 batch_keys None (Some n) events = refl
@@ -67,6 +67,6 @@ batch_keys (Some n) (Some m) events = refl
 pub batch_tokens : (batch : Batch)
     → tokens_of (batch_data batch)
     ≡ begin_object ∷ (tokens_at_some field.After (option_map count batch.after) ++ (tokens_at_some field.Epoch (option_map count (unless_zero batch.epoch))
-    ++ (tokens_at field.Events (list event_data batch.events) ++ end_object ∷ [])))
+    ++ (tokens_at field.Events (list_data event_data batch.events) ++ end_object ∷ [])))
 unfolding batch_data
 batch_tokens batch = batch_keys (unless_zero batch.epoch) batch.after batch.events

@@ -1,8 +1,8 @@
 -- A batch that applies leads to no older version.
-use Rattle.std.proofs.Common.{◌≡◌, ℕ, ◌≤◌, List, [], ◌∷◌, Bool, true, false, cond, Option, Some, None, inr, refl, arith, leb, ltb, leb-false, unwrap_or}
+use Rattle.std.proofs.Common.{◌≡◌, ℕ, List, [], ◌∷◌, Bool, true, false, cond, Option, Some, None, inr, refl, arith, leb, ltb, leb-false, unwrap_or}
 use Rattle.unl_delta.specs.declared.batch.Batch.{Batch}
 use Rattle.unl_delta.specs.declared.batch.Verdict.{Verdict}
-use Rattle.unl_delta.specs.declared.batch.Verdict.TheVariants.{Apply, Repeat, Old, Gap, Held}
+use Rattle.unl_delta.specs.declared.batch.Verdict.TheVariants.{Apply, Repeat, Old, Gap}
 use Rattle.unl_delta.specs.declared.event.Event.{Event}
 use Rattle.unl_delta.specs.declared.event.Event.TheVariants.{Hydration, FeatureUpdated, FeatureRemoved, SegmentUpdated, SegmentRemoved}
 use Rattle.unl_delta.specs.declared.version.EnvVersion.{EnvVersion}

@@ -11,7 +11,7 @@ use Rattle.unl_documents.specs.declared.field.Field.TheVariants as field
 use Rattle.unl_documents.specs.Kinds.{at, present, any_text, any_whole, name, object_of, required, optional, is_object}
 use Rattle.unl_documents.specs.Reading.{Reading}
 use Rattle.unl_documents.specs.Writing.{count, unless_zero}
-use Rattle.unl_documents.specs.Writing.{list as list_data}
+use Rattle.unl_documents.specs.Writing.{list_data}
 use Rattle.unl_documents.proofs.FeedTrip.{state_back, zero_back}
 use Rattle.unl_documents.proofs.RoundTrip.{name_back, any_text_back, any_whole_back, required_back, defaulted_back, optional_back, optional_none, ComesBack, features, segments}
 use Rattle.unl_delta.specs.declared.batch.Batch.{Batch}

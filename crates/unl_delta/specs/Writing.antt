@@ -2,7 +2,7 @@
 use Rattle.std.specs.Prelude.{ℕ, List, Option, codes, option_map}
 use Rattle.serde_json.specs.Data.{Data, string, object, no_members}
 use Rattle.unl_documents.specs.declared.field.Field.TheVariants as field
-use Rattle.unl_documents.specs.Writing.{with, with_some, count, unless_zero, list, feature_data, segment_data}
+use Rattle.unl_documents.specs.Writing.{with, with_some, count, unless_zero, list_data, feature_data, segment_data}
 use Rattle.unl_delta.specs.declared.batch.Batch.{Batch}
 use Rattle.unl_delta.specs.declared.event.Event.{Event}
 use Rattle.unl_delta.specs.declared.event.Event.TheVariants.{Hydration, FeatureUpdated, FeatureRemoved, SegmentUpdated, SegmentRemoved}
@@ -12,8 +12,8 @@ unfoldable pub event_data : Event → Data
 event_data (Hydration number state) = object (
     with field.Kind (string (codes "hydration")) (
     with field.EventId (count number) (
-    with field.Features (list feature_data state.features) (
-    with field.Segments (list segment_data state.segments)
+    with field.Features (list_data feature_data state.features) (
+    with field.Segments (list_data segment_data state.segments)
     no_members))))
 event_data (FeatureUpdated number feature) = object (
     with field.Kind (string (codes "feature-updated")) (
@@ -42,7 +42,7 @@ unfoldable pub batch_with : Option ℕ → Option ℕ → List Event → Data
 batch_with epoch after events = object (
     with_some field.Epoch (option_map count epoch) (
     with_some field.After (option_map count after) (
-    with field.Events (list event_data events)
+    with field.Events (list_data event_data events)
     no_members)))
 
 -- a batch: its events, its epoch unless that is 0, and the number after which they come if it has one

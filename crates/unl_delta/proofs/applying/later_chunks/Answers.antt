@@ -1,9 +1,12 @@
-use Rattle.std.proofs.Common.{List, [], ap, ◌∙◌}
+use Rattle.std.proofs.Common.{[]}
 use Rattle.unl_delta.specs.State.{entry_number, later}
 use Rattle.unl_documents.specs.Chunks.{joined}
 use Rattle.unl_delta.proofs.Numbers.{later_append}
-use Rattle.unl_delta.proofs.Chunks.{gathers_next}
+use Rattle.unl_delta.proofs.Chunks.{gathers_next, never_fall_in}
 use Rattle.unl_delta.proofs.applying.later_chunks.Goals as goal
+
+pub push_later-requires-clause-numbers : goal.push_later-requires-clause-numbers
+push_later-requires-clause-numbers c = never_fall_in entry_number 0 c.args.chunks.now c.loop-chunk.chunk-index c.chunk-item.result c.loop-chunk-test.true c.chunk-item.is c.requires.numbers
 
 pub loop-chunk-preserved : goal.loop-chunk-preserved
 loop-chunk-preserved c = (

@@ -1,4 +1,4 @@
-use Rattle.std.proofs.Common.{◌≡◌, List, ℕ, ap, ◌∙◌}
+use Rattle.std.proofs.Common.{ap, ◌∙◌}
 use Rattle.std.proofs.lemmas.Result.{IfOk-weaker}
 use Rattle.unl_delta.proofs.InPlace.{parts_seen, replaced_is, inserted_is}
 use Rattle.unl_delta.proofs.keyed.put_in_place.Goals as goal
