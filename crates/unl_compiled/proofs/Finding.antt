@@ -6,7 +6,7 @@ use Rattle.std.specs.Str.{bytes_eq}
 use Rattle.std.proofs.lemmas.Bool.{cases_Bool}
 use Rattle.serde_json.specs.Data.{Data}
 use Rattle.unl_constraints.proofs.Searching.{has_key}
-use Rattle.unl_documents.specs.Inline.{segment_of}
+use Rattle.unl_documents.specs.Inline.{segment_with}
 use Rattle.unl_documents.specs.States.{id_key}
 use Rattle.unl_documents.specs.declared.feature.Feature.{Feature}
 use Rattle.unl_documents.specs.declared.segment.Segment.{Segment}
@@ -19,7 +19,7 @@ and_true false = refl
 same_id : (a b : ℕ) → bytes_eq (a ∷ []) (b ∷ []) ≡ (a == b)
 same_id a b = and_true (a == b)
 
-pub segment_is : (id : ℕ) (ss : List Segment) → find (has_key id_key (id ∷ [])) ss ≡ segment_of id ss
+pub segment_is : (id : ℕ) (ss : List Segment) → find (has_key id_key (id ∷ [])) ss ≡ segment_with id ss
 segment_is id [] = refl
 segment_is id (s ∷ ss) =
     let first = same_id s.id id in

@@ -9,7 +9,7 @@ use Rattle.std.proofs.lemmas.List.{append-nil, take_more}
 use Rattle.std.proofs.lemmas.List.Folds.{length-prefix_len}
 use Rattle.std.proofs.lemmas.Slice.Eq.{bytes_eq-Decides}
 use Rattle.std.proofs.Math.Seq.{drop-append_seam, take-append_seam}
-use Rattle.unl_compiled.specs.Moving.{AllMoved, Change, IsMoved, IsParted, count_if, count_of, cut, is_of, moved, place_if, shifted, unlisted}
+use Rattle.unl_compiled.specs.Moving.{AllMoved, Change, IsMoved, IsParted, count_if, count_of, count_below, is_of, moved, place_if, shifted, unlisted}
 use Rattle.unl_compiled.specs.Next.{state_after}
 use Rattle.unl_compiled.specs.Places.{IsIndex, listed, places_from, places_of}
 use Rattle.unl_compiled.specs.declared.index.ProjectPlaces.{ProjectPlaces}
@@ -121,7 +121,7 @@ parted_places k p place (f ∷ fs) =
 
 -- ---- the positions of features in three parts
 
-none_low : (p : List ℕ) (k place : ℕ) (fs : List Feature) → k ≤ place → cut k (places_from place p fs) ≡ 0
+none_low : (p : List ℕ) (k place : ℕ) (fs : List Feature) → k ≤ place → count_below k (places_from place p fs) ≡ 0
 none_low p k place [] le = refl
 none_low p k place (f ∷ fs) le =
     elim (cases_Bool (bytes_eq f.project p)) [
@@ -129,10 +129,10 @@ none_low p k place (f ∷ fs) le =
       | inr other ↦ rw other (none_low p k (place + 1) fs (omega (arith, le)))
     ]
 
-cut_is : (p : List ℕ) (k place : ℕ) (prefix more : List Feature) → place + length prefix ≡ k → cut k (places_from place p (prefix ++ more)) ≡ length (places_from place p prefix)
+cut_is : (p : List ℕ) (k place : ℕ) (prefix more : List Feature) → place + length prefix ≡ k → count_below k (places_from place p (prefix ++ more)) ≡ length (places_from place p prefix)
 cut_is p k place [] more at = none_low p k place more (omega (arith, at))
 cut_is p k place (f ∷ prefix) more at =
-    let rest : cut k (places_from (place + 1) p (prefix ++ more)) ≡ length (places_from (place + 1) p prefix) = cut_is p k (place + 1) prefix more (omega (arith, at)) in
+    let rest : count_below k (places_from (place + 1) p (prefix ++ more)) ≡ length (places_from (place + 1) p prefix) = cut_is p k (place + 1) prefix more (omega (arith, at)) in
     elim (cases_Bool (bytes_eq f.project p)) [
       | inl is ↦ let low : nat_lt place k ≡ true = lt-ltb _ _ (omega (arith, at)) in rw (is, low) (omega (arith, rest))
       | inr other ↦ rw other rest
@@ -164,13 +164,13 @@ length_if true place = refl
 length_if false place = refl
 
 -- The positions before the change, the removed one, and those after it.
-moved_parts : (c : Change) (p ns low high : List ℕ) → ns ≡ low ++ (place_if (is_of p c.removed) c.place ++ high) → cut c.place ns ≡ length low
+moved_parts : (c : Change) (p ns low high : List ℕ) → ns ≡ low ++ (place_if (is_of p c.removed) c.place ++ high) → count_below c.place ns ≡ length low
     → moved c p ns ≡ low ++ (place_if (is_of p c.inserted) c.place ++ map (shifted (count_of c.removed) (count_of c.inserted)) high)
 moved_parts c p ns low high is at =
     let removed : List ℕ = place_if (is_of p c.removed) c.place in
-    let prefix : take (cut c.place ns) ns ≡ low = ap (λ (n : ℕ). take n ns) at ∙ ap (take (length low)) is ∙ take-append_seam low (removed ++ high) in
-    let back : drop (cut c.place ns) ns ≡ removed ++ high = ap (λ (n : ℕ). drop n ns) at ∙ ap (drop (length low)) is ∙ drop-append_seam low (removed ++ high) in
-    let rest : drop (count_if (is_of p c.removed)) (drop (cut c.place ns) ns) ≡ high =
+    let prefix : take (count_below c.place ns) ns ≡ low = ap (λ (n : ℕ). take n ns) at ∙ ap (take (length low)) is ∙ take-append_seam low (removed ++ high) in
+    let back : drop (count_below c.place ns) ns ≡ removed ++ high = ap (λ (n : ℕ). drop n ns) at ∙ ap (drop (length low)) is ∙ drop-append_seam low (removed ++ high) in
+    let rest : drop (count_if (is_of p c.removed)) (drop (count_below c.place ns) ns) ≡ high =
     ap (drop (count_if (is_of p c.removed))) back ∙ ap (λ (n : ℕ). drop n (removed ++ high)) (length_if (is_of p c.removed) c.place) ∙ drop-append_seam removed high in
     λ i. prefix i ++ (place_if (is_of p c.inserted) c.place ++ map (shifted (count_of c.removed) (count_of c.inserted)) (rest i))
 

@@ -40,17 +40,17 @@ abbrev pub IsParted : ℕ → List ℕ → Type 0
 IsParted place places = IsPartitionedBy (λ n. nat_lt n place) places
 
 -- How many of the positions, which ascend, are less than `place`.
-abbrev pub cut : ℕ → List ℕ → ℕ
-cut place places = prefix_len (λ n. nat_lt n place) places
+abbrev pub count_below : ℕ → List ℕ → ℕ
+count_below place places = prefix_len (λ n. nat_lt n place) places
 
 -- The positions of a project's features after a change: those before it, the inserted feature's, and the rest shifted,
 -- without the removed feature's.
 abbrev pub moved : Change → List ℕ → List ℕ → List ℕ
 moved c project places =
-    take (cut c.place places) places
+    take (count_below c.place places) places
     ++ (place_if (is_of project c.inserted) c.place
     ++ map (shifted (count_of c.removed) (count_of c.inserted))
-    (drop (count_if (is_of project c.removed)) (drop (cut c.place places) places)))
+    (drop (count_if (is_of project c.removed)) (drop (count_below c.place places) places)))
 
 -- The entry `new` has the project of `e`, and its positions after a change.
 pub record IsMoved (c : Change) (e new : ProjectPlaces) : Type 0 where

@@ -1,5 +1,5 @@
 //! Collects the toggles of the features that a query asks for.
-ghost use Rattle.std.specs.Prelude.{◌≡◌, ◌++◌, ◌∷◌, [], List, All, OnOk, filter_map, option_to_list};
+ghost use Rattle.std.specs.Prelude.{◌++◌, ◌∷◌, [], List, All, OnOk, filter_map, option_to_list};
 ghost use Rattle.serde_json.specs.Data.{Data};
 ghost use Rattle.unl_compiled.specs.Toggles.{toggle_at, toggle_data, toggle_for, toggle_if, toggle_if_seen, toggles_for};
 ghost use Rattle.unl_documents.specs.Chunks.{joined};

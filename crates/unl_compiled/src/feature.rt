@@ -5,7 +5,7 @@ ghost use Rattle.unl_constraints.specs.Constraint.{all_hold};
 ghost use Rattle.unl_dependencies.specs.Evaluation.{is_active_at};
 ghost use Rattle.unl_documents.specs.Parameters.{AreRising};
 ghost use Rattle.unl_documents.specs.States.{id_key};
-ghost use Rattle.unl_strategies.specs.Strategy.{is_met};
+ghost use Rattle.unl_strategies.specs.Strategy.{is_segment_met};
 
 use crate::segment::{CompiledSegment, all_met, compiled};
 use std::alloc::Global;
@@ -107,7 +107,7 @@ fn is_eligible(
     requires rising { AreRising (map id_key segments.now) }
     requires constraints { constraints.now ≡ strategy.now.constraints }
     ensures { IfOk result (λ b. b ≡ (all_hold strategy.now.constraints context.now now
-        && list_all (is_met segments.now context.now now) strategy.now.segments)) }
+        && list_all (is_segment_met segments.now context.now now) strategy.now.segments)) }
 {
     if !Compiled::all_hold(alloc, constraints, context, now)? {
         return Ok(false);
@@ -131,7 +131,7 @@ impl Keyed for CompiledFeature {
 fn compiled_each(alloc: Global, strategies: &[Strategy]) -> Result<List<List<Compiled>>, Memory>
     ensures { IfOk result (λ all. all ≡ map (λ s. s.constraints) strategies.now) }
 {
-    let mut all = List::new(alloc);
+    let mut all = List::with_room(alloc, strategies.len())?;
     for strategy in strategies {
         all.push(compiled(alloc, strategy.constraints.as_slice())?)?;
     }

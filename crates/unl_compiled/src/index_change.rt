@@ -3,7 +3,7 @@ ghost use Rattle.std.specs.Prelude.{◌≡◌, ◌++◌, ◌≤◌, false, ℕ, 
 ghost use Rattle.std.specs.Option.{option_map_or};
 ghost use Rattle.std.specs.Str.{bytes_eq};
 ghost use Rattle.unl_compiled.specs.Moving.{AllMoved, IsMoved, IsParted};
-ghost use Rattle.unl_compiled.specs.Moving.{count_if, count_of, cut, moved, place_if, shifted, unlisted};
+ghost use Rattle.unl_compiled.specs.Moving.{count_if, count_of, count_below, moved, place_if, shifted, unlisted};
 ghost use Rattle.unl_compiled.specs.Places.{listed};
 
 use crate::index::{ProjectPlaces, add_project, slot_of};
@@ -137,7 +137,7 @@ fn changed_places(
 
 /// How many of the positions, which ascend, are less than `place`.
 fn count_below_of(places: &[usize], place: usize) -> usize
-    ensures cut { IsParted place places.now → result ≡ cut place places.now }
+    ensures cut { IsParted place places.now → result ≡ count_below place places.now }
     ensures inside { result ≤ length places.now }
 {
     places.partition_point(|other| *other < place)

@@ -122,7 +122,7 @@ fn compiled_chunks(
     ensures same { IfOk result (λ all. all ≡ chunks.now) }
     ensures full { IfOk result NoneIsEmpty }
 {
-    let mut all = List::new(alloc);
+    let mut all = List::with_room(alloc, chunks.len())?;
     for chunk in chunks {
         all.push(Shared::new(alloc, compiled_chunk(alloc, chunk.get())?)?)?;
     }
@@ -135,7 +135,7 @@ fn compiled_chunk(
 ) -> Result<List<Shared<CompiledFeature>>, Memory>
     ensures { IfOk result (λ all. all ≡ chunk.now) }
 {
-    let mut all = List::new(alloc);
+    let mut all = List::with_room(alloc, chunk.len())?;
     for feature in chunk.as_slice() {
         all.push(Shared::new(alloc, CompiledFeature::new(alloc, feature)?)?)?;
     }
@@ -148,7 +148,7 @@ fn compiled_segments(
 ) -> Result<List<Shared<CompiledSegment>>, Memory>
     ensures { IfOk result (λ all. all ≡ segments.now) }
 {
-    let mut all = List::new(alloc);
+    let mut all = List::with_room(alloc, segments.len())?;
     for segment in segments {
         all.push(Shared::new(alloc, CompiledSegment::new(alloc, segment)?)?)?;
     }
@@ -203,12 +203,12 @@ fn step(alloc: Global, parts: Parts, event: &Event) -> Result<Parts, Memory>
         Event::FeatureUpdated { feature, .. } => {
             let compiled = Shared::new(alloc, CompiledFeature::new(alloc, feature)?)?;
             Ok(Parts {
-                features: put_in_chunks(alloc, compiled, &parts.features)?,
+                features: put_in_chunks(alloc, compiled, parts.features)?,
                 segments: parts.segments,
             })
         }
         Event::FeatureRemoved { name, .. } => Ok(Parts {
-            features: without_in_chunks(alloc, name, &parts.features)?,
+            features: without_in_chunks(alloc, name, parts.features)?,
             segments: parts.segments,
         }),
         Event::SegmentUpdated { segment, .. } => {

@@ -1,5 +1,5 @@
 //! The part of a version that a set of projects may see.
-ghost use Rattle.std.specs.Prelude.{◌≡◌, ◌+◌, ◌≤◌, IfOk, length, map, option_and_then, option_map, slice_get, take};
+ghost use Rattle.std.specs.Prelude.{◌≡◌, ◌≤◌, IfOk, length, map, option_and_then, option_map, slice_get, take};
 ghost use Rattle.std.specs.Cmp.Lexicographic.{slice_cmp};
 ghost use Rattle.std.specs.List.{prefix_len};
 ghost use Rattle.std.specs.Ordering.{nat_cmp, is_lt};
@@ -19,7 +19,7 @@ use std::alloc::Global;
 use std::marker::Model;
 use unl_context::Context;
 use unl_dependencies::Features;
-use unl_documents::{Chunk, Feature, List, Memory, Shared};
+use unl_documents::{Chunk, Feature, List, Memory, Shared, checked_sum, item_count};
 use unl_strategies::Moment;
 use unl_tokens::Projects;
 
@@ -157,10 +157,10 @@ fn place_among(chunks: &[Chunk<CompiledFeature>], name: &str) -> Result<usize, M
         ≡ prefix_len (λ f. is_lt (slice_cmp nat_cmp (name_key f) name.now)) (joined chunks.now)) }
 {
     let place = chunk_of(chunks, name);
-    let before = count_of(first(chunks, place))?;
+    let before = item_count(first(chunks, place))?;
     match chunk_at(chunks, place) {
         None => Ok(before),
-        Some(chunk) => sum_of(before, place_of(chunk.as_slice(), name)),
+        Some(chunk) => checked_sum(before, place_of(chunk.as_slice(), name)),
     }
 }
 
@@ -170,23 +170,6 @@ fn first(chunks: &[Chunk<CompiledFeature>], place: usize) -> &[Chunk<CompiledFea
     ensures { result.now ≡ take place chunks.now }
 {
     &chunks[..place]
-}
-
-/// How many features the chunks have together. An overflow is reported as out of memory.
-fn count_of(chunks: &[Chunk<CompiledFeature>]) -> Result<usize, Memory>
-    ensures { IfOk result (λ count. count ≡ length (joined chunks.now)) }
-{
-    let mut count = 0;
-    for chunk in chunks {
-        count = sum_of(count, chunk.get().len())?;
-    }
-    Ok(count)
-}
-
-fn sum_of(count: usize, more: usize) -> Result<usize, Memory>
-    ensures { IfOk result (λ sum. sum ≡ count + more) }
-{
-    count.checked_add(more).ok_or(Memory)
 }
 
 /// Finds a feature by its name in chunks whose names ascend. It can only be in the first chunk that doesn't end before

@@ -2,10 +2,10 @@
 ghost use Rattle.std.specs.Prelude.{◌≡◌, IfOk, map, option_map};
 ghost use Rattle.std.specs.List.{list_all};
 ghost use Rattle.unl_constraints.specs.Constraint.{all_hold};
-ghost use Rattle.unl_documents.specs.Inline.{segment_of as segment_with};
+ghost use Rattle.unl_documents.specs.Inline.{segment_with};
 ghost use Rattle.unl_documents.specs.Parameters.{AreRising};
 ghost use Rattle.unl_documents.specs.States.{id_key};
-ghost use Rattle.unl_strategies.specs.Strategy.{is_met as is_met_by};
+ghost use Rattle.unl_strategies.specs.Strategy.{is_segment_met};
 
 use std::alloc::Global;
 use std::marker::Model;
@@ -68,7 +68,7 @@ impl Keyed for CompiledSegment {
 pub(crate) fn compiled(alloc: Global, constraints: &[Constraint]) -> Result<List<Compiled>, Memory>
     ensures { IfOk result (λ all. all ≡ constraints.now) }
 {
-    let mut all = List::new(alloc);
+    let mut all = List::with_room(alloc, constraints.len())?;
     for constraint in constraints {
         all.push(Compiled::new(alloc, constraint)?)?;
     }
@@ -85,7 +85,7 @@ pub(crate) fn all_met(
     now: u64,
 ) -> Result<bool, Memory>
     requires { AreRising (map id_key segments.now) }
-    ensures { IfOk result (λ b. b ≡ list_all (is_met_by segments.now context.now now) ids.now) }
+    ensures { IfOk result (λ b. b ≡ list_all (is_segment_met segments.now context.now now) ids.now) }
 {
     for id in ids {
         if !is_met(alloc, *id, segments, context, now)? {
@@ -95,7 +95,7 @@ pub(crate) fn all_met(
     Ok(true)
 }
 
-#[tactic(auto, unfolding(unl_strategies::specs::Strategy::is_met))]
+#[tactic(auto, unfolding(unl_strategies::specs::Strategy::is_segment_met))]
 fn is_met(
     alloc: Global,
     id: u64,
@@ -104,7 +104,7 @@ fn is_met(
     now: u64,
 ) -> Result<bool, Memory>
     requires { AreRising (map id_key segments.now) }
-    ensures { IfOk result (λ b. b ≡ is_met_by segments.now context.now now id) }
+    ensures { IfOk result (λ b. b ≡ is_segment_met segments.now context.now now id) }
 {
     match segment_of(segments, id) {
         None => Ok(false),

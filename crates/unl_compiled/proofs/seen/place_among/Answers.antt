@@ -41,4 +41,4 @@ returns-in-Some c =
     let h = held name_key name chunks (joined chunks) place chunk c.requires.full refl c.requires.rising c.chunk_of-place.ensures (sym here) in
     let before = c.in_ok-before.ensures ∙ ap (λ (rs : List (List Feature)). length (joined rs)) c.first.ensures in
     let within = c.place_of.ensures ∙ ap (prefix_len (is_below name_key name)) c.as_slice.ensures in
-    IfOk-weaker c.sum_of.result _ _ (λ sum is. is ∙ (λ i. before i + within i) ∙ sym (place_in_chunk name_key name chunks place chunk h)) c.sum_of.ensures
+    IfOk-weaker c.checked_sum.result _ _ (λ sum is. is ∙ (λ i. before i + within i) ∙ sym (place_in_chunk name_key name chunks place chunk h)) c.checked_sum.ensures
