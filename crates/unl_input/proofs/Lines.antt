@@ -9,7 +9,7 @@ use Rattle.std.proofs.lemmas.List.Sums.{sum_by-append, passes_at_first, prefix_l
 use Rattle.std.proofs.lemmas.List.Folds.{list_any-append}
 use Rattle.unl_base.specs.Streams.{Takes, Sends, SendsPrefix}
 use Rattle.unl_input.specs.Lines.{is_end, has_end, lines, begun_with, ended_lines}
-use Rattle.unl_input.specs.Reading.{Gets, IsAtEnd, IsLine, EndsLine, GrowsLine, Begins, BeginsLong, longest_line}
+use Rattle.unl_input.specs.Reading.{Gets, IsTextLine, EndsLine, GrowsLine, BeginsLine, BeginsLong, longest_line}
 
 -- ---- bytes consumed one after another
 
@@ -288,7 +288,7 @@ unbroken_both xs ys one two = list_any-append is_end xs ys ∙ ap (λ t. t || ha
 
 -- memory ran out in a line: no more of it was consumed
 pub stops_in_line : (h i j k : List ℕ) (l m n : Option (List ℕ)) (line : List ℕ) → has_end line ≡ false → Gets h l line i m → Gets i m [] j n → k ≡ j
-    → Begins h l k n
+    → BeginsLine h l k n
 stops_in_line h i j k l m n line none got filled same = record {
   prefix = line;
   unbroken = none;
@@ -302,7 +302,7 @@ gets_prefix h i l out prefix = record { read = []; took = takes_nothing l; split
 
 -- the line feed was found
 pub line_ends : (h i j k : List ℕ) (l m n : Option (List ℕ)) (line ended : List ℕ) → has_end line ≡ false
-    → Gets h l line i m → Gets i m [] j n → EndsLine line j ended k → IsLine ended × Gets h l (ended ++ 10 ∷ []) k n
+    → Gets h l line i m → Gets i m [] j n → EndsLine line j ended k → IsTextLine ended × Gets h l (ended ++ 10 ∷ []) k n
 line_ends h i j k l m n line ended none got filled ends =
     let rest : List ℕ = ends.piece ++ 10 ∷ [] in
     let split : j ≡ rest ++ k = ends.split ∙ sym (append_assoc ends.piece (10 ∷ []) k) in

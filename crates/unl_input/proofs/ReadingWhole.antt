@@ -2,7 +2,7 @@
 use Rattle.std.proofs.Common.{◌≡◌, ℕ, List, [], ◌++◌, take, Option, Some, None, refl, sym, ap, subst, ◌∙◌, append_assoc}
 use Rattle.std.specs.Option.{option_map}
 use Rattle.unl_base.specs.Streams.{Takes, HasEnded}
-use Rattle.unl_input.specs.Input.{IsWhole}
+use Rattle.unl_input.specs.Input.{IsWholeInput}
 
 then_taken : (xs ys : List ℕ) (c : Option (List ℕ))
     → option_map (λ rest. xs ++ rest) (option_map (λ rest. ys ++ rest) c) ≡ option_map (λ rest. (xs ++ ys) ++ rest) c
@@ -23,7 +23,7 @@ nothing_taken room None = refl
 nothing_taken room (Some z) = refl
 
 -- A read of no bytes marks the end.
-pub takes_end : (a b c : Option (List ℕ)) (xs room : List ℕ) (n : ℕ) → n ≡ 0 → Takes a xs b → Takes b (take n room) c → HasEnded b → IsWhole a xs c
+pub takes_end : (a b c : Option (List ℕ)) (xs room : List ℕ) (n : ℕ) → n ≡ 0 → Takes a xs b → Takes b (take n room) c → HasEnded b → IsWholeInput a xs c
 takes_end a b c xs room n none took last end =
     let same : b ≡ c = last ∙ ap (λ k. option_map (λ rest. take k room ++ rest) c) none ∙ nothing_taken room c in
     record { took = subst (λ o. Takes a xs o) same took; end = subst HasEnded same end }

@@ -5,7 +5,7 @@ use Rattle.unl_base.specs.Streams.{Sends}
 use Rattle.unl_input.proofs.Lines.{sends_nothing}
 use Rattle.unl_input.specs.Lines.{lines}
 use Rattle.unl_input.specs.Reading.{longest_line}
-use Rattle.unl_input.specs.Taken.{LineResult, Outcome, Taken, Taking, followed, outcome_of_first, take_from, take_line, most_lines}
+use Rattle.unl_input.specs.Taken.{LineResult, LinesOutcome, Taken, Taking, followed, first_lines_outcome, take_from, take_line, most_lines}
 use Rattle.unl_input.specs.Whole.{AnswersFirst, TakesLines}
 use Rattle.unl_input.specs.declared.taking.LinesFault.TheVariants.{Memory}
 use Rattle.unl_input.specs.Laws.{IsSilent, PrintsCauseAlone}
@@ -25,7 +25,7 @@ within_limits_of taking d line k taken is = limited (ltb most_lines k) (ltb long
 silent_line : {D : Type 0} (taking : Taking D) (k : ℕ) (d : D) (line : List ℕ) (taken : Taken D) → IsSilent taking → take_line taking k d line ≡ Ok taken → taken.text ≡ []
 silent_line taking k d line taken silent is = silent k d line taken (within_limits_of taking d line k taken is)
 
-silent_step : {D : Type 0} (k : ℕ) (d : D) (comes : LineResult D) (rest : D → Outcome D) → ((taken : Taken D) → comes ≡ Ok taken → taken.text ≡ [])
+silent_step : {D : Type 0} (k : ℕ) (d : D) (comes : LineResult D) (rest : D → LinesOutcome D) → ((taken : Taken D) → comes ≡ Ok taken → taken.text ≡ [])
     → ((after : D) → (rest after).text ≡ []) → (followed k d comes rest).text ≡ []
 silent_step k d (Ok taken) rest none later = ap (λ t. t ++ (rest taken.desk).text) (none taken refl) ∙ later taken.desk
 silent_step k d (Err cause) rest none later = refl
@@ -48,5 +48,5 @@ pub memory_is_silent : {D : Type 0} (taking : Taking D) (d : D) (left left_after
     → TakesLines taking d (Err Memory) left left_after old new → new ≡ old
 memory_is_silent taking d left left_after old new silent takes =
     let firsts : AnswersFirst taking d (takes.read ++ []) old new = takes.holds [] (λ end. refl) in
-    nothing_sent old new (outcome_of_first taking d firsts.count (takes.read ++ [])).text
+    nothing_sent old new (first_lines_outcome taking d firsts.count (takes.read ++ [])).text
     (silent_from taking silent (take firsts.count (lines (takes.read ++ []))) 1 d) firsts.answered.sent

@@ -1,5 +1,5 @@
 -- The lines of a whole input, from their turns.
-use Rattle.std.proofs.Common.{◌≡◌, ℕ, ◌+◌, ◌<◌, ◌≤◌, List, [], ◌∷◌, ◌++◌, length, false, cond, ltb, Result, Ok, Err, Option, Some, None, IfSome, refl, sym, ap, subst, ◌∙◌, append_assoc, append-nil, arith}
+use Rattle.std.proofs.Common.{◌≡◌, ℕ, ◌+◌, ◌<◌, ◌≤◌, List, [], ◌∷◌, ◌++◌, length, false, cond, ltb, Ok, Err, Option, Some, None, IfSome, refl, sym, ap, subst, ◌∙◌, append_assoc, append-nil, arith}
 use Rattle.std.specs.Prelude.{codes, take}
 use Rattle.std.proofs.lemmas.Bool.{lt-ltb}
 use Rattle.std.proofs.lemmas.Bool.Decides.{nat_tests}
@@ -9,9 +9,9 @@ use Rattle.unl_input.specs.declared.taking.LinesFault.{LinesFault}
 use Rattle.unl_input.specs.declared.taking.LinesFault.TheVariants.{Bad, ReadFault, WriteFault, Memory}
 use Rattle.unl_input.specs.Lines.{lines, ended_lines}
 use Rattle.unl_input.specs.Reading.{Gets, longest_line}
-use Rattle.unl_input.specs.Taken.{LineResult, Outcome, Taking, done, refused, IsRefused, ending_text, whole_text, printed, refused_text, begun_by, followed, take_line, take_from, outcome_of, outcome_of_ended, outcome_of_first, most_lines}
-use Rattle.unl_input.specs.Turns.{Scene, Takes, MayFollow, Prints, ProcessesLine, ReachesEnd, IsRefusedAt, BreaksOff, BeginsWith, RunsOut, StopsReading, Turns}
-use Rattle.unl_input.specs.Whole.{IsRefusing, AnswersAll, AnswersFirst, AnswersInput, AnswersRead, HoldsOfRead, TakesLines}
+use Rattle.unl_input.specs.Taken.{LineResult, LinesOutcome, Taking, done, refused, IsRefused, ending_text, whole_text, printed, refused_text, begun_by, followed, take_line, take_from, lines_outcome, ended_lines_outcome, first_lines_outcome, most_lines}
+use Rattle.unl_input.specs.Turns.{LinesScene, ConsumesBytes, MayFollow, Prints, ProcessesLine, ReachesEnd, IsRefusedAt, PrintsPrefix, TextBeginsWith, RunsOutAtLine, StopsReading, HasTurnEffect}
+use Rattle.unl_input.specs.Whole.{IsRefusing, AnswersAllLines, AnswersFirst, AnswersInput, AnswersRead, HoldsOfRead, TakesLines}
 use Rattle.unl_input.proofs.Lines.{gets_trans, takes_nothing, sends_nothing, sends_trans, sends_then_prefix, prefix_of_longer, IsWhole, whole_more, ended_whole, first_whole, line_first}
 
 -- ---- one line
@@ -42,11 +42,11 @@ past_last taking k d line past =
 -- ---- the effect of a turn
 
 -- a line begins the consumed bytes, and this is its result
-unfoldable pub Heads : {D : Type 0} → Taking D → ℕ → D → List ℕ → Scene D → LineResult D → Type 0
+unfoldable pub Heads : {D : Type 0} → Taking D → ℕ → D → List ℕ → LinesScene D → LineResult D → Type 0
 Heads taking k d out after comes = (rest : List ℕ) → MayFollow after rest
     → (line : List ℕ) × (more : List (List ℕ)) × (lines (out ++ rest) ≡ line ∷ more) × (take_line taking k d line ≡ comes)
 
-headed : {D : Type 0} (taking : Taking D) (k : ℕ) (d : D) (out rest : List ℕ) (after : Scene D) (comes : LineResult D)
+headed : {D : Type 0} (taking : Taking D) (k : ℕ) (d : D) (out rest : List ℕ) (after : LinesScene D) (comes : LineResult D)
     → Heads taking k d out after comes → MayFollow after rest
     → (more : List (List ℕ)) × (take_from taking k d (lines (out ++ rest)) ≡ followed k d comes (λ next. take_from taking (k + 1) next more))
 unfolding Heads
@@ -55,14 +55,14 @@ headed taking k d out rest after comes heads may =
     (first.1, ap (take_from taking k d) first.2 ∙ ap (λ r. followed k d r (λ next. take_from taking (k + 1) next first.1)) first.3)
 
 -- all that is printed begins with what the line prints
-prints_first : {D : Type 0} (k : ℕ) (d : D) (comes : LineResult D) (next : D → Outcome D) → BeginsWith (printed k comes) (followed k d comes next)
+prints_first : {D : Type 0} (k : ℕ) (d : D) (comes : LineResult D) (next : D → LinesOutcome D) → TextBeginsWith (printed k comes) (followed k d comes next)
 prints_first k d (Ok taken) next = (whole_text (next taken.desk), append_assoc taken.text (next taken.desk).text (ending_text (next taken.desk).ending))
 prints_first k d (Err cause) next = ([], sym (append-nil (refused_text k cause)))
 
 -- a line that isn't processed in full
-pub errs : {D : Type 0} (taking : Taking D) (fault : LinesFault) (k : ℕ) (before after : Scene D) (out : List ℕ) (comes : LineResult D) (desk : D)
-    → Prints (Err fault) k comes desk before.sent after.sent → Takes before out after → Heads taking k before.desk out after comes
-    → Turns taking (Err fault) k before after
+pub errs : {D : Type 0} (taking : Taking D) (fault : LinesFault) (k : ℕ) (before after : LinesScene D) (out : List ℕ) (comes : LineResult D) (desk : D)
+    → Prints (Err fault) k comes desk before.sent after.sent → ConsumesBytes before out after → Heads taking k before.desk out after comes
+    → HasTurnEffect taking (Err fault) k before after
 errs taking Bad k before after out comes desk prints got heads = record {
   out = out;
   cause = prints.0;
@@ -77,14 +77,14 @@ errs taking WriteFault k before after out comes desk prints got heads = record {
   text = printed k comes;
   got = got;
   is = λ rest may. let headed_is = headed taking k before.desk out rest after comes heads may in
-      subst (BeginsWith (printed k comes)) (sym headed_is.1) (prints_first k before.desk comes (λ next. take_from taking (k + 1) next headed_is.0));
+      subst (TextBeginsWith (printed k comes)) (sym headed_is.1) (prints_first k before.desk comes (λ next. take_from taking (k + 1) next headed_is.0));
   sent = prints;
 }
 errs taking Memory k before after out comes desk prints got heads = record { out = out; got = got; sent = prints }
 
 -- ---- the lines so far
 
-pub record Sofar {D : Type 0} (taking : Taking D) (first : D) (start sent : Option (List ℕ)) (k : ℕ) (scene : Scene D) : Type 0 where
+pub record Sofar {D : Type 0} (taking : Taking D) (first : D) (start sent : Option (List ℕ)) (k : ℕ) (scene : LinesScene D) : Type 0 where
   pub taken : List ℕ
   pub text : List ℕ
   pub got : Gets [] start taken scene.held scene.left
@@ -92,12 +92,12 @@ pub record Sofar {D : Type 0} (taking : Taking D) (first : D) (start sent : Opti
   pub leads : (rest : List ℕ) → take_from taking 1 first (lines (taken ++ rest)) ≡ begun_by text (take_from taking k scene.desk (lines rest))
   pub sends : Sends sent text scene.sent
 
-begun_twice : {D : Type 0} (text more : List ℕ) (outcome : Outcome D) → begun_by text (begun_by more outcome) ≡ begun_by (text ++ more) outcome
+begun_twice : {D : Type 0} (text more : List ℕ) (outcome : LinesOutcome D) → begun_by text (begun_by more outcome) ≡ begun_by (text ++ more) outcome
 begun_twice {D = D} text more outcome =
-    ap (λ t. let x : Outcome D = record { text = t; ending = outcome.ending; desk = outcome.desk } in x) (sym (append_assoc text more outcome.text))
+    ap (λ t. let x : LinesOutcome D = record { text = t; ending = outcome.ending; desk = outcome.desk } in x) (sym (append_assoc text more outcome.text))
 
 -- one more line was processed
-pub processes_line : {D : Type 0} (taking : Taking D) (first : D) (start sent : Option (List ℕ)) (k : ℕ) (before after : Scene D)
+pub processes_line : {D : Type 0} (taking : Taking D) (first : D) (start sent : Option (List ℕ)) (k : ℕ) (before after : LinesScene D)
     → Sofar taking first start sent k before → ProcessesLine taking k before after → Sofar taking first start sent (k + 1) after
 processes_line taking first start sent k before after sofar now =
     let out : List ℕ = now.line ++ 10 ∷ [] in record {
@@ -117,14 +117,14 @@ processes_line taking first start sent k before after sofar now =
 -- ---- how they end
 
 -- all of the input was processed, whether or not it is observable
-pub ends_all : {D : Type 0} (taking : Taking D) (first : D) (start sent : Option (List ℕ)) (k : ℕ) (before after : Scene D)
+pub ends_all : {D : Type 0} (taking : Taking D) (first : D) (start sent : Option (List ℕ)) (k : ℕ) (before after : LinesScene D)
     → Sofar taking first start sent k before → ReachesEnd taking k before after
-    → AnswersAll taking first after.desk start after.left sent after.sent
+    → AnswersAllLines taking first after.desk start after.left sent after.sent
 ends_all {D = D} taking first start sent k before after sofar now =
     let all = gets_trans [] before.held after.held start before.left after.left sofar.taken now.out sofar.got now.got in
     let read : all.read ≡ sofar.taken ++ now.out = all.split ∙ ap (λ h. (sofar.taken ++ now.out) ++ h) now.end.0 ∙ append-nil (sofar.taken ++ now.out) in
-    let whole : Outcome D = record { text = sofar.text ++ now.text; ending = done; desk = after.desk } in
-    let is : outcome_of taking first all.read ≡ whole =
+    let whole : LinesOutcome D = record { text = sofar.text ++ now.text; ending = done; desk = after.desk } in
+    let is : lines_outcome taking first all.read ≡ whole =
     ap (λ bytes. take_from taking 1 first (lines bytes)) read ∙ sofar.leads now.out ∙ ap (begun_by sofar.text) now.is in
     record {
       read = all.read;
@@ -139,14 +139,14 @@ ends_all {D = D} taking first start sent k before after sofar now =
 
 -- so it was answered whole
 pub answers_input : {D : Type 0} (taking : Taking D) (first last : D) (start left old new : Option (List ℕ))
-    → AnswersAll taking first last start left old new → AnswersInput taking first start left old new
+    → AnswersAllLines taking first last start left old new → AnswersInput taking first start left old new
 answers_input taking first last start left old new all =
     record { read = all.read; took = all.took; end = all.end; answered = all.answered }
 
 -- the outcome of the bytes read and any that follow, from the outcome of the bytes consumed last
-read_of : {D : Type 0} (taking : Taking D) (first : D) (start sent : Option (List ℕ)) (k : ℕ) (before after : Scene D) (out rest : List ℕ)
-    → (sofar : Sofar taking first start sent k before) → (got : Takes before out after)
-    → outcome_of taking first ((gets_trans [] before.held after.held start before.left after.left sofar.taken out sofar.got got).read ++ rest)
+read_of : {D : Type 0} (taking : Taking D) (first : D) (start sent : Option (List ℕ)) (k : ℕ) (before after : LinesScene D) (out rest : List ℕ)
+    → (sofar : Sofar taking first start sent k before) → (got : ConsumesBytes before out after)
+    → lines_outcome taking first ((gets_trans [] before.held after.held start before.left after.left sofar.taken out sofar.got got).read ++ rest)
     ≡ begun_by sofar.text (take_from taking k before.desk (lines (out ++ (after.held ++ rest))))
 read_of taking first start sent k before after out rest sofar got =
     let all = gets_trans [] before.held after.held start before.left after.left sofar.taken out sofar.got got in
@@ -156,20 +156,20 @@ read_of taking first start sent k before after out rest sofar got =
     ∙ sofar.leads (out ++ (after.held ++ rest))
 
 -- what can follow the bytes read can also follow the consumed bytes, after the held ones
-may_follow : {D : Type 0} (after : Scene D) (rest : List ℕ) → (HasEnded after.left → rest ≡ []) → MayFollow after (after.held ++ rest)
+may_follow : {D : Type 0} (after : LinesScene D) (rest : List ℕ) → (HasEnded after.left → rest ≡ []) → MayFollow after (after.held ++ rest)
 may_follow after rest may = λ end. ap (λ xs. xs ++ rest) end.0 ∙ may end.1
 
-pub ends_refused : {D : Type 0} (taking : Taking D) (first : D) (start sent : Option (List ℕ)) (k : ℕ) (before after : Scene D)
+pub ends_refused : {D : Type 0} (taking : Taking D) (first : D) (start sent : Option (List ℕ)) (k : ℕ) (before after : LinesScene D)
     → Sofar taking first start sent k before → IsRefusedAt taking k before after
-    → HoldsOfRead start after.left (λ bytes. IsRefusing (outcome_of taking first bytes) sent after.sent)
+    → HoldsOfRead start after.left (λ bytes. IsRefusing (lines_outcome taking first bytes) sent after.sent)
 ends_refused {D = D} taking first start sent k before after sofar now =
     let all = gets_trans [] before.held after.held start before.left after.left sofar.taken now.out sofar.got now.got in
-    let whole : Outcome D = record { text = sofar.text ++ []; ending = refused k now.cause; desk = before.desk } in
+    let whole : LinesOutcome D = record { text = sofar.text ++ []; ending = refused k now.cause; desk = before.desk } in
     let sends = sends_trans sent before.sent after.sent sofar.text (refused_text k now.cause) sofar.sends now.sent in
-    let is : (rest : List ℕ) → (HasEnded after.left → rest ≡ []) → outcome_of taking first (all.read ++ rest) ≡ whole =
+    let is : (rest : List ℕ) → (HasEnded after.left → rest ≡ []) → lines_outcome taking first (all.read ++ rest) ≡ whole =
     λ rest may. read_of taking first start sent k before after now.out rest sofar now.got
     ∙ ap (begun_by sofar.text) (now.is (after.held ++ rest) (may_follow after rest may)) in
-    let text : (rest : List ℕ) → (HasEnded after.left → rest ≡ []) → whole_text (outcome_of taking first (all.read ++ rest)) ≡ sofar.text ++ refused_text k now.cause =
+    let text : (rest : List ℕ) → (HasEnded after.left → rest ≡ []) → whole_text (lines_outcome taking first (all.read ++ rest)) ≡ sofar.text ++ refused_text k now.cause =
     λ rest may. ap whole_text (is rest may) ∙ ap (λ t. t ++ refused_text k now.cause) (append-nil sofar.text) in
     record {
       read = all.read;
@@ -180,17 +180,17 @@ ends_refused {D = D} taking first start sent k before after sofar now =
       };
     }
 
-pub ends_broken : {D : Type 0} (taking : Taking D) (first : D) (start sent : Option (List ℕ)) (k : ℕ) (before after : Scene D)
-    → Sofar taking first start sent k before → BreaksOff taking k before after
-    → HoldsOfRead start after.left (λ bytes. SendsPrefix sent (whole_text (outcome_of taking first bytes)) after.sent)
+pub ends_broken : {D : Type 0} (taking : Taking D) (first : D) (start sent : Option (List ℕ)) (k : ℕ) (before after : LinesScene D)
+    → Sofar taking first start sent k before → PrintsPrefix taking k before after
+    → HoldsOfRead start after.left (λ bytes. SendsPrefix sent (whole_text (lines_outcome taking first bytes)) after.sent)
 ends_broken taking first start sent k before after sofar now =
     let all = gets_trans [] before.held after.held start before.left after.left sofar.taken now.out sofar.got now.got in
     let prefix = sends_then_prefix sent before.sent after.sent sofar.text now.text sofar.sends now.sent in
     let tail : (rest : List ℕ) → (HasEnded after.left → rest ≡ [])
-    → BeginsWith now.text (take_from taking k before.desk (lines (now.out ++ (after.held ++ rest)))) =
+    → TextBeginsWith now.text (take_from taking k before.desk (lines (now.out ++ (after.held ++ rest)))) =
     λ rest may. now.is (after.held ++ rest) (may_follow after rest may) in
     let text : (rest : List ℕ) → (may : HasEnded after.left → rest ≡ [])
-    → whole_text (outcome_of taking first (all.read ++ rest)) ≡ (sofar.text ++ now.text) ++ (tail rest may).0 =
+    → whole_text (lines_outcome taking first (all.read ++ rest)) ≡ (sofar.text ++ now.text) ++ (tail rest may).0 =
     λ rest may. let r = take_from taking k before.desk (lines (now.out ++ (after.held ++ rest))) in
     ap whole_text (read_of taking first start sent k before after now.out rest sofar now.got)
     ∙ append_assoc sofar.text r.text (ending_text r.ending) ∙ ap (λ t. sofar.text ++ t) (tail rest may).1
@@ -199,7 +199,7 @@ ends_broken taking first start sent k before after sofar now =
       read = all.read;
       took = all.took;
       holds = λ rest may. prefix_of_longer sent after.sent (sofar.text ++ now.text) (tail rest may).0
-          (whole_text (outcome_of taking first (all.read ++ rest))) prefix (text rest may);
+          (whole_text (lines_outcome taking first (all.read ++ rest))) prefix (text rest may);
     }
 
 -- what holds whatever follows holds for an observable input
@@ -218,13 +218,13 @@ whole_read (Some bytes) None read took end = absurd (cc took)
 whole_read (Some bytes) (Some rest) read took end =
     let parts : bytes ≡ read ++ rest = let t = took in cc in parts ∙ ap (λ (r : List ℕ). read ++ r) end ∙ append-nil read
 
-pub ends_unread : {D : Type 0} (taking : Taking D) (first : D) (start sent : Option (List ℕ)) (k : ℕ) (before after : Scene D)
+pub ends_unread : {D : Type 0} (taking : Taking D) (first : D) (start sent : Option (List ℕ)) (k : ℕ) (before after : LinesScene D)
     → Sofar taking first start sent k before → StopsReading before after → AnswersRead taking first start after.left sent after.sent
 ends_unread {D = D} taking first start sent k before after sofar now =
     let all = gets_trans [] before.held after.held start before.left after.left sofar.taken now.begun.prefix sofar.got now.begun.got in
     let read : all.read ≡ sofar.taken ++ now.begun.prefix = all.split ∙ ap (λ h. (sofar.taken ++ now.begun.prefix) ++ h) now.none ∙ append-nil (sofar.taken ++ now.begun.prefix) in
-    let whole : Outcome D = record { text = sofar.text ++ []; ending = done; desk = before.desk } in
-    let is : outcome_of_ended taking first all.read ≡ whole =
+    let whole : LinesOutcome D = record { text = sofar.text ++ []; ending = done; desk = before.desk } in
+    let is : ended_lines_outcome taking first all.read ≡ whole =
     ap (λ bytes. take_from taking 1 first (ended_lines bytes)) read
     ∙ ap (take_from taking 1 first) (ended_whole sofar.taken now.begun.prefix sofar.whole now.begun.unbroken ∙ ap lines (sym (append-nil sofar.taken)))
     ∙ sofar.leads [] in
@@ -240,14 +240,14 @@ ends_unread {D = D} taking first start sent k before after sofar now =
 -- ---- out of memory
 
 -- the first lines of some bytes print what was sent, and other bytes follow these lines
-first_of : {D : Type 0} (taking : Taking D) (first : D) (start sent after : Option (List ℕ)) (k : ℕ) (before : Scene D) (bytes rest : List ℕ)
+first_of : {D : Type 0} (taking : Taking D) (first : D) (start sent after : Option (List ℕ)) (k : ℕ) (before : LinesScene D) (bytes rest : List ℕ)
     → (sofar : Sofar taking first start sent k before) → after ≡ before.sent → bytes ≡ sofar.taken ++ rest → AnswersFirst taking first bytes sent after
 first_of {D = D} taking first start sent after k before bytes rest sofar same parts =
     let count : ℕ = length (lines sofar.taken) in
-    let whole : Outcome D = record { text = sofar.text ++ []; ending = done; desk = before.desk } in
-    let more : Outcome D = take_from taking k before.desk (lines rest) in
+    let whole : LinesOutcome D = record { text = sofar.text ++ []; ending = done; desk = before.desk } in
+    let more : LinesOutcome D = take_from taking k before.desk (lines rest) in
     let sends : Sends sent sofar.text after = subst (λ (s : Option (List ℕ)). Sends sent sofar.text s) (sym same) sofar.sends in
-    let is : outcome_of_first taking first count bytes ≡ whole =
+    let is : first_lines_outcome taking first count bytes ≡ whole =
     ap (λ xs. take_from taking 1 first (take count (lines xs))) parts
     ∙ ap (take_from taking 1 first) (first_whole sofar.taken rest sofar.whole ∙ ap lines (sym (append-nil sofar.taken)))
     ∙ sofar.leads [] in
@@ -260,15 +260,15 @@ first_of {D = D} taking first start sent after k before bytes rest sofar same pa
       prefix = record {
         part = sofar.text;
         after = whole_text more;
-        split = ap (λ xs. whole_text (outcome_of taking first xs)) parts ∙ ap whole_text (sofar.leads rest)
+        split = ap (λ xs. whole_text (lines_outcome taking first xs)) parts ∙ ap whole_text (sofar.leads rest)
             ∙ append_assoc sofar.text more.text (ending_text more.ending);
         sends = sends;
       };
     }
 
 -- memory ran out in a turn
-pub ends_out_of_memory : {D : Type 0} (taking : Taking D) (first : D) (start sent : Option (List ℕ)) (k : ℕ) (before after : Scene D)
-    → Sofar taking first start sent k before → RunsOut before after
+pub ends_out_of_memory : {D : Type 0} (taking : Taking D) (first : D) (start sent : Option (List ℕ)) (k : ℕ) (before after : LinesScene D)
+    → Sofar taking first start sent k before → RunsOutAtLine before after
     → HoldsOfRead start after.left (λ bytes. AnswersFirst taking first bytes sent after.sent)
 ends_out_of_memory taking first start sent k before after sofar now =
     let all = gets_trans [] before.held after.held start before.left after.left sofar.taken now.out sofar.got now.got in
@@ -288,13 +288,13 @@ ends_at_once taking first start sent = record {
   holds = λ rest may. record {
     count = 0;
     answered = record { ending = refl; sent = sends_nothing sent };
-    prefix = record { part = []; after = whole_text (outcome_of taking first rest); split = refl; sends = sends_nothing sent };
+    prefix = record { part = []; after = whole_text (lines_outcome taking first rest); split = refl; sends = sends_nothing sent };
   };
 }
 
 -- how the lines end if a turn fails
-pub ends_at : {D : Type 0} (taking : Taking D) (first : D) (fault : LinesFault) (start sent : Option (List ℕ)) (k : ℕ) (before after : Scene D)
-    → Sofar taking first start sent k before → Turns taking (Err fault) k before after → TakesLines taking first (Err fault) start after.left sent after.sent
+pub ends_at : {D : Type 0} (taking : Taking D) (first : D) (fault : LinesFault) (start sent : Option (List ℕ)) (k : ℕ) (before after : LinesScene D)
+    → Sofar taking first start sent k before → HasTurnEffect taking (Err fault) k before after → TakesLines taking first (Err fault) start after.left sent after.sent
 ends_at taking first Bad start sent k before after sofar now = ends_refused taking first start sent k before after sofar now
 ends_at taking first ReadFault start sent k before after sofar now = ends_unread taking first start sent k before after sofar now
 ends_at taking first WriteFault start sent k before after sofar now = ends_broken taking first start sent k before after sofar now

@@ -6,68 +6,69 @@ use Rattle.unl_input.specs.declared.answering.AnswerFault.{AnswerFault}
 use Rattle.unl_input.specs.declared.answering.AnswerFault.TheVariants.{Refused, ReadFault, WriteFault, Memory}
 use Rattle.unl_input.specs.declared.refusal.InputRefusal.{InputRefusal}
 use Rattle.unl_input.specs.declared.refusal.InputRefusal.TheVariants.{BadInput, TooLarge}
-use Rattle.unl_input.specs.Input.{IsTooLong, IsWhole, longest}
+use Rattle.unl_input.specs.Input.{IsTooLongInput, IsWholeInput, longest}
 use Rattle.unl_input.specs.Refusal.{refusal_line}
 
 -- The outcome of an input: its answer, or why it is refused.
-abbrev pub Outcome : Type 0 → Type 0
-Outcome T = Result T InputRefusal
+abbrev pub InputOutcome : Type 0 → Type 0
+InputOutcome T = Result T InputRefusal
 
 -- A fault of the input becomes a refusal.
-abbrev pub or_bad_input : {T : Type 0} → Reading T → Outcome T
+abbrev pub or_bad_input : {T : Type 0} → Reading T → InputOutcome T
 or_bad_input (Ok answer) = Ok answer
 or_bad_input (Err fault) = Err (BadInput fault)
 
 -- The outcome of the given bytes, for a computation `reads`. Their number is checked first.
-unfoldable pub outcome_of : {T : Type 0} → (List ℕ → Reading T) → List ℕ → Outcome T
-outcome_of reads bytes = if nat_lt longest (length bytes) then Err TooLarge else or_bad_input (reads bytes)
+unfoldable pub input_outcome : {T : Type 0} → (List ℕ → Reading T) → List ℕ → InputOutcome T
+input_outcome reads bytes = if nat_lt longest (length bytes) then Err TooLarge else or_bad_input (reads bytes)
 
 -- The text of the answer, or the line that reports why the input is refused.
-abbrev pub said : {T : Type 0} → (T → List ℕ) → Outcome T → List ℕ
+abbrev pub said : {T : Type 0} → (T → List ℕ) → InputOutcome T → List ℕ
 said says (Ok answer) = says answer
 said says (Err refusal) = refusal_line refusal
 
 -- The bytes that were read suffice for this outcome: the whole input, or more bytes than an input may have.
-abbrev pub IsRead : {T : Type 0} → Outcome T → Option (List ℕ) → List ℕ → Option (List ℕ) → Type 0
-IsRead (Ok answer) left bytes left_after = IsWhole left bytes left_after
-IsRead (Err (BadInput fault)) left bytes left_after = IsWhole left bytes left_after
-IsRead (Err TooLarge) left bytes left_after = IsTooLong left bytes left_after
+abbrev pub SufficesFor : {T : Type 0} → InputOutcome T → Option (List ℕ) → List ℕ → Option (List ℕ) → Type 0
+SufficesFor (Ok answer) left bytes left_after = IsWholeInput left bytes left_after
+SufficesFor (Err (BadInput fault)) left bytes left_after = IsWholeInput left bytes left_after
+SufficesFor (Err TooLarge) left bytes left_after = IsTooLongInput left bytes left_after
 
 -- An input with this outcome was read.
-pub record HasOutcome {T : Type 0} (reads : List ℕ → Reading T) (outcome : Outcome T) (left left_after : Option (List ℕ)) : Type 0 where
+pub record HasOutcome {T : Type 0} (reads : List ℕ → Reading T) (outcome : InputOutcome T)
+    (left left_after : Option (List ℕ)) : Type 0 where
   pub bytes : List ℕ
-  pub read : IsRead outcome left bytes left_after
-  pub is : outcome_of reads bytes ≡ outcome
+  pub read : SufficesFor outcome left bytes left_after
+  pub is : input_outcome reads bytes ≡ outcome
 
 -- An input with this outcome was read, and the whole text for it was sent.
-pub record Says {T : Type 0} (reads : List ℕ → Reading T) (says : T → List ℕ) (outcome : Outcome T)
+pub record Says {T : Type 0} (reads : List ℕ → Reading T) (says : T → List ℕ) (outcome : InputOutcome T)
     (left left_after old new : Option (List ℕ)) : Type 0 where
   pub comes : HasOutcome reads outcome left left_after
   pub sent : Sends old (said says outcome) new
 
 -- An input with this outcome was read, and a prefix of the text for it was sent.
-pub record SaysPrefix {T : Type 0} (reads : List ℕ → Reading T) (says : T → List ℕ) (outcome : Outcome T)
+pub record SaysPrefix {T : Type 0} (reads : List ℕ → Reading T) (says : T → List ℕ) (outcome : InputOutcome T)
     (left left_after old new : Option (List ℕ)) : Type 0 where
   pub comes : HasOutcome reads outcome left left_after
   pub sent : SendsPrefix old (said says outcome) new
 
 -- An input was read that is refused for this reason, and nothing was sent.
-pub record IsRefused {T : Type 0} (reads : List ℕ → Reading T) (refusal : InputRefusal)
+pub record RefusesSilently {T : Type 0} (reads : List ℕ → Reading T) (refusal : InputRefusal)
     (left left_after old new : Option (List ℕ)) : Type 0 where
   pub comes : HasOutcome reads (Err refusal) left left_after
   pub silent : new ≡ old
 
 -- The input has an answer, and a prefix of its text was sent.
-pub record BreaksOff {T : Type 0} (reads : List ℕ → Reading T) (says : T → List ℕ)
+pub record SaysAnswerPrefix {T : Type 0} (reads : List ℕ → Reading T) (says : T → List ℕ)
     (left left_after old new : Option (List ℕ)) : Type 0 where
   pub answer : T
   pub prefix : SaysPrefix reads says (Ok answer) left left_after old new
 
 -- How answering an input ends, in terms of the source's remaining bytes and the sink's sent bytes, before and after.
-abbrev pub Answers : {T : Type 0} → (List ℕ → Reading T) → (T → List ℕ) → Result T AnswerFault
+abbrev pub AnsweringEnds : {T : Type 0} → (List ℕ → Reading T) → (T → List ℕ) → Result T AnswerFault
     → Option (List ℕ) → Option (List ℕ) → Option (List ℕ) → Option (List ℕ) → Type 0
-Answers reads says (Ok answer) left left_after old new = Says reads says (Ok answer) left left_after old new
-Answers reads says (Err (Refused refusal)) left left_after old new = IsRefused reads refusal left left_after old new
-Answers reads says (Err ReadFault) left left_after old new = new ≡ old
-Answers reads says (Err WriteFault) left left_after old new = BreaksOff reads says left left_after old new
-Answers reads says (Err Memory) left left_after old new = new ≡ old
+AnsweringEnds reads says (Ok answer) left left_after old new = Says reads says (Ok answer) left left_after old new
+AnsweringEnds reads says (Err (Refused refusal)) left left_after old new = RefusesSilently reads refusal left left_after old new
+AnsweringEnds reads says (Err ReadFault) left left_after old new = new ≡ old
+AnsweringEnds reads says (Err WriteFault) left left_after old new = SaysAnswerPrefix reads says left left_after old new
+AnsweringEnds reads says (Err Memory) left left_after old new = new ≡ old

@@ -9,18 +9,18 @@ abbrev pub longest : ℕ
 longest = 16777216
 
 -- These bytes were read, and no more remained.
-pub record IsWhole (left : Option (List ℕ)) (bytes : List ℕ) (left_after : Option (List ℕ)) : Type 0 where
+pub record IsWholeInput (left : Option (List ℕ)) (bytes : List ℕ) (left_after : Option (List ℕ)) : Type 0 where
   pub took : Takes left bytes left_after
   pub end : HasEnded left_after
 
 -- These bytes were read, and they are more than an input may have.
-pub record IsTooLong (left : Option (List ℕ)) (bytes : List ℕ) (left_after : Option (List ℕ)) : Type 0 where
+pub record IsTooLongInput (left : Option (List ℕ)) (bytes : List ℕ) (left_after : Option (List ℕ)) : Type 0 where
   pub took : Takes left bytes left_after
   pub long : longest < length bytes
 
 -- The whole input was read, or more bytes than an input may have.
 abbrev pub HasRead : Result (List ℕ) InputFault → Option (List ℕ) → Option (List ℕ) → Type 0
-HasRead (Ok bytes) left left_after = IsWhole left bytes left_after × (length bytes ≤ longest)
-HasRead (Err TooLarge) left left_after = (bytes : List ℕ) × IsTooLong left bytes left_after
+HasRead (Ok bytes) left left_after = IsWholeInput left bytes left_after × (length bytes ≤ longest)
+HasRead (Err TooLarge) left left_after = (bytes : List ℕ) × IsTooLongInput left bytes left_after
 HasRead (Err ReadFault) left left_after = ⊤
 HasRead (Err Memory) left left_after = ⊤

@@ -1,6 +1,6 @@
 -- Properties of all outputs that follow from properties of each line.
 use Rattle.std.specs.Prelude.{◌≡◌, ℕ, List, [], Ok}
-use Rattle.unl_input.specs.Taken.{Taken, Taking, outcome_of}
+use Rattle.unl_input.specs.Taken.{Taken, Taking, lines_outcome}
 
 -- no line prints anything
 abbrev pub IsSilent : {D : Type 0} → Taking D → Type 0
@@ -8,4 +8,4 @@ IsSilent {D = D} taking = (k : ℕ) (d : D) (line : List ℕ) (taken : Taken D) 
 
 -- nothing is printed except the cause of a refused line
 abbrev pub PrintsCauseAlone : {D : Type 0} → Taking D → Type 0
-PrintsCauseAlone {D = D} taking = (d : D) (bytes : List ℕ) → (outcome_of taking d bytes).text ≡ []
+PrintsCauseAlone {D = D} taking = (d : D) (bytes : List ℕ) → (lines_outcome taking d bytes).text ≡ []

@@ -23,7 +23,7 @@ abbrev pub longest_line : ℕ
 longest_line = 16777216
 
 -- a line within the limit and without a line feed
-pub record IsLine (line : List ℕ) : Type 0 where
+pub record IsTextLine (line : List ℕ) : Type 0 where
   pub unbroken : has_end line ≡ false
   pub short : length line ≤ longest_line
 
@@ -49,30 +49,30 @@ pub record GrowsLine (line held line_after held_after : List ℕ) : Type 0 where
   pub split : held ≡ piece ++ held_after
 
 -- bytes of a line were consumed, and its line feed too if it was found
-abbrev pub TakesPiece : Bool → List ℕ → List ℕ → List ℕ → List ℕ → Type 0
-TakesPiece true line held line_after held_after = EndsLine line held line_after held_after
-TakesPiece false line held line_after held_after = GrowsLine line held line_after held_after
+abbrev pub ConsumesPiece : Bool → List ℕ → List ℕ → List ℕ → List ℕ → Type 0
+ConsumesPiece true line held line_after held_after = EndsLine line held line_after held_after
+ConsumesPiece false line held line_after held_after = GrowsLine line held line_after held_after
 
 -- the next item was consumed
 abbrev pub TakesNext : NextLine → List ℕ → Option (List ℕ) → List ℕ → Option (List ℕ) → Type 0
-TakesNext (Line line) held left held_after left_after = IsLine line.items × Gets held left (line.items ++ 10 ∷ []) held_after left_after
+TakesNext (Line line) held left held_after left_after = IsTextLine line.items × Gets held left (line.items ++ 10 ∷ []) held_after left_after
 TakesNext (Last line) held left held_after left_after =
-    IsLine line.items × (line.items ≢ []) × Gets held left line.items held_after left_after × IsAtEnd held_after left_after
+    IsTextLine line.items × (line.items ≢ []) × Gets held left line.items held_after left_after × IsAtEnd held_after left_after
 TakesNext End held left held_after left_after = Gets held left [] held_after left_after × IsAtEnd held_after left_after
 
 -- part of a line was consumed
-pub record Begins (held : List ℕ) (left : Option (List ℕ)) (held_after : List ℕ) (left_after : Option (List ℕ)) : Type 0 where
+pub record BeginsLine (held : List ℕ) (left : Option (List ℕ)) (held_after : List ℕ) (left_after : Option (List ℕ)) : Type 0 where
   pub prefix : List ℕ
   pub unbroken : has_end prefix ≡ false
   pub got : Gets held left prefix held_after left_after
 
 -- part of a line was consumed, and the line is already too long
 pub record BeginsLong (held : List ℕ) (left : Option (List ℕ)) (held_after : List ℕ) (left_after : Option (List ℕ)) : Type 0 where
-  pub begun : Begins held left held_after left_after
+  pub begun : BeginsLine held left held_after left_after
   pub long : longest_line < length begun.prefix
 
 -- what was consumed when no line could be read
-abbrev pub Breaks : ReadFault → List ℕ → Option (List ℕ) → List ℕ → Option (List ℕ) → Type 0
-Breaks Failed held left held_after left_after = Begins held left held_after left_after × (held_after ≡ [])
-Breaks TooLong held left held_after left_after = BeginsLong held left held_after left_after
-Breaks Memory held left held_after left_after = Begins held left held_after left_after
+abbrev pub StopsAtFault : ReadFault → List ℕ → Option (List ℕ) → List ℕ → Option (List ℕ) → Type 0
+StopsAtFault Failed held left held_after left_after = BeginsLine held left held_after left_after × (held_after ≡ [])
+StopsAtFault TooLong held left held_after left_after = BeginsLong held left held_after left_after
+StopsAtFault Memory held left held_after left_after = BeginsLine held left held_after left_after

@@ -55,37 +55,37 @@ ending_text done = []
 ending_text (refused k cause) = refused_text k cause
 
 -- what the lines print up to their end, how they end, and the state after all lines that were not refused
-pub record Outcome (D : Type 0) : Type 0 where
+pub record LinesOutcome (D : Type 0) : Type 0 where
   pub text : List ℕ
   pub ending : Ending
   pub desk : D
 
 -- all that is printed
-abbrev pub whole_text : {D : Type 0} → Outcome D → List ℕ
+abbrev pub whole_text : {D : Type 0} → LinesOutcome D → List ℕ
 whole_text outcome = outcome.text ++ ending_text outcome.ending
 
 -- an outcome with some text printed before it
-abbrev pub begun_by : {D : Type 0} → List ℕ → Outcome D → Outcome D
+abbrev pub begun_by : {D : Type 0} → List ℕ → LinesOutcome D → LinesOutcome D
 begun_by text outcome = record { text = text ++ outcome.text; ending = outcome.ending; desk = outcome.desk }
 
 -- the outcome of a line and, unless it is refused, of the lines after it
-abbrev pub followed : {D : Type 0} → ℕ → D → LineResult D → (D → Outcome D) → Outcome D
+abbrev pub followed : {D : Type 0} → ℕ → D → LineResult D → (D → LinesOutcome D) → LinesOutcome D
 followed k d (Err cause) rest = record { text = []; ending = refused k cause; desk = d }
 followed k d (Ok taken) rest = begun_by taken.text (rest taken.desk)
 
 -- the outcome of the lines from line `k` on
-abbrev pub take_from : {D : Type 0} → Taking D → ℕ → D → List (List ℕ) → Outcome D
+abbrev pub take_from : {D : Type 0} → Taking D → ℕ → D → List (List ℕ) → LinesOutcome D
 take_from taking k d [] = record { text = []; ending = done; desk = d }
 take_from taking k d (line ∷ more) = followed k d (take_line taking k d line) (λ after. take_from taking (k + 1) after more)
 
 -- the outcome of the lines of a whole input
-abbrev pub outcome_of : {D : Type 0} → Taking D → D → List ℕ → Outcome D
-outcome_of taking d bytes = take_from taking 1 d (lines bytes)
+abbrev pub lines_outcome : {D : Type 0} → Taking D → D → List ℕ → LinesOutcome D
+lines_outcome taking d bytes = take_from taking 1 d (lines bytes)
 
 -- the outcome of the lines that end with a line feed in these bytes
-abbrev pub outcome_of_ended : {D : Type 0} → Taking D → D → List ℕ → Outcome D
-outcome_of_ended taking d bytes = take_from taking 1 d (ended_lines bytes)
+abbrev pub ended_lines_outcome : {D : Type 0} → Taking D → D → List ℕ → LinesOutcome D
+ended_lines_outcome taking d bytes = take_from taking 1 d (ended_lines bytes)
 
 -- the outcome of the first `count` lines of these bytes
-abbrev pub outcome_of_first : {D : Type 0} → Taking D → D → ℕ → List ℕ → Outcome D
-outcome_of_first taking d count bytes = take_from taking 1 d (take count (lines bytes))
+abbrev pub first_lines_outcome : {D : Type 0} → Taking D → D → ℕ → List ℕ → LinesOutcome D
+first_lines_outcome taking d count bytes = take_from taking 1 d (take count (lines bytes))

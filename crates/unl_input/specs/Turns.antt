@@ -6,15 +6,15 @@ use Rattle.unl_input.specs.declared.taking.LinesFault.TheVariants.{Bad, ReadFaul
 use Rattle.unl_input.specs.declared.taking.Progress.{Progress}
 use Rattle.unl_input.specs.declared.taking.Progress.TheVariants.{Answered as Line, Over}
 use Rattle.unl_input.specs.Lines.{lines, has_end}
-use Rattle.unl_input.specs.Reading.{Gets, IsAtEnd, Begins}
-use Rattle.unl_input.specs.Taken.{LineResult, Outcome, Taking, done, refused, take_from, take_line, whole_text, refused_text, printed}
+use Rattle.unl_input.specs.Reading.{Gets, IsAtEnd, BeginsLine}
+use Rattle.unl_input.specs.Taken.{LineResult, LinesOutcome, Taking, done, refused, take_from, take_line, whole_text, refused_text, printed}
 
 -- the report of a refused line was printed, as far as the fault implies
-abbrev pub Refuses : LinesFault → ℕ → List ℕ → Option (List ℕ) → Option (List ℕ) → Type 0
-Refuses Bad k cause old new = Sends old (refused_text k cause) new
-Refuses ReadFault k cause old new = ⊥
-Refuses WriteFault k cause old new = SendsPrefix old (refused_text k cause) new
-Refuses Memory k cause old new = new ≡ old
+abbrev pub PrintsCause : LinesFault → ℕ → List ℕ → Option (List ℕ) → Option (List ℕ) → Type 0
+PrintsCause Bad k cause old new = Sends old (refused_text k cause) new
+PrintsCause ReadFault k cause old new = ⊥
+PrintsCause WriteFault k cause old new = SendsPrefix old (refused_text k cause) new
+PrintsCause Memory k cause old new = new ≡ old
 
 -- The result of a line was printed, as far as the result of the call implies.
 abbrev pub Prints : {D : Type 0} → Result (Unit {0}) LinesFault → ℕ → LineResult D → D → Option (List ℕ) → Option (List ℕ) → Type 0
@@ -30,76 +30,76 @@ FitsAfter fits k Line desk = fits (k + 1) desk
 FitsAfter fits k Over desk = (n : ℕ) × (n ≤ k + 1) × fits n desk
 
 -- the state of the lines, the bytes read ahead, the bytes to come, and the bytes sent
-pub record Scene (D : Type 0) : Type 0 where
+pub record LinesScene (D : Type 0) : Type 0 where
   pub desk : D
   pub held : List ℕ
   pub left : Option (List ℕ)
   pub sent : Option (List ℕ)
 
 -- these bytes were consumed
-abbrev pub Takes : {D : Type 0} → Scene D → List ℕ → Scene D → Type 0
-Takes before out after = Gets before.held before.left out after.held after.left
+abbrev pub ConsumesBytes : {D : Type 0} → LinesScene D → List ℕ → LinesScene D → Type 0
+ConsumesBytes before out after = Gets before.held before.left out after.held after.left
 
 -- what can follow the consumed bytes: nothing at the end of the input, otherwise any bytes
-abbrev pub MayFollow : {D : Type 0} → Scene D → List ℕ → Type 0
+abbrev pub MayFollow : {D : Type 0} → LinesScene D → List ℕ → Type 0
 MayFollow after rest = IsAtEnd after.held after.left → rest ≡ []
 
 -- line `k` was processed, and its line feed was consumed
-pub record ProcessesLine {D : Type 0} (taking : Taking D) (k : ℕ) (before after : Scene D) : Type 0 where
+pub record ProcessesLine {D : Type 0} (taking : Taking D) (k : ℕ) (before after : LinesScene D) : Type 0 where
   pub line : List ℕ
   pub unbroken : has_end line ≡ false
   pub text : List ℕ
-  pub got : Takes before (line ++ 10 ∷ []) after
+  pub got : ConsumesBytes before (line ++ 10 ∷ []) after
   pub is : take_line taking k before.desk line ≡ Ok (record { text = text; desk = after.desk })
   pub sent : Sends before.sent text after.sent
 
 -- the input was read to its end, and all of it was processed
-pub record ReachesEnd {D : Type 0} (taking : Taking D) (k : ℕ) (before after : Scene D) : Type 0 where
+pub record ReachesEnd {D : Type 0} (taking : Taking D) (k : ℕ) (before after : LinesScene D) : Type 0 where
   pub out : List ℕ
   pub text : List ℕ
-  pub got : Takes before out after
+  pub got : ConsumesBytes before out after
   pub end : IsAtEnd after.held after.left
   pub is : take_from taking k before.desk (lines out) ≡ record { text = text; ending = done; desk = after.desk }
   pub sent : Sends before.sent text after.sent
 
 -- line `k` is refused, whatever follows
-pub record IsRefusedAt {D : Type 0} (taking : Taking D) (k : ℕ) (before after : Scene D) : Type 0 where
+pub record IsRefusedAt {D : Type 0} (taking : Taking D) (k : ℕ) (before after : LinesScene D) : Type 0 where
   pub out : List ℕ
   pub cause : List ℕ
-  pub got : Takes before out after
+  pub got : ConsumesBytes before out after
   pub is : (rest : List ℕ) → MayFollow after rest
       → take_from taking k before.desk (lines (out ++ rest)) ≡ record { text = []; ending = refused k cause; desk = before.desk }
   pub sent : Sends before.sent (refused_text k cause) after.sent
 
 -- the whole text begins with these bytes
-abbrev pub BeginsWith : {D : Type 0} → List ℕ → Outcome D → Type 0
-BeginsWith text outcome = (tail : List ℕ) × (whole_text outcome ≡ text ++ tail)
+abbrev pub TextBeginsWith : {D : Type 0} → List ℕ → LinesOutcome D → Type 0
+TextBeginsWith text outcome = (tail : List ℕ) × (whole_text outcome ≡ text ++ tail)
 
 -- a prefix of what is printed for line `k` was sent
-pub record BreaksOff {D : Type 0} (taking : Taking D) (k : ℕ) (before after : Scene D) : Type 0 where
+pub record PrintsPrefix {D : Type 0} (taking : Taking D) (k : ℕ) (before after : LinesScene D) : Type 0 where
   pub out : List ℕ
   pub text : List ℕ
-  pub got : Takes before out after
-  pub is : (rest : List ℕ) → MayFollow after rest → BeginsWith text (take_from taking k before.desk (lines (out ++ rest)))
+  pub got : ConsumesBytes before out after
+  pub is : (rest : List ℕ) → MayFollow after rest → TextBeginsWith text (take_from taking k before.desk (lines (out ++ rest)))
   pub sent : SendsPrefix before.sent text after.sent
 
 -- nothing was printed, and at most part of a line was read
-pub record StopsReading {D : Type 0} (before after : Scene D) : Type 0 where
-  pub begun : Begins before.held before.left after.held after.left
+pub record StopsReading {D : Type 0} (before after : LinesScene D) : Type 0 where
+  pub begun : BeginsLine before.held before.left after.held after.left
   pub none : after.held ≡ []
   pub sent : after.sent ≡ before.sent
 
 -- memory ran out: nothing was printed, and at most one line was consumed
-pub record RunsOut {D : Type 0} (before after : Scene D) : Type 0 where
+pub record RunsOutAtLine {D : Type 0} (before after : LinesScene D) : Type 0 where
   pub out : List ℕ
-  pub got : Takes before out after
+  pub got : ConsumesBytes before out after
   pub sent : after.sent ≡ before.sent
 
 -- the effect of one turn: a line is processed, the input has ended, or it failed, or memory ran out
-abbrev pub Turns : {D : Type 0} → Taking D → Result Progress LinesFault → ℕ → Scene D → Scene D → Type 0
-Turns taking (Ok Line) k before after = ProcessesLine taking k before after
-Turns taking (Ok Over) k before after = ReachesEnd taking k before after
-Turns taking (Err Bad) k before after = IsRefusedAt taking k before after
-Turns taking (Err ReadFault) k before after = StopsReading before after
-Turns taking (Err WriteFault) k before after = BreaksOff taking k before after
-Turns taking (Err Memory) k before after = RunsOut before after
+abbrev pub HasTurnEffect : {D : Type 0} → Taking D → Result Progress LinesFault → ℕ → LinesScene D → LinesScene D → Type 0
+HasTurnEffect taking (Ok Line) k before after = ProcessesLine taking k before after
+HasTurnEffect taking (Ok Over) k before after = ReachesEnd taking k before after
+HasTurnEffect taking (Err Bad) k before after = IsRefusedAt taking k before after
+HasTurnEffect taking (Err ReadFault) k before after = StopsReading before after
+HasTurnEffect taking (Err WriteFault) k before after = PrintsPrefix taking k before after
+HasTurnEffect taking (Err Memory) k before after = RunsOutAtLine before after

@@ -3,15 +3,16 @@ use Rattle.std.specs.Prelude.{◌≡◌, List, [], ◌++◌, ℕ, Option, Result
 use Rattle.unl_base.specs.Streams.{Takes, HasEnded, Sends, SendsPrefix}
 use Rattle.unl_input.specs.declared.taking.LinesFault.{LinesFault}
 use Rattle.unl_input.specs.declared.taking.LinesFault.TheVariants.{Bad, ReadFault, WriteFault, Memory}
-use Rattle.unl_input.specs.Taken.{Outcome, Taking, done, IsRefused, whole_text, outcome_of, outcome_of_ended, outcome_of_first}
+use Rattle.unl_input.specs.Taken.{LinesOutcome, Taking, done, IsRefused, whole_text}
+use Rattle.unl_input.specs.Taken.{lines_outcome, ended_lines_outcome, first_lines_outcome}
 
 -- every line was processed, and all output was sent
-pub record IsAnswered {D : Type 0} (outcome : Outcome D) (old new : Option (List ℕ)) : Type 0 where
+pub record IsAnswered {D : Type 0} (outcome : LinesOutcome D) (old new : Option (List ℕ)) : Type 0 where
   pub ending : outcome.ending ≡ done
   pub sent : Sends old outcome.text new
 
 -- a line is refused; the output of the lines before it and the cause were sent
-pub record IsRefusing {D : Type 0} (outcome : Outcome D) (old new : Option (List ℕ)) : Type 0 where
+pub record IsRefusing {D : Type 0} (outcome : LinesOutcome D) (old new : Option (List ℕ)) : Type 0 where
   pub ending : IsRefused outcome.ending
   pub sent : Sends old (whole_text outcome) new
 
@@ -19,7 +20,7 @@ pub record IsRefusing {D : Type 0} (outcome : Outcome D) (old new : Option (List
 pub record AnswersRead {D : Type 0} (taking : Taking D) (desk : D) (left left_after old new : Option (List ℕ)) : Type 0 where
   pub read : List ℕ
   pub took : Takes left read left_after
-  pub answered : IsAnswered (outcome_of_ended taking desk read) old new
+  pub answered : IsAnswered (ended_lines_outcome taking desk read) old new
 
 -- these bytes were read, and `P` holds for the whole input, whatever follows them
 pub record HoldsOfRead (left left_after : Option (List ℕ)) (P : List ℕ → Type 0) : Type 0 where
@@ -30,23 +31,23 @@ pub record HoldsOfRead (left left_after : Option (List ℕ)) (P : List ℕ → T
 -- Just the output of the first `count` lines was sent, none of which is refused. It is a prefix of the whole text.
 pub record AnswersFirst {D : Type 0} (taking : Taking D) (desk : D) (bytes : List ℕ) (old new : Option (List ℕ)) : Type 0 where
   pub count : ℕ
-  pub answered : IsAnswered (outcome_of_first taking desk count bytes) old new
-  pub prefix : SendsPrefix old (whole_text (outcome_of taking desk bytes)) new
+  pub answered : IsAnswered (first_lines_outcome taking desk count bytes) old new
+  pub prefix : SendsPrefix old (whole_text (lines_outcome taking desk bytes)) new
 
 -- the input was read to its end, every line was processed, and all output was sent
 pub record AnswersInput {D : Type 0} (taking : Taking D) (desk : D) (left left_after old new : Option (List ℕ)) : Type 0 where
   pub read : List ℕ
   pub took : Takes left read left_after
   pub end : HasEnded left_after
-  pub answered : IsAnswered (outcome_of taking desk read) old new
+  pub answered : IsAnswered (lines_outcome taking desk read) old new
 
 -- the input was read to its end, its lines were processed, and the state is the one that they leave
-pub record AnswersAll {D : Type 0} (taking : Taking D) (desk desk_after : D) (left left_after old new : Option (List ℕ)) : Type 0 where
+pub record AnswersAllLines {D : Type 0} (taking : Taking D) (desk desk_after : D) (left left_after old new : Option (List ℕ)) : Type 0 where
   pub read : List ℕ
   pub took : Takes left read left_after
   pub end : HasEnded left_after
-  pub answered : IsAnswered (outcome_of taking desk read) old new
-  pub leaves : (outcome_of taking desk read).desk ≡ desk_after
+  pub answered : IsAnswered (lines_outcome taking desk read) old new
+  pub leaves : (lines_outcome taking desk read).desk ≡ desk_after
 
 -- How the lines end, given the bytes to come and the bytes sent, before and after. This doesn't depend on whether either is
 -- observable.
@@ -54,9 +55,9 @@ abbrev pub TakesLines : {D : Type 0} → Taking D → D → Result (Unit {0}) Li
     → Option (List ℕ) → Type 0
 TakesLines taking desk (Ok u) left left_after old new = AnswersInput taking desk left left_after old new
 TakesLines taking desk (Err Bad) left left_after old new =
-    HoldsOfRead left left_after (λ bytes. IsRefusing (outcome_of taking desk bytes) old new)
+    HoldsOfRead left left_after (λ bytes. IsRefusing (lines_outcome taking desk bytes) old new)
 TakesLines taking desk (Err ReadFault) left left_after old new = AnswersRead taking desk left left_after old new
 TakesLines taking desk (Err WriteFault) left left_after old new =
-    HoldsOfRead left left_after (λ bytes. SendsPrefix old (whole_text (outcome_of taking desk bytes)) new)
+    HoldsOfRead left left_after (λ bytes. SendsPrefix old (whole_text (lines_outcome taking desk bytes)) new)
 TakesLines taking desk (Err Memory) left left_after old new =
     HoldsOfRead left left_after (λ bytes. AnswersFirst taking desk bytes old new)

@@ -3,7 +3,7 @@ ghost use Rattle.std.specs.Prelude.{◌≡◌, ◌≢◌, ◌≤◌, ℕ, List, 
 ghost use Rattle.unl_base.specs.Faults.{Rose};
 ghost use Rattle.unl_documents.specs.Reading.{Gives};
 ghost use Rattle.unl_documents.specs.declared.fault.BadDocument.{BadDocument};
-ghost use Rattle.unl_input.specs.Answer.{Answers};
+ghost use Rattle.unl_input.specs.Answer.{AnsweringEnds};
 
 use crate::reading::{InputFault, read_input};
 use crate::refusal::InputRefusal;
@@ -67,7 +67,7 @@ pub fn answer_input<A: InputAnswer, S: Source, K: Sink>(
     source: &mut S,
     sink: &mut K,
 ) -> Result<A::Answer, AnswerFault>
-    ensures answers { Answers (A.reads asked.now) A.says result
+    ensures answers { AnsweringEnds (A.reads asked.now) A.says result
         (S.left source.old) (S.left source.new) (K.sent sink.old) (K.sent sink.new) }
     // Out of memory is not a fault of the input.
     ensures named { result ≢ Err (AnswerFault.Refused (InputRefusal.BadInput BadDocument.Memory)) }

@@ -4,8 +4,9 @@ ghost use Rattle.std.specs.List.{position_or_len};
 ghost use Rattle.unl_base.specs.Faults.{HasCause, Rose};
 ghost use Rattle.unl_base.specs.Streams.{Takes, HasEnded};
 ghost use Rattle.unl_input.specs.Lines.{is_end};
-ghost use Rattle.unl_input.specs.Reading.{Gets, IsAtEnd, Fills, TakesPiece, TakesNext, Breaks, longest_line};
+ghost use Rattle.unl_input.specs.Reading.{Gets, IsAtEnd, Fills, ConsumesPiece, TakesNext, StopsAtFault, longest_line};
 
+use memchr::memchr;
 use std::alloc::{AllocError, AllocFailed, Global};
 use std::marker::Model;
 use thiserror::Error;
@@ -79,7 +80,7 @@ impl From<Failed> for ReadFault {
 fn unbroken_len(bytes: &[u8]) -> usize
     ensures { result ≡ position_or_len is_end bytes.now }
 {
-    match bytes.iter().position(|&byte| byte == b'\n') {
+    match memchr(b'\n', bytes) {
         Some(len) => len,
         None => bytes.len(),
     }
@@ -181,7 +182,7 @@ impl LineReader {
     fn take_piece(&mut self, line: &mut Vec<u8>) -> Result<bool, AllocError>
         requires held { 0 < length self.old }
         requires short { length line.old.items ≤ longest_line }
-        ensures piece { IfOk result (λ ended. TakesPiece ended line.old.items self.old line.new.items self.new) }
+        ensures piece { IfOk result (λ ended. ConsumesPiece ended line.old.items self.old line.new.items self.new) }
         ensures unchanged { OnErr result (self.new ≡ self.old) }
     {
         let prefix = self.prefix(LONGEST_LINE + 1 - line.len());
@@ -224,7 +225,7 @@ impl LineReader {
         source: &mut S,
     ) -> Result<NextLine, ReadFault>
         ensures next { IfOk result (λ next. TakesNext next self.old (S.left source.old) self.new (S.left source.new)) }
-        ensures fault { IfErr result (λ fault. Breaks fault self.old (S.left source.old) self.new (S.left source.new)) }
+        ensures fault { IfErr result (λ fault. StopsAtFault fault self.old (S.left source.old) self.new (S.left source.new)) }
         ensures failed { IsErrOf result ReadFault.Failed → Rose (S.faults source.old) (S.faults source.new) }
         ensures later { S.faults source.old ≤ S.faults source.new }
     {

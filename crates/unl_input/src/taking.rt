@@ -1,9 +1,9 @@
 //! Processes all lines of an input.
 ghost use Rattle.std.specs.Prelude.{◌≡◌, ◌≢◌, ◌+◌, ◌≤◌, ℕ, IfOk, IfSome, OnOk, IsErrOf, string_bytes};
 ghost use Rattle.unl_base.specs.Faults.{Rose};
-ghost use Rattle.unl_input.specs.Taken.{most_lines, outcome_of, refused_text};
-ghost use Rattle.unl_input.specs.Turns.{FitsAfter, Prints, Refuses, Turns};
-ghost use Rattle.unl_input.specs.Whole.{AnswersAll, TakesLines};
+ghost use Rattle.unl_input.specs.Taken.{most_lines, lines_outcome, refused_text};
+ghost use Rattle.unl_input.specs.Turns.{FitsAfter, Prints, PrintsCause, HasTurnEffect};
+ghost use Rattle.unl_input.specs.Whole.{AnswersAllLines, TakesLines};
 
 use crate::line::{LineProcessor, LineRefusal};
 use crate::reader::{LineReader, NextLine, ReadFault};
@@ -75,7 +75,7 @@ fn refused_line(alloc: Global, number: u64, cause: &str) -> Result<String, Alloc
 
 /// Prints why a line is refused.
 fn refuse<K: Sink>(alloc: Global, sink: &mut K, number: u64, cause: &str) -> LinesFault
-    ensures prints { Refuses result number cause.now (K.sent sink.old) (K.sent sink.new) }
+    ensures prints { PrintsCause result number cause.now (K.sent sink.old) (K.sent sink.new) }
     ensures other { result ≢ LinesFault.ReadFault }
     ensures cause { result ≡ LinesFault.WriteFault → Rose (K.faults sink.old) (K.faults sink.new) }
     ensures later { K.faults sink.old ≤ K.faults sink.new }
@@ -125,7 +125,7 @@ fn turn<A: LineProcessor, S: Source, K: Sink>(
 ) -> Result<Progress, LinesFault>
     requires room { A.fits number desk.old }
     requires few { number ≤ most_lines }
-    ensures turns { Turns A.line_result result number
+    ensures turns { HasTurnEffect A.line_result result number
         (record { desk = desk.old; held = reader.old; left = S.left source.old; sent = K.sent sink.old })
         (record { desk = desk.new; held = reader.new; left = S.left source.new; sent = K.sent sink.new }) }
     ensures room { IfOk result (λ progress. FitsAfter A.fits number progress desk.new) }
@@ -171,9 +171,9 @@ pub fn process_lines<A: LineProcessor, S: Source, K: Sink>(
     ensures lines { TakesLines A.line_result desk.old result (S.left source.old) (S.left source.new) (K.sent sink.old) (K.sent sink.new) }
 
     // On success the input has ended, and the state is the one that its lines leave.
-    ensures all { OnOk result (AnswersAll A.line_result desk.old desk.new
+    ensures all { OnOk result (AnswersAllLines A.line_result desk.old desk.new
         (S.left source.old) (S.left source.new) (K.sent sink.old) (K.sent sink.new)) }
-    ensures leaves { OnOk result (IfSome (S.left source.old) (λ bytes. (outcome_of A.line_result desk.old bytes).desk ≡ desk.new)) }
+    ensures leaves { OnOk result (IfSome (S.left source.old) (λ bytes. (lines_outcome A.line_result desk.old bytes).desk ≡ desk.new)) }
 
     // The state has room for one more line.
     ensures room { OnOk result ((number : ℕ) × (number ≤ most_lines + 1) × A.fits number desk.new) }
