@@ -1,5 +1,5 @@
 //! Every byte string has exactly one session.
-ghost use Rattle.std.specs.Prelude.{◌≡◌, ◌≤◌, length, drop};
+ghost use Rattle.std.specs.Prelude.{◌≡◌, length};
 ghost use Rattle.unl_http_api.specs.Session.{HasOneSession};
 ghost use Rattle.unl_http_api.specs.Finds.{HasParts};
 ghost use Rattle.unl_http_api.specs.FirstItems.{IsFirstItem};

@@ -1,6 +1,6 @@
 //! The length of the first request in a buffer, without the request itself. A door needs it to forward requests.
 ghost use Rattle.httparse.specs.Grammar.{HasNoRequest};
-ghost use Rattle.std.specs.Prelude.{◌≡◌, ◌≢◌, ◌≤◌, IfOk, IfSome, None, length};
+ghost use Rattle.std.specs.Prelude.{◌≢◌, ◌≤◌, IfOk, IfSome, None, length};
 ghost use Rattle.unl_http_api.specs.Finds.{HasParts};
 ghost use Rattle.unl_http_api.specs.Frames.{IsFrame};
 ghost use Rattle.unl_http_api.specs.Requests.{IsHopeless, window};

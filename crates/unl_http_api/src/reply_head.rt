@@ -1,5 +1,5 @@
 //! Parses the head of a reply, and derives the body from the bytes after it.
-ghost use Rattle.std.specs.Prelude.{◌≡◌, ◌≤◌, ℕ, List, length, drop, IfOk, IfSome, IfNone};
+ghost use Rattle.std.specs.Prelude.{◌≡◌, ◌≤◌, ℕ, List, length, IfOk, IfSome, IfNone};
 ghost use Rattle.httparse.specs.Grammar.{ResponseHead, ReadsResponse};
 ghost use Rattle.httparse.specs.Spans.{IsResponseWithin, IsResponseOf};
 ghost use Rattle.unl_documents.specs.Results.{Answers, Gives};

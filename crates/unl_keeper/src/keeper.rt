@@ -1,6 +1,6 @@
 //! The trait of an append-only store of texts, one text per row.
 ghost use Rattle.std.specs.Prelude.{◌≡◌, ◌<◌, ◌≤◌, true};
-ghost use Rattle.unl_keeper.specs.Faults.{HasCause};
+ghost use Rattle.unl_keeper.specs.Faults.{KeeperHasCause};
 ghost use Rattle.unl_keeper.specs.State.{HasAtMostOneMore, HasKept, KeeperState, Opens, PutsRow, ReadsRow};
 
 use crate::refusal::KeepRefusal;
@@ -22,7 +22,7 @@ pub trait Keeper {
     /// `Memory`: out of memory. Nothing changed.
     fn open(&mut self, alloc: Global) -> Result<u64, KeepRefusal>
         ensures opens { Opens (state self.old) result (state self.new) }
-        ensures cause { HasCause (state self.old).faults (state self.new).faults result };
+        ensures cause { KeeperHasCause (state self.old).faults (state self.new).faults result };
 
     /// Returns the number of kept rows.
     fn count(&self) -> u64
@@ -53,7 +53,7 @@ pub trait Keeper {
         requires opened { (state self.old).opened ≡ true }
         requires place { (1 ≤ place) × (place ≤ (state self.old).count) }
         ensures reads { ReadsRow place (state self.old) result (state self.new) }
-        ensures cause { HasCause (state self.old).faults (state self.new).faults result };
+        ensures cause { KeeperHasCause (state self.old).faults (state self.new).faults result };
 
     /// There are at least as many rows as are kept.
     ghost at_least: { (keeper : Self) → HasKept (state keeper) };

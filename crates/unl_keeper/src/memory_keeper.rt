@@ -1,7 +1,7 @@
 //! A keeper in memory. Calls chosen when it is created fail.
 ghost use Rattle.std.specs.Prelude.{◌<◌, true, ◌+◌, ◌≡◌, [], ◌∷◌, ◌++◌, ◌-◌, ◌≤◌, None, Some, false, length, slice_get, IfOk, IfErr};
 ghost use Rattle.std.specs.Prelude.{OnOk, is_some, if◌then◌else◌};
-ghost use Rattle.unl_keeper.specs.Faults.{HasCause, HasRisen};
+ghost use Rattle.unl_keeper.specs.Faults.{KeeperHasCause, CountRose};
 ghost use Rattle.unl_keeper.specs.Memory.{CallOutcome, after_call, left_keeping, memory_state, new_keeping, opened_keeping};
 ghost use Rattle.unl_keeper.specs.Memory.{planned_failure, put_keeping, read_keeping, rows_of};
 ghost use Rattle.unl_keeper.specs.State.{Opens, PutsRow, ReadsRow};
@@ -60,7 +60,7 @@ impl Calls {
     fn count(&mut self, fails: bool)
         requires { fails ≡ is_some (planned_failure self.old.failing self.old.calls) }
         ensures counted { self.new ≡ after_call self.old }
-        ensures rose { fails ≡ true → HasRisen self.old.faults self.new.faults }
+        ensures rose { fails ≡ true → CountRose self.old.faults self.new.faults }
         ensures well { fails ≡ false → self.new.faults ≡ self.old.faults }
     {
         self.calls = self.calls.saturating_add(1);
@@ -175,7 +175,7 @@ impl Keeper for MemoryKeeper {
     /// Fails with `Fault` exactly if this call is listed as failing.
     fn open(&mut self, _alloc: Global) -> Result<u64, KeepRefusal>
         ensures opens { Opens (memory_state self.old) result (memory_state self.new) }
-        ensures cause { HasCause self.old.counting.faults self.new.counting.faults result }
+        ensures cause { KeeperHasCause self.old.counting.faults self.new.counting.faults result }
         ensures exact { CallOutcome (opened_keeping self.old) (read_keeping self.old) self.old self.new result }
     {
         if self.calls.fails().is_some() {
@@ -218,7 +218,7 @@ impl Keeper for MemoryKeeper {
         requires opened { self.old.opened ≡ true }
         requires place { (1 ≤ place) × (place ≤ length self.old.kept) }
         ensures reads { ReadsRow place (memory_state self.old) result (memory_state self.new) }
-        ensures cause { HasCause self.old.counting.faults self.new.counting.faults result }
+        ensures cause { KeeperHasCause self.old.counting.faults self.new.counting.faults result }
         ensures exact { CallOutcome (read_keeping self.old) (read_keeping self.old) self.old self.new result }
     {
         if self.calls.fails().is_some() {

@@ -1,6 +1,6 @@
 //! A keeper over a SQLite database.
 ghost use Rattle.std.specs.Prelude.{◌≡◌, ◌↔◌, false};
-ghost use Rattle.unl_keeper.specs.Faults.{HasRisen};
+ghost use Rattle.unl_keeper.specs.Faults.{CountRose};
 
 use crate::keeper::Keeper;
 use crate::refusal::KeepRefusal;
@@ -157,7 +157,7 @@ impl<D: Alter> SqliteKeeper<D> {
     /// Increments the fault count.
     fn add_fault(&mut self)
         ensures same { self.new ≡ record self.old { faults = self.new.faults } }
-        ensures risen { HasRisen self.old.faults self.new.faults }
+        ensures risen { CountRose self.old.faults self.new.faults }
     {
         self.faults = self.faults.saturating_add(1);
     }

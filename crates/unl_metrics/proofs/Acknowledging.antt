@@ -13,7 +13,7 @@ use Rattle.std.specs.Ordering.{is_lt, is_eq, ordering_reverse, ordering_then}
 use Rattle.std.specs.Prelude.{All, nat_le, Some, None, position, unwrap_or, is_some}
 use Rattle.std.specs.declared.cmp.Ordering.{Ordering}
 use Rattle.std.specs.declared.cmp.Ordering.TheVariants.{Less, Equal, Greater}
-use Rattle.unl_metrics.specs.Book.{Book, Key, Tally, key_cmp, is_of, acknowledge, has_few_variants, fits, IsCounted, IsBook}
+use Rattle.unl_metrics.specs.Book.{Book, MetricKey, Tally, key_cmp, is_of, acknowledge, has_few_variants, fits, IsCounted, IsMetricsBook}
 use Rattle.unl_metrics.proofs.Entries.{each_true, first_of, second_of, both_of, less}
 
 -- ---- the first position
@@ -59,7 +59,7 @@ le_first Equal s e = refl
 le_first Greater s e = absurd (subst (λ o. T (is_lt o)) (sym e) tt)
 
 -- A key that comes before another has no later environment.
-environment_le : (j k : Key) → key_cmp j k ≡ Less → is_le (slice_cmp nat_cmp j.environment k.environment) ≡ true
+environment_le : (j k : MetricKey) → key_cmp j k ≡ Less → is_le (slice_cmp nat_cmp j.environment k.environment) ≡ true
 environment_le j k e = le_first (slice_cmp nat_cmp j.environment k.environment) _ e
 
 both_le : (r : Ordering) → is_le r ≡ true → is_le (ordering_reverse r) ≡ true → is_eq r ≡ true
@@ -68,7 +68,7 @@ both_le Equal a b = refl
 both_le Greater a b = absurd (subst T (sym a) tt)
 
 -- Between two keys of an environment there are none of others.
-between_is_of : (environment : List ℕ) (i j k : Key) → is_of environment i ≡ true → is_of environment k ≡ true → key_cmp i j ≡ Less → key_cmp j k ≡ Less → is_of environment j ≡ true
+between_is_of : (environment : List ℕ) (i j k : MetricKey) → is_of environment i ≡ true → is_of environment k ≡ true → key_cmp i j ≡ Less → key_cmp j k ≡ Less → is_of environment j ≡ true
 between_is_of environment i j k at_i at_k low high =
     let o = nat_list_cmp_total in
     let first : slice_cmp nat_cmp i.environment environment ≡ Equal = equal (slice_cmp nat_cmp i.environment environment) (is_eq-slice_cmp i.environment environment ∙ at_i) in
@@ -86,7 +86,7 @@ between_is_of environment i j k at_i at_k low high =
 -- ---- what is dropped
 
 -- After a key of the environment and then one of another, there are no more of the environment.
-kept : (environment : List ℕ) (e f : Key × Tally) (es : Book) (count : ℕ) → is_of environment e.0 ≡ true → is_of environment f.0 ≡ false → key_cmp e.0 f.0 ≡ Less → T (below_all key_cmp f.0 es) → acknowledge environment count es ≡ es
+kept : (environment : List ℕ) (e f : MetricKey × Tally) (es : Book) (count : ℕ) → is_of environment e.0 ≡ true → is_of environment f.0 ≡ false → key_cmp e.0 f.0 ≡ Less → T (below_all key_cmp f.0 es) → acknowledge environment count es ≡ es
 unfolding acknowledge
 kept environment e f es zero here other low above = refl
 kept environment e f [] (suc count) here other low above = refl
@@ -99,7 +99,7 @@ kept environment e f (g ∷ es) (suc count) here other low above =
     ] refl
 
 -- After a key of the environment.
-run_goes : (environment : List ℕ) (e : Key × Tally) (es : Book) (count : ℕ) → is_of environment e.0 ≡ true → T (below_all key_cmp e.0 es) → T (is_sorted key_cmp es) → drop (min (prefix_len (λ f. is_of environment f.0) es) count) es ≡ acknowledge environment count es
+run_goes : (environment : List ℕ) (e : MetricKey × Tally) (es : Book) (count : ℕ) → is_of environment e.0 ≡ true → T (below_all key_cmp e.0 es) → T (is_sorted key_cmp es) → drop (min (prefix_len (λ f. is_of environment f.0) es) count) es ≡ acknowledge environment count es
 unfolding acknowledge
 run_goes environment e es zero here above sorted = let none : min (prefix_len (λ f. is_of environment f.0) es) 0 ≡ 0 = grind arith in rw none refl
 run_goes environment e [] (suc count) here above sorted = let none : min 0 (suc count) ≡ 0 = grind arith in rw none refl
@@ -125,16 +125,16 @@ acknowledge_none : (environment : List ℕ) (es : Book) → acknowledge environm
 unfolding acknowledge
 acknowledge_none environment es = refl
 
-acknowledge_other : (environment : List ℕ) (count : ℕ) (e : Key × Tally) (es : Book) → is_of environment e.0 ≡ false → acknowledge environment count (e ∷ es) ≡ e ∷ acknowledge environment count es
+acknowledge_other : (environment : List ℕ) (count : ℕ) (e : MetricKey × Tally) (es : Book) → is_of environment e.0 ≡ false → acknowledge environment count (e ∷ es) ≡ e ∷ acknowledge environment count es
 unfolding acknowledge
 acknowledge_other environment zero e es other = refl
 acknowledge_other environment (suc count) e es other = rw other refl
 
-acknowledge_one : (environment : List ℕ) (count : ℕ) (e : Key × Tally) (es : Book) → is_of environment e.0 ≡ true → acknowledge environment (suc count) (e ∷ es) ≡ acknowledge environment count es
+acknowledge_one : (environment : List ℕ) (count : ℕ) (e : MetricKey × Tally) (es : Book) → is_of environment e.0 ≡ true → acknowledge environment (suc count) (e ∷ es) ≡ acknowledge environment count es
 unfolding acknowledge
 acknowledge_one environment count e es here = rw here refl
 
-first_goes : (environment : List ℕ) (count : ℕ) (e : Key × Tally) (es : Book) → is_of environment e.0 ≡ true → T (is_sorted key_cmp (e ∷ es)) → drop (min (1 + prefix_len (λ f. is_of environment f.0) es) count) (e ∷ es) ≡ acknowledge environment count (e ∷ es)
+first_goes : (environment : List ℕ) (count : ℕ) (e : MetricKey × Tally) (es : Book) → is_of environment e.0 ≡ true → T (is_sorted key_cmp (e ∷ es)) → drop (min (1 + prefix_len (λ f. is_of environment f.0) es) count) (e ∷ es) ≡ acknowledge environment count (e ∷ es)
 first_goes environment zero e es here sorted = let none : min (1 + prefix_len (λ f. is_of environment f.0) es) 0 ≡ 0 = grind arith in rw (none, acknowledge_none environment (e ∷ es)) refl
 first_goes environment (suc count) e es here sorted =
     let more : min (1 + prefix_len (λ f. is_of environment f.0) es) (suc count) ≡ suc (min (prefix_len (λ f. is_of environment f.0) es) count) = grind arith in
@@ -159,7 +159,7 @@ range_goes environment count (e ∷ es) sorted =
 
 -- ---- what is left is a book
 
-below_stays : (x : Key) (environment : List ℕ) (count : ℕ) (es : Book) → T (below_all key_cmp x es) → T (below_all key_cmp x (acknowledge environment count es))
+below_stays : (x : MetricKey) (environment : List ℕ) (count : ℕ) (es : Book) → T (below_all key_cmp x es) → T (below_all key_cmp x (acknowledge environment count es))
 unfolding acknowledge
 below_stays x environment zero es h = h
 below_stays x environment (suc count) [] h = h
@@ -219,7 +219,7 @@ fits_still m n few less_few le stays h =
     let two = each_true (nat_le n 10000) few h in
     rw (stays two.1) (let small : nat_le m 10000 ≡ true = grind (arith, nat_tests, two.0, le) in rw small refl)
 
-pub book_stays : (environment : List ℕ) (count : ℕ) (book : Book) → IsBook book → IsBook (acknowledge environment count book)
+pub book_stays : (environment : List ℕ) (count : ℕ) (book : Book) → IsMetricsBook book → IsMetricsBook (acknowledge environment count book)
 unfolding fits
 book_stays environment count book is = record {
   order = record { rising = rising_stays environment count book is.order.rising; each = each_stays environment count book is.order.each };

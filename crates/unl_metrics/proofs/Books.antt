@@ -11,14 +11,14 @@ use Rattle.std.specs.declared.cmp.Ordering.TheVariants.{Less, Equal, Greater}
 use Rattle.unl_documents.specs.Parameters.{AreRising}
 use Rattle.unl_metrics.specs.declared.report.MetricEntry.{MetricEntry}
 use Rattle.unl_metrics.specs.declared.report.VariantCount.{VariantCount}
-use Rattle.unl_metrics.specs.Book.{Book, Key, Tally, Variants, key_cmp, key_of, tally_of, pair, counted, tally_sum, added, with_variant, with_tally, fits, IsCounted, IsInOrder, IsBook}
+use Rattle.unl_metrics.specs.Book.{Book, MetricKey, Tally, Variants, key_cmp, key_of, tally_of, pair, counted, tally_sum, added, with_variant, with_tally, fits, IsCounted, HasOrderedKeys, IsMetricsBook}
 use Rattle.unl_metrics.specs.Reports.{IsEntry}
 use Rattle.unl_metrics.proofs.Entries.{both_of}
 use Rattle.unl_metrics.proofs.Order.{keys_total}
 use Rattle.unl_metrics.proofs.Variants.{stays_sorted}
 
 -- A row with the key of one and the sum of both tallies.
-pub plus_is : (environment other_environment copied : List ℕ) (old other new : MetricEntry) (this that : Key × Tally) → copied ≡ environment → ((e : List ℕ) → key_of e new ≡ key_of e old) → tally_of new ≡ tally_sum (tally_of old) (tally_of other)
+pub plus_is : (environment other_environment copied : List ℕ) (old other new : MetricEntry) (this that : MetricKey × Tally) → copied ≡ environment → ((e : List ℕ) → key_of e new ≡ key_of e old) → tally_of new ≡ tally_sum (tally_of old) (tally_of other)
     → counted environment old ≡ this → counted other_environment other ≡ that → counted copied new ≡ (this.0, tally_sum this.1 that.1)
 plus_is environment other_environment copied old other new this that same key tally is was =
     rw (← is, ← was, same) (λ i. (key environment i, tally i))
@@ -31,7 +31,7 @@ sum_is_sorted : (variants others : Variants) → T (is_sorted (slice_cmp nat_cmp
 sum_is_sorted variants [] sorted = sorted
 sum_is_sorted variants (v ∷ others) sorted = sum_is_sorted (with_variant variants v) others (stays_sorted variants v sorted)
 
-found_in_order : (k : Key) (book : Book) → All IsCounted book → IfSome (find key_cmp k book) HasNamesInOrder
+found_in_order : (k : MetricKey) (book : Book) → All IsCounted book → IfSome (find key_cmp k book) HasNamesInOrder
 found_in_order k [] each = tt
 found_in_order k (e ∷ book) each = elim (eq_by_cmp key_cmp k e.0) as (λ b. IfSome (cond b (Some e.1) (find key_cmp k book)) HasNamesInOrder) [
   | true ↦ (All-head IsCounted e book each).variants
@@ -43,7 +43,7 @@ unfolding tally_sum
 added_in_order None t sorted here = here
 added_in_order (Some s) t sorted here = sum_is_sorted s.variants t.variants sorted
 
-each_put : (k : Key) (t : Tally) (book : Book) → All IsCounted book → IsCounted (k, t) → All IsCounted (put key_cmp k t book)
+each_put : (k : MetricKey) (t : Tally) (book : Book) → All IsCounted book → IsCounted (k, t) → All IsCounted (put key_cmp k t book)
 each_put k t [] each this = All-cons IsCounted (k, t) [] this each
 each_put k t (e ∷ book) each this = elim (key_cmp k e.0) as (λ r. All IsCounted (by_order r ((k, t) ∷ e ∷ book) ((e.0, t) ∷ book) (e ∷ put key_cmp k t book))) [
   | Less ↦ All-cons IsCounted (k, t) (e ∷ book) this each
@@ -51,14 +51,14 @@ each_put k t (e ∷ book) each this = elim (key_cmp k e.0) as (λ r. All IsCount
   | Greater ↦ All-cons IsCounted e (put key_cmp k t book) (All-head IsCounted e book each) (each_put k t book (All-tail IsCounted e book each) this)
 ]
 
-pub stays_in_order : (book : Book) (e : Key × Tally) → IsInOrder book → IsCounted e → IsInOrder (with_tally book e)
+pub stays_in_order : (book : Book) (e : MetricKey × Tally) → HasOrderedKeys book → IsCounted e → HasOrderedKeys (with_tally book e)
 stays_in_order book e order this = record {
   rising = is_sorted-put key_cmp keys_total e.0 _ book order.rising;
   each = each_put e.0 (added tally_sum (find key_cmp e.0 book) e.1) book order.each (record { hour = this.hour; variants = added_in_order (find key_cmp e.0 book) e.1 (found_in_order e.0 book order.each) this.variants });
 }
 
 -- The empty book.
-pub no_keys : IsBook []
+pub no_keys : IsMetricsBook []
 unfolding fits
 no_keys = record { order = record { rising = tt; each = All-nil IsCounted }; fit = refl }
 

@@ -6,7 +6,7 @@ use Rattle.std.specs.declared.cmp.Ordering.TheVariants.{Less, Equal, Greater}
 use Rattle.serde_json.specs.Data.{Members, no_members, member, put, depth, items_depth, members_depth}
 use Rattle.serde_json.specs.View.{items_of}
 use Rattle.unl_documents.specs.Writing.{count}
-use Rattle.unl_metrics.specs.Book.{Book, Key, Tally, Variants}
+use Rattle.unl_metrics.specs.Book.{Book, MetricKey, Tally, Variants}
 use Rattle.unl_metrics.specs.Bulk.{with_counts, variants_data, counted_data, bulk_of_items, bulk_data}
 
 put_flat : (name : List ℕ) (n : ℕ) (ms : Members) → members_depth ms ≤ 0 → members_depth (put name (count n) ms) ≤ 0
@@ -23,7 +23,7 @@ counts_flat : (variants : Variants) (ms : Members) → members_depth ms ≤ 0 �
 counts_flat [] ms h = h
 counts_flat (v ∷ variants) ms h = counts_flat variants (put v.0 (count v.1) ms) (put_flat v.0 v.1 ms h)
 
-one_deep : (e : Key × Tally) → depth (counted_data e) ≤ 2
+one_deep : (e : MetricKey × Tally) → depth (counted_data e) ≤ 2
 unfolding counted_data variants_data
 one_deep e = omega (arith, counts_flat e.1.variants no_members (omega arith))
 

@@ -2,7 +2,7 @@
 use Rattle.std.proofs.Common.{◌≡◌, ℕ, zero, suc, Bool, true, false, cond, List, [], ◌∷◌, drop, refl, sym, ap, ◌∙◌}
 use Rattle.std.specs.Cmp.Lexicographic.{bytes_decides}
 use Rattle.std.specs.Prelude.{◌≢◌}
-use Rattle.unl_metrics.specs.Book.{Book, Key, is_of, counted_in, acknowledge}
+use Rattle.unl_metrics.specs.Book.{Book, MetricKey, is_of, counted_in, acknowledge}
 
 pub these_go : (environment : List ℕ) (count : ℕ) (book : Book) → counted_in environment (acknowledge environment count book) ≡ drop count (counted_in environment book)
 unfolding acknowledge
@@ -14,7 +14,7 @@ these_go environment (suc count) (e ∷ book) =
       | false ↦ λ here. rw here (these_go environment (suc count) book)
     ] refl
 
-not_both : (environment other : List ℕ) (key : Key) → environment ≢ other → is_of environment key ≡ true → is_of other key ≡ false
+not_both : (environment other : List ℕ) (key : MetricKey) → environment ≢ other → is_of environment key ≡ true → is_of other key ≡ false
 not_both environment other key apart here = by (is_of other key) refl
   where
     by : (b : Bool) → is_of other key ≡ b → is_of other key ≡ false

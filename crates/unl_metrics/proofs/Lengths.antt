@@ -8,7 +8,7 @@ use Rattle.serde_json.proofs.OnLiterals.{serde_json_on_literals}
 use Rattle.serde_json.specs.Data.{Data, Items, no_items, item}
 use Rattle.serde_json.specs.View.{items_of}
 use Rattle.serde_json.specs.Written.{compact_text, items_text, comma_if}
-use Rattle.unl_metrics.specs.Book.{Book, Key, Tally}
+use Rattle.unl_metrics.specs.Book.{Book, MetricKey, Tally}
 use Rattle.unl_metrics.specs.Bulk.{counted_data, bulk_of_items, bulk_length, greatest, room_for}
 
 -- ---- what one more item adds
@@ -58,7 +58,7 @@ unfolding has_items
 len_before [] = refl
 len_before (e ∷ book) = grind (arith, nat_tests)
 
-pub one_more : (book : Book) (e : Key × Tally) → bulk_length (book ++ e ∷ []) ≡ bulk_length book + length (compact_text (counted_data e)) + cond (nat_eq (length book) 0) 0 1
+pub one_more : (book : Book) (e : MetricKey × Tally) → bulk_length (book ++ e ∷ []) ≡ bulk_length book + length (compact_text (counted_data e)) + cond (nat_eq (length book) 0) 0 1
 unfolding bulk_length
 one_more book e =
     let parts : map counted_data (book ++ e ∷ []) ≡ map counted_data book ++ counted_data e ∷ [] = map-append counted_data book (e ∷ []) in
@@ -93,7 +93,7 @@ room_is book i le fits full = greatest_is (λ n. nat_le (bulk_length (take n boo
     let past = full (omega arith) in
     grind (arith, nat_tests, longer, past))
 
-pub longer_is : (rows : Book) (i n before comma values : ℕ) (e : Key × Tally) → i < length rows → e ≡ get_or rows i e → before ≡ bulk_length (take i rows) → n ≡ length (compact_text (counted_data e)) → values ≡ i → comma ≡ (if values == 0 then 0 else 1) → before + n + comma ≡ bulk_length (take (i + 1) rows)
+pub longer_is : (rows : Book) (i n before comma values : ℕ) (e : MetricKey × Tally) → i < length rows → e ≡ get_or rows i e → before ≡ bulk_length (take i rows) → n ≡ length (compact_text (counted_data e)) → values ≡ i → comma ≡ (if values == 0 then 0 else 1) → before + n + comma ≡ bulk_length (take (i + 1) rows)
 longer_is rows i n before comma values e lt is so_far text all mark =
     let prefix : take (i + 1) rows ≡ take i rows ++ e ∷ [] = take_more rows i e lt ∙ ap (λ x. take i rows ++ x ∷ []) (sym is) in
     let len : length (take i rows) ≡ i = length-take-le i rows (omega arith) in

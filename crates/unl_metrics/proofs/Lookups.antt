@@ -9,7 +9,7 @@ use Rattle.std.specs.Ordering.{is_eq, is_lt, eq_by_cmp}
 use Rattle.std.specs.Prelude.{Option, Some, None, All, option_to_list, get_or}
 use Rattle.std.specs.declared.cmp.Ordering.{Ordering}
 use Rattle.std.specs.declared.cmp.Ordering.TheVariants.{Less, Equal, Greater}
-use Rattle.unl_metrics.specs.Book.{Book, Key, Tally, key_cmp, parts, sum, sum_of, tally_sum, added, with_entry, with_tally, tally_at, tallies_at, count_at, and_more, both, IsCounted, IsInOrder}
+use Rattle.unl_metrics.specs.Book.{Book, MetricKey, Tally, key_cmp, key_parts, sum, sum_of, tally_sum, added, with_entry, with_tally, tally_at, tallies_at, count_at, and_more, sum_of_both, IsCounted, HasOrderedKeys}
 use Rattle.unl_metrics.proofs.Books.{stays_in_order}
 use Rattle.unl_metrics.proofs.Entries.{first_of, second_of, less}
 use Rattle.unl_metrics.proofs.Order.{keys_total}
@@ -65,36 +65,36 @@ one_value R o q (e ∷ es) sorted =
       | false ↦ λ tied. rest
     ] refl
 
-fold_one : {X : Type 0} (plus : X → X → X) (before more : Option X) → fold (and_more plus) before (option_to_list more) ≡ both plus before more
+fold_one : {X : Type 0} (plus : X → X → X) (before more : Option X) → fold (and_more plus) before (option_to_list more) ≡ sum_of_both plus before more
 fold_one plus before None = refl
 fold_one plus before (Some x) = refl
 
-both_at_key : {K X : Type 0} (R : K → K → Ordering) → IsTotalOrder R → (plus : X → X → X) (es others : List (K × X)) (q : K) → T (is_sorted R others) → find R q (fold (with_entry R plus) es others) ≡ both plus (find R q es) (find R q others)
+both_at_key : {K X : Type 0} (R : K → K → Ordering) → IsTotalOrder R → (plus : X → X → X) (es others : List (K × X)) (q : K) → T (is_sorted R others) → find R q (fold (with_entry R plus) es others) ≡ sum_of_both plus (find R q es) (find R q others)
 both_at_key R o plus es others q sorted =
     all_at_key R o plus es others q ∙ ap (fold (and_more plus) (find R q es)) (one_value R o q others sorted) ∙ fold_one plus (find R q es) (find R q others)
 
 -- ---- books
 
-pub entries_at_key : (book others : Book) (key : Key) → tally_at key (sum_of book others) ≡ fold (and_more tally_sum) (tally_at key book) (tallies_at key others)
+pub entries_at_key : (book others : Book) (key : MetricKey) → tally_at key (sum_of book others) ≡ fold (and_more tally_sum) (tally_at key book) (tallies_at key others)
 unfolding sum_of values_at
 entries_at_key book others key = all_at_key key_cmp keys_total tally_sum book others key
 
-pub books_at_key : (book other : Book) (key : Key) → IsInOrder other → tally_at key (sum_of book other) ≡ both tally_sum (tally_at key book) (tally_at key other)
+pub books_at_key : (book other : Book) (key : MetricKey) → HasOrderedKeys other → tally_at key (sum_of book other) ≡ sum_of_both tally_sum (tally_at key book) (tally_at key other)
 unfolding sum_of
 books_at_key book other key order = both_at_key key_cmp keys_total tally_sum book other key order.rising
 
-pub variants_at_name : (s t : Tally) (name : List ℕ) → T (is_sorted (slice_cmp nat_cmp) t.variants) → count_at name (tally_sum s t).variants ≡ both sum (count_at name s.variants) (count_at name t.variants)
+pub variants_at_name : (s t : Tally) (name : List ℕ) → T (is_sorted (slice_cmp nat_cmp) t.variants) → count_at name (tally_sum s t).variants ≡ sum_of_both sum (count_at name s.variants) (count_at name t.variants)
 unfolding tally_sum
 variants_at_name s t name sorted = both_at_key (slice_cmp nat_cmp) nat_list_cmp_total sum s.variants t.variants name sorted
 
-pub sum_in_order : (book others : Book) → IsInOrder book → All IsCounted others → IsInOrder (sum_of book others)
+pub sum_in_order : (book others : Book) → HasOrderedKeys book → All IsCounted others → HasOrderedKeys (sum_of book others)
 unfolding sum_of
 sum_in_order book [] order each = order
 sum_in_order book (e ∷ others) order each = sum_in_order (with_tally book e) others (stays_in_order book e order (All-head IsCounted e others each)) (All-tail IsCounted e others each)
 
 -- ---- a book is determined by its tallies
 
-same_key : (j k : Key) → parts j ≡ parts k → j ≡ k
+same_key : (j k : MetricKey) → key_parts j ≡ key_parts k → j ≡ k
 same_key j k e = λ i. record {
   environment = get_or (e i) 0 [];
   app = get_or (e i) 1 [];
@@ -102,8 +102,8 @@ same_key j k e = λ i. record {
   hour = get_or (get_or (e i) 3 []) 0 0;
 }
 
-tied_keys : (j k : Key) → key_cmp j k ≡ Equal → j ≡ k
-tied_keys j k e = same_key j k (slice_cmp-IsAntisymmetric (slice_cmp-IsAntisymmetric nat_cmp-IsAntisymmetric) (parts j) (parts k) e)
+tied_keys : (j k : MetricKey) → key_cmp j k ≡ Equal → j ≡ k
+tied_keys j k e = same_key j k (slice_cmp-IsAntisymmetric (slice_cmp-IsAntisymmetric nat_cmp-IsAntisymmetric) (key_parts j) (key_parts k) e)
 
-pub same_book : (a b : Book) → IsInOrder a → IsInOrder b → ((key : Key) → tally_at key a ≡ tally_at key b) → a ≡ b
+pub same_book : (a b : Book) → HasOrderedKeys a → HasOrderedKeys b → ((key : MetricKey) → tally_at key a ≡ tally_at key b) → a ≡ b
 same_book a b first second same = same_entries key_cmp keys_total tied_keys a b first.rising second.rising same

@@ -17,7 +17,7 @@ use Rattle.unl_documents.specs.Parameters.{AreRising}
 use Rattle.unl_documents.specs.Reading.{Reading, ◌>>=◌}
 use Rattle.unl_metrics.specs.declared.report.VariantCount.{VariantCount}
 use Rattle.unl_metrics.specs.declared.report.Report.{Report}
-use Rattle.unl_metrics.specs.Readable.{IsNamed, AreVariants, AreReadable}
+use Rattle.unl_metrics.specs.Readable.{HasValidName, AreVariants, AreReadable}
 use Rattle.unl_metrics.specs.Reports.{each_member, IsReport}
 
 -- The items already read, and the reading of the rest.
@@ -82,7 +82,7 @@ unfolding IsStrictlySortedBy
 none_rise = tt
 
 pub no_variants : AreVariants []
-no_variants = record { rising = none_rise; names = (omega arith, All-nil IsNamed) }
+no_variants = record { rising = none_rise; names = (omega arith, All-nil HasValidName) }
 
 pub are_entries : (report : Report) → AreReadable report.entries → IsReport report
 are_entries report valid = λ k d lt. let e = valid.1 k d lt in record { hour = omega (arith, e.hour); variants = e.variants.rising }

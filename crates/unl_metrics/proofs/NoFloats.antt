@@ -10,7 +10,7 @@ use Rattle.serde_json.specs.View.{view, items_of}
 use Rattle.serde_json.specs.Written.{has_float, items_have_float, members_have_float}
 use Rattle.serde_json.specs.declared.value.Value.{Value}
 use Rattle.unl_documents.specs.Writing.{count}
-use Rattle.unl_metrics.specs.Book.{Book, Key, Tally, Variants, counted_in}
+use Rattle.unl_metrics.specs.Book.{Book, MetricKey, Tally, Variants, counted_in}
 use Rattle.unl_metrics.specs.Bulk.{with_counts, variants_data, counted_data, bulk_of_items, bulk_data, bulk_report, bulk, room_for}
 
 no_float_put : (name : List ℕ) (n : ℕ) (ms : Members) → members_have_float ms ≡ false → members_have_float (put name (count n) ms) ≡ false
@@ -32,7 +32,7 @@ no_float_counts : (variants : Variants) (ms : Members) → members_have_float ms
 no_float_counts [] ms h = h
 no_float_counts (v ∷ variants) ms h = no_float_counts variants (put v.0 (count v.1) ms) (no_float_put v.0 v.1 ms h)
 
-pub no_float : (e : Key × Tally) → has_float (counted_data e) ≡ false
+pub no_float : (e : MetricKey × Tally) → has_float (counted_data e) ≡ false
 unfolding counted_data variants_data
 no_float e = rw (no_float_counts e.1.variants no_members refl) refl
 

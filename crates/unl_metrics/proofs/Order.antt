@@ -1,7 +1,7 @@
 -- The order of keys.
 use Rattle.std.proofs.lemmas.Cmp.{lists_total, nat_list_cmp_total}
 use Rattle.std.specs.Cmp.{IsTotalOrder, on_total}
-use Rattle.unl_metrics.specs.Book.{key_cmp, parts}
+use Rattle.unl_metrics.specs.Book.{key_cmp, key_parts}
 
 pub keys_total : IsTotalOrder key_cmp
-keys_total = on_total parts (lists_total nat_list_cmp_total)
+keys_total = on_total key_parts (lists_total nat_list_cmp_total)

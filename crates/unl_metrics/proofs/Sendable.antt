@@ -18,9 +18,9 @@ use Rattle.unl_documents.specs.Limits.{IsName}
 use Rattle.unl_documents.specs.Parameters.{AreRising}
 use Rattle.unl_documents.specs.Results.{json_of}
 use Rattle.unl_metrics.specs.declared.report.MetricEntry.{MetricEntry}
-use Rattle.unl_metrics.specs.Book.{Book, Key, Tally, Variants, key_cmp, is_of, pair, counted, counted_in, sum, sum_of, tally_sum, added, with_variant, with_tally, acknowledge, has_few_variants, fits, IsCounted, IsBook}
+use Rattle.unl_metrics.specs.Book.{Book, MetricKey, Tally, Variants, key_cmp, is_of, pair, counted, counted_in, sum, sum_of, tally_sum, added, with_variant, with_tally, acknowledge, has_few_variants, fits, IsCounted, IsMetricsBook}
 use Rattle.unl_metrics.specs.Bulk.{bulk, bulk_data, bulk_report, room_for}
-use Rattle.unl_metrics.specs.Readable.{IsNamed, IsReadable, AreReadable, IsSendable, IsReadAs, named, entry_at, entries_at}
+use Rattle.unl_metrics.specs.Readable.{HasValidName, IsReadable, AreReadable, IsSendable, IsReadAs, named, entry_at, entries_at}
 use Rattle.unl_metrics.proofs.Entries.{each_true, first_of, second_of, less}
 use Rattle.unl_metrics.proofs.RoundTrip.{text_back}
 use Rattle.unl_metrics.proofs.Sending.{entries_again}
@@ -48,7 +48,7 @@ names_stay variants (v ∷ others) each more =
 abbrev HasNames : Tally → Type 0
 HasNames t = All IsCalled t.variants
 
-found_names : (k : Key) (book : Book) → All IsSendable book → IfSome (find key_cmp k book) HasNames
+found_names : (k : MetricKey) (book : Book) → All IsSendable book → IfSome (find key_cmp k book) HasNames
 found_names k [] each = tt
 found_names k (e ∷ book) each = elim (eq_by_cmp key_cmp k e.0) as (λ b. IfSome (cond b (Some e.1) (find key_cmp k book)) HasNames) [
   | true ↦ (All-head IsSendable e book each).variants
@@ -60,7 +60,7 @@ unfolding tally_sum
 added_names None t names here = here
 added_names (Some s) t names here = names_stay s.variants t.variants names here
 
-one_sendable : (book : Book) (e : Key × Tally) → All IsSendable book → IsSendable e → All IsSendable (with_tally book e)
+one_sendable : (book : Book) (e : MetricKey × Tally) → All IsSendable book → IsSendable e → All IsSendable (with_tally book e)
 one_sendable book e each this =
     let names = added_names (find key_cmp e.0 book) e.1 (found_names e.0 book each) this.variants in
     all_put key_cmp IsSendable e.0 (added tally_sum (find key_cmp e.0 book) e.1) book each (record { app = this.app; feature = this.feature; hour = this.hour; variants = names })
@@ -98,12 +98,12 @@ names_rise (v ∷ variants) h = (names_above v.0 variants (first_of (below_all (
 few : (n : ℕ) → nat_le n 100 ≡ true → n ≤ 100
 few n e = grind (arith, nat_tests, e)
 
-entry_readable : (e : Key × Tally) → IsSendable e → IsCounted e → has_few_variants e ≡ true → IsReadable (entry_at e)
+entry_readable : (e : MetricKey × Tally) → IsSendable e → IsCounted e → has_few_variants e ≡ true → IsReadable (entry_at e)
 entry_readable e sendable is small = record {
   app = sendable.app;
   feature = sendable.feature;
   hour = sendable.hour;
-  variants = record { rising = names_rise e.1.variants is.variants; names = (omega (arith, length-map e.1.variants named, few (length e.1.variants) small), All-map IsNamed named e.1.variants sendable.variants) };
+  variants = record { rising = names_rise e.1.variants is.variants; names = (omega (arith, length-map e.1.variants named, few (length e.1.variants) small), All-map HasValidName named e.1.variants sendable.variants) };
 }
 
 each_readable : (environment : List ℕ) (n : ℕ) (book : Book) → All IsSendable book → All IsCounted book → list_all has_few_variants book ≡ true → All IsReadable (entries_at (take n (counted_in environment book)))
@@ -131,7 +131,7 @@ small_book book e = let two = each_true (nat_le (length book) 10000) (list_all h
 prefix_again : (environment : List ℕ) (n : ℕ) (book : Book) → map (counted environment) (entries_at (take n (counted_in environment book))) ≡ take n (counted_in environment book)
 prefix_again environment n book = ap (map (counted environment)) (sym (take-map entry_at n (counted_in environment book))) ∙ sym (take-map (counted environment) n (entries_at (counted_in environment book))) ∙ ap (take n) (entries_again environment book)
 
-pub book_back : (environment : List ℕ) (book : Book) (n : ℕ) → IsBook book → All IsSendable book → IsReadAs (bulk_data (take n (counted_in environment book))) (entries_at (take n (counted_in environment book)))
+pub book_back : (environment : List ℕ) (book : Book) (n : ℕ) → IsMetricsBook book → All IsSendable book → IsReadAs (bulk_data (take n (counted_in environment book))) (entries_at (take n (counted_in environment book)))
 book_back environment book n is sendable bytes spelled =
     let prefix = take n (counted_in environment book) in
     let small = small_book book is.fit in
@@ -139,7 +139,7 @@ book_back environment book n is sendable bytes spelled =
     let again : json_of bytes ≡ Some (bulk_data (map (counted environment) (entries_at prefix))) = spelled ∙ ap (λ (b : Book). Some (bulk_data b)) (sym (prefix_again environment n book)) in
     text_back environment (entries_at prefix) (count, each_readable environment n book sendable is.order.each small.1) bytes again
 
-report_back : (environment : List ℕ) (book found : Book) (sent : Data × ℕ) → IsBook book → All IsSendable book → found ≡ counted_in environment book → Some sent ≡ bulk_report found → IsReadAs sent.0 (entries_at (take sent.1 (counted_in environment book)))
+report_back : (environment : List ℕ) (book found : Book) (sent : Data × ℕ) → IsMetricsBook book → All IsSendable book → found ≡ counted_in environment book → Some sent ≡ bulk_report found → IsReadAs sent.0 (entries_at (take sent.1 (counted_in environment book)))
 report_back environment book [] sent is sendable same report = absurd (subst T (ap is_some report) tt)
 report_back environment book (e ∷ found) sent is sendable same report =
     let room = room_for (e ∷ found) in
@@ -148,7 +148,7 @@ report_back environment book (e ∷ found) sent is sendable same report =
     subst (λ (s : Data × ℕ). IsReadAs s.0 (entries_at (take s.1 (counted_in environment book)))) (sym parts)
     (subst (λ (b : Book). IsReadAs (bulk_data b) (entries_at (take room (counted_in environment book)))) prefix (book_back environment book room is sendable))
 
-pub sent_back : (environment : List ℕ) (book : Book) (found : Option (Value × ℕ)) → IsBook book → All IsSendable book → option_map (λ sent. (view sent.0, sent.1)) found ≡ bulk environment book → IfSome found (λ sent. IsReadAs (view sent.0) (entries_at (take sent.1 (counted_in environment book))))
+pub sent_back : (environment : List ℕ) (book : Book) (found : Option (Value × ℕ)) → IsMetricsBook book → All IsSendable book → option_map (λ sent. (view sent.0, sent.1)) found ≡ bulk environment book → IfSome found (λ sent. IsReadAs (view sent.0) (entries_at (take sent.1 (counted_in environment book))))
 unfolding bulk
 sent_back environment book None is sendable report = tt
 sent_back environment book (Some sent) is sendable report = report_back environment book (counted_in environment book) (view sent.0, sent.1) is sendable refl report

@@ -17,19 +17,19 @@ use Rattle.unl_metrics.specs.Hours.{hours_of_years}
 -- ---- keys and counts
 
 -- What is counted: a feature in an app during an hour, in an environment.
-pub record Key : Type 0 where
+pub record MetricKey : Type 0 where
   pub environment : List ℕ
   pub app : List ℕ
   pub feature : List ℕ
   pub hour : ℕ
 
 -- The key as texts. The hour is a text of one number.
-abbrev pub parts : Key → List (List ℕ)
-parts k = k.environment ∷ k.app ∷ k.feature ∷ (k.hour ∷ []) ∷ []
+abbrev pub key_parts : MetricKey → List (List ℕ)
+key_parts k = k.environment ∷ k.app ∷ k.feature ∷ (k.hour ∷ []) ∷ []
 
 -- The order of keys: by environment, app, feature and hour.
-abbrev pub key_cmp : Key → Key → Ordering
-key_cmp = on parts (slice_cmp (slice_cmp nat_cmp))
+abbrev pub key_cmp : MetricKey → MetricKey → Ordering
+key_cmp = on key_parts (slice_cmp (slice_cmp nat_cmp))
 
 -- How many times each variant was given: a finite map from names, in byte order.
 abbrev pub Variants : Type 0
@@ -43,7 +43,7 @@ pub record Tally : Type 0 where
 
 -- The keys with their tallies, in ascending order of keys.
 abbrev pub Book : Type 0
-Book = List (Key × Tally)
+Book = List (MetricKey × Tally)
 
 -- ---- sums
 
@@ -69,7 +69,7 @@ unfoldable pub tally_sum : Tally → Tally → Tally
 tally_sum s t = record { yes = sum s.yes t.yes; no = sum s.no t.no; variants = fold with_variant s.variants t.variants }
 
 -- A book after a tally is added at a key.
-abbrev pub with_tally : Book → Key × Tally → Book
+abbrev pub with_tally : Book → MetricKey × Tally → Book
 with_tally = with_entry key_cmp tally_sum
 
 -- A book after others are added, entry by entry.
@@ -81,7 +81,7 @@ abbrev pub pair : VariantCount → List ℕ × ℕ
 pair v = (v.name, v.count)
 
 -- An entry's key, in an environment.
-abbrev pub key_of : List ℕ → MetricEntry → Key
+abbrev pub key_of : List ℕ → MetricEntry → MetricKey
 key_of environment e = record { environment = environment; app = e.app; feature = e.feature; hour = e.hour }
 
 -- An entry's tally.
@@ -89,7 +89,7 @@ abbrev pub tally_of : MetricEntry → Tally
 tally_of e = record { yes = e.yes; no = e.no; variants = map pair e.variants }
 
 -- An entry's key in an environment, and its tally.
-abbrev pub counted : List ℕ → MetricEntry → Key × Tally
+abbrev pub counted : List ℕ → MetricEntry → MetricKey × Tally
 counted environment e = (key_of environment e, tally_of e)
 
 -- A book after a report is added, for an environment.
@@ -99,7 +99,7 @@ book_sum book environment report = sum_of book (map (counted environment) report
 -- ---- the value at a key
 
 -- A key's tally in a book, if the book has the key.
-abbrev pub tally_at : Key → Book → Option Tally
+abbrev pub tally_at : MetricKey → Book → Option Tally
 tally_at = find key_cmp
 
 -- A variant's count, if there is one.
@@ -107,7 +107,7 @@ abbrev pub count_at : List ℕ → Variants → Option ℕ
 count_at = find (slice_cmp nat_cmp)
 
 -- All tallies of a key in a list that may have it several times.
-abbrev pub tallies_at : Key → Book → List Tally
+abbrev pub tallies_at : MetricKey → Book → List Tally
 tallies_at key others = map (λ e. e.1) (where_key key_cmp (eq_by_cmp key_cmp key) others)
 
 -- An optional value after one more is added.
@@ -115,9 +115,9 @@ abbrev pub and_more : {X : Type 0} → (X → X → X) → Option X → X → Op
 and_more plus before x = Some (added plus before x)
 
 -- The sum of two optional values: the one, if the other is missing.
-abbrev pub both : {X : Type 0} → (X → X → X) → Option X → Option X → Option X
-both plus before None = before
-both plus before (Some x) = and_more plus before x
+abbrev pub sum_of_both : {X : Type 0} → (X → X → X) → Option X → Option X → Option X
+sum_of_both plus before None = before
+sum_of_both plus before (Some x) = and_more plus before x
 
 -- How many keys at the start of the list come before a key.
 abbrev pub place : {K X : Type 0} → (K → K → Ordering) → K → List (K × X) → ℕ
@@ -126,7 +126,7 @@ place order k entries = prefix_len (λ e. is_lt (order e.0 k)) entries
 -- ---- limits
 
 -- The tally has at most 100 variants.
-abbrev pub has_few_variants : Key × Tally → Bool
+abbrev pub has_few_variants : MetricKey × Tally → Bool
 has_few_variants (key, tally) = nat_le (length tally.variants) 100
 
 -- At most 10,000 keys, and at most 100 variants at each.
@@ -138,24 +138,24 @@ abbrev pub if_fits : Book → Result Book AddRefusal
 if_fits book = if fits book then Ok book else Err Full
 
 -- An hour in the years 1970 to 9999, and variants in byte order, each name once.
-pub record IsCounted (entry : Key × Tally) : Type 0 where
+pub record IsCounted (entry : MetricKey × Tally) : Type 0 where
   pub hour : entry.0.hour < hours_of_years
   pub variants : T (is_sorted (slice_cmp nat_cmp) entry.1.variants)
 
 -- The keys are in ascending order, each once.
-pub record IsInOrder (book : Book) : Type 0 where
+pub record HasOrderedKeys (book : Book) : Type 0 where
   pub rising : T (is_sorted key_cmp book)
   pub each : All IsCounted book
 
 -- A book: the keys in ascending order, each once, within the limits.
-pub record IsBook (book : Book) : Type 0 where
-  pub order : IsInOrder book
+pub record IsMetricsBook (book : Book) : Type 0 where
+  pub order : HasOrderedKeys book
   pub fit : fits book ≡ true
 
 -- ---- environments
 
 -- The key is in the environment.
-abbrev pub is_of : List ℕ → Key → Bool
+abbrev pub is_of : List ℕ → MetricKey → Bool
 is_of environment key = bytes_eq key.environment environment
 
 -- The entries of a book in an environment.

@@ -4,8 +4,8 @@ use Rattle.serde_json.specs.Data.{Data, string, array, object, Items, Members, n
 use Rattle.serde_json.specs.View.{items_of}
 use Rattle.serde_json.specs.Written.{compact_text}
 use Rattle.unl_documents.specs.declared.field.Field.TheVariants as field
-use Rattle.unl_documents.specs.Writing.{with, count, list}
-use Rattle.unl_metrics.specs.Book.{Book, Key, Tally, Variants, counted_in}
+use Rattle.unl_documents.specs.Writing.{with, count, list_data}
+use Rattle.unl_metrics.specs.Book.{Book, MetricKey, Tally, Variants, counted_in}
 use Rattle.unl_metrics.specs.Hours.{hour_text}
 
 -- ---- as JSON
@@ -20,7 +20,7 @@ unfoldable pub variants_data : Variants → Data
 variants_data variants = object (with_counts variants no_members)
 
 -- A key and its tally as JSON.
-unfoldable pub counted_data : Key × Tally → Data
+unfoldable pub counted_data : MetricKey × Tally → Data
 counted_data (key, tally) = object (
     with field.AppName (string key.app) (
     with field.Environment (string key.environment) (
@@ -34,7 +34,7 @@ counted_data (key, tally) = object (
 -- A bulk report of these items.
 unfoldable pub bulk_of_items : Items → Data
 bulk_of_items items = object (
-    with field.Applications (list string []) (
+    with field.Applications (list_data string []) (
     with field.Metrics (array items)
     no_members))
 

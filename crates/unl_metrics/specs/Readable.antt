@@ -6,7 +6,7 @@ use Rattle.unl_documents.specs.Parameters.{AreRising}
 use Rattle.unl_documents.specs.Results.{json_of}
 use Rattle.unl_metrics.specs.declared.report.MetricEntry.{MetricEntry}
 use Rattle.unl_metrics.specs.declared.report.VariantCount.{VariantCount}
-use Rattle.unl_metrics.specs.Book.{Book, Key, Tally}
+use Rattle.unl_metrics.specs.Book.{Book, MetricKey, Tally}
 use Rattle.unl_metrics.specs.Reports.{bulk_report_of}
 
 -- The latest hour that can be read from a text.
@@ -14,13 +14,13 @@ abbrev pub last_hour : ℕ
 last_hour = 70389502
 
 -- The variant's name is within the limits of names.
-abbrev pub IsNamed : VariantCount → Type 0
-IsNamed v = IsName v.name
+abbrev pub HasValidName : VariantCount → Type 0
+HasValidName v = IsName v.name
 
 -- At most 100 variants, whose names are within their limits and in byte order.
 pub record AreVariants (variants : List VariantCount) : Type 0 where
   pub rising : AreRising (map (λ v. v.name) variants)
-  pub names : IsListOf 100 IsNamed variants
+  pub names : IsListOf 100 HasValidName variants
 
 -- An entry as it is read: names within their limits, and an hour that can be read.
 pub record IsReadable (e : MetricEntry) : Type 0 where
@@ -38,7 +38,7 @@ abbrev pub named : List ℕ × ℕ → VariantCount
 named v = record { name = v.0; count = v.1 }
 
 -- The report entry of a key and its tally.
-abbrev pub entry_at : Key × Tally → MetricEntry
+abbrev pub entry_at : MetricKey × Tally → MetricEntry
 entry_at (key, tally) =
     record { app = key.app; feature = key.feature; hour = key.hour; yes = tally.yes; no = tally.no; variants = map named tally.variants }
 
@@ -47,7 +47,7 @@ abbrev pub entries_at : Book → List MetricEntry
 entries_at book = map entry_at book
 
 -- A key and its tally that can be sent: names within their limits, and an hour that can be read.
-pub record IsSendable (e : Key × Tally) : Type 0 where
+pub record IsSendable (e : MetricKey × Tally) : Type 0 where
   pub app : IsName e.0.app
   pub feature : IsName e.0.feature
   pub hour : e.0.hour ≤ last_hour

@@ -28,13 +28,13 @@ pub struct MetricsBook {
 }
 
 impl Model for MetricsBook {
-    ghost use Rattle.unl_metrics.specs.Book.{Book, IsBook};
+    ghost use Rattle.unl_metrics.specs.Book.{Book, IsMetricsBook};
 
     ghost Value = { Book };
 
     ghost view = { λ b. b.rows.items };
 
-    ghost invariant = { λ b. IsBook b.rows.items };
+    ghost invariant = { λ b. IsMetricsBook b.rows.items };
 }
 
 impl MetricsBook {

@@ -5,26 +5,27 @@ ghost use Rattle.std.specs.FinMap.Entries.{is_sorted};
 ghost use Rattle.std.specs.Ordering.{nat_cmp};
 ghost use Rattle.serde_json.specs.Data.{depth};
 ghost use Rattle.unl_metrics.specs.declared.report.MetricEntry.{MetricEntry};
-ghost use Rattle.unl_metrics.specs.Book.{Book, Key, Tally, sum, sum_of, tally_sum, tally_at, tallies_at, count_at, and_more, both};
-ghost use Rattle.unl_metrics.specs.Book.{counted, counted_in, acknowledge, IsCounted, IsInOrder, IsBook};
+ghost use Rattle.unl_metrics.specs.Book.{Book, MetricKey, Tally, sum, sum_of, tally_sum, tally_at, tallies_at, count_at, and_more};
+ghost use Rattle.unl_metrics.specs.Book.{sum_of_both};
+ghost use Rattle.unl_metrics.specs.Book.{counted, counted_in, acknowledge, IsCounted, HasOrderedKeys, IsMetricsBook};
 ghost use Rattle.unl_metrics.specs.Bulk.{bulk, bulk_data, bulk_length, longest_bulk, room_for};
 ghost use Rattle.unl_metrics.specs.Readable.{AreReadable, IsReadAs, IsSendable, entries_at};
 
 /// A book is a finite map: two books with the same tally at each key are equal.
 pub fn books_are_maps()
-    ensures { (a b : Book) → IsInOrder a → IsInOrder b → ((key : Key) → tally_at key a ≡ tally_at key b) → a ≡ b }
+    ensures { (a b : Book) → HasOrderedKeys a → HasOrderedKeys b → ((key : MetricKey) → tally_at key a ≡ tally_at key b) → a ≡ b }
 {}
 
 /// The sum of two books has at each key the sum of both tallies, and the sum of two tallies has at each variant the sum
 /// of both counts.
 pub fn sums_are_sums_at_each_key()
-    ensures entries { (book others : Book) (key : Key) → tally_at key (sum_of book others)
+    ensures entries { (book others : Book) (key : MetricKey) → tally_at key (sum_of book others)
         ≡ fold (and_more tally_sum) (tally_at key book) (tallies_at key others) }
-    ensures books { (book other : Book) (key : Key) → IsInOrder other → tally_at key (sum_of book other)
-        ≡ both tally_sum (tally_at key book) (tally_at key other) }
+    ensures books { (book other : Book) (key : MetricKey) → HasOrderedKeys other → tally_at key (sum_of book other)
+        ≡ sum_of_both tally_sum (tally_at key book) (tally_at key other) }
     ensures variants { (s t : Tally) (name : List ℕ) → T (is_sorted (slice_cmp nat_cmp) t.variants)
-        → count_at name (tally_sum s t).variants ≡ both sum (count_at name s.variants) (count_at name t.variants) }
-    ensures order { (book others : Book) → IsInOrder book → All IsCounted others → IsInOrder (sum_of book others) }
+        → count_at name (tally_sum s t).variants ≡ sum_of_both sum (count_at name s.variants) (count_at name t.variants) }
+    ensures order { (book others : Book) → HasOrderedKeys book → All IsCounted others → HasOrderedKeys (sum_of book others) }
 {}
 
 /// Acknowledging drops the first keys of the environment, and no keys of others.
@@ -49,7 +50,7 @@ pub fn what_is_sent_is_read()
         ≡ counted_in environment book }
     ensures report { (environment : List ℕ) (entries : List MetricEntry) → AreReadable entries
         → IsReadAs (bulk_data (map (counted environment) entries)) entries }
-    ensures book { (environment : List ℕ) (book : Book) (n : ℕ) → IsBook book → All IsSendable book
+    ensures book { (environment : List ℕ) (book : Book) (n : ℕ) → IsMetricsBook book → All IsSendable book
         → IsReadAs (bulk_data (take n (counted_in environment book))) (entries_at (take n (counted_in environment book))) }
     ensures depth { (book : Book) → depth (bulk_data book) ≤ 4 }
 {}

@@ -6,7 +6,7 @@ ghost use Rattle.unl_documents.specs.Kinds.{object_of, required as required_at};
 ghost use Rattle.unl_documents.specs.Limits.{IsName};
 ghost use Rattle.unl_documents.specs.Parameters.{AreRising};
 ghost use Rattle.unl_documents.specs.Reading.{Gives};
-ghost use Rattle.unl_metrics.specs.Readable.{last_hour, IsNamed, AreVariants, IsReadable, AreReadable};
+ghost use Rattle.unl_metrics.specs.Readable.{last_hour, HasValidName, AreVariants, IsReadable, AreReadable};
 ghost use Rattle.unl_metrics.specs.Reports.{variant_count, each_member, members as members_at, entry_of, toggle_of, bucket_of, single_of};
 ghost use Rattle.unl_metrics.specs.Reports.{bulk_of};
 
@@ -57,7 +57,7 @@ fn each_variant(
 ) -> Result<List<VariantCount>, BadDocument>
     ensures gives { Gives result (each_member (variant_count field) (members_view members.now.entries)) }
     ensures rising { IfOk result (λ variants. AreRising (map (λ v. v.name) variants)) }
-    ensures names { IfOk result (All IsNamed) }
+    ensures names { IfOk result (All HasValidName) }
     ensures len { IfOk result (λ variants. length variants ≤ length members.now.entries) }
 {
     let mut variants = List::new(alloc);
@@ -76,7 +76,7 @@ fn variant_of(
 ) -> Result<VariantCount, BadDocument>
     ensures gives { Gives result (variant_count field name.now (view value.now)) }
     ensures same { IfOk result (λ v. v.name ≡ name.now) }
-    ensures named { IfOk result IsNamed }
+    ensures named { IfOk result HasValidName }
 {
     let name = name_of(alloc, field, name)?;
     let count = AnyWhole::read(alloc, field, value)?;

@@ -27,9 +27,9 @@ pub(crate) struct Row {
 }
 
 impl Model for Row {
-    ghost use Rattle.unl_metrics.specs.Book.{Key, Tally, counted};
+    ghost use Rattle.unl_metrics.specs.Book.{MetricKey, Tally, counted};
 
-    ghost Value = { Key × Tally };
+    ghost Value = { MetricKey × Tally };
 
     ghost view = { λ r. counted r.environment r.entry };
 }

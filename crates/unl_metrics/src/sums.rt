@@ -4,7 +4,7 @@ ghost use Rattle.std.specs.List.{list_all};
 ghost use Rattle.std.specs.FinMap.Entries.{is_sorted};
 ghost use Rattle.std.specs.Option.{option_map_or};
 ghost use Rattle.std.specs.Ordering.{is_eq};
-ghost use Rattle.unl_metrics.specs.Book.{counted, key_cmp, with_tally, sum_of, fits, has_few_variants, place, IsCounted, IsInOrder};
+ghost use Rattle.unl_metrics.specs.Book.{counted, key_cmp, with_tally, sum_of, fits, has_few_variants, place, IsCounted, HasOrderedKeys};
 ghost use Rattle.unl_metrics.specs.Reports.{IsEntry};
 
 use crate::report::MetricEntry;
@@ -44,7 +44,7 @@ fn is_at(rows: &[Shared<Row>], place: usize, row: &Row) -> bool
 
 /// Adds a row's tally to that of its key, or inserts the row.
 fn add_row(rows: &mut Vec<Shared<Row>>, alloc: Global, row: Shared<Row>) -> Result<(), Memory>
-    requires { IsInOrder rows.old.items }
+    requires { HasOrderedKeys rows.old.items }
     ensures { OnOk result (rows.new.items ≡ with_tally rows.old.items row) }
 {
     let place = place_of(rows.as_slice(), row.get());
@@ -63,10 +63,10 @@ pub(crate) fn sum_of(
     rows: &[Shared<Row>],
     others: &[Shared<Row>],
 ) -> Result<Vec<Shared<Row>>, Memory>
-    requires rows { IsInOrder rows.now }
+    requires rows { HasOrderedKeys rows.now }
     requires others { All IsCounted others.now }
     ensures sum { IfOk result (λ all. all.items ≡ sum_of rows.now others.now) }
-    ensures order { IfOk result (λ all. IsInOrder all.items) }
+    ensures order { IfOk result (λ all. HasOrderedKeys all.items) }
 {
     let mut all = copies(alloc, rows)?;
     for other in others {
@@ -82,10 +82,10 @@ pub(crate) fn report_sum(
     environment: &str,
     entries: &[MetricEntry],
 ) -> Result<Vec<Shared<Row>>, Memory>
-    requires rows { IsInOrder rows.now }
+    requires rows { HasOrderedKeys rows.now }
     requires entries { All IsEntry entries.now }
     ensures sum { IfOk result (λ all. all.items ≡ sum_of rows.now (map (counted environment.now) entries.now)) }
-    ensures order { IfOk result (λ all. IsInOrder all.items) }
+    ensures order { IfOk result (λ all. HasOrderedKeys all.items) }
 {
     let mut all = copies(alloc, rows)?;
     for entry in entries {

@@ -2,7 +2,7 @@
 
 /// The kind of an option's value.
 #[derive(Clone, Copy, Debug, PartialEq, Eq)]
-pub(crate) enum Kind {
+pub(crate) enum OptionKind {
     /// Decimal digits.
     Number,
     /// Comma-separated items.
@@ -17,7 +17,7 @@ pub(crate) struct CommandOption {
     /// Its name, without the leading hyphens.
     pub name: &'static str,
     /// The kind of its value.
-    pub kind: Kind,
+    pub kind: OptionKind,
     /// The placeholder for its value in the usage.
     pub value: &'static str,
     /// The default value. `None` if the option is required.
@@ -65,7 +65,7 @@ const ANY_U64: &str = "0 to 18446744073709551615";
 
 const PORT: CommandOption = CommandOption {
     name: "port",
-    kind: Kind::Number,
+    kind: OptionKind::Number,
     value: "N",
     absent: Some("3063"),
     range: "1 to 65535",
@@ -74,7 +74,7 @@ const PORT: CommandOption = CommandOption {
 
 const CONNECTIONS: CommandOption = CommandOption {
     name: "connections",
-    kind: Kind::Number,
+    kind: OptionKind::Number,
     value: "N",
     absent: Some("0"),
     range: ANY_U64,
@@ -83,7 +83,7 @@ const CONNECTIONS: CommandOption = CommandOption {
 
 const UPSTREAM_ADDRESS: CommandOption = CommandOption {
     name: "upstream",
-    kind: Kind::Other,
+    kind: OptionKind::Other,
     value: "HOST:PORT",
     absent: None,
     range: "a host, a colon, and a port of 1 to 65535",
@@ -92,7 +92,7 @@ const UPSTREAM_ADDRESS: CommandOption = CommandOption {
 
 const INTERVAL: CommandOption = CommandOption {
     name: "interval",
-    kind: Kind::Number,
+    kind: OptionKind::Number,
     value: "N",
     absent: Some("15"),
     range: "1 to 3600",
@@ -101,7 +101,7 @@ const INTERVAL: CommandOption = CommandOption {
 
 const MODE: CommandOption = CommandOption {
     name: "mode",
-    kind: Kind::Other,
+    kind: OptionKind::Other,
     value: "MODE",
     absent: Some("delta"),
     range: "delta or feed",
@@ -111,7 +111,7 @@ const MODE: CommandOption = CommandOption {
 static CHECK: [CommandOption; 2] = [
     CommandOption {
         name: "now",
-        kind: Kind::Number,
+        kind: OptionKind::Number,
         value: "N",
         absent: Some("0"),
         range: "0 to 100000000000000",
@@ -119,7 +119,7 @@ static CHECK: [CommandOption; 2] = [
     },
     CommandOption {
         name: "word",
-        kind: Kind::Number,
+        kind: OptionKind::Number,
         value: "N",
         absent: Some("0"),
         range: ANY_U64,
@@ -131,7 +131,7 @@ static EDGE: [CommandOption; 9] = [
     UPSTREAM_ADDRESS,
     CommandOption {
         name: "upstream-tokens",
-        kind: Kind::List,
+        kind: OptionKind::List,
         value: "LIST",
         absent: None,
         range: "1 to 8 tokens of different environments",
@@ -139,7 +139,7 @@ static EDGE: [CommandOption; 9] = [
     },
     CommandOption {
         name: "tokens",
-        kind: Kind::List,
+        kind: OptionKind::List,
         value: "LIST",
         absent: None,
         range: "1 to 1024 tokens",
@@ -148,7 +148,7 @@ static EDGE: [CommandOption; 9] = [
     PORT,
     CommandOption {
         name: "workers",
-        kind: Kind::Number,
+        kind: OptionKind::Number,
         value: "N",
         absent: Some("4"),
         range: "1 to 16",
@@ -158,7 +158,7 @@ static EDGE: [CommandOption; 9] = [
     MODE,
     CommandOption {
         name: "host",
-        kind: Kind::Other,
+        kind: OptionKind::Other,
         value: "TEXT",
         absent: Some("empty"),
         range: TEXT,
@@ -170,7 +170,7 @@ static EDGE: [CommandOption; 9] = [
 static UPSTREAM: [CommandOption; 8] = [
     CommandOption {
         name: "secret",
-        kind: Kind::Other,
+        kind: OptionKind::Other,
         value: "TEXT",
         absent: None,
         range: "not empty, no line break or NUL in it",
@@ -178,7 +178,7 @@ static UPSTREAM: [CommandOption; 8] = [
     },
     CommandOption {
         name: "environments",
-        kind: Kind::List,
+        kind: OptionKind::List,
         value: "LIST",
         absent: None,
         range: "1 to 8 different names of at most 255 bytes",
@@ -186,7 +186,7 @@ static UPSTREAM: [CommandOption; 8] = [
     },
     CommandOption {
         name: "client-tokens",
-        kind: Kind::List,
+        kind: OptionKind::List,
         value: "LIST",
         absent: Some("empty"),
         range: "tokens that name one project or *",
@@ -194,7 +194,7 @@ static UPSTREAM: [CommandOption; 8] = [
     },
     CommandOption {
         name: "frontend-tokens",
-        kind: Kind::List,
+        kind: OptionKind::List,
         value: "LIST",
         absent: Some("empty"),
         range: "tokens that name one project or *",
@@ -206,7 +206,7 @@ static UPSTREAM: [CommandOption; 8] = [
     },
     CommandOption {
         name: "epoch",
-        kind: Kind::Number,
+        kind: OptionKind::Number,
         value: "N",
         absent: Some("0"),
         range: ANY_U64,
@@ -214,7 +214,7 @@ static UPSTREAM: [CommandOption; 8] = [
     },
     CommandOption {
         name: "keep",
-        kind: Kind::Other,
+        kind: OptionKind::Other,
         value: "WHERE",
         absent: Some("memory"),
         range: "memory or sqlite",
@@ -227,7 +227,7 @@ static FOLLOW: [CommandOption; 7] = [
     UPSTREAM_ADDRESS,
     CommandOption {
         name: "token",
-        kind: Kind::Other,
+        kind: OptionKind::Other,
         value: "TOKEN",
         absent: None,
         range: TOKEN,
@@ -235,7 +235,7 @@ static FOLLOW: [CommandOption; 7] = [
     },
     CommandOption {
         name: "feature",
-        kind: Kind::Other,
+        kind: OptionKind::Other,
         value: "NAME",
         absent: None,
         range: "1 to 255 bytes",
@@ -243,7 +243,7 @@ static FOLLOW: [CommandOption; 7] = [
     },
     CommandOption {
         name: "context",
-        kind: Kind::Other,
+        kind: OptionKind::Other,
         value: "QUERY",
         absent: Some("empty"),
         range: "a query as userId=7&plan=gold, within the limits of a context",
@@ -252,7 +252,7 @@ static FOLLOW: [CommandOption; 7] = [
     MODE,
     CommandOption {
         name: "turns",
-        kind: Kind::Number,
+        kind: OptionKind::Number,
         value: "N",
         absent: Some("1"),
         range: "1 to 1000000",
@@ -264,7 +264,7 @@ static FOLLOW: [CommandOption; 7] = [
 static LOAD: [CommandOption; 2] = [
     CommandOption {
         name: "seed",
-        kind: Kind::Number,
+        kind: OptionKind::Number,
         value: "N",
         absent: None,
         range: ANY_U64,
@@ -272,7 +272,7 @@ static LOAD: [CommandOption; 2] = [
     },
     CommandOption {
         name: "count",
-        kind: Kind::Number,
+        kind: OptionKind::Number,
         value: "N",
         absent: None,
         range: "1 to 1000000",

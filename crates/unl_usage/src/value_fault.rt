@@ -1,6 +1,6 @@
 //! Finds out which option's value is refused, by trying each value in `read_words`, together with sample values for the
 //! other required options.
-use crate::options::{CommandOption, Kind, sample_of};
+use crate::options::{CommandOption, OptionKind, sample_of};
 use crate::scan::Given;
 use std::alloc::{AllocError, Global};
 use thiserror::Error;
@@ -40,10 +40,10 @@ pub(crate) fn fault_of(
         return Ok(None);
     }
     let fault = match given.option.kind {
-        Kind::Number if is_number(given.value) => ValueFault::OutOfRange,
-        Kind::Number => ValueFault::NoNumber,
-        Kind::List => list_fault(alloc, command, options, given)?,
-        Kind::Other => ValueFault::BadText,
+        OptionKind::Number if is_number(given.value) => ValueFault::OutOfRange,
+        OptionKind::Number => ValueFault::NoNumber,
+        OptionKind::List => list_fault(alloc, command, options, given)?,
+        OptionKind::Other => ValueFault::BadText,
     };
     Ok(Some(fault))
 }

@@ -1,10 +1,10 @@
 -- The command that the first argument names.
-use Rattle.std.proofs.Common.{◌≡◌, List, [], ◌∷◌, map, Option, Some, None, Err, refl, ap, subst, sym}
+use Rattle.std.proofs.Common.{◌≡◌, List, [], ◌∷◌, map, Option, Some, None, refl, ap, subst}
 use Rattle.std.specs.Prelude.{ok_or}
 use Rattle.std.specs.List.{slice_get}
 use Rattle.clap.specs.Words.{Text}
 use Rattle.unl_documents.specs.Results.{◌>>=◌, Gives}
-use Rattle.unl_words.specs.Words.{DecidedByRanges, Command, WordsReading, asked_of, command_named, command_of, words_of}
+use Rattle.unl_words.specs.Words.{DecidedByRanges, CommandDefinition, WordsReading, asked_of, command_named, command_of, words_of}
 use Rattle.unl_words.specs.declared.refusal.WordsRefusal.TheVariants.{Bad, Memory}
 
 -- The first argument names its command.
@@ -23,20 +23,15 @@ no_command text [] none = refl
 no_command text (argument ∷ arguments) none = absurd cc
 
 -- The reading of the command is the reading of all arguments.
-pub exactly : (arguments : List Text) (command : Command) (result : WordsReading) → Some command ≡ command_of arguments
+pub exactly : (arguments : List Text) (command : CommandDefinition) (result : WordsReading) → Some command ≡ command_of arguments
     → Gives Memory result (asked_of command arguments) → Gives Memory result (words_of arguments)
 unfolding words_of
 exactly arguments command result named gives =
-    subst (λ (found : Option Command). Gives Memory result (ok_or found Bad >>= (λ (c : Command). asked_of c arguments))) named gives
+    subst (λ (found : Option CommandDefinition). Gives Memory result (ok_or found Bad >>= (λ (c : CommandDefinition). asked_of c arguments))) named gives
 
 -- The arguments name only one command.
-pub decided : (arguments : List Text) (known command : Command) (result : WordsReading) → Some known ≡ command_of arguments
+pub decided : (arguments : List Text) (known command : CommandDefinition) (result : WordsReading) → Some known ≡ command_of arguments
     → DecidedByRanges known arguments result → command_of arguments ≡ Some command → DecidedByRanges command arguments result
 decided arguments known command result named answers is =
     let same : known ≡ command = cc in
-    subst (λ (c : Command). DecidedByRanges c arguments result) same answers
-
--- Arguments that name no command are bad.
-pub unnamed : (arguments : List Text) → None ≡ command_of arguments → Err Bad ≡ words_of arguments
-unfolding words_of
-unnamed arguments none = ap (λ (found : Option Command). ok_or found Bad >>= (λ (c : Command). asked_of c arguments)) none
+    subst (λ (c : CommandDefinition). DecidedByRanges c arguments result) same answers

@@ -7,7 +7,7 @@ use Rattle.std.specs.Char.{is_ascii_digit}
 use Rattle.std.specs.Str.Parse.{AllDigits, IsNumeral, digits_value, without_leading_plus}
 use Rattle.std.proofs.lemmas.Str.{digit_value_digit}
 use Rattle.std.proofs.lemmas.Str.Parse.{tells_all_ascii_digits, without_leading_plus_none}
-use Rattle.unl_words.specs.Values.{is_number, number_within, within}
+use Rattle.unl_words.specs.Values.{is_number, number_within}
 use Rattle.unl_words.specs.declared.refusal.WordsRefusal.TheVariants.{Bad}
 
 all_digits : (text : List ℕ) → list_all is_ascii_digit text ≡ true → AllDigits 10 text
@@ -27,14 +27,6 @@ digits (c ∷ cs) is =
     let all = (both (nat_lt 0 (length (c ∷ cs))) (list_all is_ascii_digit (c ∷ cs)) is).1 in
     let here = tells_all_ascii_digits.parts c cs all in
     (without_leading_plus_none (c ∷ cs) (λ plus. omega (arith, here.0)), (omega arith, all_digits (c ∷ cs) all))
-
--- The result of `parse` is the number.
-pub number_read : (least most : ℕ) (text : List ℕ) (number : ℕ) → is_number text ≡ true → number ≡ digits_value 10 (without_leading_plus text)
-    → within least most number ≡ number_within least most text
-unfolding number_within
-number_read least most text number is reads =
-    let value : number ≡ digits_value 10 text = rw (digits text is).0 at reads in
-    rw (is, value) refl
 
 -- A number that `parse` rejects is greater than any that it could return.
 pub number_too_great : (least most : ℕ) (text : List ℕ) → is_number text ≡ true → most < 2 ^ 64

@@ -1,10 +1,10 @@
 -- The commands by their names.
 use Rattle.unl_words.specs.declared.name.CommandName.{CommandName}
 use Rattle.unl_words.specs.declared.name.CommandName.TheVariants as name
-use Rattle.unl_words.specs.Words.{Command, check, edge, explain, follow, load, replay, upstream}
+use Rattle.unl_words.specs.Words.{CommandDefinition, check, edge, explain, follow, load, replay, upstream}
 
 -- The command of each name.
-unfoldable pub command_by : CommandName → Command
+unfoldable pub command_by : CommandName → CommandDefinition
 command_by name.Replay = replay
 command_by name.Check = check
 command_by name.Edge = edge

@@ -21,7 +21,7 @@ WordsReading = Result Words WordsRefusal
 -- ---- commands
 
 -- A command: its definition for clap, and how it is read from the rows of values that clap finds.
-pub record Command : Type 0 where
+pub record CommandDefinition : Type 0 where
   pub app : App
   pub asks : List Row → WordsReading
 
@@ -32,14 +32,6 @@ option_named name = record (new_rule name) { long = Some name; action = Some Set
 -- The same as a required option.
 abbrev pub required_named : Text → Rule
 required_named name = record (option_named name) { required = true }
-
--- The command with one more option.
-abbrev pub with_option : App → Text → App
-with_option app name = with_rule app (option_named name)
-
--- The command with one more required option.
-abbrev pub with_required : App → Text → App
-with_required app name = with_rule app (required_named name)
 
 -- A command with these options.
 abbrev pub with_options : Text → List Rule → App
@@ -52,7 +44,7 @@ unfoldable pub replay_app : App
 replay_app = new_app (codes "replay")
 
 -- The command `replay`, which reads lines and prints one line for each.
-abbrev pub replay : Command
+abbrev pub replay : CommandDefinition
 replay = record { app = replay_app; asks = λ rows. Ok Replay }
 
 -- ---- check
@@ -77,7 +69,7 @@ asks_check rows = do
   Ok (Check now word)
 
 -- The command `check`, which runs a test file.
-abbrev pub check : Command
+abbrev pub check : CommandDefinition
 check = record { app = check_app; asks = asks_check }
 
 -- ---- edge
@@ -114,7 +106,7 @@ asks_edge rows = do
   }))
 
 -- The command `edge`, which serves evaluations and polls its upstream.
-abbrev pub edge : Command
+abbrev pub edge : CommandDefinition
 edge = record { app = edge_app; asks = asks_edge }
 
 -- ---- upstream
@@ -150,7 +142,7 @@ asks_upstream rows = do
       }))
 
 -- The command `upstream`, which accepts commands and serves the resulting state.
-abbrev pub upstream : Command
+abbrev pub upstream : CommandDefinition
 upstream = record { app = upstream_app; asks = asks_upstream }
 
 -- ---- follow
@@ -182,7 +174,7 @@ asks_follow rows = do
   }))
 
 -- The command `follow`, which follows an upstream and prints at each turn whether one feature is on.
-abbrev pub follow : Command
+abbrev pub follow : CommandDefinition
 follow = record { app = follow_app; asks = asks_follow }
 
 -- ---- explain
@@ -192,7 +184,7 @@ unfoldable pub explain_app : App
 explain_app = new_app (codes "explain")
 
 -- The command `explain`, which explains why a feature is on or off.
-abbrev pub explain : Command
+abbrev pub explain : CommandDefinition
 explain = record { app = explain_app; asks = λ rows. Ok Explain }
 
 -- ---- load
@@ -209,13 +201,13 @@ asks_load rows = do
   Ok (Load seed count)
 
 -- The command `load`, which evaluates features of a large generated input.
-abbrev pub load : Command
+abbrev pub load : CommandDefinition
 load = record { app = load_app; asks = asks_load }
 
 -- ---- the first argument
 
 -- The command with this name.
-abbrev pub command_named : Text → Option Command
+abbrev pub command_named : Text → Option CommandDefinition
 command_named name =
     if bytes_eq name (codes "replay") then Some replay
     else (if bytes_eq name (codes "check") then Some check
@@ -226,7 +218,7 @@ command_named name =
     else (if bytes_eq name (codes "load") then Some load else None))))))
 
 -- The command that the first argument names.
-unfoldable pub command_of : List Text → Option Command
+unfoldable pub command_of : List Text → Option CommandDefinition
 command_of [] = None
 command_of (name ∷ arguments) = command_named name
 
@@ -242,7 +234,7 @@ unfoldable pub matched : App → List Text → Result (List Row) WordsRefusal
 matched app arguments = faultless (fault_of app arguments) (matches_of app arguments)
 
 -- A command as read from the arguments after the first.
-abbrev pub asked_of : Command → List Text → WordsReading
+abbrev pub asked_of : CommandDefinition → List Text → WordsReading
 asked_of command arguments = do
   rows ← matched command.app arguments
   command.asks rows
@@ -254,6 +246,6 @@ words_of arguments = do
   asked_of command arguments
 
 -- If clap's definition of the command accepts the arguments, the result depends only on the values, unless memory ran out.
-abbrev pub DecidedByRanges : Command → List Text → WordsReading → Type 0
+abbrev pub DecidedByRanges : CommandDefinition → List Text → WordsReading → Type 0
 DecidedByRanges command arguments result =
     takes command.app arguments ≡ true → Gives Memory result (command.asks (matches_of command.app arguments))

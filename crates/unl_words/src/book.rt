@@ -1,5 +1,5 @@
 //! The token book of an upstream, built from the arguments of its command line.
-ghost use Rattle.std.specs.Prelude.{◌≡◌, ◌++◌, true, Ok, IfOk, map};
+ghost use Rattle.std.specs.Prelude.{◌≡◌, true, Ok, IfOk, map};
 ghost use Rattle.serde_json.specs.View.{view};
 ghost use Rattle.unl_words.specs.OwnBook.{own_answer, own_book, own_entry, tokens_read};
 ghost use Rattle.unl_tokens.specs.Books.{book_of};

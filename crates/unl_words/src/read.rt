@@ -5,8 +5,8 @@ ghost use Rattle.unl_documents.specs.Results.{Gives};
 ghost use Rattle.unl_words.specs.Commands.{command_by};
 ghost use Rattle.unl_words.specs.Ranges.{IsInRange, IsWithin};
 ghost use Rattle.unl_words.specs.Values.{number_or};
-ghost use Rattle.unl_words.specs.Words.{DecidedByRanges, Command, asked_of, asks_check, asks_edge, asks_follow, asks_load, asks_upstream};
-ghost use Rattle.unl_words.specs.Words.{command_of, last_number, words_of};
+ghost use Rattle.unl_words.specs.Words.{CommandDefinition, DecidedByRanges, asked_of, asks_check, asks_edge, asks_follow, asks_load};
+ghost use Rattle.unl_words.specs.Words.{asks_upstream, command_of, last_number, words_of};
 ghost use Rattle.unl_words.specs.declared.refusal.WordsRefusal.TheVariants.{Memory};
 
 use crate::name::{CommandName, first_name};
@@ -55,7 +55,7 @@ pub fn read_words(alloc: Global, words: &[String]) -> Result<Words, WordsRefusal
     // The result depends only on what clap finds in the arguments and on the ranges of the values.
     ensures exact { Gives Memory result (words_of (map string_bytes words.now)) }
     // If clap's definition accepts the arguments, the result depends only on the ranges of the values.
-    ensures decided { (command : Command) → command_of (map string_bytes words.now) ≡ Some command
+    ensures decided { (command : CommandDefinition) → command_of (map string_bytes words.now) ≡ Some command
         → DecidedByRanges command (map string_bytes words.now) result }
     // The values are in their ranges.
     ensures valid { IfOk result IsInRange }

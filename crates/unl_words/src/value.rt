@@ -8,7 +8,7 @@ ghost use Rattle.unl_documents.specs.Results.{Gives};
 ghost use Rattle.unl_documents.specs.Texts.{is_name};
 ghost use Rattle.unl_words.specs.Lists.{environment_of, is_token, token_of};
 ghost use Rattle.unl_words.specs.Values.{address_of, context_by, is_line_byte, is_address, is_line, is_secret, line_of};
-ghost use Rattle.unl_words.specs.Values.{mode_or_delta, mode_of};
+ghost use Rattle.unl_words.specs.Values.{mode_or_delta};
 ghost use Rattle.unl_words.specs.Values.{name_of, or_empty, passed, placed, required, secret_of, sqlite_or_memory};
 ghost use Rattle.unl_words.specs.declared.refusal.WordsRefusal.TheVariants.{Memory};
 

@@ -1,13 +1,13 @@
 use Rattle.std.proofs.Common.{◌≡◌, List, length}
 use Rattle.unl_http_api.specs.declared.request.Request.{Request}
-use Rattle.unl_http_api.specs.Session.{Reads, StayOpen}
+use Rattle.unl_http_api.specs.Session.{ReadsRequests, StayOpen}
 use Rattle.unl_http_api.proofs.first_item.has_one_session.Given as goal
 
 -- these requests were read, and none of them ends the connection
 abbrev pub invariant-loop-turn : goal.invariant-loop-turn
 invariant-loop-turn l = record {
   asked : List Request;
-  reads : Reads l.bytes asked l.rest;
+  reads : ReadsRequests l.bytes asked l.rest;
   stay : StayOpen asked;
   count : length asked ≡ l._turn;
 }

@@ -5,7 +5,7 @@ use Rattle.std.proofs.lemmas.Result.{err_from_is_err_and}
 use Rattle.serde_json.specs.View.{members_view}
 use Rattle.serde_json.proofs.Views.{Entry}
 use Rattle.unl_documents.specs.Parameters.{AreRising}
-use Rattle.unl_metrics.specs.Readable.{IsNamed}
+use Rattle.unl_metrics.specs.Readable.{HasValidName}
 use Rattle.unl_metrics.specs.Reports.{each_member, variant_count}
 use Rattle.unl_metrics.proofs.Members.{with_prefix, variant_names, names_of, begins, goes_on, ends, is_done, rising_names, rising_goes_on, rising_at_end}
 use Rattle.unl_metrics.proofs.reading.each_variant.Goals as goal
@@ -17,7 +17,7 @@ loop-name-init c =
     rw (c.new-variants.ensures, all) record {
       so_far = begins (each_member (variant_count c.args.field) (members_view entries));
       rising = rising_names entries c.iter-name-items.ensures.ordered;
-      names = All-nil IsNamed;
+      names = All-nil HasValidName;
       len = omega arith;
     }
 
@@ -45,7 +45,7 @@ loop-name-preserved c =
     rw c.in_ok-push.ensures.ok record {
       so_far = goes_on kind l.variants e left found total (rw (← c.as_str.ensures.value) c.in_ok-variant_of.ensures.gives) so_far;
       rising = rising_goes_on l.variants found (string_bytes e.0) (names_of left) (rw (← c.as_str.ensures.value) c.in_ok-variant_of.ensures.same) rising;
-      names = All-push IsNamed l.variants found l.invariant.names c.in_ok-variant_of.ensures.named;
+      names = All-push HasValidName l.variants found l.invariant.names c.in_ok-variant_of.ensures.named;
       len = omega (arith, length_push l.variants found, len);
     }
 

@@ -1,4 +1,4 @@
-use Rattle.std.proofs.Common.{◌≡◌, List, map, take}
+use Rattle.std.proofs.Common.{◌≡◌, map, take}
 use Rattle.std.specs.List.{fold}
 use Rattle.clap.specs.Words.{app_of, with_rule}
 use Rattle.unl_words.specs.Words.{option_named}
