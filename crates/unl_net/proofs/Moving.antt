@@ -7,7 +7,7 @@ use Rattle.std.proofs.Math.Seq.{take-append_seam, take-length}
 use Rattle.std.proofs.lemmas.List.{length-take, take-take}
 use Rattle.std.specs.Io.KnownBytes.{Appends, Consumes, Keeps, WriteAppends, append_known, prepend_known}
 use Rattle.unl_net.proofs.Trying.{appended_then, consumed_then, none_consumed, stays, stays_on}
-use Rattle.unl_net.specs.Buffers.{BeginsWith, ConsumesReturned}
+use Rattle.unl_net.specs.Buffers.{HasPrefix, ConsumesReturned}
 
 -- bytes that a read moves from the stream to the received ones stay among those to come
 pub received_keeps : (a b : Option (List ℕ)) (held bytes : List ℕ) → Consumes a b bytes
@@ -119,23 +119,23 @@ rest_after a b c (Err e) piece sent more failed first rest =
     Keeps-trans a b c (appends_kept a b (subst (λ (k : ℕ). Appends a b (take k piece)) failed first)) rest
 
 -- bytes are a prefix of themselves
-pub begins_same : (prefix bytes : List ℕ) → bytes ≡ prefix → BeginsWith prefix bytes
-unfolding BeginsWith
+pub begins_same : (prefix bytes : List ℕ) → bytes ≡ prefix → HasPrefix prefix bytes
+unfolding HasPrefix
 begins_same prefix bytes same = ap (take (length prefix)) same ∙ take-length prefix
 
 -- bytes are a prefix of themselves with more appended
-pub begins_more : (prefix more bytes : List ℕ) → bytes ≡ prefix ++ more → BeginsWith prefix bytes
-unfolding BeginsWith
+pub begins_more : (prefix more bytes : List ℕ) → bytes ≡ prefix ++ more → HasPrefix prefix bytes
+unfolding HasPrefix
 begins_more prefix more bytes same = ap (take (length prefix)) same ∙ take-append_seam prefix more
 
 -- a prefix of bytes is a prefix of equal bytes
-pub begins_kept : (prefix bytes same : List ℕ) → same ≡ bytes → BeginsWith prefix bytes → BeginsWith prefix same
-unfolding BeginsWith
+pub begins_kept : (prefix bytes same : List ℕ) → same ≡ bytes → HasPrefix prefix bytes → HasPrefix prefix same
+unfolding HasPrefix
 begins_kept prefix bytes same still begins = ap (take (length prefix)) still ∙ begins
 
 -- a prefix of a prefix is a prefix
-pub begins_then : (a b c : List ℕ) → BeginsWith a b → BeginsWith b c → BeginsWith a c
-unfolding BeginsWith
+pub begins_then : (a b c : List ℕ) → HasPrefix a b → HasPrefix b c → HasPrefix a c
+unfolding HasPrefix
 begins_then a b c first second =
     sym (take-take (length a) (length b) c within) ∙ ap (take (length a)) second ∙ first
   where

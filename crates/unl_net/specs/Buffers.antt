@@ -19,8 +19,8 @@ opened_len More bytes = 0
 opened_len (Bad status) bytes = length bytes
 
 -- `prefix` is a prefix of `bytes`
-unfoldable pub BeginsWith : List ℕ → List ℕ → Type 0
-BeginsWith prefix bytes = take (length prefix) bytes ≡ prefix
+unfoldable pub HasPrefix : List ℕ → List ℕ → Type 0
+HasPrefix prefix bytes = take (length prefix) bytes ≡ prefix
 
 -- the bytes that are still to be sent
 abbrev pub unsent : SendBuffer → List ℕ

@@ -1,7 +1,7 @@
 //! A connection of a door. The reactor of the door holds it while it waits, and a link while its requests are served.
-ghost use Rattle.std.specs.Prelude.{◌≡◌, ◌==◌, ◌≤◌, ◌||◌, [], false, length, nat_le, IfOk, IfSome, OnOk};
+ghost use Rattle.std.specs.Prelude.{◌≡◌, ◌==◌, ◌≤◌, ◌||◌, [], false, length, nat_le, IfOk, IfSome};
 ghost use Rattle.std.specs.Io.KnownBytes.{Keeps, WriteAppends};
-ghost use Rattle.unl_net.specs.Buffers.{BeginsWith, ConsumesReturnedIfAny, coming, facts_of, outgoing, unread, unsent};
+ghost use Rattle.unl_net.specs.Buffers.{HasPrefix, ConsumesReturnedIfAny, coming, facts_of, outgoing, unread, unsent};
 ghost use Rattle.unl_net.specs.Moments.{seconds_between};
 ghost use Rattle.unl_net.specs.Phases.{limit_of, phase_of};
 
@@ -174,7 +174,7 @@ impl<S: Read + Write + OpenStream + Drop> Connection<S> {
     /// The error of the stream, or out of memory.
     #[tactic(auto, using(crate::proofs::Moving::receive_rules))]
     pub fn receive(&mut self, room: &mut [u8; PIECE]) -> io::Result<bool>
-        ensures begins { BeginsWith (unread self.old.received) (unread self.new.received) }
+        ensures begins { HasPrefix (unread self.old.received) (unread self.new.received) }
         ensures kept { Keeps (coming self.old.received (S.remaining self.old.stream))
             (coming self.new.received (S.remaining self.new.stream)) }
         ensures others { (self.new.to_send ≡ self.old.to_send) × (self.new.closing ≡ self.old.closing) }
@@ -244,7 +244,7 @@ impl<S: Read + Write + OpenStream + Drop> Connection<S> {
         ensures phase { IfOk result (λ phase. phase
             ≡ phase_of (facts_of self.new.received self.new.to_send self.new.closing self.new.ended)) }
         ensures closing { self.new.closing ≡ self.old.closing }
-        ensures begins { self.old.closing ≡ false → BeginsWith (unread self.old.received) (unread self.new.received) }
+        ensures begins { self.old.closing ≡ false → HasPrefix (unread self.old.received) (unread self.new.received) }
         ensures received { self.old.closing ≡ false → unsent self.old.to_send ≡ []
             → Keeps (coming self.old.received (S.remaining self.old.stream)) (coming self.new.received (S.remaining self.new.stream)) }
     {
@@ -268,7 +268,7 @@ impl<S: Read + Write + OpenStream + Drop> Connection<S> {
         ensures phase { IfOk result (λ phase. phase
             ≡ phase_of (facts_of self.new.received self.new.to_send self.new.closing self.new.ended)) }
         ensures closing { self.new.closing ≡ self.old.closing }
-        ensures begins { self.old.closing ≡ false → BeginsWith (unread self.old.received) (unread self.new.received) }
+        ensures begins { self.old.closing ≡ false → HasPrefix (unread self.old.received) (unread self.new.received) }
         ensures received { self.old.closing ≡ false
             → Keeps (coming self.old.received (S.remaining self.old.stream)) (coming self.new.received (S.remaining self.new.stream)) }
     {
@@ -292,7 +292,7 @@ impl<S: Read + Write + OpenStream + Drop> Connection<S> {
         ensures phase { IfOk result (λ phase. phase
             ≡ phase_of (facts_of self.new.received self.new.to_send self.new.closing self.new.ended)) }
         ensures closing { self.new.closing ≡ self.old.closing }
-        ensures begins { BeginsWith (unread self.old.received) (unread self.new.received) }
+        ensures begins { HasPrefix (unread self.old.received) (unread self.new.received) }
         ensures received { Keeps (coming self.old.received (S.remaining self.old.stream))
             (coming self.new.received (S.remaining self.new.stream)) }
     {
@@ -340,7 +340,7 @@ impl<S: Read + Write + OpenStream + Drop> Connection<S> {
         ensures phase { IfOk result (λ phase. phase
             ≡ phase_of (facts_of self.new.received self.new.to_send self.new.closing self.new.ended)) }
         ensures closing { self.new.closing ≡ self.old.closing }
-        ensures begins { BeginsWith (unread self.old.received) (unread self.new.received) }
+        ensures begins { HasPrefix (unread self.old.received) (unread self.new.received) }
         ensures kept { Keeps (coming self.old.received (S.remaining self.old.stream))
             (coming self.new.received (S.remaining self.new.stream)) }
     {
@@ -360,7 +360,7 @@ impl<S: Read + Write + OpenStream + Drop> Connection<S> {
     #[tactic(auto, using(crate::proofs::Moving::pieces_rules))]
     fn receive_pieces(&mut self, alloc: Global, room: &mut [u8; PIECE]) -> io::Result<()>
         ensures closing { self.new.closing ≡ self.old.closing }
-        ensures begins { BeginsWith (unread self.old.received) (unread self.new.received) }
+        ensures begins { HasPrefix (unread self.old.received) (unread self.new.received) }
         ensures kept { Keeps (coming self.old.received (S.remaining self.old.stream))
             (coming self.new.received (S.remaining self.new.stream)) }
     {
@@ -379,7 +379,7 @@ impl<S: Read + Write + OpenStream + Drop> Connection<S> {
     #[tactic(auto, using(crate::proofs::Trying::stays, crate::proofs::Moving::begins_same, crate::proofs::Moving::begins_kept))]
     fn receive_piece(&mut self, alloc: Global, room: &mut [u8; PIECE]) -> io::Result<bool>
         ensures closing { self.new.closing ≡ self.old.closing }
-        ensures begins { BeginsWith (unread self.old.received) (unread self.new.received) }
+        ensures begins { HasPrefix (unread self.old.received) (unread self.new.received) }
         ensures kept { Keeps (coming self.old.received (S.remaining self.old.stream))
             (coming self.new.received (S.remaining self.new.stream)) }
     {

@@ -1,6 +1,6 @@
 //! A door over the network.
 ghost use Rattle.slab.specs.Slab.{slab_len};
-ghost use Rattle.std.specs.Prelude.{◌≡◌, ◌≤◌, ◌+◌, ◌-◌, ◌^◌, ◌∷◌, [], IfNone, IfOk, IfSome, None, OnErr};
+ghost use Rattle.std.specs.Prelude.{◌≡◌, ◌+◌, ◌-◌, ◌^◌, ◌∷◌, [], IfNone, IfOk, IfSome, None, OnErr};
 ghost use Rattle.std.specs.Prelude.{true, unwrap_or};
 ghost use Rattle.std.specs.VecDeque.{deque_len};
 ghost use Rattle.unl_base.specs.Doors.{Accepts, IsFresh};

@@ -18,6 +18,7 @@ mod listener;
 mod log;
 mod moment;
 mod peer;
+mod peer_log;
 mod phase;
 mod reactor;
 mod reports;

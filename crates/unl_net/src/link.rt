@@ -2,12 +2,12 @@
 ghost use Rattle.std.specs.Prelude.{◌≡◌, ◌<◌, ◌≤◌, length, IfOk, None};
 ghost use Rattle.std.specs.Io.KnownBytes.{WriteAppends};
 ghost use Rattle.unl_base.specs.Faults.{HasExactCause};
-ghost use Rattle.unl_base.specs.Peers.{nothing_beside};
+ghost use Rattle.unl_base.specs.Peers.{no_other_parts};
 ghost use Rattle.unl_net.specs.Buffers.{ConsumesReturned, coming, outgoing};
 
 use crate::connection::Connection;
-use crate::served::Served;
-use crate::shared::Shared;
+use crate::served::ServedConnection;
+use crate::shared::SharedWithLinks;
 use std::alloc::Global;
 use std::io::{Read, Write};
 use std::net::OpenStream;
@@ -19,7 +19,7 @@ use unl_base::{Failed, Link, Sink, Source};
 /// connection goes back to the door, which hands it out again as another link.
 #[derive(Drop)]
 pub struct RealLink<S: Read + Write + OpenStream + Drop, C: Clock + Wait + Drop> {
-    served: Served<S, C>,
+    served: ServedConnection<S, C>,
     faults: u64,
 }
 
@@ -28,7 +28,7 @@ impl<S: Read + Write + OpenStream + Drop, C: Clock + Wait + Drop> RealLink<S, C>
     pub(crate) fn new(
         alloc: Global,
         clock: C,
-        shared: Arc<Shared<S>>,
+        shared: Arc<SharedWithLinks<S>>,
         connection: Connection<S>,
         alone: bool,
     ) -> Self
@@ -36,7 +36,7 @@ impl<S: Read + Write + OpenStream + Drop, C: Clock + Wait + Drop> RealLink<S, C>
         ensures serves { result.served.connection ≡ connection }
     {
         RealLink {
-            served: Served::new(alloc, clock, shared, connection, alone),
+            served: ServedConnection::new(alloc, clock, shared, connection, alone),
             faults: 0,
         }
     }
@@ -47,7 +47,7 @@ impl<S: Read + Write + OpenStream + Drop, C: Clock + Wait + Drop> Source for Rea
 
     ghost faults = { λ link. link.faults };
 
-    ghost beside = { λ _. nothing_beside };
+    ghost other_parts = { λ _. no_other_parts };
 
     /// Reads bytes of whole requests. Returns 0 once the link has ended.
     fn read(&mut self, room: &mut [u8]) -> Result<usize, Failed>
@@ -73,7 +73,7 @@ impl<S: Read + Write + OpenStream + Drop, C: Clock + Wait + Drop> Sink for RealL
 
     ghost faults = { λ link. link.faults };
 
-    ghost beside = { λ _. nothing_beside };
+    ghost other_parts = { λ _. no_other_parts };
 
     /// Sends the piece, and keeps what the client doesn't take yet to be sent later.
     fn write(&mut self, piece: &[u8]) -> Result<usize, Failed>
@@ -100,7 +100,7 @@ impl<S: Read + Write + OpenStream + Drop, C: Clock + Wait + Drop> Link for RealL
 
     ghost one_count = { λ link. refl };
 
-    ghost reads_beside = { λ link. refl };
+    ghost reads_other_parts = { λ link. refl };
 
-    ghost writes_beside = { λ link. refl };
+    ghost writes_other_parts = { λ link. refl };
 }

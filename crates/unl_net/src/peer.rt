@@ -6,10 +6,9 @@ ghost use Rattle.unl_base.specs.Faults.{HasExactCause, Rose};
 ghost use Rattle.unl_base.specs.Peers.{ReadsConnection, WritesConnection};
 
 use crate::exchange::Exchange;
-use crate::log::{Log, Logged, WELL};
 use crate::moment::moment;
+use crate::peer_log::PeerLog;
 use crate::retrying::{read_once, write_once};
-use crate::status_log::{LoggedStatus, StatusLog};
 use std::fmt::Display;
 use std::io;
 use std::io::{ErrorKind, Read, Write};
@@ -17,23 +16,17 @@ use std::net::{Net, OpenStream, TcpStream, ToSocketAddrs};
 use std::time::{Clock, Duration};
 use unl_base::{Failed, Link, Peer, Sink, Source};
 
-/// The logged state of a peer that can't be reached.
-const UNREACHABLE: u16 = 1;
-
 /// A peer over the network. Each connect makes a new connection, to the first of its addresses that accepts one. An exchange takes 30
 /// seconds at most, from the connect to the last byte. After one that used them up, connects fail at once for 5 seconds, so that
 /// callers that ask a hanging server one after another wait for it once.
 #[derive(Drop)]
 pub struct RealPeer<N: Net + Clock + Eprint + Drop, A: ToSocketAddrs + Display> {
     net: N,
-    address: A,
     stream: Option<N::Stream>,
     exchange: Exchange,
     /// The time limit that is set for the stream's calls, in seconds.
     limit: u64,
-    logged: Logged,
-    log: Log,
-    statuses: StatusLog,
+    log: PeerLog<A>,
     faults: u64,
 }
 
@@ -44,13 +37,10 @@ impl<N: Net + Clock + Eprint + Drop, A: ToSocketAddrs + Display> RealPeer<N, A> 
     {
         RealPeer {
             net,
-            address,
             stream: None,
             exchange: Exchange::new(),
             limit: 0,
-            logged: Logged::new(),
-            log: Log::new(),
-            statuses: StatusLog::new(),
+            log: PeerLog::new(address),
             faults: 0,
         }
     }
@@ -61,14 +51,7 @@ impl<N: Net + Clock + Eprint + Drop, A: ToSocketAddrs + Display> RealPeer<N, A> 
         ensures rises { (self.old.faults ≤ self.new.faults) × Rose self.old.faults self.new.faults }
     {
         self.exchange.note_fault(moment(&self.net));
-        let status = self.statuses.note_read(b"");
-        log_status(
-            &self.net,
-            &self.address,
-            &self.statuses,
-            &mut self.log,
-            status,
-        );
+        self.log.note_read(&self.net, b"");
         self.faults = self.faults.saturating_add(1);
     }
 }
@@ -144,57 +127,22 @@ fn write_in_time<N: Clock, S: Write + OpenStream>(
     write_once(stream, piece)
 }
 
-/// Logs that the peer is reachable again, if it was not.
-fn log_reached<N: Eprint, A: Display>(net: &N, address: &A, logged: &mut Logged, log: &mut Log) {
-    if logged.is_news(WELL) {
-        log.line(net, format_args!("upstream {address}: reachable again"));
-    }
-}
-
-/// Logs why the peer can't be reached, once.
-fn log_unreachable<N: Eprint, A: Display>(
-    net: &N,
-    address: &A,
-    logged: &mut Logged,
-    log: &mut Log,
-    fault: &io::Error,
-) {
-    if logged.is_news(UNREACHABLE) {
-        let line = format_args!("upstream {address}: unreachable: {fault}");
-        log.line(net, line);
-    }
-}
-
-/// Logs the status of a reply, if it is news.
-fn log_status<N: Eprint, A: Display>(
-    net: &N,
-    address: &A,
-    statuses: &StatusLog,
-    log: &mut Log,
-    status: Option<LoggedStatus>,
-) {
-    if let Some(status) = status {
-        let kind = statuses.kind();
-        log.line(net, format_args!("upstream {address}: {kind}: {status}"));
-    }
-}
-
 impl<N: Net + Clock + Eprint + Drop, A: ToSocketAddrs + Display> Source for RealPeer<N, A> {
     ghost use Rattle.std.specs.Prelude.{is_some};
-    ghost use Rattle.unl_base.specs.Peers.{nothing_beside};
+    ghost use Rattle.unl_base.specs.Peers.{no_other_parts};
 
     ghost left = { λ _. None };
 
     ghost faults = { λ peer. peer.faults };
 
-    ghost beside = { λ peer. record nothing_beside { connected = is_some peer.stream } };
+    ghost other_parts = { λ peer. record no_other_parts { connected = is_some peer.stream } };
 
     /// Reads from the last connection. Returns 0 if there is none.
     fn read(&mut self, room: &mut [u8]) -> Result<usize, Failed>
         requires { 0 < length room.old }
         ensures fits { IfOk result (λ n. n ≤ length room.new) }
         ensures forwards { ReadsConnection ⟦<N::Stream as Read>⟧.remaining self.old.stream self.new.stream result room.new }
-        ensures beside { is_some self.new.stream ≡ is_some self.old.stream }
+        ensures other_parts { is_some self.new.stream ≡ is_some self.old.stream }
         ensures cause { HasExactCause self.old.faults self.new.faults result }
     {
         let Some(stream) = &mut self.stream else {
@@ -202,14 +150,7 @@ impl<N: Net + Clock + Eprint + Drop, A: ToSocketAddrs + Display> Source for Real
         };
         match read_in_time(&self.net, stream, &self.exchange, &mut self.limit, room) {
             Ok(count) => {
-                let status = self.statuses.note_read(&room[..count]);
-                log_status(
-                    &self.net,
-                    &self.address,
-                    &self.statuses,
-                    &mut self.log,
-                    status,
-                );
+                self.log.note_read(&self.net, &room[..count]);
                 Ok(count)
             }
             Err(_) => {
@@ -222,13 +163,13 @@ impl<N: Net + Clock + Eprint + Drop, A: ToSocketAddrs + Display> Source for Real
 
 impl<N: Net + Clock + Eprint + Drop, A: ToSocketAddrs + Display> Sink for RealPeer<N, A> {
     ghost use Rattle.std.specs.Prelude.{is_some};
-    ghost use Rattle.unl_base.specs.Peers.{nothing_beside};
+    ghost use Rattle.unl_base.specs.Peers.{no_other_parts};
 
     ghost sent = { λ _. None };
 
     ghost faults = { λ peer. peer.faults };
 
-    ghost beside = { λ peer. record nothing_beside { connected = is_some peer.stream } };
+    ghost other_parts = { λ peer. record no_other_parts { connected = is_some peer.stream } };
 
     /// Writes to the last connection, and returns how many bytes it took. If there is none, the whole piece is dropped.
     fn write(&mut self, piece: &[u8]) -> Result<usize, Failed>
@@ -236,20 +177,13 @@ impl<N: Net + Clock + Eprint + Drop, A: ToSocketAddrs + Display> Sink for RealPe
         ensures some { IfOk result (λ n. 0 < n) }
         ensures fits { IfOk result (λ n. n ≤ length piece.now) }
         ensures forwards { WritesConnection ⟦<N::Stream as Write>⟧.contents self.old.stream self.new.stream result piece.now }
-        ensures beside { is_some self.new.stream ≡ is_some self.old.stream }
+        ensures other_parts { is_some self.new.stream ≡ is_some self.old.stream }
         ensures cause { HasExactCause self.old.faults self.new.faults result }
     {
         let Some(stream) = &mut self.stream else {
             return Ok(piece.len());
         };
-        let status = self.statuses.note_written(piece);
-        log_status(
-            &self.net,
-            &self.address,
-            &self.statuses,
-            &mut self.log,
-            status,
-        );
+        self.log.note_written(&self.net, piece);
         match write_in_time(&self.net, stream, &self.exchange, &mut self.limit, piece) {
             Ok(count) if count > 0 => Ok(count),
             _ => {
@@ -265,21 +199,21 @@ impl<N: Net + Clock + Eprint + Drop, A: ToSocketAddrs + Display> Link for RealPe
 
     ghost one_count = { λ peer. refl };
 
-    ghost reads_beside = { λ peer. refl };
+    ghost reads_other_parts = { λ peer. refl };
 
-    ghost writes_beside = { λ peer. refl };
+    ghost writes_other_parts = { λ peer. refl };
 }
 
 impl<N: Net + Clock + Eprint + Drop, A: ToSocketAddrs + Display> Peer for RealPeer<N, A> {
     ghost use Rattle.std.specs.Prelude.{is_some};
     ghost use Rattle.std.proofs.Common.{refl};
-    ghost use Rattle.unl_base.specs.Peers.{nothing_beside};
+    ghost use Rattle.unl_base.specs.Peers.{no_other_parts};
 
-    ghost state = { λ peer. record nothing_beside { connected = is_some peer.stream } };
+    ghost state = { λ peer. record no_other_parts { connected = is_some peer.stream } };
 
     fn connect(&mut self) -> Result<(), Failed> {
         self.stream = None;
-        self.statuses.note_connection();
+        self.log.note_connection();
         let now = moment(&self.net);
         if self.exchange.rests(now) {
             self.faults = self.faults.saturating_add(1);
@@ -287,21 +221,15 @@ impl<N: Net + Clock + Eprint + Drop, A: ToSocketAddrs + Display> Peer for RealPe
         }
         self.exchange.begin(now);
         self.limit = 0;
-        match connect_in_time(&self.net, &self.address, &self.exchange) {
+        match connect_in_time(&self.net, &self.log.address, &self.exchange) {
             Ok(stream) => {
-                log_reached(&self.net, &self.address, &mut self.logged, &mut self.log);
+                self.log.note_reached(&self.net);
                 self.stream = Some(stream);
                 Ok(())
             }
             Err(fault) => {
                 self.exchange.note_fault(moment(&self.net));
-                log_unreachable(
-                    &self.net,
-                    &self.address,
-                    &mut self.logged,
-                    &mut self.log,
-                    &fault,
-                );
+                self.log.note_unreachable(&self.net, &fault);
                 self.faults = self.faults.saturating_add(1);
                 Err(Failed)
             }

@@ -11,7 +11,7 @@ use crate::cuts::{Cut, Cuts, EndReason, cut_of};
 use crate::ending::CLOSED_AT_ONCE;
 use crate::moment::moment;
 use crate::phase::Phase;
-use crate::shared::Shared;
+use crate::shared::SharedWithLinks;
 use mio::unix::SourceFd;
 use mio::{Events, Interest, Poll, Token, Waker};
 use slab::Slab;
@@ -44,7 +44,7 @@ pub(crate) struct Reactor<S: Read + Write + OpenStream + AsRawFd + Drop> {
     events: Events,
     /// The keys of the noted connections, which are handled next.
     pub(crate) keys: Vec<usize>,
-    pub shared: Arc<Shared<S>>,
+    pub shared: Arc<SharedWithLinks<S>>,
     pub(crate) waiting: Slab<Connection<S>>,
     pub(crate) ready: VecDeque<Connection<S>>,
     room: [u8; PIECE],
@@ -93,7 +93,7 @@ impl<S: Read + Write + OpenStream + AsRawFd + Drop> Reactor<S> {
             poll,
             events: Events::with_capacity(alloc, MOST_EVENTS)?,
             keys: Vec::with_capacity(alloc, MOST_EVENTS)?,
-            shared: Arc::new(alloc, Shared::new(alloc, waker, workers)?)?,
+            shared: Arc::new(alloc, SharedWithLinks::new(alloc, waker, workers)?)?,
             waiting: Slab::new(alloc),
             ready: VecDeque::new(alloc),
             room: [0; PIECE],
@@ -373,7 +373,7 @@ impl<S: Read + Write + OpenStream + AsRawFd + Drop> Reactor<S> {
     }
 
     /// Waits for events, for `most` milliseconds at most, and handles them. A link that gives a connection back ends the wait, if
-    /// [`Shared::note_sleep`] was called before.
+    /// [`SharedWithLinks::note_sleep`] was called before.
     ///
     /// # Errors
     /// The error of the system.

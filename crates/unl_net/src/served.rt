@@ -5,7 +5,7 @@ ghost use Rattle.unl_net.specs.Buffers.{ConsumesReturned, coming, outgoing, unse
 ghost use Rattle.unl_net.specs.Phases.{fate_of};
 
 use crate::connection::{Connection, PIECE};
-use crate::shared::Shared;
+use crate::shared::SharedWithLinks;
 use std::alloc::Global;
 use std::io;
 use std::io::{ErrorKind, Read, Write};
@@ -42,9 +42,9 @@ enum LinkStage {
 
 /// A connection while a link serves it. The link reads whole requests only, and ends once they are answered and no further one is
 /// there.
-pub(crate) struct Served<S: Read + Write + OpenStream + Drop, C: Clock + Wait + Drop> {
+pub(crate) struct ServedConnection<S: Read + Write + OpenStream + Drop, C: Clock + Wait + Drop> {
     connection: Connection<S>,
-    shared: Arc<Shared<S>>,
+    shared: Arc<SharedWithLinks<S>>,
     alloc: Global,
     clock: C,
     stage: LinkStage,
@@ -52,19 +52,19 @@ pub(crate) struct Served<S: Read + Write + OpenStream + Drop, C: Clock + Wait + 
     waits_left: u64,
 }
 
-impl<S: Read + Write + OpenStream + Drop, C: Clock + Wait + Drop> Served<S, C> {
+impl<S: Read + Write + OpenStream + Drop, C: Clock + Wait + Drop> ServedConnection<S, C> {
     /// Begins to serve a connection. `alone`: the door has no other one.
     pub fn new(
         alloc: Global,
         clock: C,
-        shared: Arc<Shared<S>>,
+        shared: Arc<SharedWithLinks<S>>,
         connection: Connection<S>,
         alone: bool,
     ) -> Self
         ensures { result.connection ≡ connection }
     {
         let stage = stage_of(&connection);
-        Served {
+        ServedConnection {
             connection,
             shared,
             alloc,
@@ -431,9 +431,9 @@ fn fate_of(stage: LinkStage, owes: bool, unread: bool) -> Fate
     }
 }
 
-impl<S: Read + Write + OpenStream + Drop, C: Clock + Wait + Drop> Drop for Served<S, C> {
+impl<S: Read + Write + OpenStream + Drop, C: Clock + Wait + Drop> Drop for ServedConnection<S, C> {
     fn drop(self) {
-        let Served {
+        let ServedConnection {
             connection,
             shared,
             alloc,

@@ -14,7 +14,7 @@ const MOST_UNSENT: u64 = 268_435_456;
 
 /// What a door shares with its links. The door and each link own it, so it has one owner more than there are links.
 #[derive(Drop)]
-pub(crate) struct Shared<S: Read + Write + OpenStream + Drop> {
+pub(crate) struct SharedWithLinks<S: Read + Write + OpenStream + Drop> {
     /// The connections that links returned.
     returned: Mutex<VecDeque<Connection<S>>>,
     waker: Waker,
@@ -34,10 +34,10 @@ pub(crate) struct Shared<S: Read + Write + OpenStream + Drop> {
     pub workers: u32,
 }
 
-impl<S: Read + Write + OpenStream + Drop> Shared<S> {
+impl<S: Read + Write + OpenStream + Drop> SharedWithLinks<S> {
     /// What a door without connections shares.
     pub fn new(alloc: Global, waker: Waker, workers: u32) -> Result<Self, AllocError> {
-        Ok(Shared {
+        Ok(SharedWithLinks {
             returned: Mutex::new(VecDeque::with_capacity(alloc, 256)?),
             waker,
             sleeps: AtomicBool::new(false),

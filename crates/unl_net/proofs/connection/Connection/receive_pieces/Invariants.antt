@@ -1,6 +1,6 @@
 use Rattle.std.proofs.Common.{◌≡◌}
 use Rattle.std.specs.Io.KnownBytes.{Keeps}
-use Rattle.unl_net.specs.Buffers.{BeginsWith, coming, unread}
+use Rattle.unl_net.specs.Buffers.{HasPrefix, coming, unread}
 use Rattle.unl_net.proofs.connection.Connection.receive_pieces.Given as goal
 
 -- the bytes to come are unchanged, and no received byte is lost
@@ -9,4 +9,4 @@ invariant-pieces g l = Keeps
     (coming l.initial.self.received (g.S.Read.remaining l.initial.self.stream))
     (coming l.self.received (g.S.Read.remaining l.self.stream))
     × (l.self.closing ≡ l.initial.self.closing)
-    × BeginsWith (unread l.initial.self.received) (unread l.self.received)
+    × HasPrefix (unread l.initial.self.received) (unread l.self.received)

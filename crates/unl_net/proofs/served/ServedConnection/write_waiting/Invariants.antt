@@ -1,6 +1,6 @@
 use Rattle.std.specs.Io.KnownBytes.{Keeps}
 use Rattle.unl_net.specs.Buffers.{outgoing}
-use Rattle.unl_net.proofs.served.Served.write_waiting.Given as goal
+use Rattle.unl_net.proofs.served.ServedConnection.write_waiting.Given as goal
 
 -- the bytes sent and those still to be sent are unchanged
 abbrev pub invariant-waits : goal.invariant-waits

@@ -1,6 +1,6 @@
 use Rattle.std.proofs.Common.{◌≡◌}
 use Rattle.std.specs.Io.KnownBytes.{Keeps}
-use Rattle.unl_net.proofs.served.Served.read_stream.Given as goal
+use Rattle.unl_net.proofs.served.ServedConnection.read_stream.Given as goal
 
 -- nothing was read
 abbrev pub invariant-waits : goal.invariant-waits

@@ -1,6 +1,6 @@
 use Rattle.std.specs.Io.KnownBytes.{Keeps}
 use Rattle.unl_net.specs.Buffers.{coming}
-use Rattle.unl_net.proofs.served.Served.next_request.Given as goal
+use Rattle.unl_net.proofs.served.ServedConnection.next_request.Given as goal
 
 -- the bytes to come are unchanged
 abbrev pub invariant-pieces : goal.invariant-pieces

@@ -1,0 +1,74 @@
+//! What a peer logs: whether its server can be reached, and the statuses of its replies.
+
+use crate::log::{Log, Logged, WELL};
+use crate::status_log::{LoggedStatus, StatusLog};
+use std::fmt::Display;
+use std::io;
+use std::net::ToSocketAddrs;
+
+/// The logged state of a peer that can't be reached.
+const UNREACHABLE: u16 = 1;
+
+/// The log of a peer at an address, and what it logged last.
+#[derive(Drop)]
+pub(crate) struct PeerLog<A: ToSocketAddrs + Display> {
+    pub address: A,
+    logged: Logged,
+    log: Log,
+    statuses: StatusLog,
+}
+
+impl<A: ToSocketAddrs + Display> PeerLog<A> {
+    /// The log of a peer of which nothing was logged.
+    pub fn new(address: A) -> Self {
+        PeerLog {
+            address,
+            logged: Logged::new(),
+            log: Log::new(),
+            statuses: StatusLog::new(),
+        }
+    }
+
+    /// Logs that the peer is reachable again, if it was not.
+    pub fn note_reached<E: Eprint>(&mut self, to: &E) {
+        if self.logged.is_news(WELL) {
+            let address = &self.address;
+            self.log
+                .line(to, format_args!("upstream {address}: reachable again"));
+        }
+    }
+
+    /// Logs why the peer can't be reached, once.
+    pub fn note_unreachable<E: Eprint>(&mut self, to: &E, fault: &io::Error) {
+        if self.logged.is_news(UNREACHABLE) {
+            let address = &self.address;
+            self.log.line(to, format_args!("upstream {address}: unreachable: {fault}"));
+        }
+    }
+
+    /// Notes that a new connection is made.
+    pub fn note_connection(&mut self) {
+        self.statuses.note_connection();
+    }
+
+    /// Notes that a piece of a request is written. Logs that the exchange before it has no reply, if that is news.
+    pub fn note_written<E: Eprint>(&mut self, to: &E, piece: &[u8]) {
+        let status = self.statuses.note_written(piece);
+        self.log_status(to, status);
+    }
+
+    /// Notes the bytes of a read. Logs the status of their reply, if it is news.
+    pub fn note_read<E: Eprint>(&mut self, to: &E, bytes: &[u8]) {
+        let status = self.statuses.note_read(bytes);
+        self.log_status(to, status);
+    }
+
+    fn log_status<E: Eprint>(&mut self, to: &E, status: Option<LoggedStatus>) {
+        if let Some(status) = status {
+            let address = &self.address;
+            let kind = self.statuses.kind();
+            self.log
+                .line(to, format_args!("upstream {address}: {kind}: {status}"));
+        }
+    }
+}
