@@ -6,7 +6,7 @@ use Rattle.unl_http_api.specs.declared.request.Request.{Request}
 use Rattle.unl_tokens.specs.declared.kind.Kind.{Kind}
 use Rattle.unl_tokens.specs.declared.kind.Kind.TheVariants.{Client, Frontend}
 use Rattle.unl_tokens.specs.declared.token.Token.{Token}
-use Rattle.unl_tokens.specs.Books.{place_of}
+use Rattle.unl_tokens.specs.Books.{place_of_text}
 use Rattle.unl_core.specs.declared.board.Board.{Board}
 use Rattle.unl_core.specs.declared.shown.TokenRefusal.{TokenRefusal}
 use Rattle.unl_core.specs.declared.shown.TokenRefusal.TheVariants.{NoToken, UnknownToken, WrongKind, NotReady}
@@ -36,7 +36,7 @@ shown_at book place = option_map (λ token. record { place = place; token = toke
 
 -- The token of a text, with its position.
 abbrev pub entry_of : List ℕ → List Token → Option Shown
-entry_of text book = option_and_then (shown_at book) (place_of text book)
+entry_of text book = option_and_then (shown_at book) (place_of_text text book)
 
 -- A known token, if it is of this kind.
 abbrev pub of_kind : Kind → Option Shown → Result Shown TokenRefusal

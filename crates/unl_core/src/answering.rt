@@ -23,8 +23,8 @@ use crate::reply::{
     refuse, refuse_method, refuse_token, status_only, tagged_text, unchanged, with_text,
 };
 use crate::shown::{Ready, ready_by, shown_by};
+use crate::status;
 use crate::tag::{inlined_tag_of, since_of, tag_of};
-use http::StatusCode;
 use std::alloc::Global;
 use unl_base::Draw;
 use unl_context::{BadContext, Context};
@@ -54,7 +54,7 @@ pub fn answer(
     ensures report { IfOk result (λ a. IfSome a.report IsReport) }
 {
     let Some(route) = Route::of(alloc, request.target.as_slice())? else {
-        return Ok(plain(refuse(alloc, StatusCode::NOT_FOUND, "NoSuchRoute")?));
+        return Ok(plain(refuse(alloc, status::NOT_FOUND, "NoSuchRoute")?));
     };
     if !route.is_commands() && !route.methods().allows(request.method) {
         return Ok(plain(refuse_method(alloc, &route)?));
@@ -97,7 +97,7 @@ fn at_route(
         Route::Metrics => report(alloc, board, request, Kind::Client),
         Route::FrontMetrics => report(alloc, board, request, Kind::Frontend),
         Route::Bulk => bulk_report(alloc, board, request),
-        Route::Commands => Ok(plain(refuse(alloc, StatusCode::NOT_FOUND, "NoSuchRoute")?)),
+        Route::Commands => Ok(plain(refuse(alloc, status::NOT_FOUND, "NoSuchRoute")?)),
     }
 }
 
@@ -141,9 +141,9 @@ fn reported_by(
 {
     match reading {
         Err(BadReport::Memory) => Err(Memory),
-        Err(_) => Ok(plain(refuse(alloc, StatusCode::BAD_REQUEST, "BadReport")?)),
+        Err(_) => Ok(plain(refuse(alloc, status::BAD_REQUEST, "BadReport")?)),
         Ok(report) => Ok(Answer {
-            reply: status_only(alloc, StatusCode::ACCEPTED)?,
+            reply: status_only(alloc, status::ACCEPTED)?,
             report: Some(report),
             environment: Some(token.environment.copy(alloc)?),
         }),
@@ -155,7 +155,7 @@ fn healthy(alloc: Global) -> Result<Reply, Memory>
     ensures { IfOk result (λ r. r ≡ reply 200 (one_text (codes "status") (codes "OK"))) }
 {
     let text = List::from_slice(alloc, br#"{"status":"OK"}"#)?;
-    Ok(with_text(StatusCode::OK, text))
+    Ok(with_text(status::OK, text))
 }
 
 /// The known tokens among those that the request lists.
@@ -164,10 +164,10 @@ fn validate(alloc: Global, board: &Board, request: &Request) -> Result<Reply, Me
 {
     match read_request(alloc, request.body.as_slice()) {
         Err(BadRequest::Memory) => Err(Memory),
-        Err(_) => refuse(alloc, StatusCode::BAD_REQUEST, "BadBody"),
+        Err(_) => refuse(alloc, status::BAD_REQUEST, "BadBody"),
         Ok(texts) => {
             let text = answer_text(alloc, board.book.get(), &texts)?;
-            Ok(with_text(StatusCode::OK, text))
+            Ok(with_text(status::OK, text))
         }
     }
 }
@@ -179,8 +179,8 @@ fn register(alloc: Global, board: &Board, request: &Request, kind: Kind) -> Resu
     match shown_by(board, request, kind) {
         Err(unseen) => refuse_token(alloc, unseen),
         Ok(_) => match read_object(alloc, request.body.as_slice())? {
-            Some(_) => status_only(alloc, StatusCode::ACCEPTED),
-            None => refuse(alloc, StatusCode::BAD_REQUEST, "BadReport"),
+            Some(_) => status_only(alloc, status::ACCEPTED),
+            None => refuse(alloc, status::BAD_REQUEST, "BadReport"),
         },
     }
 }
@@ -213,7 +213,7 @@ fn toggles_for(
 {
     match asked_context(alloc, request) {
         Err(BadContext::Memory) => Err(Memory),
-        Err(_) => refuse(alloc, StatusCode::BAD_REQUEST, "BadContext"),
+        Err(_) => refuse(alloc, status::BAD_REQUEST, "BadContext"),
         Ok(context) => {
             let context = placed(alloc, context, ready.token.environment.as_str())?;
             let moment = Moment {
@@ -225,7 +225,7 @@ fn toggles_for(
             let text = ready
                 .snapshot
                 .toggles_text(alloc, projects, all, &context, &moment)?;
-            Ok(with_text(StatusCode::OK, text))
+            Ok(with_text(status::OK, text))
         }
     }
 }
@@ -274,7 +274,7 @@ fn feature(
     match ready_by(board, request, Kind::Client) {
         Err(unseen) => refuse_token(alloc, unseen),
         Ok(ready) => match name {
-            None => refuse(alloc, StatusCode::NOT_FOUND, "NoSuchFeature"),
+            None => refuse(alloc, status::NOT_FOUND, "NoSuchFeature"),
             Some(name) => feature_of(alloc, &ready, name.as_str()),
         },
     }
@@ -284,10 +284,10 @@ fn feature_of(alloc: Global, ready: &Ready, name: &str) -> Result<Reply, Memory>
     ensures { IfOk result (λ r. r ≡ document_reply (feature_named name.now (seen ready.now).features)) }
 {
     match ready.snapshot.feature(name, &ready.token.projects) {
-        None => refuse(alloc, StatusCode::NOT_FOUND, "NoSuchFeature"),
+        None => refuse(alloc, status::NOT_FOUND, "NoSuchFeature"),
         Some(feature) => {
             let text = text_of(alloc, feature)?;
-            Ok(with_text(StatusCode::OK, text))
+            Ok(with_text(status::OK, text))
         }
     }
 }
@@ -322,7 +322,7 @@ fn feed_for(
     match feed_state(alloc, inlined, ready) {
         Err(InlineRefusal::Memory) => Err(Memory),
         Err(InlineRefusal::TooMany(_)) => {
-            refuse(alloc, StatusCode::SERVICE_UNAVAILABLE, "TooManyConstraints")
+            refuse(alloc, status::SERVICE_UNAVAILABLE, "TooManyConstraints")
         }
         Ok(state) => feed_with(alloc, ready, tag, &state),
     }
@@ -434,7 +434,7 @@ fn not_modified_at(
     ensures { IfOk result (λ r. r ≡ not_modified_at board.now ready.now since) }
 {
     match since {
-        None => status_only(alloc, StatusCode::NOT_MODIFIED),
+        None => status_only(alloc, status::NOT_MODIFIED),
         Some(number) => {
             let tag = tag_at(alloc, board, ready, number)?;
             unchanged(alloc, tag)

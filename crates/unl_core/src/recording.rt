@@ -5,7 +5,7 @@ ghost use Rattle.unl_metrics.specs.Reports.{IsReport};
 
 use crate::desk::Answer;
 use crate::reply::refuse;
-use http::StatusCode;
+use crate::status;
 use std::alloc::Global;
 use unl_documents::{Memory, Text};
 use unl_http_api::Reply;
@@ -21,7 +21,7 @@ pub fn record_report(alloc: Global, book: &mut MetricsBook, answer: Answer) -> R
 {
     match sum_up(alloc, book, &answer.report, &answer.environment) {
         Ok(()) => Ok(answer.reply),
-        Err(AddRefusal::Full) => refuse(alloc, StatusCode::SERVICE_UNAVAILABLE, "MetricsFull"),
+        Err(AddRefusal::Full) => refuse(alloc, status::SERVICE_UNAVAILABLE, "MetricsFull"),
         Err(AddRefusal::Memory) => Err(Memory),
     }
 }

@@ -1,0 +1,31 @@
+//! The statuses of replies, by their names in RFC 9110.
+
+/// The request succeeded.
+pub const OK: u16 = 200;
+
+/// What the request sends was taken.
+pub const ACCEPTED: u16 = 202;
+
+/// The client has the current content.
+pub const NOT_MODIFIED: u16 = 304;
+
+/// The request can't be read.
+pub const BAD_REQUEST: u16 = 400;
+
+/// The request has no token.
+pub const UNAUTHORIZED: u16 = 401;
+
+/// The token doesn't allow the request.
+pub const FORBIDDEN: u16 = 403;
+
+/// There is no such route or resource.
+pub const NOT_FOUND: u16 = 404;
+
+/// The route doesn't have the method.
+pub const METHOD_NOT_ALLOWED: u16 = 405;
+
+/// The request doesn't fit the current state.
+pub const CONFLICT: u16 = 409;
+
+/// The request can't be answered for now.
+pub const SERVICE_UNAVAILABLE: u16 = 503;
