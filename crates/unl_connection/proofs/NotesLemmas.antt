@@ -1,5 +1,5 @@
 -- What a conversation says about the desk, the notes and the draws.
-use Rattle.std.proofs.Common.{◌≡◌, ℕ, ◌+◌, ◌≤◌, List, [], ◌∷◌, ◌++◌, length, refl, sym, ap, ◌∙◌, subst, arith, append_assoc, append-nil, Option, ◌⊎◌, inl, inr}
+use Rattle.std.proofs.Common.{◌≡◌, ℕ, ◌+◌, ◌≤◌, List, [], ◌∷◌, ◌++◌, refl, sym, ap, ◌∙◌, subst, arith, append_assoc, append-nil, Option, ◌⊎◌, inl, inr}
 use Rattle.unl_base.specs.declared.draws.Draw.{Draw}
 use Rattle.unl_base.specs.Draws.{TakesDraw}
 use Rattle.unl_base.proofs.Sending.{Sends_nothing, Sends_more}
@@ -12,48 +12,47 @@ use Rattle.unl_core.specs.Answer.{answer_of}
 use Rattle.unl_core.specs.Desk.{Keeps, Enters, EntersAtMostOnce}
 use Rattle.unl_core.specs.Recording.{final_book, final_reply}
 use Rattle.unl_core.proofs.Showing.{shows_revision}
-use Rattle.unl_server.specs.Handling.{HandlerState, Answers, RunsOutOfMemory}
-use Rattle.unl_server.specs.Conversation.{Answered, Reaches}
+use Rattle.unl_server.specs.Handling.{HandlerState, HandlesRequest, RunsOutOfMemory}
+use Rattle.unl_server.specs.Conversation.{AreAnswered, Reaches}
 use Rattle.unl_server.specs.Exchange.{Unreplied}
 use Rattle.unl_server.proofs.ShowsLemmas.{IsNear, Shows}
 use Rattle.unl_connection.specs.declared.served.ServedOne.{ServedOne}
-use Rattle.unl_metrics.specs.Book.{Book}
-use Rattle.unl_connection.specs.Notes.{AnswersNothing, AnswersFromBoard, Draws, DrawsAtLeast, Known, LooksFor, Noted, Notes, NotesNothing, Rise, Seen, fronts_of, noted}
+use Rattle.unl_connection.specs.Notes.{AnswersNothing, AnswersFromBoard, TakesDraws, DrawsAtLeast, KnownDesk, LooksFor, Noted, Notes, NotesNothing, FrontsRise, DeskNotes, fronts_of, noted}
 
 -- a handler answered, and its desk, notes and book changed as one answer changes them
-abbrev pub Over : {S : Type 0} → (S → Seen) → HandlerState S → Request → Reply → HandlerState S → Type 0
-Over seen = Answers (λ state request draw reply after. AnswersFromBoard (seen state) request draw reply (seen after))
+abbrev pub Over : {S : Type 0} → (S → DeskNotes) → HandlerState S → Request → Reply → HandlerState S → Type 0
+Over seen = HandlesRequest (λ state request draw reply after. AnswersFromBoard (seen state) request draw reply (seen after))
 
 -- a handler ran out of memory at an answer, and its notes and book stayed
-abbrev pub RunsOutOver : {S : Type 0} → (S → Seen) → HandlerState S → Request → HandlerState S → Type 0
+abbrev pub RunsOutOver : {S : Type 0} → (S → DeskNotes) → HandlerState S → Request → HandlerState S → Type 0
 RunsOutOver seen = RunsOutOfMemory (λ state request draw after. AnswersNothing (seen state) (seen after))
 
 -- the notes and the book of a handler
-abbrev pub noted_of : {S : Type 0} → (S → Seen) → HandlerState S → Noted
+abbrev pub noted_of : {S : Type 0} → (S → DeskNotes) → HandlerState S → Noted
 noted_of seen s = (seen s.state).noted
 
 -- ---- the desk, the notes and the draws after a chain of answers
 
 -- what the answers with these notes did to the desk and the draws
 pub record Sums
-    (before after : Known) (coming coming_after : Option (List Draw × Draw)) (ones : List ServedOne) : Type 0 where
-  pub rise : Rise before.front ones after.front
+    (before after : KnownDesk) (coming coming_after : Option (List Draw × Draw)) (ones : List ServedOne) : Type 0 where
+  pub rise : FrontsRise before.front ones after.front
   pub looks : Enters before.fronts (fronts_of ones) after.fronts
-  pub drawn : Draws coming ones coming_after
+  pub drawn : TakesDraws coming ones coming_after
   pub keeps : Keeps before.board_at after.board_at
 
 -- fronts that rise from one front rise from any earlier one
-Rise_from : (first one last : ℕ) (ones : List ServedOne) → first ≤ one → Rise one ones last → Rise first ones last
+Rise_from : (first one last : ℕ) (ones : List ServedOne) → first ≤ one → FrontsRise one ones last → FrontsRise first ones last
 Rise_from first one last [] up rise = omega (arith, up, rise)
 Rise_from first one last (other ∷ ones) up rise = (omega (arith, up, rise.0), rise.1)
 
 -- fronts that rise to one front rise to any later one
-Rise_to : (first last more : ℕ) (ones : List ServedOne) → Rise first ones last → last ≤ more → Rise first ones more
+Rise_to : (first last more : ℕ) (ones : List ServedOne) → FrontsRise first ones last → last ≤ more → FrontsRise first ones more
 Rise_to first last more [] rise up = omega (arith, rise, up)
 Rise_to first last more (one ∷ ones) rise up = (rise.0, Rise_to one.front last more ones rise.1 up)
 
 -- an answer, and then those with further notes
-Sums_more : (before middle : Seen) (after : Known) (coming next coming_after : Option (List Draw × Draw)) (request : Request)
+Sums_more : (before middle : DeskNotes) (after : KnownDesk) (coming next coming_after : Option (List Draw × Draw)) (request : Request)
     (draw : Draw) (reply : Reply) (ones : List ServedOne) → TakesDraw coming draw next
     → (over : AnswersFromBoard before request draw reply middle) → Sums middle.desk after next coming_after ones
     → Sums before.desk after coming coming_after (over.one ∷ ones)
@@ -69,8 +68,8 @@ Sums_more before middle after coming next coming_after request draw reply ones t
 }
 
 -- a chain of answers appends notes, which say what it did
-pub summed : {S : Type 0} (seen : S → Seen) (count : ℕ) (before after : HandlerState S) (qs : List Request)
-    (text : List ℕ) → Answered (Over seen) count before qs text after
+pub summed : {S : Type 0} (seen : S → DeskNotes) (count : ℕ) (before after : HandlerState S) (qs : List Request)
+    (text : List ℕ) → AreAnswered (Over seen) count before qs text after
     → (ones : List ServedOne) × ((noted_of seen after).ones ≡ (noted_of seen before).ones ++ ones)
     × Sums (seen before.state).desk (seen after.state).desk before.coming after.coming ones
 summed {S} seen count before after [] text answered = (
@@ -97,7 +96,7 @@ summed seen count before after (q ∷ qs) text (reply, middle, more, step, split
 -- ---- the notes as a conversation of their own
 
 -- a desk that knows more boards still knows the board of the reply
-noted_over : {S : Type 0} (seen : S → Seen) (board_at : ℕ → Option Board) (before after : HandlerState S)
+noted_over : {S : Type 0} (seen : S → DeskNotes) (board_at : ℕ → Option Board) (before after : HandlerState S)
     (q : Request) (reply : Reply) → Keeps (seen after.state).desk.board_at board_at → Over seen before q reply after
     → Notes board_at (noted_of seen before) q reply (noted_of seen after)
 noted_over seen board_at before after q reply keeps step = record {
@@ -114,10 +113,10 @@ noted_over seen board_at before after q reply keeps step = record {
 }
 
 -- a chain of answers is a chain of notes
-answered_over : {S : Type 0} (seen : S → Seen) (board_at : ℕ → Option Board) (count : ℕ)
+answered_over : {S : Type 0} (seen : S → DeskNotes) (board_at : ℕ → Option Board) (count : ℕ)
     (before after : HandlerState S) (qs : List Request) (text : List ℕ)
-    → Keeps (seen after.state).desk.board_at board_at → Answered (Over seen) count before qs text after
-    → Answered (Notes board_at) count (noted_of seen before) qs text (noted_of seen after)
+    → Keeps (seen after.state).desk.board_at board_at → AreAnswered (Over seen) count before qs text after
+    → AreAnswered (Notes board_at) count (noted_of seen before) qs text (noted_of seen after)
 answered_over seen board_at count before after [] text keeps answered = (answered.0, ap (noted_of seen) answered.1)
 answered_over seen board_at count before after (q ∷ qs) text keeps (reply, middle, more, step, split, rest) =
     let others = summed seen (count + 1) middle after qs more rest in (
@@ -130,19 +129,19 @@ answered_over seen board_at count before after (q ∷ qs) text keeps (reply, mid
     )
 
 -- the boards that are known before the last request are known after it
-near_keeps : {S : Type 0} (seen : S → Seen) (state after : HandlerState S)
+near_keeps : {S : Type 0} (seen : S → DeskNotes) (state after : HandlerState S)
     → IsNear (Over seen) (RunsOutOver seen) state after → Keeps (seen state.state).desk.board_at (seen after.state).desk.board_at
 near_keeps {S} seen state after (inl same) =
     subst (λ (s : HandlerState S). Keeps (seen state.state).desk.board_at (seen s.state).desk.board_at) (sym same)
     (λ k board there. there)
-near_keeps seen state after (inr (q, inl lacks)) = lacks.given_up.keeps
+near_keeps seen state after (inr (q, inl lacks)) = lacks.ran_out.keeps
 near_keeps seen state after (inr (q, inr (reply, step))) = step.given.keeps
 
-runs_out_noted : {S : Type 0} (seen : S → Seen) (state after : HandlerState S) (q : Request) → RunsOutOver seen state q after
+runs_out_noted : {S : Type 0} (seen : S → DeskNotes) (state after : HandlerState S) (q : Request) → RunsOutOver seen state q after
     → NotesNothing (noted_of seen state) q (noted_of seen after)
-runs_out_noted seen state after q lacks i = noted (lacks.given_up.same i) (lacks.given_up.same_book i)
+runs_out_noted seen state after q lacks i = noted (lacks.ran_out.same i) (lacks.ran_out.same_book i)
 
-last_noted : {S : Type 0} (seen : S → Seen) (state after : HandlerState S) (q : Request)
+last_noted : {S : Type 0} (seen : S → DeskNotes) (state after : HandlerState S) (q : Request)
     → Unreplied (Over seen) (RunsOutOver seen) state q after
     → Unreplied (Notes (seen after.state).desk.board_at) NotesNothing (noted_of seen state) q (noted_of seen after)
 last_noted seen state after q (inl lacks) = inl (runs_out_noted seen state after q lacks)
@@ -150,7 +149,7 @@ last_noted seen state after q (inr (reply, step)) =
     inr (reply, noted_over seen (seen after.state).desk.board_at state after q reply (λ k board there. there) step)
 
 -- the notes reflect the conversation
-pub shows : {S : Type 0} (seen : S → Seen) (before after : HandlerState S)
+pub shows : {S : Type 0} (seen : S → DeskNotes) (before after : HandlerState S)
     → Shows (Over seen) (RunsOutOver seen) (Notes (seen after.state).desk.board_at) NotesNothing (noted_of seen) before after
 shows seen before after = record {
   chain = λ state qs text near answered.
@@ -163,15 +162,15 @@ shows seen before after = record {
 
 -- what the notes say, whether or not the bytes are observable
 pub record ReflectsNotes
-    (before : Known) (coming : Option (List Draw × Draw)) (end : End) (after : Known)
+    (before : KnownDesk) (coming : Option (List Draw × Draw)) (end : End) (after : KnownDesk)
     (coming_after : Option (List Draw × Draw)) (ones : List ServedOne) : Type 0 where
-  pub fronts : Rise before.front ones after.front
+  pub fronts : FrontsRise before.front ones after.front
   pub looks : LooksFor before.fronts ones end after.fronts
   pub drawn : DrawsAtLeast coming ones coming_after
   pub keeps : Keeps before.board_at after.board_at
 
 -- no further draw was taken
-reflects_same : (before after : Known) (coming coming_after : Option (List Draw × Draw)) (end : End) (ones : List ServedOne)
+reflects_same : (before after : KnownDesk) (coming coming_after : Option (List Draw × Draw)) (end : End) (ones : List ServedOne)
     → Sums before after coming coming_after ones → ReflectsNotes before coming end after coming_after ones
 reflects_same before after coming coming_after end ones sums = record {
   fronts = sums.rise;
@@ -188,7 +187,7 @@ looked_more fronts middle after ones end is looks (inr (front, once)) =
     inr (is, front, Sends_more fronts middle after (fronts_of ones) (front ∷ []) looks once)
 
 -- one further draw was taken
-reflects_more : (before : Known) (middle after : Seen) (coming next coming_after : Option (List Draw × Draw)) (end : End)
+reflects_more : (before : KnownDesk) (middle after : DeskNotes) (coming next coming_after : Option (List Draw × Draw)) (end : End)
     (ones : List ServedOne) (draw : Draw) → end ≡ Memory → Sums before middle.desk coming next ones
     → TakesDraw next draw coming_after → AnswersNothing middle after → ReflectsNotes before coming end after.desk coming_after ones
 reflects_more before middle after coming next coming_after end ones draw is sums taken nothing = record {
@@ -198,7 +197,7 @@ reflects_more before middle after coming next coming_after end ones draw is sums
   keeps = λ k board there. nothing.keeps k board (sums.keeps k board there);
 }
 
-reflects_next : {S : Type 0} (seen : S → Seen) (before middle after : HandlerState S) (end : End)
+reflects_next : {S : Type 0} (seen : S → DeskNotes) (before middle after : HandlerState S) (end : End)
     (ones : List ServedOne) → (noted_of seen middle).ones ≡ ones
     → Sums (seen before.state).desk (seen middle.state).desk before.coming middle.coming ones
     → (after ≡ middle) ⊎ ((end ≡ Memory) × (request : Request) × RunsOutOver seen middle request after)
@@ -210,12 +209,12 @@ reflects_next {S} seen before middle after end ones are sums (inl same) =
     (reflects_same (seen before.state).desk (seen middle.state).desk before.coming middle.coming end ones sums))
 reflects_next seen before middle after end ones are sums (inr (is, request, lacks)) =
     subst (λ (o : List ServedOne). ReflectsNotes (seen before.state).desk before.coming end (seen after.state).desk after.coming o)
-    (sym (lacks.given_up.same ∙ are))
+    (sym (lacks.ran_out.same ∙ are))
     (reflects_more (seen before.state).desk (seen middle.state) (seen after.state) before.coming middle.coming after.coming end ones
-    lacks.draw is sums lacks.taken lacks.given_up)
+    lacks.draw is sums lacks.taken lacks.ran_out)
 
 -- the notes of a conversation that begins without any say what it did
-pub reflects : {S : Type 0} (seen : S → Seen) (before after : HandlerState S) (end : End) (count : ℕ)
+pub reflects : {S : Type 0} (seen : S → DeskNotes) (before after : HandlerState S) (end : End) (count : ℕ)
     → (noted_of seen before).ones ≡ [] → Reaches (Over seen) (RunsOutOver seen) before end after count
     → ReflectsNotes (seen before.state).desk before.coming end (seen after.state).desk after.coming (noted_of seen after).ones
 reflects seen before after end count none reached =

@@ -41,9 +41,9 @@ abbrev pub NotesNothing : Noted → Request → Noted → Type 0
 NotesNothing before request after = after ≡ before
 
 -- the fronts never fall, from the first one to the last
-abbrev pub Rise : ℕ → List ServedOne → ℕ → Type 0
-Rise first [] last = first ≤ last
-Rise first (one ∷ ones) last = (first ≤ one.front) × Rise one.front ones last
+abbrev pub FrontsRise : ℕ → List ServedOne → ℕ → Type 0
+FrontsRise first [] last = first ≤ last
+FrontsRise first (one ∷ ones) last = (first ≤ one.front) × FrontsRise one.front ones last
 
 -- the front of each note
 abbrev pub fronts_of : List ServedOne → List ℕ
@@ -56,36 +56,37 @@ LooksFor fronts ones end fronts_after =
     ⊎ ((end ≡ Memory) × (front : ℕ) × Enters fronts (fronts_of ones ++ front ∷ []) fronts_after)
 
 -- the draws of the notes were taken, in this order and no others between them
-abbrev pub Draws : Option (List Draw × Draw) → List ServedOne → Option (List Draw × Draw) → Type 0
-Draws coming [] after = after ≡ coming
-Draws coming (one ∷ ones) after = (middle : Option (List Draw × Draw)) × TakesDraw coming one.draw middle × Draws middle ones after
+abbrev pub TakesDraws : Option (List Draw × Draw) → List ServedOne → Option (List Draw × Draw) → Type 0
+TakesDraws coming [] after = after ≡ coming
+TakesDraws coming (one ∷ ones) after =
+    (middle : Option (List Draw × Draw)) × TakesDraw coming one.draw middle × TakesDraws middle ones after
 
 -- as above, and at most one more draw was taken
 abbrev pub DrawsAtLeast : Option (List Draw × Draw) → List ServedOne → Option (List Draw × Draw) → Type 0
-DrawsAtLeast coming ones after = (middle : Option (List Draw × Draw)) × Draws coming ones middle × TakesAtMostOne middle after
+DrawsAtLeast coming ones after = (middle : Option (List Draw × Draw)) × TakesDraws coming ones middle × TakesAtMostOne middle after
 
 -- what is known of a desk: the number of publications when it last looked, the boards, and the fronts at which it looked
-pub record Known : Type 0 where
+pub record KnownDesk : Type 0 where
   pub front : ℕ
   pub board_at : ℕ → Option Board
   pub fronts : Option (List ℕ)
 
 -- these facts about a desk, by the functions that state them
-abbrev pub known_by : {D : Type 0} → (D → ℕ) → (D → ℕ → Option Board) → (D → Option (List ℕ)) → D → Known
+abbrev pub known_by : {D : Type 0} → (D → ℕ) → (D → ℕ → Option Board) → (D → Option (List ℕ)) → D → KnownDesk
 known_by front board_at fronts desk = record { front = front desk; board_at = board_at desk; fronts = fronts desk }
 
 -- what is known of a desk, the notes of its answers, and the book
-pub record Seen : Type 0 where
-  pub desk : Known
+pub record DeskNotes : Type 0 where
+  pub desk : KnownDesk
   pub noted : Noted
 
 -- the facts of a desk, notes and a book as one value
-abbrev pub seen : Known → List ServedOne → Book → Seen
-seen desk ones book = record { desk = desk; noted = noted ones book }
+abbrev pub desk_notes : KnownDesk → List ServedOne → Book → DeskNotes
+desk_notes desk ones book = record { desk = desk; noted = noted ones book }
 
 -- the desk looked once and answered from the board that it saw; its front and the draw were noted, and the report was added
 -- to the book
-pub record AnswersFromBoard (before : Seen) (request : Request) (draw : Draw) (reply : Reply) (after : Seen) : Type 0 where
+pub record AnswersFromBoard (before : DeskNotes) (request : Request) (draw : Draw) (reply : Reply) (after : DeskNotes) : Type 0 where
   pub board : Board
   pub known : after.desk.board_at after.desk.front ≡ Some board
   pub is : reply ≡ final_reply before.noted.book (answer_of board request draw)
@@ -99,7 +100,7 @@ pub record AnswersFromBoard (before : Seen) (request : Request) (draw : Draw) (r
   pub entered : Enters before.desk.fronts (after.desk.front ∷ []) after.desk.fronts
 
 -- memory ran out: nothing was noted or added to the book, and the desk looked at most once
-pub record AnswersNothing (before after : Seen) : Type 0 where
+pub record AnswersNothing (before after : DeskNotes) : Type 0 where
   pub same : after.noted.ones ≡ before.noted.ones
   pub same_book : after.noted.book ≡ before.noted.book
   pub rises : before.desk.front ≤ after.desk.front

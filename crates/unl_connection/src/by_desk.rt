@@ -24,22 +24,23 @@ pub(crate) struct ByDesk<'a, D>(PhantomData<&'a D>);
 impl<'a, D: Desk> RequestHandler for ByDesk<'a, D> {
     ghost use Rattle.std.specs.Prelude.{◌≡◌, length};
     ghost use Rattle.std.proofs.Common.{rules};
-    ghost use Rattle.unl_connection.specs.Notes.{AnswersNothing, AnswersFromBoard, known_by, seen};
+    ghost use Rattle.unl_connection.specs.Notes.{AnswersNothing, AnswersFromBoard, known_by, desk_notes};
 
     type State = DeskHandler<'a, D>;
 
     ghost fits = { λ count state. length state.served.now ≡ count };
 
     ghost keeps = { λ state after. (after.desk.ghost_name ≡ state.desk.ghost_name)
-        × (after.book.ghost_name ≡ state.book.ghost_name) × (after.served.ghost_name ≡ state.served.ghost_name) };
+        × (after.book.ghost_name ≡ state.book.ghost_name) × (after.served.ghost_name ≡ state.served.ghost_name)
+        × D.continues state.desk.now after.desk.now };
 
     ghost gives = { λ state request draw reply after. AnswersFromBoard
-        (seen (known_by D.front D.board_at D.fronts state.desk.now) state.served.now state.book.now) request draw reply
-        (seen (known_by D.front D.board_at D.fronts after.desk.now) after.served.now after.book.now) };
+        (desk_notes (known_by D.front D.board_at D.fronts state.desk.now) state.served.now state.book.now) request draw reply
+        (desk_notes (known_by D.front D.board_at D.fronts after.desk.now) after.served.now after.book.now) };
 
-    ghost gives_up = { λ state request draw after. AnswersNothing
-        (seen (known_by D.front D.board_at D.fronts state.desk.now) state.served.now state.book.now)
-        (seen (known_by D.front D.board_at D.fronts after.desk.now) after.served.now after.book.now) };
+    ghost out_of_memory = { λ state request draw after. AnswersNothing
+        (desk_notes (known_by D.front D.board_at D.fronts state.desk.now) state.served.now state.book.now)
+        (desk_notes (known_by D.front D.board_at D.fronts after.desk.now) after.served.now after.book.now) };
 
     fn answer(
         alloc: Global,

@@ -2,8 +2,8 @@
 ghost use Rattle.std.specs.Prelude.{◌≡◌, [], length};
 ghost use Rattle.unl_core.specs.Desk.{Keeps};
 ghost use Rattle.unl_server.specs.Conversation.{Converses};
-ghost use Rattle.unl_server.specs.Links.{link_state};
-ghost use Rattle.unl_connection.specs.Notes.{DrawsAtLeast, LooksFor, Notes, NotesNothing, Rise, noted};
+ghost use Rattle.unl_server.specs.Links.{link_view};
+ghost use Rattle.unl_connection.specs.Notes.{DrawsAtLeast, LooksFor, Notes, NotesNothing, FrontsRise, noted};
 
 use crate::by_desk::{ByDesk, DeskHandler};
 use crate::served::Served;
@@ -32,15 +32,18 @@ pub fn serve_connection<D: Desk, L: Link, R: Draws>(
     // that was answered from holds a version from the line of histories of its environment, what a token sees of it is one
     // revision of that line.
     ensures converses { Converses (Notes (D.board_at desk.new)) NotesNothing
-        (link_state (L.left link.old) (L.sent link.old) (L.Source.faults link.old))
+        (link_view (L.left link.old) (L.sent link.old) (L.Source.faults link.old))
         (noted served.old book.old) result (noted served.new book.new) (length served.new)
-        (link_state (L.left link.new) (L.sent link.new) (L.Source.faults link.new)) }
+        (link_view (L.left link.new) (L.sent link.new) (L.Source.faults link.new)) }
 
     // Each note has a front at which the desk looked in this call, and a draw taken in this call.
-    ensures fronts { Rise (D.front desk.old) served.new (D.front desk.new) }
+    ensures fronts { FrontsRise (D.front desk.old) served.new (D.front desk.new) }
     ensures looks { LooksFor (D.fronts desk.old) served.new result (D.fronts desk.new) }
     ensures drawn { DrawsAtLeast (R.coming draws.old) served.new (R.coming draws.new) }
     ensures keeps { Keeps (D.board_at desk.old) (D.board_at desk.new) }
+
+    // Whatever the desk's answers preserve is preserved.
+    ensures continues { D.continues desk.old desk.new }
 {
     let mut handler = DeskHandler { desk, book, served };
     let conversed = serve_requests::<ByDesk<D>, L, R>(alloc, &mut handler, link, draws);
