@@ -1,12 +1,12 @@
 -- The published board, and the boards at each front.
-use Rattle.std.proofs.Common.{◌≡◌, ℕ, zero, suc, ◌<◌, ◌≤◌, ◌+◌, ◌⊎◌, inl, inr, List, [], ◌∷◌, ◌++◌, length, take, fold, Bool, true, false, leb, Option, Some, None, is_some, refl, sym, ap, ◌∙◌, subst, arith, IfSome, length-append, unwrap_or}
+use Rattle.std.proofs.Common.{◌≡◌, ℕ, zero, suc, ◌≤◌, ◌+◌, ◌⊎◌, inl, inr, List, [], ◌∷◌, ◌++◌, length, take, fold, Bool, true, leb, Option, Some, None, is_some, refl, sym, ap, ◌∙◌, subst, arith, IfSome, unwrap_or}
 use Rattle.std.specs.Option.{option_map}
 use Rattle.std.proofs.lemmas.Bool.Decides.{nat_tests}
 use Rattle.unl_core.specs.declared.board.Board.{Board}
 use Rattle.unl_core.specs.declared.board.Install.{Install}
 use Rattle.unl_core.specs.Board.{board_after, installed}
 use Rattle.unl_edge_state.specs.Editions.{BoardAt, board_known, edited, no_board}
-use Rattle.unl_edge_state.specs.Orderly.{IsInOrder, IsOrderly, KnowsOrderly}
+use Rattle.unl_edge_state.specs.Orderly.{MayComeNext, IsOrderly, KnowsOrderly}
 use Rattle.unl_edge_state.specs.Reading.{ContinuedFromOpening, board_of}
 use Rattle.unl_edge_state.proofs.GoingOn.{orderly_more}
 use Rattle.unl_publication.specs.declared.knowledge.Knowledge.{Knowledge}
@@ -87,10 +87,10 @@ boards_are known opening k is start low =
     ∙ ap (λ (b : Board). Some b) (board_of_fold opening (take k known.installs))
 
 more_orderly : (opening : Option BoardAt) (list : List Install) (what : Install) → IfSome opening (λ o. IsOrderly o.board list)
-    → IsInOrder (unwrap_or (option_map (λ o. board_after o.board list) opening) no_board) what → IfSome opening (λ o. IsOrderly o.board (list ++ what ∷ []))
+    → MayComeNext (unwrap_or (option_map (λ o. board_after o.board list) opening) no_board) what → IfSome opening (λ o. IsOrderly o.board (list ++ what ∷ []))
 more_orderly None list what orderly goes = orderly
 more_orderly (Some opening) list what orderly goes = orderly_more opening.board list what orderly goes
 
 -- An orderly list stays orderly with an install that may come next.
-pub knows_more : (known : Knowledge BoardAt Install) (what : Install) → KnowsOrderly known → IsInOrder (board_known known) what → KnowsOrderly (with_installs (what ∷ []) known)
+pub knows_more : (known : Knowledge BoardAt Install) (what : Install) → KnowsOrderly known → MayComeNext (board_known known) what → KnowsOrderly (with_installs (what ∷ []) known)
 knows_more known what orderly goes = more_orderly known.opening known.installs what orderly goes

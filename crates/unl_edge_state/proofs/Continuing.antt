@@ -1,16 +1,17 @@
 -- Readers that learned a list before their first look.
-use Rattle.std.proofs.Common.{◌≡◌, ℕ, ◌≤◌, ◌+◌, ◌-◌, ◌⊎◌, inl, inr, List, [], ◌∷◌, ◌++◌, length, take, drop, Bool, true, false, leb, Option, Some, None, is_some, IfSome, refl, sym, ap, ◌∙◌, subst, arith, append_assoc}
+use Rattle.std.proofs.Common.{◌≡◌, ℕ, ◌≤◌, ◌+◌, ◌-◌, ◌⊎◌, inl, inr, List, [], ◌∷◌, ◌++◌, length, take, Bool, true, false, leb, Option, Some, None, is_some, IfSome, refl, sym, ap, ◌∙◌, subst, arith}
 use Rattle.std.specs.Prelude.{if◌then◌else◌}
 use Rattle.std.specs.Option.{option_map}
-use Rattle.std.proofs.Math.Seq.{take-append-add, take-append_seam, take-length}
+use Rattle.std.proofs.Math.Seq.{take-append-add}
 use Rattle.std.proofs.lemmas.Bool.Decides.{nat_tests}
-use Rattle.std.proofs.lemmas.List.{length-take-le, take-append-drop}
+use Rattle.std.proofs.lemmas.List.{length-take-le}
 use Rattle.unl_core.specs.declared.board.Board.{Board}
 use Rattle.unl_core.specs.declared.board.Install.{Install}
 use Rattle.unl_core.specs.Board.{board_after}
 use Rattle.unl_edge_state.specs.declared.reader.EdgeReader.{EdgeReader}
+use Rattle.unl_edge_state.specs.Continued.{Continued, continued_itself, starts_with, still_starts}
 use Rattle.unl_edge_state.specs.Editions.{BoardAt, edited}
-use Rattle.unl_edge_state.specs.Reading.{AnswersAfter, BeginsWith, ContinuedFromOpening, ContinuesFrom, IsAfter, IsNewReader, board_of, next_of, past_of, seen_by}
+use Rattle.unl_edge_state.specs.Reading.{AnswersAfter, StartsReader, ContinuedFromOpening, ContinuesFrom, IsAfter, IsNewReader, board_of, continuation_of, past_of, seen_by}
 use Rattle.unl_edge_state.proofs.Boards.{boards_are}
 use Rattle.unl_edge_state.proofs.Looks.{seen_is, values_first}
 use Rattle.unl_edge_state.proofs.Ordered.{low_front, same_board}
@@ -20,40 +21,20 @@ use Rattle.unl_publication.specs.Meaning.{before_of, known}
 use Rattle.unl_publication.specs.Rule.{StartsWith}
 use Rattle.unl_publication.proofs.Sure.{nat_from}
 
--- ---- lists
-
-starts_with : (front whole : List Install) → take (length front) whole ≡ front → StartsWith whole front
-starts_with front whole is =
-    (drop (length front) whole, sym (take-append-drop (length front) whole) ∙ ap (λ (xs : List Install). xs ++ drop (length front) whole) is)
-
-takes_front : (front whole : List Install) → StartsWith whole front → take (length front) whole ≡ front
-takes_front front whole h = ap (take (length front)) h.1 ∙ take-append_seam front h.0
-
-still_starts : (front whole longer : List Install) → take (length front) whole ≡ front → StartsWith longer whole → take (length front) longer ≡ front
-still_starts front whole longer is h =
-    let d = starts_with front whole is in
-    takes_front front longer (d.0 ++ h.0, h.1 ∙ (ap (λ (xs : List Install). xs ++ h.0) d.1 ∙ append_assoc front d.0 h.0))
-
 -- ---- looks
 
--- `ContinuesFrom` of plain values.
-abbrev Goes : Option (Knowledge BoardAt Install) → Knowledge BoardAt Install → Option (Knowledge BoardAt Install) → Knowledge BoardAt Install → Type 0
-Goes past now past_after after =
-    (after.opening ≡ now.opening) × (take (length now.installs) after.installs ≡ now.installs)
-    × (before_of edited past_after after ≡ before_of edited past now) × (is_some past_after ≡ true → past_after ≡ past)
-
-pub itself : (reader : EdgeReader) → ContinuesFrom (past_of reader) (next_of reader) reader
-itself reader = (refl, take-length (next_of reader).installs, refl, λ there. refl)
+pub itself : (reader : EdgeReader) → ContinuesFrom (past_of reader) (continuation_of reader) reader
+itself reader = continued_itself (past_of reader) (continuation_of reader)
 
 none_now : {A : Type 0} (o : Option A) → o ≡ None → is_some o ≡ true → ⊥
 none_now None is there = absurd cc
 none_now (Some x) is there = absurd cc
 
 goes_on : (past past_before past_after : Option (Knowledge BoardAt Install)) (now before after : Knowledge BoardAt Install)
-    → StaysOrTakes edited past_before before past_after after → Goes past now past_before before → Goes past now past_after after
+    → StaysOrTakes edited past_before before past_after after → Continued past now past_before before → Continued past now past_after after
 goes_on past past_before past_after now before after (inl same) h =
-    subst (λ (p : Option (Knowledge BoardAt Install)). Goes past now p after) (sym same.0)
-    (subst (λ (k : Knowledge BoardAt Install). Goes past now past_before k) (sym same.1) h)
+    subst (λ (p : Option (Knowledge BoardAt Install)). Continued past now p after) (sym same.0)
+    (subst (λ (k : Knowledge BoardAt Install). Continued past now past_before k) (sym same.1) h)
 goes_on past past_before past_after now before after (inr took) h = (
   ap (λ (k : Knowledge BoardAt Install). k.opening) took.1.same ∙ h.0,
   still_starts now.installs before.installs after.installs h.1 took.1.seen,
@@ -64,19 +45,14 @@ goes_on past past_before past_after now before after (inr took) h = (
 
 -- A look continues from where the reader was.
 pub continues : (past : Option (Knowledge BoardAt Install)) (now : Knowledge BoardAt Install) (before after : EdgeReader)
-    → StaysOrTakes edited (past_of before) (next_of before) (past_of after) (next_of after) → ContinuesFrom past now before → ContinuesFrom past now after
-continues past now before after look h = goes_on past (past_of before) (past_of after) now (next_of before) (next_of after) look h
+    → StaysOrTakes edited (past_of before) (continuation_of before) (past_of after) (continuation_of after) → ContinuesFrom past now before → ContinuesFrom past now after
+continues past now before after look h = goes_on past (past_of before) (past_of after) now (continuation_of before) (continuation_of after) look h
 
--- So do several, one after another.
-pub continues_on : (first next last : EdgeReader) → ContinuesFrom (past_of first) (next_of first) next → ContinuesFrom (past_of next) (next_of next) last
-    → ContinuesFrom (past_of first) (next_of first) last
-continues_on first next last one two = (
-  two.0 ∙ one.0,
-  still_starts (next_of first).installs (next_of next).installs (next_of last).installs one.1
-      (starts_with (next_of next).installs (next_of last).installs two.1),
-  two.2 ∙ one.2,
-  λ there. let same = two.3 there in same ∙ one.3 (ap (λ (o : Option (Knowledge BoardAt Install)). is_some o) (sym same) ∙ there),
-)
+-- One look continues from where the reader was.
+pub looked : (past past_after : Option (Knowledge BoardAt Install)) (now after : Knowledge BoardAt Install)
+    → StaysOrTakes edited past now past_after after → Continued past now past_after after
+looked past past_after now after look =
+    goes_on past past past_after now now after look (continued_itself past now)
 
 -- ---- a new reader that learned a list
 
@@ -107,15 +83,15 @@ learned_list false list own after past_after no_installs nothing same none after
 )
 
 -- A new reader begins with the list that it learned.
-pub begins : (reader after : EdgeReader) (front : ℕ) (list : Knowledge BoardAt Install) → IsNewReader reader → SameOrigin list (next_of reader)
-    → front ≡ length list.installs → seen_by after ≡ seen_by reader → next_of after ≡ continues_from front (Some list) (next_of reader)
-    → past_of after ≡ remembers front (Some list) (past_of reader) (next_of reader) → BeginsWith list.opening list.installs after
+pub begins : (reader after : EdgeReader) (front : ℕ) (list : Knowledge BoardAt Install) → IsNewReader reader → SameOrigin list (continuation_of reader)
+    → front ≡ length list.installs → seen_by after ≡ seen_by reader → continuation_of after ≡ continues_from front (Some list) (continuation_of reader)
+    → past_of after ≡ remembers front (Some list) (past_of reader) (continuation_of reader) → StartsReader list.opening list.installs after
 begins reader after front list new origin counted seen next_is past_is =
-    let own : Knowledge BoardAt Install = next_of reader in
+    let own : Knowledge BoardAt Install = continuation_of reader in
     let seen_own : seen_by after ≡ own = seen ∙ (seen_is reader ∙ ap (λ (p : Option (Knowledge BoardAt Install)). known p own) new.past) in
     let low_list : leb front (length own.installs) ≡ true → list.installs ≡ [] = λ low.
     empty_by list.installs (omega (arith, low_by front (length own.installs) low, ap (λ (xs : List Install). length xs) new.installs, counted)) in
-    let parts = learned_list (leb front (length own.installs)) list own (next_of after) (past_of after) new.installs new.before (sym origin.1) low_list next_is
+    let parts = learned_list (leb front (length own.installs)) list own (continuation_of after) (past_of after) new.installs new.before (sym origin.1) low_list next_is
     (past_is ∙ ap (λ (p : Option (Knowledge BoardAt Install)). if leb front (length own.installs) then p else Some (known p own)) new.past) in
     record {
       opening = parts.0;
@@ -128,10 +104,10 @@ begins reader after front list new origin counted seen next_is past_is =
 
 -- The same, from a report that has a list.
 pub begins_told : (told : Option (Knowledge BoardAt Install)) (front : ℕ) (reader after : EdgeReader) → is_some told ≡ true
-    → IfSome told (λ list. SameOrigin list (next_of reader))
+    → IfSome told (λ list. SameOrigin list (continuation_of reader))
     → ((list : Knowledge BoardAt Install) → told ≡ Some list → front ≡ length list.installs) → seen_by after ≡ seen_by reader
-    → next_of after ≡ continues_from front told (next_of reader) → past_of after ≡ remembers front told (past_of reader) (next_of reader)
-    → IsNewReader reader → (list : Knowledge BoardAt Install) × (told ≡ Some list) × BeginsWith list.opening list.installs after
+    → continuation_of after ≡ continues_from front told (continuation_of reader) → past_of after ≡ remembers front told (past_of reader) (continuation_of reader)
+    → IsNewReader reader → (list : Knowledge BoardAt Install) × (told ≡ Some list) × StartsReader list.opening list.installs after
 begins_told None front reader after there origin counted seen next_is past_is new = absurd cc
 begins_told (Some list) front reader after there origin counted seen next_is past_is new =
     (list, refl, begins reader after front list new origin (counted list refl) seen next_is past_is)
@@ -167,7 +143,7 @@ starts_empty installs xs none low =
 sees : (edition : Option BoardAt) (installs : List Install) (past past_after : Option (Knowledge BoardAt Install)) (now after : Knowledge BoardAt Install)
     → now.opening ≡ edition → now.installs ≡ installs → (before_of edited past now ≡ []) ⊎ (before_of edited past now ≡ edition ∷ [])
     → (known past now).opening ≡ edition → (known past now).before ≡ [] → (known past now).installs ≡ []
-    → Goes past now past_after after → Sees edition installs (known past_after after)
+    → Continued past now past_after after → Sees edition installs (known past_after after)
 sees edition installs past None now after opens list earlier seen_opening seen_before seen_none h = (
   h.0 ∙ opens,
   same_sum edition (before_of edited past now) after.before h.2 earlier,
@@ -207,12 +183,12 @@ after_list (Some opening) installs seen front board h low is =
     )
 
 -- A reader that began with these installs, and has only looked since.
-pub answers_after : (edition : Option BoardAt) (installs : List Install) (reader later : EdgeReader) → BeginsWith edition installs reader
-    → ContinuesFrom (past_of reader) (next_of reader) later → AnswersAfter edition installs later
+pub answers_after : (edition : Option BoardAt) (installs : List Install) (reader later : EdgeReader) → StartsReader edition installs reader
+    → ContinuesFrom (past_of reader) (continuation_of reader) later → AnswersAfter edition installs later
 answers_after edition installs reader later start h =
-    let here : seen_by reader ≡ known (past_of reader) (next_of reader) = seen_is reader in
+    let here : seen_by reader ≡ known (past_of reader) (continuation_of reader) = seen_is reader in
     let all : Sees edition installs (seen_by later) = subst (λ (k : Knowledge BoardAt Install). Sees edition installs k) (sym (seen_is later))
-    (sees edition installs (past_of reader) (past_of later) (next_of reader) (next_of later) start.opening start.list start.earlier
+    (sees edition installs (past_of reader) (past_of later) (continuation_of reader) (continuation_of later) start.opening start.list start.earlier
     (ap (λ (k : Knowledge BoardAt Install). k.opening) (sym here) ∙ start.seen_opening)
     (ap (λ (k : Knowledge BoardAt Install). k.before) (sym here) ∙ start.seen_before)
     (ap (λ (k : Knowledge BoardAt Install). k.installs) (sym here) ∙ start.seen_none) h) in

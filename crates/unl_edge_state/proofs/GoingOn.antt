@@ -10,7 +10,7 @@ use Rattle.unl_delta.specs.declared.version.EnvVersion.{EnvVersion}
 use Rattle.unl_delta.specs.Batch.{next_version}
 use Rattle.unl_delta.specs.History.{IsNotBelow}
 use Rattle.unl_delta.proofs.NotBelow.{next_not_below, not_below_both, not_below_itself}
-use Rattle.unl_edge_state.specs.Orderly.{IsInOrder, IsOrderly}
+use Rattle.unl_edge_state.specs.Orderly.{MayComeNext, IsOrderly}
 
 -- ---- what an install does to a slot
 
@@ -21,7 +21,7 @@ at_slot (s ∷ slots) zero (suc slot) v up = not_below_itself (snapshot_at slots
 at_slot (s ∷ slots) (suc i) zero v up = not_below_itself s.snapshot
 at_slot (s ∷ slots) (suc i) (suc slot) v up = at_slot slots i slot v up
 
-one : (board : Board) (what : Install) (slot : ℕ) → IsInOrder board what → IsNotBelow (snapshot_at board.slots slot) (snapshot_at (installed what board).slots slot)
+one : (board : Board) (what : Install) (slot : ℕ) → MayComeNext board what → IsNotBelow (snapshot_at board.slots slot) (snapshot_at (installed what board).slots slot)
 one board (Tokens book) slot goes = not_below_itself (snapshot_at board.slots slot)
 one board (Env i version) slot goes =
     let up : IsNotBelow goes.place.version (Some (next_version goes.place goes.batch)) = next_not_below goes.place goes.batch goes.applies in
@@ -49,6 +49,6 @@ fronts_go_on board (what ∷ more) (suc j) (suc k) slot orderly up = fronts_go_o
 
 -- ---- one install more
 
-pub orderly_more : (board : Board) (list : List Install) (what : Install) → IsOrderly board list → IsInOrder (board_after board list) what → IsOrderly board (list ++ what ∷ [])
+pub orderly_more : (board : Board) (list : List Install) (what : Install) → IsOrderly board list → MayComeNext (board_after board list) what → IsOrderly board (list ++ what ∷ [])
 orderly_more board [] what orderly goes = (goes, tt)
 orderly_more board (first ∷ more) what orderly goes = (orderly.0, orderly_more (installed first board) more what orderly.1 goes)

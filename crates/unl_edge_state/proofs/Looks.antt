@@ -1,5 +1,5 @@
 -- Readers of an orderly publication that never continued from a learned list, or only from the opening board.
-use Rattle.std.proofs.Common.{◌≡◌, ℕ, ◌≤◌, ◌⊎◌, inl, inr, List, [], ◌∷◌, fold, length, Bool, true, false, leb, Option, Some, None, refl, sym, ap, ◌∙◌, subst, unwrap_or, All}
+use Rattle.std.proofs.Common.{◌≡◌, ℕ, ◌⊎◌, inl, inr, List, [], ◌∷◌, fold, length, Bool, true, false, leb, Option, Some, None, refl, sym, ap, ◌∙◌, subst, unwrap_or, All}
 use Rattle.std.specs.Prelude.{if◌then◌else◌}
 use mathlib.Core.Logic.{∥∥₁_map, ∥∥₁_map₂}
 use Rattle.std.specs.Option.{option_and_then, option_map}
@@ -10,8 +10,8 @@ use Rattle.unl_core.specs.declared.board.Install.{Install}
 use Rattle.unl_core.specs.DeskStates.{snapshot_at}
 use Rattle.unl_edge_state.specs.declared.reader.EdgeReader.{EdgeReader}
 use Rattle.unl_edge_state.specs.Editions.{BoardAt, edited, orderly_opening}
-use Rattle.unl_edge_state.specs.Orderly.{KnowsOrderly, is_orderly}
-use Rattle.unl_edge_state.specs.Reading.{ContinuedFromOpening, HasBegun, IsNewReader, IsSteady, NeverFalls, ReadsOneList, SeesInOrder, board_of, next_of, past_of, seen_by}
+use Rattle.unl_edge_state.specs.Orderly.{is_orderly}
+use Rattle.unl_edge_state.specs.Reading.{ContinuedFromOpening, HasBegun, IsNewReader, IsSteady, NeverFalls, ReadsOneList, SeesInOrder, board_of, continuation_of, past_of, seen_by}
 use Rattle.unl_edge_state.proofs.Ordered.{below_from, ordered_known, reader_allowed, readers_in_order}
 use Rattle.unl_publication.specs.declared.knowledge.Knowledge.{Knowledge}
 use Rattle.unl_publication.specs.declared.reader.Reader.{Reader}
@@ -44,7 +44,7 @@ values_first now no_installs nothing =
 is_orderly_by : (one two : Knowledge BoardAt Install) → one.opening ≡ two.opening → is_orderly two ≡ true → is_orderly one ≡ true
 is_orderly_by one two same is = ap (λ (o : Option BoardAt). unwrap_or (option_map (λ (b : BoardAt). b.orderly) o) false) same ∙ is
 
--- A new reader that learned a list reads one list, by what it knew and what it was told.
+-- A new reader that learned a list reads one list, by what it knew and the list that it learned.
 pub learned : (low : Bool) (list : Option (Knowledge BoardAt Install)) (now after : Knowledge BoardAt Install) (past_after : Option (Knowledge BoardAt Install))
     → is_orderly now ≡ true → now.installs ≡ [] → now.before ≡ [] → after.opening ≡ now.opening
     → after ≡ (if low then now else unwrap_or list now) → past_after ≡ (if low then None else unwrap_or (option_map (λ _. Some now) list) None)
@@ -62,11 +62,11 @@ learned false (Some list) now after past_after orderly no_installs nothing same 
     })
 
 -- A new reader that learned a list is steady.
-pub learns : (reader after : EdgeReader) (front : ℕ) (list : Option (Knowledge BoardAt Install)) → IsNewReader reader → SameOrigin (next_of after) (next_of reader)
-    → next_of after ≡ continues_from front list (next_of reader) → past_of after ≡ remembers front list (past_of reader) (next_of reader) → IsSteady after
+pub learns : (reader after : EdgeReader) (front : ℕ) (list : Option (Knowledge BoardAt Install)) → IsNewReader reader → SameOrigin (continuation_of after) (continuation_of reader)
+    → continuation_of after ≡ continues_from front list (continuation_of reader) → past_of after ≡ remembers front list (past_of reader) (continuation_of reader) → IsSteady after
 learns reader after front list new origin next_is past_is =
-    learned (leb front (length (next_of reader).installs)) list (next_of reader) (next_of after) (past_of after) new.orderly new.installs new.before origin.1 next_is
-    (past_is ∙ ap (λ (p : Option (Knowledge BoardAt Install)). remembers front list p (next_of reader)) new.past)
+    learned (leb front (length (continuation_of reader).installs)) list (continuation_of reader) (continuation_of after) (past_of after) new.orderly new.installs new.before origin.1 next_is
+    (past_is ∙ ap (λ (p : Option (Knowledge BoardAt Install)). remembers front list p (continuation_of reader)) new.past)
 
 starts : (before given : List (Option BoardAt)) (opening same : Option BoardAt) → before ≡ given → opening ≡ same → (given ≡ []) ⊎ (given ≡ same ∷ [])
     → (before ≡ []) ⊎ (before ≡ opening ∷ [])
@@ -108,22 +108,22 @@ seen_at : {T P : Type 0} {c : counted.Ghosts T Install BoardAt} {a : absorb.Ghos
 seen_at None = refl
 seen_at (Some seat) = refl
 
-pub seen_is : (reader : EdgeReader) → seen_by reader ≡ known (past_of reader) (next_of reader)
+pub seen_is : (reader : EdgeReader) → seen_by reader ≡ known (past_of reader) (continuation_of reader)
 seen_is reader = seen_at reader.seat
 
 opened : (o : Option BoardAt) → unwrap_or (option_map (λ (b : BoardAt). b.orderly) o) false ≡ true → (b : BoardAt) × (o ≡ Some b)
 opened None is = absurd cc
 opened (Some b) is = (b, refl)
 
-same_first : (reader : EdgeReader) → IsSteady reader → (seen_by reader).opening ≡ (next_of reader).opening
+same_first : (reader : EdgeReader) → IsSteady reader → (seen_by reader).opening ≡ (continuation_of reader).opening
 same_first reader h = ap (λ (k : Knowledge BoardAt Install). k.opening) (seen_is reader) ∙ h.opening
 
 orderly_seen : (reader : EdgeReader) → IsSteady reader → is_orderly (seen_by reader) ≡ true
-orderly_seen reader h = is_orderly_by (seen_by reader) (next_of reader) (same_first reader h) h.orderly
+orderly_seen reader h = is_orderly_by (seen_by reader) (continuation_of reader) (same_first reader h) h.orderly
 
 continued : (reader : EdgeReader) (b : BoardAt) → IsSteady reader → (seen_by reader).opening ≡ Some b → ContinuedFromOpening b (seen_by reader)
 continued reader b h is =
-    starts (seen_by reader).before (known (past_of reader) (next_of reader)).before (Some b) (next_of reader).opening
+    starts (seen_by reader).before (known (past_of reader) (continuation_of reader)).before (Some b) (continuation_of reader).opening
     (ap (λ (k : Knowledge BoardAt Install). k.before) (seen_is reader)) (sym is ∙ same_first reader h) h.seen
 
 boards_in_order : (reader : EdgeReader) → IsSteady reader → NeverFalls (board_of (seen_by reader))
@@ -145,7 +145,7 @@ sees_in_order reader h = record {
 new_from : (begun : Knowledge BoardAt Install) (table : ℕ) (board : Board) (reader : EdgeReader) → begun ≡ knows_opening table (orderly_opening board)
     → HasBegun begun reader → IsNewReader reader
 new_from begun table board reader is h =
-    let now : next_of reader ≡ knows_opening table (orderly_opening board) = h.next ∙ is in record {
+    let now : continuation_of reader ≡ knows_opening table (orderly_opening board) = h.next ∙ is in record {
       orderly = ap is_orderly now;
       past = h.past;
       installs = ap (λ (k : Knowledge BoardAt Install). k.installs) now;

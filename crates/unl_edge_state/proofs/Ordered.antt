@@ -1,5 +1,5 @@
 -- Orderly publications: what their writer may publish, and what their readers know.
-use Rattle.std.proofs.Common.{◌≡◌, ℕ, zero, suc, ◌≤◌, ◌⊎◌, inl, inr, List, [], ◌∷◌, length, take, fold, Bool, true, false, leb, Option, Some, None, IfSome, refl, sym, ap, ◌∙◌, subst, arith, unwrap_or}
+use Rattle.std.proofs.Common.{◌≡◌, ℕ, zero, suc, ◌≤◌, inl, inr, List, [], ◌∷◌, length, take, fold, Bool, true, false, leb, Option, Some, None, IfSome, refl, sym, ap, ◌∙◌, subst, arith, unwrap_or}
 use mathlib.Core.HLevel.{⊥_prop}
 use mathlib.Core.Logic.{∥∥₁_elim, ∥∥₁_map}
 use base.Stored.{Coded-set, coded_bool}
@@ -22,7 +22,7 @@ use Rattle.unl_delta.specs.Revision.{revision_of}
 use Rattle.unl_delta.proofs.Revisions.{not_older, up_to_is}
 use Rattle.unl_edge_state.specs.declared.reader.EdgeReader.{EdgeReader}
 use Rattle.unl_edge_state.specs.Editions.{BoardAt, board_known, edited, no_board}
-use Rattle.unl_edge_state.specs.Orderly.{AllowsInstall, GoesOn, IsInOrder, IsOrderly, KeepsOrder, MayInstall, is_orderly}
+use Rattle.unl_edge_state.specs.Orderly.{AllowsInstall, GoesOn, MayComeNext, IsOrderly, KeepsOrder, MayInstall, is_orderly}
 use Rattle.unl_edge_state.specs.Reading.{IsOfList, board_of, seen_by}
 use Rattle.unl_edge_state.specs.Writing.{Writing, installed_by}
 use Rattle.unl_edge_state.proofs.Boards.{board_of_fold, boards_are}
@@ -48,7 +48,7 @@ may_publish known what may opening is orderly =
     let shown : board_known known ≡ (fold edited opening known.installs).board =
     ap (λ (o : Option BoardAt). unwrap_or (option_map (λ (b : BoardAt). board_after b.board known.installs) o) no_board) is
     ∙ sym (board_of_fold opening known.installs) in
-    subst (λ (b : Board). IsInOrder b what) shown (may says)
+    subst (λ (b : Board). MayComeNext b what) shown (may says)
 
 -- The version after a batch that applies may come next.
 pub version_in_order : (w : Writing) (slot : ℕ) (batch : Batch) (p : Place) (v shown : EnvVersion) → place_of (installed_by w) slot ≡ p

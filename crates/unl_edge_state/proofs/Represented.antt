@@ -1,5 +1,5 @@
 -- Each version that a slot has had is a revision of a line of histories.
-use Rattle.std.proofs.Common.{◌≡◌, ℕ, zero, suc, ◌<◌, ◌≤◌, List, [], ◌∷◌, ◌++◌, length, take, Option, Some, None, Result, Ok, Err, OnOk, OnErr, IfSome, refl, sym, ap, ◌∙◌, subst, arith, unwrap_or, is_some, true}
+use Rattle.std.proofs.Common.{◌≡◌, ℕ, zero, suc, ◌≤◌, List, [], ◌∷◌, ◌++◌, length, take, Option, Some, None, Result, Ok, Err, OnOk, OnErr, IfSome, refl, sym, subst, unwrap_or}
 use Rattle.std.specs.Prelude.{option_map}
 use Rattle.unl_core.specs.declared.board.Board.{Board}
 use Rattle.unl_core.specs.declared.board.Install.{Install}
@@ -18,7 +18,7 @@ use Rattle.unl_delta.proofs.Delivery.{next_follows}
 use Rattle.unl_edge_state.specs.Editions.{BoardAt, board_known, no_board}
 use Rattle.unl_edge_state.specs.Histories.{AlwaysRepresented, AlwaysRepresentedFrom, SlotRepresented}
 use Rattle.unl_edge_state.specs.Reading.{ContinuedFromOpening, board_of}
-use Rattle.unl_edge_state.specs.Writing.{Stays, Writing, after_batch, installed_by}
+use Rattle.unl_edge_state.specs.Writing.{Stays, Writing, writer_after_batch, installed_by}
 use Rattle.unl_edge_state.proofs.Boards.{boards_are}
 use Rattle.unl_publication.specs.declared.knowledge.Knowledge.{Knowledge}
 
@@ -53,7 +53,7 @@ known_more line sees slot (Some opening) list v represented represents =
 
 -- The slot always had revisions of the line after a call that published a batch sent from the line, or published nothing.
 pub batch_represented : {E : Type 0} (r : Result ℕ E) (w new : Writing) (slot : ℕ) (batch : Batch) → (place_of (installed_by w) slot).version ≡ snapshot_at (board_known w.known).slots slot
-    → verdict_of (place_of (installed_by w) slot) batch ≡ Apply → OnOk r (new ≡ record (after_batch slot batch w) { closed = new.closed }) → OnErr r (Stays w new)
+    → verdict_of (place_of (installed_by w) slot) batch ≡ Apply → OnOk r (new ≡ record (writer_after_batch slot batch w) { closed = new.closed }) → OnErr r (Stays w new)
     → (line : List Era) (sees : Sees) → IsLine line → AlwaysRepresented line sees slot w.known → IsSent line sees batch → AlwaysRepresented line sees slot new.known
 batch_represented (Err e) w new slot batch represents applies published stays line sees h represented sent = subst (λ (x : Writing). AlwaysRepresented line sees slot x.known) (sym stays) represented
 batch_represented (Ok front) w new slot batch represents applies published stays line sees h represented sent =

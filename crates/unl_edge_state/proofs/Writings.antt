@@ -1,7 +1,7 @@
 -- The places of a writer agree with what it published.
-use Rattle.std.proofs.Common.{◌≡◌, ℕ, ◌<◌, ◌+◌, List, [], ◌∷◌, ◌++◌, length, Bool, true, false, Some, None, Option, IfSome, Result, Ok, Err, OnOk, OnErr, is_some, refl, sym, ap, ◌∙◌, subst, arith, length-append, get_or, map, All, unwrap_or}
+use Rattle.std.proofs.Common.{◌≡◌, ℕ, ◌<◌, ◌+◌, List, [], ◌∷◌, ◌++◌, length, Bool, true, false, Some, None, Option, IfSome, Result, Ok, Err, OnOk, OnErr, is_some, refl, sym, ap, ◌∙◌, subst, length-append, get_or, map, All, unwrap_or}
 use Rattle.std.proofs.Math.ListN.{set}
-use Rattle.std.specs.Prelude.{option_map, slice_set, slice_get}
+use Rattle.std.specs.Prelude.{option_map, slice_set}
 use Rattle.std.proofs.lemmas.Option.{slice_get-get_or}
 use Rattle.unl_core.specs.declared.board.Board.{Board}
 use Rattle.unl_core.specs.declared.board.Install.{Install}
@@ -18,7 +18,7 @@ use Rattle.unl_delta.specs.Installing.{after_install, place_of}
 use Rattle.unl_delta.specs.Valid.{IsValidPlace, IsValidVersion}
 use Rattle.unl_edge_state.specs.Editions.{BoardAt, board_known, no_board, opening_of}
 use Rattle.unl_edge_state.specs.Orderly.{KnowsOrderly}
-use Rattle.unl_edge_state.specs.Writing.{Writing, IsWriting, LeadsTo, Stays, after_batch, after_hold, installed_by, with_install, with_version}
+use Rattle.unl_edge_state.specs.Writing.{Writing, IsWriting, LeadsTo, Stays, writer_after_batch, writer_after_hold, installed_by, with_install, with_version}
 use Rattle.unl_edge_state.proofs.Boards.{known_more, knows_more}
 use Rattle.unl_publication.specs.declared.knowledge.Knowledge.{Knowledge}
 use Rattle.unl_publication.specs.Rule.{knows_opening, with_installs}
@@ -71,12 +71,12 @@ place_is known places closed slot p w same low is =
 -- A writer whose place at a slot is set to held is the writer after the slot is held.
 pub hold_is : (known : Knowledge BoardAt Install) (places : List Place) (closed : Bool) (slot : ℕ) (p : Place) (w : Writing)
     → record { known = known; places = places; closed = closed } ≡ w → slot < length places → p ≡ get_or places slot p
-    → record { known = known; places = set places slot (record { version = p.version; held = true }); closed = closed } ≡ after_hold slot w
+    → record { known = known; places = set places slot (record { version = p.version; held = true }); closed = closed } ≡ writer_after_hold slot w
 hold_is known places closed slot p w same low is =
     let old : Writing = record { known = known; places = places; closed = closed } in
     let here : place_of (installed_by old) slot ≡ p = place_is known places closed slot p old refl low is in
     ap (λ (v : Option EnvVersion). writing known (set places slot (record { version = v; held = true })) closed) (ap (λ (q : Place). q.version) (sym here))
-    ∙ ap (after_hold slot) same
+    ∙ ap (writer_after_hold slot) same
   where
     writing : Knowledge BoardAt Install → List Place → Bool → Writing
     writing k ps c = record { known = k; places = ps; closed = c }
@@ -84,7 +84,7 @@ hold_is known places closed slot p w same low is =
 -- A writer that published the next version at a slot is the writer after the batch.
 pub batch_is : {E : Type 0} (r : Result ℕ E) (old new w : Writing) (slot : ℕ) (batch : Batch) (p : Place) (v shown : EnvVersion) → old ≡ w
     → place_of (installed_by w) slot ≡ p → v ≡ next_version p batch → shown ≡ v → OnOk r (new ≡ record (with_version slot shown false old) { closed = new.closed })
-    → OnOk r (new ≡ record (after_batch slot batch w) { closed = new.closed })
+    → OnOk r (new ≡ record (writer_after_batch slot batch w) { closed = new.closed })
 batch_is (Err e) old new w slot batch p v shown same here next shown_is published = tt
 batch_is (Ok front) old new w slot batch p v shown same here next shown_is published =
     let is : shown ≡ next_version (place_of (installed_by w) slot) batch = shown_is ∙ next ∙ ap (λ (q : Place). next_version q batch) (sym here) in
@@ -93,7 +93,7 @@ batch_is (Ok front) old new w slot batch p v shown same here next shown_is publi
 -- ---- the writer as an installer
 
 -- A writer that published a batch has installed it.
-pub batch_installed : (w new : Writing) (slot : ℕ) (batch : Batch) → is_some w.known.opening ≡ true → new ≡ record (after_batch slot batch w) { closed = new.closed }
+pub batch_installed : (w new : Writing) (slot : ℕ) (batch : Batch) → is_some w.known.opening ≡ true → new ≡ record (writer_after_batch slot batch w) { closed = new.closed }
     → installed_by new ≡ after_install slot batch (installed_by w)
 batch_installed w new slot batch begun is =
     let v : EnvVersion = next_version (place_of (installed_by w) slot) batch in
@@ -111,7 +111,7 @@ book_installed w new tokens begun is =
 
 -- The same for a call that may fail.
 pub batch_result_installed : {E : Type 0} (r : Result ℕ E) (w new : Writing) (slot : ℕ) (batch : Batch) → is_some w.known.opening ≡ true
-    → OnOk r (new ≡ record (after_batch slot batch w) { closed = new.closed }) → OnOk r (installed_by new ≡ after_install slot batch (installed_by w))
+    → OnOk r (new ≡ record (writer_after_batch slot batch w) { closed = new.closed }) → OnOk r (installed_by new ≡ after_install slot batch (installed_by w))
 batch_result_installed (Err e) w new slot batch begun published = tt
 batch_result_installed (Ok front) w new slot batch begun published = batch_installed w new slot batch begun published
 
@@ -119,7 +119,7 @@ batch_result_installed (Ok front) w new slot batch begun published = batch_insta
 
 -- The list stays orderly if a batch that applies was published, or nothing was.
 pub batch_orderly : {E : Type 0} (r : Result ℕ E) (w new : Writing) (slot : ℕ) (batch : Batch) → (place_of (installed_by w) slot).version ≡ snapshot_at (board_known w.known).slots slot
-    → verdict_of (place_of (installed_by w) slot) batch ≡ Apply → OnOk r (new ≡ record (after_batch slot batch w) { closed = new.closed }) → OnErr r (Stays w new)
+    → verdict_of (place_of (installed_by w) slot) batch ≡ Apply → OnOk r (new ≡ record (writer_after_batch slot batch w) { closed = new.closed }) → OnErr r (Stays w new)
     → KnowsOrderly w.known → KnowsOrderly new.known
 batch_orderly (Ok front) w new slot batch represents applies published stays orderly =
     let v : EnvVersion = next_version (place_of (installed_by w) slot) batch in

@@ -1,5 +1,5 @@
 -- The published board, and its changes.
-use Rattle.std.specs.Prelude.{ℕ, ◌+◌, Bool, true, false, [], Option, option_map, unwrap_or}
+use Rattle.std.specs.Prelude.{ℕ, ◌+◌, Bool, true, false, [], option_map, unwrap_or}
 use Rattle.unl_core.specs.declared.board.Board.{Board}
 use Rattle.unl_core.specs.declared.board.Install.{Install}
 use Rattle.unl_core.specs.Board.{board_after, installed}

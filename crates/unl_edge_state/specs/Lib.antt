@@ -1,4 +1,5 @@
 pub mod Editions
+pub mod Continued
 pub mod Reading
 pub mod Writing
 pub mod Orderly

@@ -22,14 +22,14 @@ pub record GoesOn (board : Board) (slot : ℕ) (version : EnvVersion) : Type 0 w
   pub next : version ≡ next_version place batch
 
 -- The install may come next in an orderly list: a version must follow the one at its slot, and a token book may follow any other.
-abbrev pub IsInOrder : Board → Install → Type 0
-IsInOrder board (Tokens book) = ⊤
-IsInOrder board (Env slot version) = GoesOn board slot version
+abbrev pub MayComeNext : Board → Install → Type 0
+MayComeNext board (Tokens book) = ⊤
+MayComeNext board (Env slot version) = GoesOn board slot version
 
 -- The list is orderly: each install may come next, on the board that the installs before it lead to.
 abbrev pub IsOrderly : Board → List Install → Type 0
 IsOrderly board [] = ⊤
-IsOrderly board (what ∷ more) = IsInOrder board what × IsOrderly (installed what board) more
+IsOrderly board (what ∷ more) = MayComeNext board what × IsOrderly (installed what board) more
 
 -- The installs that are known to be published are an orderly list, from the opening board on.
 abbrev pub KnowsOrderly : Knowledge BoardAt Install → Type 0
@@ -37,7 +37,7 @@ KnowsOrderly known = IfSome known.opening (λ opening. IsOrderly opening.board k
 
 -- The installs that may come after a board: any, or in an orderly publication those that follow it.
 abbrev pub AllowsInstall : BoardAt → Install → Type 0
-AllowsInstall edition what = edition.orderly ≡ true → IsInOrder edition.board what
+AllowsInstall edition what = edition.orderly ≡ true → MayComeNext edition.board what
 
 -- Whether the publication is an orderly one, as far as is known. The opening board says so.
 abbrev pub is_orderly : Knowledge BoardAt Install → Bool
@@ -45,7 +45,7 @@ is_orderly known = unwrap_or (option_map (λ opening. opening.orderly) known.ope
 
 -- The install may be published next: any, or in an orderly publication one that follows the published board.
 abbrev pub MayInstall : Knowledge BoardAt Install → Install → Type 0
-MayInstall known what = is_orderly known ≡ true → IsInOrder (board_known known) what
+MayInstall known what = is_orderly known ≡ true → MayComeNext (board_known known) what
 
 -- If the publication is an orderly one, the installs that are known of it are an orderly list.
 abbrev pub KeepsOrder : Knowledge BoardAt Install → Type 0

@@ -1,12 +1,13 @@
 -- What a reader of the board knows, and what it has learned.
-use Rattle.std.specs.Prelude.{◌≡◌, ◌⊎◌, ℕ, ◌≤◌, true, List, [], ◌∷◌, ◌++◌, length, take, Option, Some, None, IfSome}
-use Rattle.std.specs.Prelude.{is_some, option_and_then, option_map, unwrap_or}
+use Rattle.std.specs.Prelude.{◌≡◌, ◌⊎◌, ℕ, ◌≤◌, true, List, [], ◌∷◌, ◌++◌, length, Option, Some, None, IfSome}
+use Rattle.std.specs.Prelude.{option_and_then, option_map, unwrap_or}
 use Rattle.unl_core.specs.declared.board.Board.{Board}
 use Rattle.unl_core.specs.declared.board.Install.{Install}
 use Rattle.unl_core.specs.Board.{board_after}
 use Rattle.unl_core.specs.DeskStates.{snapshot_at}
 use Rattle.unl_edge_state.specs.declared.reader.EdgeReader.{EdgeReader}
 use Rattle.unl_delta.specs.History.{IsNotBelow}
+use Rattle.unl_edge_state.specs.Continued.{Continued}
 use Rattle.unl_edge_state.specs.Editions.{BoardAt, edited}
 use Rattle.unl_edge_state.specs.Orderly.{KnowsOrderly, is_orderly}
 use Rattle.unl_publication.specs.declared.knowledge.Knowledge.{Knowledge}
@@ -19,8 +20,8 @@ abbrev pub seen_by : EdgeReader → Knowledge BoardAt Install
 seen_by reader = unwrap_or (option_map seen reader.seat) knows_nothing
 
 -- What the reader continues from: the next list of installs that it takes starts with the list in this.
-abbrev pub next_of : EdgeReader → Knowledge BoardAt Install
-next_of reader = unwrap_or (option_map next reader.seat) knows_nothing
+abbrev pub continuation_of : EdgeReader → Knowledge BoardAt Install
+continuation_of reader = unwrap_or (option_map next reader.seat) knows_nothing
 
 -- What the reader knew at its last look, if a learned list has replaced what it continues from since.
 abbrev pub past_of : EdgeReader → Option (Knowledge BoardAt Install)
@@ -47,7 +48,7 @@ IsOfList opening known front = ContinuedFromOpening opening known ⊎ (length kn
 -- A new reader: it knows exactly this, and has learned nothing.
 pub record HasBegun (known : Knowledge BoardAt Install) (reader : EdgeReader) : Type 0 where
   pub seen : seen_by reader ≡ known
-  pub next : next_of reader ≡ known
+  pub next : continuation_of reader ≡ known
   pub learned_none : learned_front_of reader ≡ 0
   pub past : past_of reader ≡ None
 
@@ -55,26 +56,21 @@ pub record HasBegun (known : Knowledge BoardAt Install) (reader : EdgeReader) : 
 
 -- The boards that the reader knew before it continued from a learned list.
 abbrev pub earlier_of : EdgeReader → List (Option BoardAt)
-earlier_of reader = before_of edited (past_of reader) (next_of reader)
+earlier_of reader = before_of edited (past_of reader) (continuation_of reader)
 
 -- The reader continues from exactly these installs on this opening board. It has not looked, and before these installs it knew
 -- at most the opening board.
-pub record BeginsWith (edition : Option BoardAt) (installs : List Install) (reader : EdgeReader) : Type 0 where
-  pub opening : (next_of reader).opening ≡ edition
-  pub list : (next_of reader).installs ≡ installs
+pub record StartsReader (edition : Option BoardAt) (installs : List Install) (reader : EdgeReader) : Type 0 where
+  pub opening : (continuation_of reader).opening ≡ edition
+  pub list : (continuation_of reader).installs ≡ installs
   pub earlier : (earlier_of reader ≡ []) ⊎ (earlier_of reader ≡ edition ∷ [])
   pub seen_opening : (seen_by reader).opening ≡ edition
   pub seen_before : (seen_by reader).before ≡ []
   pub seen_none : (seen_by reader).installs ≡ []
 
--- A later state of a reader that remembered `past` and continued from `now`, and has learned nothing since. Its list starts with
--- that one, and it knew the same boards before. If it still remembers what it knew before it learned, that is the same.
+-- A later state of a reader that remembered `past` and continued from `now`, and has learned nothing since.
 abbrev pub ContinuesFrom : Option (Knowledge BoardAt Install) → Knowledge BoardAt Install → EdgeReader → Type 0
-ContinuesFrom past now reader =
-    ((next_of reader).opening ≡ now.opening)
-    × (take (length now.installs) (next_of reader).installs ≡ now.installs)
-    × (earlier_of reader ≡ before_of edited past now)
-    × (is_some (past_of reader) ≡ true → past_of reader ≡ past)
+ContinuesFrom past now reader = Continued past now (past_of reader) (continuation_of reader)
 
 -- The board is the opening board after a list of `front` installs, which starts with these installs.
 abbrev pub IsAfter : Option BoardAt → List Install → ℕ → Board → Type 0
@@ -100,10 +96,10 @@ NeverFalls board_at =
 
 -- A reader that knows only the opening board, and has not looked.
 pub record IsNewReader (reader : EdgeReader) : Type 0 where
-  pub orderly : is_orderly (next_of reader) ≡ true
+  pub orderly : is_orderly (continuation_of reader) ≡ true
   pub past : past_of reader ≡ None
-  pub installs : (next_of reader).installs ≡ []
-  pub before : (next_of reader).before ≡ []
+  pub installs : (continuation_of reader).installs ≡ []
+  pub before : (continuation_of reader).before ≡ []
 
 -- A reader never continued from a learned list, or only from the opening board. `past` is what it remembers of its last look, if a
 -- learned list has replaced that since, and `now` is what it continues from.
@@ -115,7 +111,7 @@ pub record ReadsOneList (past : Option (Knowledge BoardAt Install)) (now : Knowl
 
 -- The reader never continued from a learned list, or only from the opening board.
 abbrev pub IsSteady : EdgeReader → Type 0
-IsSteady reader = ReadsOneList (past_of reader) (next_of reader)
+IsSteady reader = ReadsOneList (past_of reader) (continuation_of reader)
 
 -- The list that the reader saw is orderly, and so are all boards that it knows.
 pub record SeesInOrder (reader : EdgeReader) : Type 0 where

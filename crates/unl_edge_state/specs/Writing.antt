@@ -1,19 +1,17 @@
 -- What a writer of the board has published, and the places that it keeps.
 use Rattle.std.specs.Prelude.{◌≡◌, ℕ, ◌<◌, [], ◌∷◌, List, length, Bool, true, ⊤, is_some, slice_set, Option, Some, false, IfSome}
-use Rattle.unl_core.specs.declared.board.Board.{Board}
 use Rattle.unl_core.specs.declared.board.Install.{Install}
 use Rattle.unl_core.specs.declared.board.Install.TheVariants.{Tokens, Env}
 use Rattle.unl_core.specs.Board.{board_after}
-use Rattle.unl_core.specs.DeskStates.{PlacesMatch, place_at}
+use Rattle.unl_core.specs.DeskStates.{PlacesMatch}
 use Rattle.unl_delta.specs.declared.batch.Batch.{Batch}
 use Rattle.unl_delta.specs.declared.version.EnvVersion.{EnvVersion}
 use Rattle.unl_delta.specs.declared.version.Place.{Place}
-use Rattle.unl_delta.specs.Batch.{empty_place, next_version}
+use Rattle.unl_delta.specs.Batch.{next_version}
 use Rattle.unl_delta.specs.Installing.{Installed, place_of}
 use Rattle.unl_edge_state.specs.Editions.{BoardAt, board_known}
 use Rattle.unl_publication.specs.declared.knowledge.Knowledge.{Knowledge}
 use Rattle.unl_publication.specs.Rule.{with_installs}
-use Rattle.unl_tokens.specs.declared.token.Token.{Token}
 
 -- What was published, the place of each slot, and whether every later publication fails.
 pub record Writing : Type 0 where
@@ -55,12 +53,12 @@ after_publish (Tokens book) w = with_install (Tokens book) w
 after_publish (Env slot version) w = with_version slot version (place_of (installed_by w) slot).held w
 
 -- The writer after a batch that applies is published at a slot, which is then not held.
-abbrev pub after_batch : ℕ → Batch → Writing → Writing
-after_batch slot batch w = with_version slot (next_version (place_of (installed_by w) slot) batch) false w
+abbrev pub writer_after_batch : ℕ → Batch → Writing → Writing
+writer_after_batch slot batch w = with_version slot (next_version (place_of (installed_by w) slot) batch) false w
 
 -- The writer after a slot is held.
-abbrev pub after_hold : ℕ → Writing → Writing
-after_hold slot w =
+abbrev pub writer_after_hold : ℕ → Writing → Writing
+writer_after_hold slot w =
     record w { places = slice_set w.places slot (record { version = (place_of (installed_by w) slot).version; held = true }) }
 
 -- Nothing was published, though later publications may fail from now on.
@@ -68,6 +66,6 @@ abbrev pub Stays : Writing → Writing → Type 0
 Stays old new = new ≡ record old { closed = new.closed }
 
 -- The slot of an install is below `slots`.
-abbrev pub IsWithin : Install → ℕ → Type 0
-IsWithin (Tokens book) slots = ⊤
-IsWithin (Env slot version) slots = slot < slots
+abbrev pub HasSlotBelow : Install → ℕ → Type 0
+HasSlotBelow (Tokens book) slots = ⊤
+HasSlotBelow (Env slot version) slots = slot < slots

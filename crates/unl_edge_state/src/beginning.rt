@@ -1,5 +1,5 @@
 //! Creates the writer of a board and its readers.
-ghost use Rattle.std.specs.Prelude.{◌≡◌, ℕ, ◌<◌, ◌≤◌, All, IfOk, IsTrue, false, length, map};
+ghost use Rattle.std.specs.Prelude.{◌≡◌, ℕ, ◌<◌, ◌≤◌, All, IfOk, false, length, map};
 ghost use Rattle.std.specs.Prelude.{is_some, true};
 ghost use Rattle.unl_core.specs.Board.{AreSlots};
 ghost use Rattle.unl_core.specs.DeskStates.{place_at};

@@ -1,5 +1,5 @@
 //! Laws of all lists of installs.
-ghost use Rattle.std.specs.Prelude.{◌≡◌, ◌≤◌, ℕ, List, [], IfSome, Option, Some, length, take, true};
+ghost use Rattle.std.specs.Prelude.{◌≡◌, ◌≤◌, ℕ, List, IfSome, Option, Some, length, take, true};
 ghost use Rattle.unl_core.specs.declared.board.Board.{Board};
 ghost use Rattle.unl_core.specs.declared.board.Install.{Install};
 ghost use Rattle.unl_core.specs.Board.{board_after};
@@ -10,7 +10,7 @@ ghost use Rattle.unl_edge_state.specs.Editions.{BoardAt, edited};
 ghost use Rattle.unl_edge_state.specs.Histories.{AlwaysRepresented, SlotRepresented};
 ghost use Rattle.unl_edge_state.specs.Orderly.{IsOrderly, is_orderly};
 ghost use Rattle.unl_edge_state.specs.Reading.{ContinuedFromOpening, IsOfList, IsSteady, SeesInOrder, board_of, seen_by};
-ghost use Rattle.unl_edge_state.specs.Reading.{AnswersAfter, BeginsWith, ContinuesFrom, next_of, past_of};
+ghost use Rattle.unl_edge_state.specs.Reading.{AnswersAfter, StartsReader, ContinuesFrom, continuation_of, past_of};
 ghost use Rattle.unl_edge_state.specs.declared.reader.EdgeReader.{EdgeReader};
 ghost use Rattle.unl_publication.specs.Looking.{StaysOrTakes};
 ghost use Rattle.unl_publication.specs.declared.knowledge.Knowledge.{Knowledge};
@@ -57,15 +57,15 @@ pub fn boards_represent_lines()
 
 /// A reader continues from where it was, however often it looks.
 pub fn looks_continue()
-    ensures itself { (reader : EdgeReader) → ContinuesFrom (past_of reader) (next_of reader) reader }
+    ensures itself { (reader : EdgeReader) → ContinuesFrom (past_of reader) (continuation_of reader) reader }
     ensures look { (past : Option (Knowledge BoardAt Install)) (now : Knowledge BoardAt Install) (before after : EdgeReader)
-        → StaysOrTakes edited (past_of before) (next_of before) (past_of after) (next_of after)
+        → StaysOrTakes edited (past_of before) (continuation_of before) (past_of after) (continuation_of after)
         → ContinuesFrom past now before → ContinuesFrom past now after }
 {}
 
 /// A reader that began with these installs, and has only looked since, answers over the opening board after lists that start with
 /// them, if it answers at a front that is not below their number.
 pub fn answers_are_after_installs()
-    ensures { (edition : Option BoardAt) (installs : List Install) (reader later : EdgeReader) → BeginsWith edition installs reader
-        → ContinuesFrom (past_of reader) (next_of reader) later → AnswersAfter edition installs later }
+    ensures { (edition : Option BoardAt) (installs : List Install) (reader later : EdgeReader) → StartsReader edition installs reader
+        → ContinuesFrom (past_of reader) (continuation_of reader) later → AnswersAfter edition installs later }
 {}

@@ -28,8 +28,8 @@ pub struct EdgeReader {
 }
 
 impl EdgeReader {
-    ghost use Rattle.unl_edge_state.specs.Reading.{HasBegun, next_of, past_of, seen_by, learned_front_of};
-    ghost use Rattle.unl_edge_state.specs.Reading.{BeginsWith, IsNewReader};
+    ghost use Rattle.unl_edge_state.specs.Reading.{continuation_of, past_of, seen_by, learned_front_of};
+    ghost use Rattle.unl_edge_state.specs.Reading.{StartsReader, IsNewReader};
 
     /// A desk over a reader that knows the opening board.
     pub(crate) fn new(seat: Reader<Edition, Install, Ruled<Install>>) -> EdgeReader
@@ -43,12 +43,13 @@ impl EdgeReader {
     /// stays known. If `told` has more installs than the reader knows, and has their list, the list that the reader takes
     /// next starts with that one. Doesn't allocate.
     pub fn learn(&mut self, told: Told)
-        requires origin { IfSome (reported_list told) (λ list. SameOrigin list (next_of self.old)) }
-        ensures origin { SameOrigin (next_of self.new) (next_of self.old) }
+        requires origin { IfSome (reported_list told) (λ list. SameOrigin list (continuation_of self.old)) }
+        ensures origin { SameOrigin (continuation_of self.new) (continuation_of self.old) }
         ensures least { learned_front_of self.new ≡ max (learned_front_of self.old) (reported_front told) }
         ensures seen { seen_by self.new ≡ seen_by self.old }
-        ensures next { next_of self.new ≡ continues_from (reported_front told) (reported_list told) (next_of self.old) }
-        ensures past { past_of self.new ≡ remembers (reported_front told) (reported_list told) (past_of self.old) (next_of self.old) }
+        ensures next { continuation_of self.new ≡ continues_from (reported_front told) (reported_list told) (continuation_of self.old) }
+        ensures past { past_of self.new
+            ≡ remembers (reported_front told) (reported_list told) (past_of self.old) (continuation_of self.old) }
     {
         let Some(mut seat) = self.seat.take() else {
             unreachable!()
@@ -64,17 +65,18 @@ impl EdgeReader {
     ///
     /// Fails exactly if `told` has no list. Nothing is learned then.
     pub fn learn_all(&mut self, told: Told) -> Result<(), Memory>
-        requires origin { IfSome (reported_list told) (λ list. SameOrigin list (next_of self.old)) }
+        requires origin { IfSome (reported_list told) (λ list. SameOrigin list (continuation_of self.old)) }
         ensures list { is_ok result ≡ is_some (reported_list told) }
         ensures same { OnErr result (self.new ≡ self.old) }
-        ensures origin { SameOrigin (next_of self.new) (next_of self.old) }
+        ensures origin { SameOrigin (continuation_of self.new) (continuation_of self.old) }
         ensures least { OnOk result (learned_front_of self.new ≡ max (learned_front_of self.old) (reported_front told)) }
         ensures seen { seen_by self.new ≡ seen_by self.old }
-        ensures next { OnOk result (next_of self.new ≡ continues_from (reported_front told) (reported_list told) (next_of self.old)) }
+        ensures next { OnOk result (continuation_of self.new
+            ≡ continues_from (reported_front told) (reported_list told) (continuation_of self.old)) }
         ensures past { OnOk result (past_of self.new
-            ≡ remembers (reported_front told) (reported_list told) (past_of self.old) (next_of self.old)) }
+            ≡ remembers (reported_front told) (reported_list told) (past_of self.old) (continuation_of self.old)) }
         ensures begins { IsNewReader self.old → OnOk result ((list : Knowledge BoardAt Install) × (reported_list told ≡ Some list)
-            × BeginsWith list.opening list.installs self.new) }
+            × StartsReader list.opening list.installs self.new) }
     {
         if told.has_list() {
             self.learn(told);
@@ -91,9 +93,10 @@ impl Desk for EdgeReader {
     ghost use Rattle.unl_core.specs.Desk.{Keeps, Enters, EntersAtMostOnce};
     ghost use Rattle.unl_edge_state.specs.Editions.{board_known, edited};
     ghost use Rattle.unl_edge_state.specs.Orderly.{KeepsOrder};
-    ghost use Rattle.unl_edge_state.specs.Reading.{board_of, next_of, past_of, seen_by, learned_front_of};
+    ghost use Rattle.unl_edge_state.specs.Reading.{ContinuesFrom, board_of, continuation_of, past_of, seen_by, learned_front_of};
+    ghost use Rattle.unl_edge_state.specs.Continued.{continued_itself, continued_on};
     ghost use Rattle.unl_metrics.specs.Reports.{IsReport};
-    ghost use Rattle.unl_publication.specs.Looking.{LooksBelow, SameOrigin, StaysOrTakes};
+    ghost use Rattle.unl_publication.specs.Looking.{SameOrigin, StaysOrTakes};
     ghost use Rattle.unl_publication.specs.Meaning.{front_seen};
     ghost use Rattle.unl_publication.specs.Rule.{StartsWith};
 
@@ -102,6 +105,8 @@ impl Desk for EdgeReader {
     ghost board_at = { λ reader. board_of (seen_by reader) };
 
     ghost fronts = { λ reader. Some (seen_by reader).fronts };
+
+    ghost continues = { λ reader. ContinuesFrom (past_of reader) (continuation_of reader) };
 
     /// Answers over the board that is published when it looks.
     ///
@@ -121,6 +126,7 @@ impl Desk for EdgeReader {
         ensures report { IfOk result (λ a. IfSome a.1.report IsReport) }
         ensures rises { front_seen (seen_by self.old) ≤ front_seen (seen_by self.new) }
         ensures keeps { Keeps (board_of (seen_by self.old)) (board_of (seen_by self.new)) }
+        ensures continues { ContinuesFrom (past_of self.old) (continuation_of self.old) self.new }
         ensures entered { IfOk result (λ a. Enters (Some (seen_by self.old).fronts) (a.0 ∷ []) (Some (seen_by self.new).fronts)) }
         ensures unanswered { OnErr result (EntersAtMostOnce (Some (seen_by self.old).fronts) (Some (seen_by self.new).fronts)) }
 
@@ -131,14 +137,15 @@ impl Desk for EdgeReader {
         ensures orderly { IfOk result (λ _. KeepsOrder (seen_by self.new)) }
 
         // The list that it took starts with the one it continues from, and has no fewer installs than it has learned of.
-        ensures list { IfOk result (λ _. StartsWith (seen_by self.new).installs (next_of self.old).installs) }
+        ensures list { IfOk result (λ _. StartsWith (seen_by self.new).installs (continuation_of self.old).installs) }
         ensures at_least_learned { IfOk result (λ a. learned_front_of self.old ≤ a.0) }
-        ensures next { IfOk result (λ _. next_of self.new ≡ seen_by self.new) }
-        ensures origin { SameOrigin (next_of self.new) (next_of self.old) }
+        ensures next { IfOk result (λ _. continuation_of self.new ≡ seen_by self.new) }
+        ensures origin { SameOrigin (continuation_of self.new) (continuation_of self.old) }
         ensures same_learned_front { learned_front_of self.new ≡ learned_front_of self.old }
 
         // Whether it answered or not, either it knows what it knew before, or it took a list.
-        ensures stays_or_takes { StaysOrTakes edited (past_of self.old) (next_of self.old) (past_of self.new) (next_of self.new) }
+        ensures stays_or_takes { StaysOrTakes edited (past_of self.old) (continuation_of self.old)
+            (past_of self.new) (continuation_of self.new) }
     {
         let Some(seat) = self.seat.take() else {
             return Err(Memory);
@@ -156,4 +163,9 @@ impl Desk for EdgeReader {
             }
         }
     }
+
+    ghost continues_itself = { λ reader. continued_itself (past_of reader) (continuation_of reader) };
+
+    ghost continues_on = { λ first next last. continued_on (past_of first) (past_of next) (past_of last)
+        (continuation_of first) (continuation_of next) (continuation_of last) };
 }

@@ -1,12 +1,12 @@
 //! The writer, which publishes what is installed on a board.
-ghost use Rattle.std.specs.Prelude.{◌≡◌, ◌-◌, ◌^◌, ◌<◌, ◌∷◌, [], List, true, false, length, IfOk, IfNone, IfSome, IsErr, OnErr, OnOk};
+ghost use Rattle.std.specs.Prelude.{◌≡◌, ◌-◌, ◌^◌, ◌<◌, List, true, false, length, IfOk, IfNone, IfSome, IsErr, OnErr, OnOk};
 ghost use Rattle.std.specs.Prelude.{OnSome};
 ghost use Rattle.unl_core.specs.declared.board.Install.TheVariants.{Env, Tokens};
 ghost use Rattle.unl_delta.specs.declared.batch.Verdict.TheVariants.{Apply};
-ghost use Rattle.unl_delta.specs.Batch.{next_version, verdict_of};
+ghost use Rattle.unl_delta.specs.Batch.{verdict_of};
 ghost use Rattle.unl_delta.specs.History.{Era, PreservesLines, IsLine, IsSent};
 ghost use Rattle.unl_delta.specs.Installing.{after_hold, after_install, place_of, IsBookInstalled};
-ghost use Rattle.unl_delta.specs.Valid.{IsValidBatch, IsValidPlace};
+ghost use Rattle.unl_delta.specs.Valid.{IsValidBatch};
 ghost use Rattle.unl_delta.specs.View.{Sees};
 ghost use Rattle.unl_core.specs.Board.{AreSlots};
 ghost use Rattle.unl_edge_state.specs.Editions.{board_known};
@@ -14,7 +14,7 @@ ghost use Rattle.unl_edge_state.specs.Histories.{AlwaysRepresented};
 ghost use Rattle.unl_edge_state.specs.Orderly.{KeepsOrder, KnowsOrderly, MayInstall};
 ghost use Rattle.unl_edge_state.specs.Writing as writing;
 ghost use Rattle.unl_edge_state.specs.Writing.{after_publish, installed_by, with_install, with_version};
-ghost use Rattle.unl_edge_state.specs.Writing.{IsWithin, IsWriting, LeadsTo, Stays};
+ghost use Rattle.unl_edge_state.specs.Writing.{HasSlotBelow, IsWriting, LeadsTo, Stays};
 ghost use Rattle.unl_publication.specs.Rule.{shared_knowledge};
 ghost use Rattle.unl_publication.specs.Seen.{is_closed, reported_front, reported_list, written};
 
@@ -85,7 +85,7 @@ impl<'a, W: Wait> EdgeWriter<'a, W> {
     /// call fails too.
     pub fn publish(&mut self, alloc: Global, what: Install) -> Result<u64, Memory>
         requires front { length self.old.known.installs < 2 ^ 64 - 1 }
-        requires within { IsWithin what (length self.old.places) }
+        requires within { HasSlotBelow what (length self.old.places) }
         requires order { MayInstall self.old.known what }
         ensures published { OnOk result (self.new ≡ record (after_publish what self.old) { closed = self.new.closed }) }
         ensures front { IfOk result (λ front. front ≡ length self.new.known.installs) }
@@ -170,9 +170,9 @@ impl<'a, W: Wait> EdgeWriter<'a, W> {
 impl<W: Wait> Installer for EdgeWriter<'_, W> {
     ghost installed = { installed_by };
 
-    ghost installs = { λ slot batch old new. new ≡ record (writing.after_batch slot batch old) { closed = new.closed } };
+    ghost installs = { λ slot batch old new. new ≡ record (writing.writer_after_batch slot batch old) { closed = new.closed } };
 
-    ghost holds = { λ slot old new. new ≡ writing.after_hold slot old };
+    ghost holds = { λ slot old new. new ≡ writing.writer_after_hold slot old };
 
     fn slots(&self) -> usize {
         self.places.len()
@@ -194,7 +194,7 @@ impl<W: Wait> Installer for EdgeWriter<'_, W> {
         ensures published { OnOk result (installed_by self.new ≡ after_install slot batch.now (installed_by self.old)) }
         ensures represents { OnOk result (PreservesLines (place_of (installed_by self.old) slot).version batch.now
             (place_of (installed_by self.new) slot).version) }
-        ensures whole { OnOk result (self.new ≡ record (writing.after_batch slot batch.now self.old) { closed = self.new.closed }) }
+        ensures whole { OnOk result (self.new ≡ record (writing.writer_after_batch slot batch.now self.old) { closed = self.new.closed }) }
         ensures front { IfOk result (λ front. front ≡ (installed_by self.new).front) }
         ensures memory { OnErr result (installed_by self.new ≡ installed_by self.old) }
         ensures same { OnErr result (Stays self.old self.new) }
@@ -214,7 +214,7 @@ impl<W: Wait> Installer for EdgeWriter<'_, W> {
         requires { slot < length (installed_by self.old).places }
         ensures held { installed_by self.new ≡ after_hold slot (installed_by self.old) }
         ensures stays { (place_of (installed_by self.new) slot).version ≡ (place_of (installed_by self.old) slot).version }
-        ensures whole { self.new ≡ writing.after_hold slot self.old }
+        ensures whole { self.new ≡ writing.writer_after_hold slot self.old }
     {
         self.places[slot].held = true;
     }
