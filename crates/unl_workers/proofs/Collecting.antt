@@ -5,7 +5,7 @@ use Rattle.std.specs.List.{All}
 use Rattle.std.proofs.lemmas.List.Concat.{flat_map-append}
 use Rattle.std.proofs.lemmas.List.Elements.{All-cons, All-head, All-nil, All-tail}
 use Rattle.std.proofs.lemmas.List.{map-append}
-use Rattle.unl_workers.specs.declared.tally.Tally.{Tally}
+use Rattle.unl_workers.specs.declared.tally.QueueTally.{QueueTally}
 use Rattle.unl_workers.specs.Tallies.{less_a_part, tally}
 
 -- the pieces of one more chunk were appended
@@ -41,14 +41,14 @@ made_more {X} {Y} f done new x y before rest all so_far steps more is =
     ∙ ap (λ (list : List Y). map f done ++ list) (sym steps) ∙ so_far
 
 -- one more part was split off, and nothing else changed
-pub same_but_parts : {L : Type 0} (first v w : Tally L) → v ≡ tally v.parts first.put first.taken first.may_put first.ends_seen
+pub same_but_parts : {L : Type 0} (first v w : QueueTally L) → v ≡ tally v.parts first.put first.taken first.may_put first.ends_seen
     → w ≡ less_a_part v → w ≡ tally w.parts first.put first.taken first.may_put first.ends_seen
 same_but_parts {L} first v w kept less = λ i. record {
   parts = w.parts;
-  put = (ap (λ (u : Tally L). u.put) less ∙ ap (λ (u : Tally L). u.put) kept) i;
-  taken = (ap (λ (u : Tally L). u.taken) less ∙ ap (λ (u : Tally L). u.taken) kept) i;
-  may_put = (ap (λ (u : Tally L). u.may_put) less ∙ ap (λ (u : Tally L). u.may_put) kept) i;
-  ends_seen = (ap (λ (u : Tally L). u.ends_seen) less ∙ ap (λ (u : Tally L). u.ends_seen) kept) i;
+  put = (ap (λ (u : QueueTally L). u.put) less ∙ ap (λ (u : QueueTally L). u.put) kept) i;
+  taken = (ap (λ (u : QueueTally L). u.taken) less ∙ ap (λ (u : QueueTally L). u.taken) kept) i;
+  may_put = (ap (λ (u : QueueTally L). u.may_put) less ∙ ap (λ (u : QueueTally L). u.may_put) kept) i;
+  ends_seen = (ap (λ (u : QueueTally L). u.ends_seen) less ∙ ap (λ (u : QueueTally L). u.ends_seen) kept) i;
 }
 
 nothing : {X : Type 0} (xs : List X) → length xs ≡ 0 → xs ≡ []

@@ -4,7 +4,7 @@ use Rattle.crossbeam_queue.specs.Passes.{view, IsSamePass}
 use Rattle.unl_base.specs.Doors.{DoorState}
 use Rattle.unl_base.specs.Faults.{Rose}
 use Rattle.unl_server.specs.Handling.{Coming}
-use Rattle.unl_server.specs.Links.{LinkState}
+use Rattle.unl_server.specs.Links.{LinkView}
 use Rattle.unl_workers.specs.declared.acceptor.AcceptOutcome.{AcceptOutcome}
 use Rattle.unl_workers.specs.declared.pool.PoolFault.{PoolFault}
 use Rattle.unl_workers.specs.declared.pool.PoolFault.TheVariants.{Spawner}
@@ -31,8 +31,8 @@ taken_by worker = (view worker.pass).taken
 
 -- a worker took links until it took the end, and its slot served them
 pub record RunsWorker
-    {S R L W : Type 0} (Serves : S → Coming → LinkState → LinkState → S → Coming → Type 0) (Keeps : S → S → Type 0)
-    (coming_of : R → Coming) (state_of : L → LinkState) (before after : WorkerOf S R L W) : Type 0 where
+    {S R L W : Type 0} (Serves : S → Coming → LinkView → LinkView → S → Coming → Type 0) (Keeps : S → S → Type 0)
+    (coming_of : R → Coming) (state_of : L → LinkView) (before after : WorkerOf S R L W) : Type 0 where
   pub slot : ServesSlot Serves Keeps coming_of before.slot after.slot
   pub same : IsSamePass before.pass after.pass
   pub took : TakesAndServesAt Serves coming_of state_of (view before.pass) before.slot (view after.pass) after.slot

@@ -1,24 +1,25 @@
 -- The links that a door handed out and that were put into a queue. `left`, `sent` and `faults` give a link's bytes to come, the
 -- bytes it has sent, and its fault count.
 use Rattle.std.specs.Prelude.{◌≡◌, ℕ, List, [], ◌∷◌, ◌++◌, Option, length}
-use Rattle.unl_base.specs.Doors.{DoorState, IsOpen, IsFresh, handing_out}
+use Rattle.unl_base.specs.Doors.{DoorState, IsOpenDoor, IsFresh, handing_out}
 use Rattle.unl_workers.specs.Tallies.{tally}
-use Rattle.unl_workers.specs.declared.tally.Tally.{Tally}
+use Rattle.unl_workers.specs.declared.tally.QueueTally.{QueueTally}
 
 module _ {L : Type 0} (left sent : L → Option (List ℕ)) (faults : L → ℕ) where
   -- an open door handed out these links, one after another, each with the bytes that were to come and nothing sent
   abbrev pub HandsOutEach : List L → DoorState → DoorState → Type 0
   HandsOutEach [] before after = after ≡ before
-  HandsOutEach (link ∷ links) before after = (middle : DoorState) × IsOpen before × (middle ≡ handing_out middle.closed before)
+  HandsOutEach (link ∷ links) before after = (middle : DoorState) × IsOpenDoor before × (middle ≡ handing_out middle.closed before)
       × IsFresh before (left link) (sent link) (faults link) × HandsOutEach links middle after
 
   -- These links were handed out, and they alone were put into the queue. `may_put` says whether the pass may put more.
   pub record QueuesLinks
-      (may_put : ℕ) (links : List L) (view_before : Tally L) (before : DoorState) (view_after : Tally L) (after : DoorState) : Type 0 where
+      (may_put : ℕ) (links : List L) (view_before : QueueTally L) (before : DoorState) (view_after : QueueTally L) (after : DoorState)
+      : Type 0 where
     pub put : view_after ≡ tally view_before.parts (view_before.put ++ links) view_before.taken may_put view_before.ends_seen
     pub handed : HandsOutEach links before after
 
   -- this many links were handed out and put
-  abbrev pub QueuesAll : ℕ → ℕ → Tally L → DoorState → Tally L → DoorState → Type 0
+  abbrev pub QueuesAll : ℕ → ℕ → QueueTally L → DoorState → QueueTally L → DoorState → Type 0
   QueuesAll may_put count view_before before view_after after =
       (links : List L) × QueuesLinks may_put links view_before before view_after after × (length links ≡ count)

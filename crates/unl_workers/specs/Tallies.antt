@@ -1,8 +1,8 @@
 -- The links that passed through a queue, as each pass knows them.
 use Rattle.std.specs.Prelude.{◌≡◌, ℕ, ◌+◌, ◌-◌, List, [], ◌∷◌, ◌++◌}
-use Rattle.unl_workers.specs.declared.tally.Entry.{Entry}
-use Rattle.unl_workers.specs.declared.tally.Entry.TheVariants.{Link, End}
-use Rattle.unl_workers.specs.declared.tally.Tally.{Tally}
+use Rattle.unl_workers.specs.declared.tally.QueueEntry.{QueueEntry}
+use Rattle.unl_workers.specs.declared.tally.QueueEntry.TheVariants.{Link, End}
+use Rattle.unl_workers.specs.declared.tally.QueueTally.{QueueTally}
 
 -- the sum of the weights of the items
 abbrev pub weigh : {X : Type 0} → (X → ℕ) → List X → ℕ
@@ -15,37 +15,37 @@ SameLinks {L} xs ys = (h : L → ℕ) → weigh h xs ≡ weigh h ys
 
 module _ {L : Type 0} where
   -- what a pass knows
-  abbrev pub tally : ℕ → List L → List L → ℕ → ℕ → Tally L
+  abbrev pub tally : ℕ → List L → List L → ℕ → ℕ → QueueTally L
   tally parts put taken may_put ends_seen =
       record { parts = parts; put = put; taken = taken; may_put = may_put; ends_seen = ends_seen }
 
   -- the pass with all 2^64 parts, before anything was put
-  abbrev pub first_tally : Tally L
+  abbrev pub first_tally : QueueTally L
   first_tally = tally 18446744073709551616 [] [] 1 0
 
   -- a pass with no part
-  abbrev pub empty_tally : Tally L
+  abbrev pub empty_tally : QueueTally L
   empty_tally = tally 0 [] [] 0 0
 
   -- a pass with one part, which has put and taken nothing and may not put
-  abbrev pub new_tally : Tally L
+  abbrev pub new_tally : QueueTally L
   new_tally = tally 1 [] [] 0 0
 
   -- a pass after one part was split off
-  abbrev pub less_a_part : Tally L → Tally L
+  abbrev pub less_a_part : QueueTally L → QueueTally L
   less_a_part v = tally (v.parts - 1) v.put v.taken v.may_put v.ends_seen
 
   -- what two passes know together
-  abbrev pub both_tallies : Tally L → Tally L → Tally L
+  abbrev pub both_tallies : QueueTally L → QueueTally L → QueueTally L
   both_tallies v w =
       tally (v.parts + w.parts) (v.put ++ w.put) (v.taken ++ w.taken) (v.may_put + w.may_put) (v.ends_seen + w.ends_seen)
 
   -- a link was put; or the end was, after which the pass may not put links
-  abbrev pub putting : Tally L → Entry L → Tally L
+  abbrev pub putting : QueueTally L → QueueEntry L → QueueTally L
   putting v (Link link) = tally v.parts (v.put ++ link ∷ []) v.taken v.may_put v.ends_seen
   putting v End = tally v.parts v.put v.taken 0 v.ends_seen
 
   -- a link was taken; or the end was
-  abbrev pub taking : Tally L → Entry L → Tally L
+  abbrev pub taking : QueueTally L → QueueEntry L → QueueTally L
   taking v (Link link) = tally v.parts v.put (v.taken ++ link ∷ []) v.may_put v.ends_seen
   taking v End = tally v.parts v.put v.taken v.may_put 1

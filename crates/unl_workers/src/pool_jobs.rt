@@ -4,7 +4,7 @@ ghost use Rattle.std.specs.Prelude.{filter_map, flat_map, length, map, option_to
 ghost use Rattle.std.specs.List.{All, AllZip};
 ghost use Rattle.crossbeam_queue.specs.Passes.{view, IsSamePass};
 ghost use Rattle.unl_base.specs.Spawning.{HasSpawnCause};
-ghost use Rattle.unl_server.specs.Links.{link_state};
+ghost use Rattle.unl_server.specs.Links.{link_view};
 ghost use Rattle.unl_workers.specs.Passes.{IsPassOfQueue};
 ghost use Rattle.unl_workers.specs.Pool.{PoolJobWorked, RunsWorker, slot_of, taken_by, worker_of};
 ghost use Rattle.unl_workers.specs.Tallies.{new_tally, tally};
@@ -26,7 +26,7 @@ pub(crate) enum PoolJob<'a, S, R, L, W, B> {
 impl<'a, S: LinkHandler, R: Draws, L: Link + Drop, W: Wait, B: Job> Job
     for PoolJob<'a, S, R, L, W, B> {
     ghost worked = { PoolJobWorked (RunsWorker S.serves S.keeps R.coming
-        (λ l. link_state (L.Source.left l) (L.Sink.sent l) (L.Source.faults l))) B.worked };
+        (λ l. link_view (L.Source.left l) (L.Sink.sent l) (L.Source.faults l))) B.worked };
 
     ghost cancelled = { λ before after. Unit {0} };
 
@@ -120,7 +120,7 @@ where
     requires { vec_len workers < vec_capacity workers }
     ensures here { OnOk result.1 (M.worked here result.0) }
     ensures each { IfOk result.1 (λ done. AllZip (PoolJobWorked (RunsWorker S.serves S.keeps R.coming
-        (λ l. link_state (L.Source.left l) (L.Sink.sent l) (L.Source.faults l))) B.worked) workers.entry.items done.0.items) }
+        (λ l. link_view (L.Source.left l) (L.Sink.sent l) (L.Source.faults l))) B.worked) workers.entry.items done.0.items) }
     ensures other { IfOk result.1 (λ done. B.worked other done.1) }
     ensures cancelled { OnErr result.1 (M.cancelled here result.0) }
     ensures cause { HasSpawnCause (P.faults spawner.old) (P.faults spawner.new) result.1 }

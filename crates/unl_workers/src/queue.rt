@@ -5,26 +5,29 @@ ghost use Rattle.crossbeam_queue.specs.Passes.{view, IsSamePass, ruled_capacity}
 ghost use Rattle.unl_workers.specs.Balance.{IsBalanced};
 ghost use Rattle.unl_workers.specs.Passes.{IsPassOfQueue};
 ghost use Rattle.unl_workers.specs.Tallies.{SameLinks, both_tallies, first_tally, less_a_part, new_tally, putting, taking};
-ghost use Rattle.unl_workers.specs.declared.tally.Entry.TheVariants.{Link, End};
+ghost use Rattle.unl_workers.specs.declared.tally.QueueEntry.TheVariants.{Link, End};
 
 use crate::state::{LinksMemory, MOST_LINKS};
 use crate::tally::{
-    AllTaken, BalancedLinks, Entry, NoLesson, Parts, PutsEndBack, PutsEntry, TakesEntry, Tally,
+    AllTaken, BalancedLinks, NoLesson, Parts, PutsEndBack, PutsEntry, QueueEntry, QueueTally,
+    TakesEntry,
 };
 use crossbeam_queue::protocol::Outcome;
 use crossbeam_queue::{Pass, RuledArrayQueue};
 use std::alloc::Global;
 use std::sync::{Condvar, Mutex, Wait};
 
-/// The right of one thread to use a queue, with the tally of what that thread put and took. It has no bytes.
-pub type QueuePass<L> = Pass<Entry<L>, Tally<L>>;
+/// The right of one thread to use a queue, with the tally of what that thread put and took. It is zero-sized.
+///
+/// The passes of a queue share 2^64 parts; one pass with all of them knows everything that was put and taken.
+pub type QueuePass<L> = Pass<QueueEntry<L>, QueueTally<L>>;
 
 /// A queue of links that wait for a worker. Threads share it by reference, each with a pass of its own.
 ///
-/// Each entry is put and taken while `closed` is locked, so that a thread waits at the condition variables alone.
+/// Each entry is put and taken while `closed` is locked, so that a thread waits for an entry or for room only at the condition variables.
 #[derive(Drop)]
 pub struct LinkQueue<L> {
-    links: RuledArrayQueue<Entry<L>, Tally<L>, BalancedLinks>,
+    links: RuledArrayQueue<QueueEntry<L>, QueueTally<L>, BalancedLinks>,
     /// Whether the queue is closed.
     closed: Mutex<bool>,
     room: Condvar,
@@ -39,7 +42,8 @@ impl<L> LinkQueue<L> {
 }
 
 impl<L: Drop> LinkQueue<L> {
-    /// Creates an empty queue with room for 64 links and the end. Returns it with a pass that has all parts and may put links.
+    /// Creates an empty queue with room for 64 links and the end marker. Returns it with a pass that has all parts and may put
+    /// links.
     ///
     /// # Errors
     /// `LinksMemory`: out of memory.
@@ -77,7 +81,7 @@ impl<L: Drop> LinkQueue<L> {
         self.links.absorb::<Parts>(pass, other)
     }
 
-    /// Does nothing. A pass that has all parts, once the end was taken, shows that the links that were put are those that were
+    /// Does nothing at run time. Proves that, if the pass has all parts and the end marker was taken, the links put are those
     /// taken.
     pub fn all_taken(&self, pass: &mut QueuePass<L>)
         requires queue { IsPassOfQueue self.now pass.old }
@@ -95,7 +99,7 @@ impl<L: Drop> LinkQueue<L> {
         ensures queue { IsSamePass pass.old pass.new }
         ensures puts { view pass.new ≡ putting (view pass.old) (Link link) }
     {
-        self.push::<PutsEntry, W>(rt, pass, Entry::Link(link), MOST_LINKS);
+        self.push::<PutsEntry, W>(rt, pass, QueueEntry::Link(link), MOST_LINKS);
     }
 
     /// Closes the queue: no more links come from now on. Wakes every thread that waits for a link. Queued links are still
@@ -107,7 +111,7 @@ impl<L: Drop> LinkQueue<L> {
         ensures queue { IsSamePass pass.old pass.new }
         ensures closes { view pass.new ≡ putting (view pass.old) End }
     {
-        self.push::<PutsEntry, W>(rt, pass, Entry::End, MOST_LINKS + 1);
+        self.push::<PutsEntry, W>(rt, pass, QueueEntry::End, MOST_LINKS + 1);
         *self.closed.lock(rt) = true;
     }
 
@@ -121,20 +125,20 @@ impl<L: Drop> LinkQueue<L> {
             (λ link. view pass.new ≡ taking (view pass.old) (Link link)) }
     {
         match self.pop(rt, pass) {
-            Entry::Link(link) => Some(link),
-            Entry::End => {
-                self.push::<PutsEndBack, W>(rt, pass, Entry::End, MOST_LINKS + 1);
+            QueueEntry::Link(link) => Some(link),
+            QueueEntry::End => {
+                self.push::<PutsEndBack, W>(rt, pass, QueueEntry::End, MOST_LINKS + 1);
                 None
             }
         }
     }
 
     /// Appends an entry. Blocks while `most` entries are queued.
-    fn push<M: Outcome<Entry<L>, Tally<L>>, W: Wait>(
+    fn push<M: Outcome<QueueEntry<L>, QueueTally<L>>, W: Wait>(
         &self,
         rt: &W,
         pass: &mut QueuePass<L>,
-        entry: Entry<L>,
+        entry: QueueEntry<L>,
         most: usize,
     )
         requires queue { IsPassOfQueue self.now pass.old }
@@ -161,7 +165,7 @@ impl<L: Drop> LinkQueue<L> {
     }
 
     /// Takes the oldest entry. Blocks while the queue holds none.
-    fn pop<W: Wait>(&self, rt: &W, pass: &mut QueuePass<L>) -> Entry<L>
+    fn pop<W: Wait>(&self, rt: &W, pass: &mut QueuePass<L>) -> QueueEntry<L>
         requires queue { IsPassOfQueue self.now pass.old }
         requires parts { 0 < (view pass.old).parts }
         ensures queue { IsSamePass pass.old pass.new }

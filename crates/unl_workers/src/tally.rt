@@ -5,7 +5,7 @@ use std::collections::LinkedList;
 
 /// An entry of a queue.
 #[derive(Drop)]
-pub enum Entry<L> {
+pub enum QueueEntry<L> {
     /// A link.
     Link(L),
     /// The end: no more links come.
@@ -13,7 +13,7 @@ pub enum Entry<L> {
 }
 
 /// What the holder of a pass has put into a queue and taken from it. It is used only in contracts; no value of it is created.
-pub struct Tally<L> {
+pub struct QueueTally<L> {
     /// The number of parts that this pass has of the 2^64 parts that all passes of the queue share.
     pub parts: u64,
     /// The links that were put, in order.
@@ -29,7 +29,7 @@ pub struct Tally<L> {
 /// The rule of a queue: the links that were put are those that were taken and those that are queued.
 pub struct BalancedLinks;
 
-impl<L> Protocol<Entry<L>, Tally<L>> for BalancedLinks {
+impl<L> Protocol<QueueEntry<L>, QueueTally<L>> for BalancedLinks {
     ghost use Rattle.unl_workers.specs.Tallies.{first_tally};
     ghost use Rattle.unl_workers.specs.Balance.{IsBalanced};
 
@@ -41,7 +41,7 @@ impl<L> Protocol<Entry<L>, Tally<L>> for BalancedLinks {
 /// An entry is put: a link; or the end, by the pass that might put links and may not afterwards.
 pub struct PutsEntry;
 
-impl<L> Outcome<Entry<L>, Tally<L>> for PutsEntry {
+impl<L> Outcome<QueueEntry<L>, QueueTally<L>> for PutsEntry {
     ghost use Rattle.std.specs.Prelude.{◌≡◌};
     ghost use Rattle.unl_workers.specs.Tallies.{putting};
 
@@ -51,7 +51,7 @@ impl<L> Outcome<Entry<L>, Tally<L>> for PutsEntry {
 /// The end is put back by a pass that took it.
 pub struct PutsEndBack;
 
-impl<L> Outcome<Entry<L>, Tally<L>> for PutsEndBack {
+impl<L> Outcome<QueueEntry<L>, QueueTally<L>> for PutsEndBack {
     ghost use Rattle.std.specs.Prelude.{◌≡◌};
 
     ghost then = { λ v x w. w ≡ v };
@@ -60,7 +60,7 @@ impl<L> Outcome<Entry<L>, Tally<L>> for PutsEndBack {
 /// An entry is taken.
 pub struct TakesEntry;
 
-impl<L> Outcome<Entry<L>, Tally<L>> for TakesEntry {
+impl<L> Outcome<QueueEntry<L>, QueueTally<L>> for TakesEntry {
     ghost use Rattle.std.specs.Prelude.{◌≡◌};
     ghost use Rattle.unl_workers.specs.Tallies.{taking};
 
@@ -70,14 +70,14 @@ impl<L> Outcome<Entry<L>, Tally<L>> for TakesEntry {
 /// Nothing is learned.
 pub struct NoLesson;
 
-impl<L> Lesson<Entry<L>, Tally<L>> for NoLesson {
+impl<L> Lesson<QueueEntry<L>, QueueTally<L>> for NoLesson {
     ghost fact = { λ v items. Unit {0} };
 }
 
 /// Once the end was taken, the links that were put are those that were taken.
 pub struct AllTaken;
 
-impl<L> Lesson<Entry<L>, Tally<L>> for AllTaken {
+impl<L> Lesson<QueueEntry<L>, QueueTally<L>> for AllTaken {
     ghost use Rattle.std.specs.Prelude.{◌<◌};
     ghost use Rattle.unl_workers.specs.Tallies.{SameLinks};
 
@@ -87,7 +87,7 @@ impl<L> Lesson<Entry<L>, Tally<L>> for AllTaken {
 /// One part of a pass becomes a pass of its own, and two passes become one.
 pub struct Parts;
 
-impl<L> Split<Tally<L>> for Parts {
+impl<L> Split<QueueTally<L>> for Parts {
     ghost use Rattle.unl_workers.specs.Tallies.{less_a_part, new_tally};
 
     ghost left = { less_a_part };
@@ -95,7 +95,7 @@ impl<L> Split<Tally<L>> for Parts {
     ghost right = { λ v. new_tally };
 }
 
-impl<L> Join<Tally<L>> for Parts {
+impl<L> Join<QueueTally<L>> for Parts {
     ghost use Rattle.unl_workers.specs.Tallies.{both_tallies, empty_tally};
 
     ghost both = { both_tallies };

@@ -1,7 +1,7 @@
 //! Workers, which serve links.
 ghost use Rattle.std.specs.Prelude.{◌≡◌, ◌<◌};
 ghost use Rattle.crossbeam_queue.specs.Passes.{view, IsSamePass};
-ghost use Rattle.unl_server.specs.Links.{link_state};
+ghost use Rattle.unl_server.specs.Links.{link_view};
 ghost use Rattle.unl_workers.specs.Passes.{IsPassOfQueue};
 ghost use Rattle.unl_workers.specs.Serving.{ServesSlot, ServesMany, ServesOne, serving};
 ghost use Rattle.unl_workers.specs.Taking.{ServesLink, TakesAndServes, TakesAndServesAt, with_draws};
@@ -61,7 +61,7 @@ pub(crate) fn serve_all<S: LinkHandler, R: Draws, L: Link + Drop, W: Wait>(
 )
     ensures slot { ServesSlot S.serves S.keeps R.coming worker.old.slot worker.new.slot }
     ensures same { IsSamePass worker.old.pass worker.new.pass }
-    ensures took { TakesAndServesAt S.serves R.coming (λ l. link_state (L.Source.left l) (L.Sink.sent l) (L.Source.faults l))
+    ensures took { TakesAndServesAt S.serves R.coming (λ l. link_view (L.Source.left l) (L.Sink.sent l) (L.Source.faults l))
         (view worker.old.pass) worker.old.slot (view worker.new.pass) worker.new.slot }
 {
     worker.slot.links = run_worker(
@@ -89,7 +89,7 @@ pub fn run_worker<S: LinkHandler, R: Draws, L: Link + Drop, W: Wait>(
     ensures served { ServesMany S.serves result (serving server.old (R.coming draws.old)) (serving server.new (R.coming draws.new)) }
     ensures keeps { S.keeps server.old server.new }
     ensures same { IsSamePass pass.old pass.new }
-    ensures took { TakesAndServes (with_draws S.serves) (λ l. link_state (L.Source.left l) (L.Sink.sent l) (L.Source.faults l)) result 1
+    ensures took { TakesAndServes (with_draws S.serves) (λ l. link_view (L.Source.left l) (L.Sink.sent l) (L.Source.faults l)) result 1
         (view pass.old) (serving server.old (R.coming draws.old)) (view pass.new) (serving server.new (R.coming draws.new)) }
 {
     for served in 0..u64::MAX {
@@ -110,7 +110,7 @@ fn serve_one<S: LinkHandler, R: Draws, L: Link + Drop>(
 )
     ensures served { ServesOne S.serves (serving server.old (R.coming draws.old)) (serving server.new (R.coming draws.new)) }
     ensures keeps { S.keeps server.old server.new }
-    ensures this { ServesLink (with_draws S.serves) (link_state (L.Source.left link) (L.Sink.sent link) (L.Source.faults link))
+    ensures this { ServesLink (with_draws S.serves) (link_view (L.Source.left link) (L.Sink.sent link) (L.Source.faults link))
         (serving server.old (R.coming draws.old)) (serving server.new (R.coming draws.new)) }
 {
     let mut link = link;

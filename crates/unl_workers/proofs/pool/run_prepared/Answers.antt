@@ -3,10 +3,10 @@ use Rattle.std.specs.Prelude.{filter_map, flat_map}
 use Rattle.std.specs.List.{AllZip}
 use Rattle.std.proofs.lemmas.Slice.Zip.{AllZip-long}
 use Rattle.crossbeam_queue.specs.Passes.{Pass}
-use Rattle.unl_server.specs.Links.{LinkState, link_state}
+use Rattle.unl_server.specs.Links.{LinkView, link_view}
 use Rattle.unl_workers.specs.Passes.{IsPassOfQueue}
-use Rattle.unl_workers.specs.declared.tally.Entry.{Entry}
-use Rattle.unl_workers.specs.declared.tally.Tally.{Tally}
+use Rattle.unl_workers.specs.declared.tally.QueueEntry.{QueueEntry}
+use Rattle.unl_workers.specs.declared.tally.QueueTally.{QueueTally}
 use Rattle.unl_workers.specs.Tallies.{SameLinks, first_tally, weigh}
 use Rattle.unl_workers.specs.declared.worker.WorkerSlot.{WorkerSlot}
 use Rattle.unl_workers.specs.declared.worker.Worker.{Worker}
@@ -19,9 +19,9 @@ use Rattle.unl_workers.proofs.pool.run_prepared.Goals as goal
 
 pub collect_slots-slots-requires-clause-passes : goal.collect_slots-slots-requires-clause-passes
 collect_slots-slots-requires-clause-passes g c =
-    let state_of : g.row.D-L.Denot → LinkState =
-    λ link. link_state (g.D.L.Source.left link) (g.D.L.Sink.sent link) (g.D.L.Source.faults link) in
-    let Fits : Pass (Entry g.row.D-L.Denot) (Tally g.row.D-L.Denot) → Type 0 = λ pass. IsPassOfQueue c.args.queue.now pass in
+    let state_of : g.row.D-L.Denot → LinkView =
+    λ link. link_view (g.D.L.Source.left link) (g.D.L.Sink.sent link) (g.D.L.Source.faults link) in
+    let Fits : Pass (QueueEntry g.row.D-L.Denot) (QueueTally g.row.D-L.Denot) → Type 0 = λ pass. IsPassOfQueue c.args.queue.now pass in
     let was : List (Worker g.row.S.Denot g.row.R.Denot g.row.D-L.Denot g.row.W.Denot) = filter_map worker_of c.args.workers.items in
     let done : List (Worker g.row.S.Denot g.row.R.Denot g.row.D-L.Denot g.row.W.Denot) = filter_map worker_of c.in-Ok.workers.items in
     let each : AllZip (RunsWorker g.S.Server.serves g.S.Server.keeps g.R.Draws.coming state_of) was done =
@@ -32,8 +32,8 @@ collect_slots-slots-requires-clause-passes g c =
 
 pub collect_slots-slots-requires-clause-room : goal.collect_slots-slots-requires-clause-room
 collect_slots-slots-requires-clause-room g c =
-    let state_of : g.row.D-L.Denot → LinkState =
-    λ link. link_state (g.D.L.Source.left link) (g.D.L.Sink.sent link) (g.D.L.Source.faults link) in
+    let state_of : g.row.D-L.Denot → LinkView =
+    λ link. link_view (g.D.L.Source.left link) (g.D.L.Sink.sent link) (g.D.L.Source.faults link) in
     let was : List (Worker g.row.S.Denot g.row.R.Denot g.row.D-L.Denot g.row.W.Denot) = filter_map worker_of c.args.workers.items in
     let done : List (Worker g.row.S.Denot g.row.R.Denot g.row.D-L.Denot g.row.W.Denot) = filter_map worker_of c.in-Ok.workers.items in
     let each : AllZip (RunsWorker g.S.Server.serves g.S.Server.keeps g.R.Draws.coming state_of) was done =
@@ -44,8 +44,8 @@ collect_slots-slots-requires-clause-room g c =
 
 pub all_taken-requires-clause-whole : goal.all_taken-requires-clause-whole
 all_taken-requires-clause-whole g c =
-    let state_of : g.row.D-L.Denot → LinkState =
-    λ link. link_state (g.D.L.Source.left link) (g.D.L.Sink.sent link) (g.D.L.Source.faults link) in
+    let state_of : g.row.D-L.Denot → LinkView =
+    λ link. link_view (g.D.L.Source.left link) (g.D.L.Sink.sent link) (g.D.L.Source.faults link) in
     let was : List (Worker g.row.S.Denot g.row.R.Denot g.row.D-L.Denot g.row.W.Denot) = filter_map worker_of c.args.workers.items in
     let done : List (Worker g.row.S.Denot g.row.R.Denot g.row.D-L.Denot g.row.W.Denot) = filter_map worker_of c.in-Ok.workers.items in
     let each : AllZip (RunsWorker g.S.Server.serves g.S.Server.keeps g.R.Draws.coming state_of) was done =
@@ -59,8 +59,8 @@ all_taken-requires-clause-whole g c =
 
 pub returns-in-Ok-clause-slots : goal.returns-in-Ok-clause-slots
 returns-in-Ok-clause-slots g c =
-    let state_of : g.row.D-L.Denot → LinkState =
-    λ link. link_state (g.D.L.Source.left link) (g.D.L.Sink.sent link) (g.D.L.Source.faults link) in
+    let state_of : g.row.D-L.Denot → LinkView =
+    λ link. link_view (g.D.L.Source.left link) (g.D.L.Sink.sent link) (g.D.L.Source.faults link) in
     let was : List (Worker g.row.S.Denot g.row.R.Denot g.row.D-L.Denot g.row.W.Denot) = filter_map worker_of c.args.workers.items in
     let done : List (Worker g.row.S.Denot g.row.R.Denot g.row.D-L.Denot g.row.W.Denot) = filter_map worker_of c.in-Ok.workers.items in
     let each : AllZip (RunsWorker g.S.Server.serves g.S.Server.keeps g.R.Draws.coming state_of) was done =
@@ -73,9 +73,9 @@ returns-in-Ok-clause-slots g c =
 
 pub returns-in-Ok-clause-each_link_served_once : goal.returns-in-Ok-clause-each_link_served_once
 returns-in-Ok-clause-each_link_served_once g c some =
-    let state_of : g.row.D-L.Denot → LinkState =
-    λ link. link_state (g.D.L.Source.left link) (g.D.L.Sink.sent link) (g.D.L.Source.faults link) in
-    let Fits : Pass (Entry g.row.D-L.Denot) (Tally g.row.D-L.Denot) → Type 0 = λ pass. IsPassOfQueue c.args.queue.now pass in
+    let state_of : g.row.D-L.Denot → LinkView =
+    λ link. link_view (g.D.L.Source.left link) (g.D.L.Sink.sent link) (g.D.L.Source.faults link) in
+    let Fits : Pass (QueueEntry g.row.D-L.Denot) (QueueTally g.row.D-L.Denot) → Type 0 = λ pass. IsPassOfQueue c.args.queue.now pass in
     let was : List (Worker g.row.S.Denot g.row.R.Denot g.row.D-L.Denot g.row.W.Denot) = filter_map worker_of c.args.workers.items in
     let done : List (Worker g.row.S.Denot g.row.R.Denot g.row.D-L.Denot g.row.W.Denot) = filter_map worker_of c.in-Ok.workers.items in
     let each : AllZip (RunsWorker g.S.Server.serves g.S.Server.keeps g.R.Draws.coming state_of) was done =
@@ -85,7 +85,7 @@ returns-in-Ok-clause-each_link_served_once g c some =
     let accepted = worked.1 c.requires.begins in
     let puts = accepted.3 in
     let long : length done ≡ length was = AllZip-long _ _ _ each in
-    let seen = ap (λ (v : Tally g.row.D-L.Denot). v.ends_seen) c.collect_slots-slots.ensures.whole in
+    let seen = ap (λ (v : QueueTally g.row.D-L.Denot). v.ends_seen) c.collect_slots-slots.ensures.whole in
     let put = whole_put first_tally _ _ _ _ _ _ _ refl c.requires.knows puts.1.put c.collect_slots-slots.ensures.whole in
     let taken = whole_taken first_tally _ _ _ _ _ _ _ refl c.requires.knows puts.1.put c.collect_slots-slots.ensures.whole
     ∙ pieces_of taken_by done in

@@ -4,7 +4,7 @@ use Rattle.std.proofs.lemmas.List.{length-append, length-map}
 use Rattle.std.proofs.lemmas.List.Elements.{All-same}
 use Rattle.crossbeam_queue.specs.Passes.{view}
 use Rattle.unl_workers.specs.Passes.{IsPassOfQueue}
-use Rattle.unl_workers.specs.declared.tally.Tally.{Tally}
+use Rattle.unl_workers.specs.declared.tally.QueueTally.{QueueTally}
 use Rattle.unl_workers.specs.Tallies.{tally}
 use Rattle.unl_workers.proofs.Collecting.{all_back, all_prefix, items_chunk, mapped_all, none_found, pieces_chunk}
 use Rattle.unl_workers.proofs.WorkerSlots.{chunked, same_slots}
@@ -38,14 +38,14 @@ loop-job-preserved g c =
     let longer = ap length c.collect_slot.ensures.items ∙ length-append c.loop-job.slots.items _ in
     record {
       same = search rules;
-      parts = omega (arith, so_far.parts, shorter, ap (λ (v : Tally g.row.L.Denot). v.parts) whole);
-      ends_seen = omega (arith, so_far.ends_seen, shorter, ap (λ (v : Tally g.row.L.Denot). v.ends_seen) whole);
-      put = ap (λ (v : Tally g.row.L.Denot). v.put) whole ∙ so_far.put;
-      may_put = ap (λ (v : Tally g.row.L.Denot). v.may_put) whole ∙ so_far.may_put;
-      taken = pieces_chunk _ _ _ chunk _ rest _ so_far.taken steps (ap (λ (v : Tally g.row.L.Denot). v.taken) whole);
+      parts = omega (arith, so_far.parts, shorter, ap (λ (v : QueueTally g.row.L.Denot). v.parts) whole);
+      ends_seen = omega (arith, so_far.ends_seen, shorter, ap (λ (v : QueueTally g.row.L.Denot). v.ends_seen) whole);
+      put = ap (λ (v : QueueTally g.row.L.Denot). v.put) whole ∙ so_far.put;
+      may_put = ap (λ (v : QueueTally g.row.L.Denot). v.may_put) whole ∙ so_far.may_put;
+      taken = pieces_chunk _ _ _ chunk _ rest _ so_far.taken steps (ap (λ (v : QueueTally g.row.L.Denot). v.taken) whole);
       slots = items_chunk _ _ _ chunk _ rest _ so_far.slots steps c.collect_slot.ensures.items;
       passes = all_back Done chunk rest (All-same Done _ _ (sym steps) so_far.passes);
-      more = omega (arith, so_far.more, ap (λ (v : Tally g.row.L.Denot). v.parts) whole);
+      more = omega (arith, so_far.more, ap (λ (v : QueueTally g.row.L.Denot). v.parts) whole);
       room = omega (arith, so_far.room, shorter, c.collect_slot.ensures.room, longer, length-map chunk slot_of);
     }
 

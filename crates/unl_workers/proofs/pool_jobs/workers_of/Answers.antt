@@ -4,8 +4,8 @@ use Rattle.std.proofs.lemmas.List.Elements.{All-push, All-same, filter_map-appen
 use Rattle.unl_workers.specs.Passes.{IsPassOfQueue}
 use Rattle.unl_workers.specs.Pool.{worker_of}
 use Rattle.crossbeam_queue.specs.Passes.{Pass, view}
-use Rattle.unl_workers.specs.declared.tally.Entry.{Entry}
-use Rattle.unl_workers.specs.declared.tally.Tally.{Tally}
+use Rattle.unl_workers.specs.declared.tally.QueueEntry.{QueueEntry}
+use Rattle.unl_workers.specs.declared.tally.QueueTally.{QueueTally}
 use Rattle.unl_workers.specs.Tallies.{new_tally}
 use Rattle.unl_workers.proofs.WorkerSlots.{same_slots}
 use Rattle.unl_workers.proofs.Collecting.{items_all, same_but_parts, made_more}
@@ -16,8 +16,8 @@ pub loop-slot-preserved : goal.loop-slot-preserved
 loop-slot-preserved g c =
     let so_far = c.loop-slot.invariant in
     let shorter = ap length c.in-Some.ensures.steps.0 in
-    let less = ap (λ (v : Tally g.row.L.Denot). v.parts) c.split_pass.ensures.left in
-    let Fits : Pass (Entry g.row.L.Denot) (Tally g.row.L.Denot) → Type 0 =
+    let less = ap (λ (v : QueueTally g.row.L.Denot). v.parts) c.split_pass.ensures.left in
+    let Fits : Pass (QueueEntry g.row.L.Denot) (QueueTally g.row.L.Denot) → Type 0 =
     λ pass. IsPassOfQueue c.args.queue.now pass × (view pass ≡ new_tally) in
     let Ready : Worker g.row.S.Denot g.row.R.Denot g.row.L.Denot g.row.W.Denot → Type 0 = λ worker. Fits worker.pass in
     let pushed = ap (filter_map worker_of) c.in_ok-push.ensures.items ∙ filter_map-append worker_of c.loop-slot.jobs.items _ in
