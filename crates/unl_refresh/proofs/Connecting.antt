@@ -22,7 +22,7 @@ use Rattle.unl_refresh.specs.declared.outcome.RefreshFault.{RefreshFault}
 use Rattle.unl_refresh.specs.declared.outcome.RefreshFault.TheVariants.{PeerFault as peer_fault, Memory as out_of_memory}
 use Rattle.unl_refresh.specs.Exchange.{Asks, AsksAtMostOnce}
 use Rattle.unl_refresh.specs.Metrics.{AsksBulkAtMostOnce}
-use Rattle.unl_refresh.specs.Refresh.{Refreshed, Refreshes, after_batch, after_reading, after_verdict, batch_in, number_held}
+use Rattle.unl_refresh.specs.Refresh.{Refreshed, Refreshes, after_body, after_reading, after_verdict, batch_in, number_held}
 use Rattle.unl_refresh.specs.Tokens.{Installs, RefreshesTokens, book_in_reply}
 use Rattle.unl_tokens.specs.declared.token.Token.{Token}
 
@@ -31,13 +31,6 @@ use Rattle.unl_tokens.specs.declared.token.Token.{Token}
 -- a count that rose between two moments rose over any longer time
 rose_within : (before first last after : ℕ) → before ≤ first → last ≤ after → Rose first last → Rose before after
 rose_within before first last after begins ends rose = omega (arith, begins, ends, rose)
-
--- so, if it didn't rise over the whole time, it rose neither before nor after a moment of it
-pub none_before : (before middle after : ℕ) → middle ≤ after → ¬ (Rose before after) → ¬ (Rose before middle)
-none_before before middle after later none = λ rose. none (rose_within before before middle after (omega arith) later rose)
-
-pub none_after : (before middle after : ℕ) → before ≤ middle → ¬ (Rose before after) → ¬ (Rose middle after)
-none_after before middle after later none = λ rose. none (rose_within before middle after after later (omega arith) rose)
 
 -- no connection uses up nothing
 pub none_taken : (replies : Option (List (List ℕ))) → replies ≡ option_map (λ list. drop 0 list) replies
@@ -113,7 +106,7 @@ verdict_at_most_once slot batch tag before verdict.Old = same_at_most_once befor
 verdict_at_most_once slot batch tag before verdict.Gap = record { places = length-set _ _ _; front = omega arith }
 verdict_at_most_once slot batch tag before verdict.Held = same_at_most_once before before refl
 
-batch_at_most_once : (slot : ℕ) (tag : Option (List ℕ)) (before : Installed) (read : Result TheBatch Bad) → PublishesAtMostOnce before (after_batch slot tag before read).installed
+batch_at_most_once : (slot : ℕ) (tag : Option (List ℕ)) (before : Installed) (read : Result TheBatch Bad) → PublishesAtMostOnce before (after_body slot tag before read).installed
 batch_at_most_once slot tag before (Ok batch) = verdict_at_most_once slot batch tag before (verdict_of (place_of before slot) batch)
 batch_at_most_once slot tag before (Err bad) = same_at_most_once before before refl
 
@@ -123,7 +116,7 @@ reading_at_most_once slot delta tag before (Err bad) = same_at_most_once before 
 reading_at_most_once slot delta tag before (Ok got) = by_status (got.status == 304) (got.status == 200)
   where
     taken : Refreshed
-    taken = after_batch slot got.tag before (batch_in delta (number_held (place_of before slot)) got.body)
+    taken = after_body slot got.tag before (batch_in delta (number_held (place_of before slot)) got.body)
 
     by_status : (unchanged found : Bool)
         → PublishesAtMostOnce before (cond unchanged (record { outcome = Unchanged; installed = before; tag = tag })

@@ -17,13 +17,13 @@ use Rattle.unl_refresh.specs.declared.outcome.Bad.{Bad}
 use Rattle.unl_refresh.specs.declared.outcome.Outcome.{Outcome}
 use Rattle.unl_refresh.specs.declared.outcome.Outcome.TheVariants.{Unchanged, Refused}
 use Rattle.unl_refresh.specs.declared.outcome.RefreshFault.{RefreshFault}
-use Rattle.unl_refresh.specs.Exchange.{IsRead}
-use Rattle.unl_refresh.specs.Refresh.{Brings, Refreshed, Refreshes, after_batch, after_reading, after_verdict, batch_in, number_held}
+use Rattle.unl_refresh.specs.Exchange.{IsParsedFrom}
+use Rattle.unl_refresh.specs.Refresh.{Brings, Refreshed, Refreshes, after_body, after_reading, after_verdict, batch_in, number_held}
 
 -- `P` holds before, and after each batch that the bytes to come may bring.
 pub record Leaves (P : Installed → Type 0) (slot : ℕ) (before : Installed) (delta : Bool) (coming : Option (List ℕ)) : Type 0 where
   pub stays : P before
-  pub takes : (got : Got) (batch : Batch) → IsRead coming (Ok got) → got.status ≡ 200
+  pub takes : (got : Got) (batch : Batch) → IsParsedFrom coming (Ok got) → got.status ≡ 200
       → batch_in delta (number_held (place_of before slot)) got.body ≡ Ok batch
       → P (after_verdict slot batch got.tag before (verdict_of (place_of before slot) batch)).installed
 
@@ -31,18 +31,18 @@ same_number : (n m : ℕ) → (n == m) ≡ true → n ≡ m
 same_number n m is = grind (arith, nat_tests)
 
 batch_leaves : (P : Installed → Type 0) (slot : ℕ) (before : Installed) (delta : Bool) (coming : Option (List ℕ)) (got : Got) (read : Result Batch Bad)
-    → Leaves P slot before delta coming → IsRead coming (Ok got) → got.status ≡ 200 → batch_in delta (number_held (place_of before slot)) got.body ≡ read
-    → P (after_batch slot got.tag before read).installed
+    → Leaves P slot before delta coming → IsParsedFrom coming (Ok got) → got.status ≡ 200 → batch_in delta (number_held (place_of before slot)) got.body ≡ read
+    → P (after_body slot got.tag before read).installed
 batch_leaves P slot before delta coming got (Ok batch) leaves is status reads = leaves.takes got batch is status reads
 batch_leaves P slot before delta coming got (Err bad) leaves is status reads = leaves.stays
 
 reading_leaves : (P : Installed → Type 0) (slot : ℕ) (before : Installed) (delta : Bool) (tag coming : Option (List ℕ)) (reading : Result Got BadReply)
-    → Leaves P slot before delta coming → IsRead coming reading → P (after_reading slot delta tag before reading).installed
+    → Leaves P slot before delta coming → IsParsedFrom coming reading → P (after_reading slot delta tag before reading).installed
 reading_leaves P slot before delta tag coming (Err bad) leaves is = leaves.stays
 reading_leaves P slot before delta tag coming (Ok got) leaves is = by_status (got.status == 304) (got.status == 200) refl
   where
     taken_so : Refreshed
-    taken_so = after_batch slot got.tag before (batch_in delta (number_held (place_of before slot)) got.body)
+    taken_so = after_body slot got.tag before (batch_in delta (number_held (place_of before slot)) got.body)
 
     by_status : (unchanged found : Bool) → (got.status == 200) ≡ found
         → P (cond unchanged (record { outcome = Unchanged; installed = before; tag = tag })

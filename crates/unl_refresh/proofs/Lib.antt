@@ -5,3 +5,7 @@ mod Asked
 pub mod Connecting
 mod SlotParameters
 mod TurnsTaken
+mod Weights
+mod Conserving
+mod Merging
+mod Sent

@@ -18,7 +18,7 @@ use Rattle.unl_refresh.specs.declared.outcome.RefreshFault.{RefreshFault}
 use Rattle.unl_refresh.specs.declared.outcome.RefreshFault.TheVariants.{PeerFault, Memory}
 use Rattle.unl_refresh.specs.Exchange.{Asks}
 use Rattle.unl_refresh.specs.Metrics.{OutcomeFromReply, SendsBulk, sent_by}
-use Rattle.unl_refresh.specs.Refresh.{Refreshed, Refreshes, after_batch, after_reading, after_verdict, batch_in, number_held}
+use Rattle.unl_refresh.specs.Refresh.{Refreshed, Refreshes, after_body, after_reading, after_verdict, batch_in, number_held}
 use Rattle.unl_refresh.specs.Tokens.{Installs, RefreshesTokens, book_in_reply}
 use Rattle.unl_refresh.proofs.Receiving.{same_reading}
 
@@ -57,8 +57,8 @@ applies slot delta tag before got batch status is verdict =
     ap (λ (n : ℕ).
     if n == 304 then record { outcome = Unchanged; installed = before; tag = tag }
     else if not (n == 200) then record { outcome = Refused n; installed = before; tag = tag }
-    else after_batch slot got.tag before (batch_in delta (number_held (place_of before slot)) got.body)) status
-    ∙ ap (after_batch slot got.tag before) is
+    else after_body slot got.tag before (batch_in delta (number_held (place_of before slot)) got.body)) status
+    ∙ ap (after_body slot got.tag before) is
     ∙ ap (after_verdict slot batch got.tag before) verdict
 
 pub completes : (result : Result Outcome RefreshFault) (given wanted : Refreshed) (after : Installed)

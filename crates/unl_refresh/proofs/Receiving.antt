@@ -8,7 +8,7 @@ use Rattle.unl_http_api.specs.declared.got.Got.{Got}
 use Rattle.unl_http_api.specs.declared.got.BadReply.{BadReply}
 use Rattle.unl_http_api.specs.Received.{IsReply}
 use Rattle.unl_http_api.proofs.ReceivedLemmas.{IsReply-append, IsReply_unique}
-use Rattle.unl_refresh.specs.Exchange.{HasPeerCause, HoldsEnough, IsRead}
+use Rattle.unl_refresh.specs.Exchange.{HasPeerCause, HoldsEnough, IsParsedFrom}
 use Rattle.unl_refresh.specs.declared.outcome.RefreshFault.{RefreshFault}
 
 -- The bytes held were taken from the bytes to come.
@@ -25,14 +25,14 @@ reads_enough bytes held more reading split (inr long) is =
     subst (λ (b : List ℕ). IsReply b reading) (sym split) (IsReply-append held more reading long is)
 
 pub IsRead-from_enough : (left : Option (List ℕ)) (held : List ℕ) (reading : Result Got BadReply)
-    → HoldsEnough left held → IsReply held reading → IsRead left reading
+    → HoldsEnough left held → IsReply held reading → IsParsedFrom left reading
 IsRead-from_enough None held reading enough is = (held, is)
 IsRead-from_enough (Some bytes) held reading enough is =
     reads_enough bytes held enough.more reading enough.split enough.decides is
 
 -- The next reply has only one reading.
 pub same_reading : (replies : Option (List (List ℕ))) (list : List (List ℕ)) (read reading : Result Got BadReply)
-    → IsRead (option_map next_of replies) read → replies ≡ Some list → IsReply (next_of list) reading → read ≡ reading
+    → IsParsedFrom (option_map next_of replies) read → replies ≡ Some list → IsReply (next_of list) reading → read ≡ reading
 same_reading None list read reading is known one = absurd (none-some list known)
 same_reading (Some other) list read reading is known one =
     IsReply_unique (next_of list) read reading

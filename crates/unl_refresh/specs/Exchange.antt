@@ -50,9 +50,9 @@ pub record AddsPiece
   pub added : held_after ≡ held ++ piece
 
 -- `true`: a piece is read and appended to the bytes held. `false`: nothing is, at the end of the stream.
-abbrev pub TakesPiece : Bool → List ℕ → Option (List ℕ) → List ℕ → Option (List ℕ) → Type 0
-TakesPiece true held left held_after left_after = AddsPiece held left held_after left_after
-TakesPiece false held left held_after left_after = (held_after ≡ held) × HasEnded left
+abbrev pub ReadsPiece : Bool → List ℕ → Option (List ℕ) → List ℕ → Option (List ℕ) → Type 0
+ReadsPiece true held left held_after left_after = AddsPiece held left held_after left_after
+ReadsPiece false held left held_after left_after = (held_after ≡ held) × HasEnded left
 
 -- The bytes held are all of the bytes, or a prefix long enough to decide how they are parsed.
 pub record IsEnough (bytes held : List ℕ) : Type 0 where
@@ -66,9 +66,9 @@ HoldsEnough None held = ⊤
 HoldsEnough (Some bytes) held = IsEnough bytes held
 
 -- The reply is parsed from the bytes to come; if these are not observable, from some bytes.
-abbrev pub IsRead : Option (List ℕ) → Result Got BadReply → Type 0
-IsRead None reading = (bytes : List ℕ) × IsReply bytes reading
-IsRead (Some bytes) reading = IsReply bytes reading
+abbrev pub IsParsedFrom : Option (List ℕ) → Result Got BadReply → Type 0
+IsParsedFrom None reading = (bytes : List ℕ) × IsReply bytes reading
+IsParsedFrom (Some bytes) reading = IsReply bytes reading
 
 -- ---- the whole exchange
 
@@ -90,7 +90,7 @@ ReplyOrFault = Option (Result Got BadReply)
 -- connection.
 abbrev pub Meets : ReplyOrFault → List ℕ → PeerView → PeerView → Type 0
 Meets (Some reading) request before after =
-    IsRead (option_map next_of before.replies) reading × Asks request before.replies before.history after.replies after.history
+    IsParsedFrom (option_map next_of before.replies) reading × Asks request before.replies before.history after.replies after.history
     × (after.faults ≡ before.faults)
 Meets None request before after =
     AsksAtMostOnce request before.replies before.history after.replies after.history × Rose before.faults after.faults

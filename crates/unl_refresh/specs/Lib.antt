@@ -6,5 +6,8 @@ pub mod Once
 pub mod Tokens
 pub mod Connects
 pub mod SlotParameters
-pub mod Handing
+pub mod Handovers
+pub mod Conservation
+pub mod MetricsQueues
+pub mod Crossing
 pub mod Turns

@@ -14,7 +14,7 @@ use Rattle.unl_metrics.specs.Bulk.{bulk}
 use Rattle.unl_refresh.specs.declared.outcome.MetricsOutcome.{MetricsOutcome}
 use Rattle.unl_refresh.specs.declared.outcome.MetricsOutcome.TheVariants.{Nothing, Sent, Refused, BadAnswer}
 use Rattle.unl_refresh.specs.declared.outcome.RefreshFault.{RefreshFault}
-use Rattle.unl_refresh.specs.Exchange.{Asks, AsksAtMostOnce, IsRead, PeerView}
+use Rattle.unl_refresh.specs.Exchange.{Asks, AsksAtMostOnce, IsParsedFrom, PeerView}
 
 -- the request that carries a report, for a host and with a token
 unfoldable pub metrics_request : List ℕ → List ℕ → Data → List ℕ
@@ -35,7 +35,7 @@ OutcomeFromReply (Some (report, count)) reading outcome = outcome ≡ sent_by co
 -- It determines the outcome of `count` keys.
 pub record SendsKeys (count : ℕ) (coming : Option (List ℕ)) (outcome : MetricsOutcome) : Type 0 where
   pub reading : Result Got BadReply
-  pub is_read : IsRead coming reading
+  pub is_read : IsParsedFrom coming reading
   pub gives : outcome ≡ sent_by count reading
 
 -- The outcome is `Nothing` if there is nothing to send; else it is determined by a reply.

@@ -22,17 +22,17 @@ use Rattle.unl_refresh.specs.declared.outcome.Bad.{Bad}
 use Rattle.unl_refresh.specs.declared.outcome.Bad.TheVariants.{Reply, Feed, NoNumber, Batch}
 use Rattle.unl_refresh.specs.declared.outcome.Outcome.{Outcome}
 use Rattle.unl_refresh.specs.declared.outcome.Outcome.TheVariants.{Published, Unchanged, Repeat, Old, Gap, Held, Refused, BadAnswer}
-use Rattle.unl_refresh.specs.Exchange.{IsRead}
+use Rattle.unl_refresh.specs.Exchange.{IsParsedFrom}
 
 -- ---- the request
 
 -- the path: of events, or of a whole feed
-abbrev pub target_of : Bool → List ℕ
-target_of delta = if delta then codes "/api/client/delta" else codes "/api/client/features"
+abbrev pub target_path : Bool → List ℕ
+target_path delta = if delta then codes "/api/client/delta" else codes "/api/client/features"
 
 -- the request for events or a feed, for a host, with a token and perhaps a tag
 unfoldable pub refresh_request : Bool → List ℕ → List ℕ → Option (List ℕ) → List ℕ
-refresh_request delta host token tag = request_text Get (target_of delta) host (Some token) tag []
+refresh_request delta host token tag = request_text Get (target_path delta) host (Some token) tag []
 
 -- the ask with another tag
 abbrev pub with_tag : Option (List ℕ) → Ask → Ask
@@ -95,17 +95,17 @@ after_verdict slot batch tag before v = record {
 }
 
 -- the effect of the batch in a body, or of a body that can't be parsed
-abbrev pub after_batch : ℕ → Option (List ℕ) → Installed → Result TheBatch Bad → Refreshed
-after_batch slot tag before (Ok batch) =
+abbrev pub after_body : ℕ → Option (List ℕ) → Installed → Result TheBatch Bad → Refreshed
+after_body slot tag before (Ok batch) =
     after_verdict slot batch tag before (verdict_of (place_of before slot) batch)
-after_batch slot tag before (Err bad) = unread bad before
+after_body slot tag before (Err bad) = unread bad before
 
 -- the effect of a reply, by its status and body; `tag` is the tag of the request
 abbrev pub after_reply : ℕ → Bool → Option (List ℕ) → Installed → Got → Refreshed
 after_reply slot delta tag before got =
     if got.status == 304 then record { outcome = Unchanged; installed = before; tag = tag }
     else if not (got.status == 200) then record { outcome = Refused got.status; installed = before; tag = tag }
-    else after_batch slot got.tag before (batch_in delta (number_held (place_of before slot)) got.body)
+    else after_body slot got.tag before (batch_in delta (number_held (place_of before slot)) got.body)
 
 -- the effect of a parsed reply, or of bytes that can't be parsed
 abbrev pub after_reading : ℕ → Bool → Option (List ℕ) → Installed → Result Got BadReply → Refreshed
@@ -115,7 +115,7 @@ after_reading slot delta tag before (Err bad) = unread (Reply bad) before
 -- A reply is read from the bytes to come (from some bytes, if they are not observable), and `after` is its effect.
 pub record Refreshes (slot : ℕ) (ask : Ask) (before : Installed) (coming : Option (List ℕ)) (after : Refreshed) : Type 0 where
   pub reading : Result Got BadReply
-  pub is_read : IsRead coming reading
+  pub is_read : IsParsedFrom coming reading
   pub gives : after ≡ after_reading slot ask.delta ask.tag before reading
 
 -- ---- where the batches come from
@@ -123,5 +123,5 @@ pub record Refreshes (slot : ℕ) (ask : Ask) (before : Installed) (coming : Opt
 -- Each batch that is read for the place from the bytes to come (any bytes, if they are not observable) is sent from the line.
 abbrev pub Brings : List Era → Sees → Bool → Place → Option (List ℕ) → Type 0
 Brings line sees delta place coming =
-    (got : Got) (batch : TheBatch) → IsRead coming (Ok got) → got.status ≡ 200
+    (got : Got) (batch : TheBatch) → IsParsedFrom coming (Ok got) → got.status ≡ 200
     → batch_in delta (number_held place) got.body ≡ Ok batch → IsSent line sees batch

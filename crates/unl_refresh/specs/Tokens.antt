@@ -15,7 +15,7 @@ use Rattle.unl_refresh.specs.declared.outcome.Bad.TheVariants.{Reply, Book}
 use Rattle.unl_refresh.specs.declared.outcome.Outcome.{Outcome}
 use Rattle.unl_refresh.specs.declared.outcome.Outcome.TheVariants.{Published, Unchanged, Repeat, Old, Gap, Held, Refused, BadAnswer}
 use Rattle.unl_refresh.specs.declared.outcome.RefreshFault.{RefreshFault}
-use Rattle.unl_refresh.specs.Exchange.{Asks, AsksAtMostOnce, IsRead, PeerView}
+use Rattle.unl_refresh.specs.Exchange.{Asks, AsksAtMostOnce, IsParsedFrom, PeerView}
 use Rattle.unl_refresh.specs.Named.{IsNamedOutcome}
 
 -- the request for a book of these texts, for a host
@@ -53,7 +53,7 @@ Installs (Ok book) before (BadAnswer bad) after = ⊥
 pub record RefreshesTokens
     (texts : List (List ℕ)) (before : Installed) (coming : Option (List ℕ)) (outcome : Outcome) (after : Installed) : Type 0 where
   pub reading : Result Got BadReply
-  pub is_read : IsRead coming reading
+  pub is_read : IsParsedFrom coming reading
   pub installs : Installs (book_in_reply texts reading) before outcome after
 
 -- What refreshing the book leaves.

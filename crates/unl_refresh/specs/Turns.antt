@@ -48,7 +48,7 @@ ByResult (Err e) Done Stopped before after = Stopped before after
 
 -- Memory ran out in an exchange: nothing is installed, at most one connection was made, and the request or a prefix of it was sent.
 -- The peer didn't fail. These are the tags after it.
-pub record Stops (request : List ℕ) (tags_after : List (Option (List ℕ))) (before after : PollState) : Type 0 where
+pub record StopsPolling (request : List ℕ) (tags_after : List (Option (List ℕ))) (before after : PollState) : Type 0 where
   pub installed : after.installed ≡ before.installed
   pub tags : after.tags ≡ tags_after
   pub metrics : after.metrics ≡ before.metrics
@@ -72,7 +72,7 @@ pub record TakesBook (texts : List (List ℕ)) (host : List ℕ) (before after :
 
 -- Memory ran out while it was asked for the book.
 abbrev pub StopsAtBook : List (List ℕ) → List ℕ → PollState → PollState → Type 0
-StopsAtBook texts host before after = Stops (tokens_request texts host) before.tags before after
+StopsAtBook texts host before after = StopsPolling (tokens_request texts host) before.tags before after
 
 -- ---- a slot
 
@@ -104,7 +104,7 @@ pub record TakesSlot (slot : ℕ) (parameters : SlotParameters) (tag : Option (L
 
 -- Memory ran out in that request. The slot's next request has no tag.
 abbrev pub StopsRefreshing : ℕ → SlotParameters → Option (List ℕ) → PollState → PollState → Type 0
-StopsRefreshing slot parameters tag before after = Stops (slot_request parameters tag) (set before.tags slot None) before after
+StopsRefreshing slot parameters tag before after = StopsPolling (slot_request parameters tag) (set before.tags slot None) before after
 
 -- ---- metrics
 
@@ -130,7 +130,7 @@ SendsIfAny (Some (report, count)) parameters before after = SendsReport report c
 abbrev pub StopsIfAny : Option (Data × ℕ) → SlotParameters → PollState → PollState → Type 0
 StopsIfAny None parameters before after = after ≡ before
 StopsIfAny (Some (report, count)) parameters before after =
-    Stops (metrics_request parameters.host parameters.token report) before.tags before after
+    StopsPolling (metrics_request parameters.host parameters.token report) before.tags before after
 
 -- The metrics of the slot's environment were sent, if there are any.
 abbrev pub SendsMetrics : SlotParameters → PollState → PollState → Type 0

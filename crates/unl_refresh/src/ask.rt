@@ -1,7 +1,7 @@
 //! The request for what is new: its parameters and its text.
 ghost use Rattle.std.specs.Prelude.{◌≡◌, IfOk, IsTrue, option_copied};
 ghost use Rattle.unl_http_api.specs.RequestText.{fits_if_any, fits_line};
-ghost use Rattle.unl_refresh.specs.Refresh.{refresh_request, target_of};
+ghost use Rattle.unl_refresh.specs.Refresh.{refresh_request, target_path};
 
 use std::alloc::Global;
 use unl_documents::{Memory, Text};
@@ -31,7 +31,7 @@ pub(crate) fn request_of(alloc: Global, ask: &Ask, tag: &Option<Bytes>) -> Resul
     write_request(
         alloc,
         Method::Get,
-        target_of(ask.delta),
+        target_path(ask.delta),
         ask.host.as_str(),
         Some(ask.token.as_str()),
         slice_of(tag),
@@ -40,8 +40,8 @@ pub(crate) fn request_of(alloc: Global, ask: &Ask, tag: &Option<Bytes>) -> Resul
 }
 
 /// Returns the path of the request.
-fn target_of(delta: bool) -> &'static str
-    ensures target { result.now ≡ target_of delta }
+fn target_path(delta: bool) -> &'static str
+    ensures target { result.now ≡ target_path delta }
     ensures fits { IsTrue (fits_line result.now) }
 {
     if delta {

@@ -4,7 +4,7 @@ ghost use Rattle.unl_base.specs.Doors.{next_of};
 ghost use Rattle.unl_base.specs.Peers.{history_of};
 ghost use Rattle.unl_http_api.specs.Received.{IsReply};
 ghost use Rattle.unl_http_api.specs.RequestText.{fits_if_any};
-ghost use Rattle.unl_refresh.specs.Exchange.{Asks, AsksAtMostOnce, HasPeerCause, HoldsEnough, IsRead, TakesPiece};
+ghost use Rattle.unl_refresh.specs.Exchange.{Asks, AsksAtMostOnce, HasPeerCause, HoldsEnough, IsParsedFrom, ReadsPiece};
 
 use crate::outcome::RefreshFault;
 use std::alloc::Global;
@@ -25,7 +25,7 @@ pub(crate) fn exchange<P: Peer>(
     peer: &mut P,
     request: &[u8],
 ) -> Result<Result<Got, BadReply>, RefreshFault>
-    ensures read { IfOk result (IsRead (option_map next_of (P.state peer.old).replies)) }
+    ensures read { IfOk result (IsParsedFrom (option_map next_of (P.state peer.old).replies)) }
     ensures tag { IfOk result (λ reading. IfOk reading (λ got. IsTrue (fits_if_any got.tag))) }
     ensures named { IfOk result (λ reading. IfErr reading (λ e. e ≢ BadReply.Memory)) }
     ensures asks { OnOk result (Asks request.now
@@ -41,10 +41,10 @@ pub(crate) fn exchange<P: Peer>(
 
 /// Reads a reply, to the end of the stream or until the bytes received decide the result.
 fn read_reply<P: Peer>(alloc: Global, peer: &mut P) -> Result<Result<Got, BadReply>, RefreshFault>
-    ensures read { IfOk result (IsRead (P.Source.left peer.old)) }
+    ensures read { IfOk result (IsParsedFrom (P.Source.left peer.old)) }
     ensures tag { IfOk result (λ reading. IfOk reading (λ got. IsTrue (fits_if_any got.tag))) }
     ensures named { IfOk result (λ reading. IfErr reading (λ e. e ≢ BadReply.Memory)) }
-    ensures beside { P.Source.beside peer.new ≡ P.Source.beside peer.old }
+    ensures other_parts { P.Source.other_parts peer.new ≡ P.Source.other_parts peer.old }
     ensures causes { HasPeerCause result (P.Source.faults peer.old) (P.Source.faults peer.new) }
 {
     let mut reader = ReplyReader::new(alloc);
@@ -74,7 +74,7 @@ fn finished(alloc: Global, reader: ReplyReader) -> Result<Result<Got, BadReply>,
 fn receive<P: Peer>(peer: &mut P, reader: &mut ReplyReader) -> Result<(), RefreshFault>
     requires { reader.old ≡ [] }
     ensures held { OnOk result (HoldsEnough (P.Source.left peer.old) reader.new) }
-    ensures beside { P.Source.beside peer.new ≡ P.Source.beside peer.old }
+    ensures other_parts { P.Source.other_parts peer.new ≡ P.Source.other_parts peer.old }
     ensures causes { HasPeerCause result (P.Source.faults peer.old) (P.Source.faults peer.new) }
 {
     let mut room = [0; PIECE];
@@ -95,8 +95,8 @@ fn read_piece<P: Peer>(
     room: &mut [u8],
 ) -> Result<bool, RefreshFault>
     requires { 0 < length room.old }
-    ensures piece { IfOk result (λ some. TakesPiece some reader.old (P.Source.left peer.old) reader.new (P.Source.left peer.new)) }
-    ensures beside { P.Source.beside peer.new ≡ P.Source.beside peer.old }
+    ensures piece { IfOk result (λ some. ReadsPiece some reader.old (P.Source.left peer.old) reader.new (P.Source.left peer.new)) }
+    ensures other_parts { P.Source.other_parts peer.new ≡ P.Source.other_parts peer.old }
     ensures causes { HasPeerCause result (P.Source.faults peer.old) (P.Source.faults peer.new) }
 {
     match peer.read(room) {

@@ -3,17 +3,17 @@ ghost use Rattle.std.specs.Prelude.{◌≡◌, ◌<◌, ◌≤◌, ◌+◌, ◌-
 ghost use Rattle.unl_http_api.specs.RequestText.{fits_line};
 ghost use Rattle.unl_refresh.specs.Connects.{Connects};
 ghost use Rattle.unl_refresh.specs.Exchange.{peer_view};
-ghost use Rattle.unl_refresh.specs.Handing.{DrainsShared};
+ghost use Rattle.unl_refresh.specs.MetricsQueues.{Merges};
 ghost use Rattle.unl_refresh.specs.SlotParameters.{no_tags, slot_parameters};
 ghost use Rattle.unl_refresh.specs.Turns.{ByResult, KeepsDuty, MakesTurn, StopsInTurn, poll_state};
 
+use crate::MetricsReceiver;
 use crate::asking::{poll_slots, refresh_book};
-use crate::shared_book::drain_shared;
 use crate::slot_poller::SlotPoller;
 use crate::slot_pollers::slot_pollers;
 use std::alloc::Global;
 use std::marker::Model;
-use std::sync::{Mutex, Wait};
+use std::sync::Wait;
 use unl_base::Peer;
 use unl_delta::Installer;
 use unl_documents::{List, Memory, Text};
@@ -111,7 +111,7 @@ impl Poller {
             (poll_state (I.installed to.new) self.new.tags self.new.metrics
             (peer_view (P.state peer.new) (P.Source.faults peer.new))) }
 
-        // So one connection is made for the book and one for each slot, unless the peer failed.
+        // So if memory did not run out, at least one connection for the book and one for each slot is made, unless the peer failed.
         ensures asks { (I.installed to.old).front + self.old.slots + 1 < 2 ^ 64 - 1
             → self.old.slots ≤ length (I.installed to.old).places → OnOk result (Connects (self.old.slots + 1)
             (P.state peer.old).replies (P.Source.faults peer.old) (P.state peer.new).replies (P.Source.faults peer.new)) }
@@ -124,12 +124,19 @@ impl Poller {
         }
     }
 
-    /// Moves the shared metrics into this book, unless they wouldn't fit or memory runs out. The lock is held only for that.
-    pub fn drain_shared<W: Wait>(&mut self, alloc: Global, rt: &W, shared: &Mutex<MetricsBook>)
+    /// Takes the metrics that wait at a receiver, and adds them to those that aren't sent yet. What wouldn't fit, or for which
+    /// there is no memory, stays at the receiver.
+    pub fn take_metrics<W: Wait>(
+        &mut self,
+        alloc: Global,
+        rt: &W,
+        receiver: &mut MetricsReceiver<'_>,
+    )
         ensures same { self.new ≡ record self.old { metrics = self.new.metrics } }
-        ensures drains { DrainsShared self.old.metrics self.new.metrics }
+        ensures same_receiver { receiver.new ≡ record receiver.old { intake = receiver.new.intake } }
+        ensures merges { Merges self.old.metrics receiver.old.intake self.new.metrics receiver.new.intake }
     {
-        drain_shared(alloc, rt, shared, &mut self.book);
+        receiver.merge_into(alloc, rt, &mut self.book);
     }
 }
 

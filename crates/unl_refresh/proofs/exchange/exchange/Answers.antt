@@ -9,12 +9,12 @@ returns-clause-once g c =
     (record {
       connects = c.in_ok-connect.ensures.connects;
       begun = laws.writes c.connect.new.self;
-      same = c.in_ok-write_all.ensures.beside;
+      same = c.in_ok-write_all.ensures.other_parts;
       ended = laws.writes c.write_all.new.sink;
     })
     c.in_ok-write_all.ensures.ok
     (record {
       begun = laws.reads c.write_all.new.sink;
-      same = c.read_reply.ensures.beside;
+      same = c.read_reply.ensures.other_parts;
       ended = laws.reads c.read_reply.new.peer;
     }))

@@ -6,7 +6,7 @@ use Rattle.unl_refresh.proofs.exchange.receive.Given as goal
 abbrev pub invariant-loop-room : goal.invariant-loop-room
 invariant-loop-room g l = record {
   taking : Taking (g.P.Source.left l.initial.peer) l.reader (g.P.Source.left l.peer);
-  beside : g.P.Source.beside l.peer ≡ g.P.Source.beside l.initial.peer;
+  other_parts : g.P.Source.other_parts l.peer ≡ g.P.Source.other_parts l.initial.peer;
   later : g.P.Source.faults l.initial.peer ≤ g.P.Source.faults l.peer;
   still : g.P.Source.faults l.peer ≡ g.P.Source.faults l.initial.peer;
 }

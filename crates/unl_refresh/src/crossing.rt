@@ -1,0 +1,54 @@
+//! Proofs that the ends of a metrics queue can be sent to another thread.
+ghost use denote.Ref.{NamedLft};
+ghost use Rattle.std.specs.Thread.{IsSend, IsSync};
+ghost use Rattle.unl_refresh.specs.Crossing.{pass_type};
+ghost use Rattle.unl_metrics.specs.contracts.book.MetricsBook as BookType;
+ghost use Rattle.unl_refresh.specs.contracts.metrics_queue.MetricsQueue as QueueType;
+ghost use Rattle.unl_refresh.specs.contracts.metrics_receiver.MetricsReceiver as ReceiverType;
+ghost use Rattle.unl_refresh.specs.contracts.metrics_sender.MetricsSender as SenderType;
+
+use crate::{MetricsPass, MetricsQueue};
+use unl_metrics::MetricsBook;
+
+/// Turns the bound `Sync` into a fact.
+fn sync_of<T: Sync>()
+    ensures { IsSync T.row }
+{}
+
+/// Turns the bound `Send` into a fact.
+fn send_of<T: Send>()
+    ensures { IsSend T.row }
+{}
+
+/// A metrics queue is `Sync`.
+fn queues_are_sync()
+    ensures { IsSync QueueType.the_row }
+{
+    sync_of::<MetricsQueue>()
+}
+
+/// A metrics book is `Send`.
+fn books_are_send()
+    ensures { IsSend BookType.the_row }
+{
+    send_of::<MetricsBook>()
+}
+
+/// A pass is `Send`.
+fn passes_are_send()
+    ensures { IsSend pass_type }
+{
+    books_are_send();
+    send_of::<MetricsPass>()
+}
+
+/// The ends of a metrics queue can be sent to another thread. A caller that sends one calls this first, to have the fact. Does nothing
+/// at run time.
+pub fn metrics_ends_are_send()
+    ensures sender { (lifetime : NamedLft) → IsSend (SenderType.the_row lifetime) }
+    ensures receiver { (lifetime : NamedLft) → IsSend (ReceiverType.the_row lifetime) }
+{
+    queues_are_sync();
+    books_are_send();
+    passes_are_send()
+}

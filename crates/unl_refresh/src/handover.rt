@@ -1,0 +1,85 @@
+//! What each thread knows of the metrics that passed through a queue.
+
+use crossbeam_queue::protocol::{Join, Lesson, Outcome, Protocol, Split};
+use std::collections::LinkedList;
+use unl_metrics::MetricsBook;
+
+/// The books that the holder of a pass has put into a queue and taken from it. It is used only in contracts; no value of it is
+/// created.
+pub struct Handover {
+    /// The number of parts of this pass. All passes of a queue together have 2^64. (In contracts it is a natural number.)
+    pub parts: u64,
+    /// The books that were put, in order.
+    pub handed: LinkedList<MetricsBook>,
+    /// The books that were taken, in order.
+    pub taken: LinkedList<MetricsBook>,
+}
+
+/// The rule of a queue: the books that were put are those that were taken and those that wait.
+pub struct ConservedBooks;
+
+impl Protocol<MetricsBook, Handover> for ConservedBooks {
+    ghost use Rattle.unl_refresh.specs.Conservation.{IsConserved};
+    ghost use Rattle.unl_refresh.specs.Handovers.{first_handover};
+
+    ghost holds = { IsConserved };
+
+    ghost first = { first_handover };
+}
+
+/// What putting a book does to a pass.
+pub struct PutsBook;
+
+impl Outcome<MetricsBook, Handover> for PutsBook {
+    ghost use Rattle.std.specs.Prelude.{◌≡◌};
+    ghost use Rattle.unl_refresh.specs.Handovers.{handing};
+
+    ghost then = { λ v x w. w ≡ handing v x };
+}
+
+impl Lesson<MetricsBook, Handover> for PutsBook {
+    ghost fact = { λ v items. Unit {0} };
+}
+
+/// What taking a book does to a pass.
+pub struct TakesBook;
+
+impl Outcome<MetricsBook, Handover> for TakesBook {
+    ghost use Rattle.std.specs.Prelude.{◌≡◌};
+    ghost use Rattle.unl_refresh.specs.Handovers.{taking};
+
+    ghost then = { λ v x w. w ≡ taking v x };
+}
+
+impl Lesson<MetricsBook, Handover> for TakesBook {
+    ghost fact = { λ v items. Unit {0} };
+}
+
+/// If a pass has all parts, the books that it knows as put are those that it knows as taken and those that wait.
+pub struct AllParts;
+
+impl Lesson<MetricsBook, Handover> for AllParts {
+    ghost use Rattle.std.specs.Prelude.{◌++◌};
+    ghost use Rattle.unl_refresh.specs.Handovers.{SameBooks};
+
+    ghost fact = { λ v items. SameBooks v.handed (v.taken ++ items) };
+}
+
+/// Splits one part off a pass, and joins two passes.
+pub struct Parts;
+
+impl Split<Handover> for Parts {
+    ghost use Rattle.unl_refresh.specs.Handovers.{less_a_part, new_handover};
+
+    ghost left = { less_a_part };
+
+    ghost right = { λ v. new_handover };
+}
+
+impl Join<Handover> for Parts {
+    ghost use Rattle.unl_refresh.specs.Handovers.{both_handovers, empty_handover};
+
+    ghost both = { both_handovers };
+
+    ghost spent = { empty_handover };
+}

@@ -1,0 +1,141 @@
+//! The receiving end of a metrics queue, where books are taken.
+ghost use Rattle.std.specs.Prelude.{◌≡◌, ◌<◌, ◌^◌, ◌+◌, ◌-◌, ◌++◌, List, None, MatchOption};
+ghost use Rattle.unl_metrics.specs.Book.{Book, sum_of};
+ghost use Rattle.unl_refresh.specs.MetricsQueues.{IsPassOfMetrics, Merges, known_by, new_receiving, new_sending, taking_in};
+ghost use Rattle.unl_refresh.specs.Handovers.{SameBooks, first_handover};
+
+use crate::metrics_queue::MOST_BOOKS;
+use crate::{MetricsPass, MetricsQueue, MetricsSender};
+use std::alloc::Global;
+use std::marker::Model;
+use std::sync::Wait;
+use unl_metrics::MetricsBook;
+
+/// Takes metrics that senders in other threads handed over. Contracts see which books it has taken.
+#[derive(Drop)]
+pub struct MetricsReceiver<'a> {
+    queue: &'a MetricsQueue,
+    pass: MetricsPass,
+    held: Option<MetricsBook>,
+}
+
+impl<'a> Model for MetricsReceiver<'a> {
+    ghost use Rattle.std.specs.Prelude.{◌<◌};
+    ghost use Rattle.unl_refresh.specs.MetricsQueues.{IsPassOfMetrics, Receiving, known_by};
+
+    ghost Value = { Receiving };
+
+    ghost view = { λ receiver. record {
+      queue = receiver.pass.table_id;
+      parts = (known_by receiver.pass).parts;
+      handed = (known_by receiver.pass).handed;
+      intake = record { taken = (known_by receiver.pass).taken; held = receiver.held };
+    } };
+
+    ghost invariant = { λ receiver. IsPassOfMetrics receiver.queue.now receiver.pass × (0 < (known_by receiver.pass).parts) };
+}
+
+impl<'a> MetricsReceiver<'a> {
+    /// The receiver of a new queue, without senders.
+    pub fn new(queue: &'a MetricsQueue, pass: MetricsPass) -> MetricsReceiver<'a>
+        requires queue { IsPassOfMetrics queue.now pass }
+        requires new { known_by pass ≡ first_handover }
+        ensures { result ≡ new_receiving pass.table_id }
+    {
+        MetricsReceiver {
+            queue,
+            pass,
+            held: None,
+        }
+    }
+
+    /// Returns a sender for another thread. It gets one of this receiver's parts.
+    pub fn new_sender(&mut self) -> MetricsSender<'a>
+        requires { 1 < self.old.parts }
+        ensures left { self.new ≡ record self.old { parts = self.old.parts - 1 } }
+        ensures new { result ≡ new_sending self.old.queue }
+    {
+        let pass = self.queue.split_pass(&mut self.pass);
+        MetricsSender::new(self.queue, pass)
+    }
+
+    /// Takes a sender back, with its part and the books that it handed over.
+    pub fn take_back(&mut self, sender: MetricsSender<'_>)
+        requires { sender.queue ≡ self.old.queue }
+        ensures { self.new ≡ record self.old { parts = self.old.parts + 1; handed = self.old.handed ++ sender.entry.handed } }
+    {
+        let pass = sender.into_pass();
+        self.queue.join_pass(&mut self.pass, pass);
+    }
+
+    /// Takes the books that wait, at most 64, and merges them into `book`, one after another. One that wouldn't fit, or for which there
+    /// is no memory, is held until the next call, and no other is taken before it is merged.
+    pub fn merge_into<W: Wait>(&mut self, alloc: Global, rt: &W, book: &mut MetricsBook)
+        ensures same { self.new ≡ record self.old { intake = self.new.intake } }
+        ensures merges { Merges book.old self.old.intake book.new self.new.intake }
+    {
+        for _ in 0..MOST_BOOKS {
+            if !self.merge_and_take(alloc, rt, book) {
+                return;
+            }
+        }
+        self.merge_held(alloc, book);
+    }
+
+    /// Merges the book that is held into `book`, and then takes the next one to hold it. Returns whether it took one
+    /// (no contract says so).
+    fn merge_and_take<W: Wait>(&mut self, alloc: Global, rt: &W, book: &mut MetricsBook) -> bool
+        ensures same { self.new ≡ record self.old { intake = self.new.intake } }
+        ensures merges { Merges book.old self.old.intake book.new self.new.intake }
+    {
+        self.merge_held(alloc, book);
+        self.held.is_none() && self.take_next(rt)
+    }
+
+    /// Merges the book that is held into `book`, if it fits and there is memory.
+    fn merge_held(&mut self, alloc: Global, book: &mut MetricsBook)
+        ensures same { self.new ≡ record self.old { intake = self.new.intake } }
+        ensures merges { Merges book.old self.old.intake book.new self.new.intake }
+    {
+        if let Some(held) = self.held.take() {
+            self.held = merge_or_return(alloc, book, held);
+        }
+    }
+
+    /// No book may be held. Takes the oldest one that waits and holds it. The code returns whether there was one (no contract says so).
+    fn take_next<W: Wait>(&mut self, rt: &W) -> bool
+        requires { self.old.intake.held ≡ None }
+        ensures { MatchOption self.new.intake.held
+            (self.new ≡ self.old)
+            (λ book. self.new ≡ record self.old { intake = taking_in self.old.intake book }) }
+    {
+        match self.queue.take(rt, &mut self.pass) {
+            Some(book) => {
+                self.held = Some(book);
+                true
+            }
+            None => false,
+        }
+    }
+
+    /// Consumes the receiver, and does nothing else at run time. Proves that, if the receiver has all parts (all senders are back),
+    /// the books handed over are those taken and those that wait.
+    pub fn all_counted(self)
+        requires { self.parts ≡ 2 ^ 64 }
+        ensures { (waiting : List Book) × SameBooks self.entry.handed (self.entry.intake.taken ++ waiting) }
+    {
+        let mut pass = self.pass;
+        self.queue.all_counted(&mut pass)
+    }
+}
+
+/// Merges a book into another. Returns it if it wouldn't fit or memory ran out.
+fn merge_or_return(alloc: Global, book: &mut MetricsBook, other: MetricsBook) -> Option<MetricsBook>
+    ensures { MatchOption result (book.new ≡ sum_of book.old other) (λ back. (back ≡ other) × (book.new ≡ book.old)) }
+{
+    let mut other = other;
+    match book.merge(alloc, &mut other) {
+        Ok(()) => None,
+        Err(_) => Some(other),
+    }
+}
