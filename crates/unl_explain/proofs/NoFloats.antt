@@ -4,10 +4,8 @@ use Rattle.serde_json.specs.Data.{Data, boolean}
 use Rattle.serde_json.specs.View.{items_of}
 use Rattle.serde_json.specs.Written.{has_float, items_have_float}
 use Rattle.unl_dependencies.specs.declared.evaluation.Evaluation.{Evaluation}
-use Rattle.unl_dependencies.specs.declared.evaluation.VariantAnswer.{VariantAnswer}
 use Rattle.unl_documents.specs.declared.variant.Payload.{Payload}
 use Rattle.unl_documents.specs.Writing.{payload_data}
-use Rattle.unl_explain.specs.declared.reason.Origin.{Origin}
 use Rattle.unl_explain.specs.declared.reason.ParentCause.{ParentCause}
 use Rattle.unl_explain.specs.declared.reason.ParentCause.TheVariants as cause
 use Rattle.unl_explain.specs.declared.reason.ParentReason.{ParentReason}

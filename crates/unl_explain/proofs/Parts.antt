@@ -10,13 +10,13 @@ use Rattle.unl_documents.specs.declared.feature.Feature.{Feature}
 use Rattle.unl_documents.specs.declared.segment.Segment.{Segment}
 use Rattle.unl_documents.specs.declared.state.State.{State}
 use Rattle.unl_documents.specs.declared.strategy.Strategy.{Strategy}
-use Rattle.unl_documents.specs.Inline.{segment_of}
+use Rattle.unl_documents.specs.Inline.{segment_with}
 use Rattle.unl_context.specs.Context.{Fields}
 use Rattle.unl_constraints.specs.Constraint.{constraint_holds, all_hold}
 use Rattle.unl_strategies.specs.Moment.{Moment}
 use Rattle.unl_strategies.specs.Strategy.{is_active, rule_holds}
-use Rattle.unl_strategies.specs.Strategy.{is_met as is_segment_met}
-use Rattle.unl_dependencies.specs.Evaluation.{dependencies_met, evaluation_of, evaluation_where, feature_evaluation, feature_named, first_active, is_met, is_on, off, on_with, variant_of}
+use Rattle.unl_strategies.specs.Strategy.{is_segment_met}
+use Rattle.unl_dependencies.specs.Evaluation.{dependencies_met, evaluation_of, evaluation_where, feature_evaluation, feature_named, first_active, is_met, is_on, off, on_with, variant_of_feature}
 use Rattle.unl_dependencies.specs.declared.evaluation.Evaluation.{Evaluation}
 use Rattle.unl_explain.specs.declared.reason.ParentReason.{ParentReason}
 use Rattle.unl_explain.specs.declared.reason.StrategyReason.{StrategyReason}
@@ -45,7 +45,7 @@ where_found context now id (Some s) = same_truths s.constraints context now
 
 same_segment : (segments : List Segment) (context : Fields) (now id : ℕ) → is_segment_met segments context now id ≡ is_found_and_holds (segment_reason segments context now id)
 unfolding is_segment_met segment_reason
-same_segment segments context now id = where_found context now id (segment_of id segments)
+same_segment segments context now id = where_found context now id (segment_with id segments)
 
 same_segments : (segments : List Segment) (context : Fields) (now : ℕ) (ids : List ℕ) → list_all (is_segment_met segments context now) ids ≡ list_all is_found_and_holds (map (segment_reason segments context now) ids)
 same_segments segments context now ids = all_mapped (is_segment_met segments context now) is_found_and_holds (segment_reason segments context now) (same_segment segments context now) ids
@@ -105,7 +105,7 @@ on_of_feature state context moment f =
     let parts : (f.enabled && (dependencies_met f.dependencies state context moment && (length f.strategies == 0 || is_some first)))
     ≡ (f.enabled && (list_all (λ (p : ParentReason). p.met) (map (parent_reason state context moment) f.dependencies) && (length (reasons_from 0 f.strategies f.name state.segments context moment) == 0 || is_some first)))
     = λ i. f.enabled && (met i && (count i == 0 || is_some first)) in
-    on_where (f.enabled && (dependencies_met f.dependencies state context moment && (length f.strategies == 0 || is_some first))) (on_with (variant_of f context moment first)) refl ∙ parts
+    on_where (f.enabled && (dependencies_met f.dependencies state context moment && (length f.strategies == 0 || is_some first))) (on_with (variant_of_feature f context moment first)) refl ∙ parts
 
 on_found : (state : State) (context : Fields) (moment : Moment) (found : Option Feature)
     → IfSome (option_map (reason_of state context moment) found) (λ r. r.evaluation.on ≡ is_on_by_parts r)

@@ -6,7 +6,7 @@ use Rattle.serde_json.specs.Written.{compact_text}
 use Rattle.unl_dependencies.specs.declared.evaluation.Evaluation.{Evaluation}
 use Rattle.unl_dependencies.specs.declared.evaluation.VariantAnswer.{VariantAnswer}
 use Rattle.unl_documents.specs.declared.field.Field.TheVariants as field
-use Rattle.unl_documents.specs.Writing.{count, list, payload_data, with, with_some}
+use Rattle.unl_documents.specs.Writing.{count, list_data, payload_data, with, with_some}
 use Rattle.unl_explain.specs.declared.reason.Origin.{Origin}
 use Rattle.unl_explain.specs.declared.reason.Origin.TheVariants as origin
 use Rattle.unl_explain.specs.declared.reason.ParentCause.{ParentCause}
@@ -39,16 +39,16 @@ cause_text (cause.On variant) = codes "on"
 cause_text cause.Off = codes "off"
 
 -- The name of a parent's variant, if the parent is on.
-abbrev pub variant_in : ParentCause → Option (List ℕ)
-variant_in (cause.On variant) = Some variant
-variant_in cause.Absent = None
-variant_in cause.HasParents = None
-variant_in cause.Off = None
+abbrev pub parent_variant : ParentCause → Option (List ℕ)
+parent_variant (cause.On variant) = Some variant
+parent_variant cause.Absent = None
+parent_variant cause.HasParents = None
+parent_variant cause.Off = None
 
 -- The JSON form of a parent.
 unfoldable pub parent_data : ParentReason → Data
 parent_data p = object (
-    with_some field.Variant (option_map string (variant_in p.cause)) (
+    with_some field.Variant (option_map string (parent_variant p.cause)) (
     put (codes "cause") (string (cause_text p.cause)) (
     with field.Feature (string p.feature) (
     put (codes "met") (boolean p.met)
@@ -57,7 +57,7 @@ parent_data p = object (
 -- The JSON form of a segment that a strategy refers to.
 unfoldable pub segment_data : SegmentReason → Data
 segment_data s = object (
-    with field.Constraints (list boolean s.constraints) (
+    with field.Constraints (list_data boolean s.constraints) (
     put (codes "found") (boolean s.found) (
     with field.Id (count s.id)
     no_members)))
@@ -66,10 +66,10 @@ segment_data s = object (
 unfoldable pub strategy_data : StrategyReason → Data
 strategy_data s = object (
     put (codes "active") (boolean s.active) (
-    with field.Constraints (list boolean s.constraints) (
+    with field.Constraints (list_data boolean s.constraints) (
     with field.Name (string s.name) (
     put (codes "rule") (boolean s.rule) (
-    with field.Segments (list segment_data s.segments)
+    with field.Segments (list_data segment_data s.segments)
     no_members)))))
 
 -- The word for where a variant comes from.
@@ -89,9 +89,9 @@ reason_data r = object (
     with field.Enabled (boolean r.enabled) (
     put (codes "evaluation") (evaluation_data r.evaluation) (
     put (codes "first") (first_data r.first) (
-    put (codes "parents") (list parent_data r.parents) (
+    put (codes "parents") (list_data parent_data r.parents) (
     put (codes "source") (string (origin_text r.source)) (
-    with field.Strategies (list strategy_data r.strategies)
+    with field.Strategies (list_data strategy_data r.strategies)
     no_members))))))
 
 -- The JSON form of an explanation, or null if the state lacks the feature.

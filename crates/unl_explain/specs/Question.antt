@@ -1,6 +1,6 @@
 -- How a question is read: each key in order, with its kind. It asks why a feature of a state is on or off for a context at a
 -- moment.
-use Rattle.std.specs.Prelude.{ℕ, List, Result, Ok, Err, ok_or}
+use Rattle.std.specs.Prelude.{ℕ, List, Ok, ok_or}
 use Rattle.serde_json.specs.Data.{Data}
 use Rattle.unl_documents.specs.declared.fault.BadDocument.TheVariants.{NotJson}
 use Rattle.unl_documents.specs.declared.field.Field.TheVariants as field

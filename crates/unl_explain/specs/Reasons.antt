@@ -9,7 +9,7 @@ use Rattle.unl_documents.specs.declared.feature.Feature.{Feature}
 use Rattle.unl_documents.specs.declared.segment.Segment.{Segment}
 use Rattle.unl_documents.specs.declared.state.State.{State}
 use Rattle.unl_documents.specs.declared.strategy.Strategy.{Strategy}
-use Rattle.unl_documents.specs.Inline.{segment_of}
+use Rattle.unl_documents.specs.Inline.{segment_with}
 use Rattle.unl_context.specs.Context.{Fields}
 use Rattle.unl_constraints.specs.Constraint.{constraint_holds}
 use Rattle.unl_strategies.specs.Moment.{Moment}
@@ -65,7 +65,7 @@ missing_reason id = record { id = id; found = false; constraints = [] }
 
 -- The segment with the given id, to which a strategy refers.
 unfoldable pub segment_reason : List Segment → Fields → ℕ → ℕ → SegmentReason
-segment_reason segments context now id = option_map_or (found_reason context now id) (segment_of id segments) (missing_reason id)
+segment_reason segments context now id = option_map_or (found_reason context now id) (segment_with id segments) (missing_reason id)
 
 -- A strategy at its index in the feature with the given name: its constraints, its segments, its own rule, and whether it is
 -- active.

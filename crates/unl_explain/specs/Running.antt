@@ -10,7 +10,7 @@ use Rattle.unl_explain.specs.Question.{question_in}
 use Rattle.unl_explain.specs.Reasons.{reasons_of}
 use Rattle.unl_input.specs.declared.refusal.InputRefusal.{InputRefusal}
 use Rattle.unl_input.specs.declared.refusal.InputRefusal.TheVariants as refusal
-use Rattle.unl_input.specs.Answer.{Outcome, Says, SaysPrefix}
+use Rattle.unl_input.specs.Answer.{InputOutcome, Says, SaysPrefix}
 
 -- The explanation for a question. The moment has no host name.
 abbrev pub answer_to : Question → Option Reason
@@ -32,12 +32,13 @@ fault_of (refusal.BadInput fault) = BadInput fault
 fault_of refusal.TooLarge = TooLarge
 
 -- An input with this outcome was read, and all of its line was sent: the explanation or the refusal.
-abbrev pub PrintsRefusal : Outcome (List ℕ) → Option (List ℕ) → Option (List ℕ) → Option (List ℕ) → Option (List ℕ) → Type 0
+abbrev pub PrintsRefusal : InputOutcome (List ℕ) → Option (List ℕ) → Option (List ℕ) → Option (List ℕ) → Option (List ℕ) → Type 0
 PrintsRefusal outcome left left_after old new = Says explained as_it_is outcome left left_after old new
 
 -- An input was read, and a prefix of its line was sent: of the explanation or of the refusal.
 abbrev pub PrintsRefusalPrefix : Option (List ℕ) → Option (List ℕ) → Option (List ℕ) → Option (List ℕ) → Type 0
-PrintsRefusalPrefix left left_after old new = (outcome : Outcome (List ℕ)) × SaysPrefix explained as_it_is outcome left left_after old new
+PrintsRefusalPrefix left left_after old new =
+    (outcome : InputOutcome (List ℕ)) × SaysPrefix explained as_it_is outcome left left_after old new
 
 -- How explaining an input ends, in terms of the source's remaining bytes and the sink's sent bytes, before and after.
 abbrev pub Explains : Result (Unit {0}) ExplainFault → Option (List ℕ) → Option (List ℕ) → Option (List ℕ) → Option (List ℕ) → Type 0

@@ -6,7 +6,7 @@ ghost use Rattle.serde_json.specs.Written.{compact_text, has_float};
 ghost use Rattle.unl_documents.specs.Writing.{with_some};
 ghost use Rattle.unl_documents.specs.declared.field.Field.TheVariants as field;
 ghost use Rattle.unl_explain.specs.Line.{cause_text, evaluation_data, explanation_data, explanation_line, first_data, origin_text};
-ghost use Rattle.unl_explain.specs.Line.{parent_data, reason_data, segment_data, strategy_data, variant_data, variant_in};
+ghost use Rattle.unl_explain.specs.Line.{parent_data, reason_data, segment_data, strategy_data, variant_data, parent_variant};
 
 use crate::reason::{Origin, ParentCause, ParentReason, Reason, SegmentReason, StrategyReason};
 use serde_json::{Map, Value};
@@ -178,7 +178,7 @@ fn put_variant(
     cause: &ParentCause,
 ) -> Result<(), Memory>
     ensures { OnOk result (members_view members.new.entries
-        ≡ with_some field.Variant (option_map string (variant_in cause.now)) (members_view members.old.entries)) }
+        ≡ with_some field.Variant (option_map string (parent_variant cause.now)) (members_view members.old.entries)) }
 {
     match cause {
         ParentCause::On(variant) => put(members, alloc, Field::Variant, variant),

@@ -1,7 +1,6 @@
 //! A question: why a feature of a state is on or off for a context at a moment.
 ghost use Rattle.std.specs.Prelude.{IfOk};
 ghost use Rattle.unl_documents.specs.Reading.{Gives};
-ghost use Rattle.unl_documents.specs.States.{IsValidState};
 ghost use Rattle.unl_explain.specs.Question.{IsValidQuestion, question_in, question_of};
 
 use serde_json::Value;

@@ -1,7 +1,6 @@
 //! Reads a question as an input and writes its explanation.
 ghost use Rattle.std.specs.Prelude.{◌≡◌, ◌≢◌, ◌≤◌, Err, IfOk, IsErrOf};
 ghost use Rattle.unl_base.specs.Faults.{Rose};
-ghost use Rattle.unl_documents.specs.Reading.{Gives};
 ghost use Rattle.unl_explain.specs.Line.{explanation_line as line_of};
 ghost use Rattle.unl_explain.specs.Question.{IsValidQuestion};
 ghost use Rattle.unl_explain.specs.Running.{Explains, answer_to, as_it_is, explained, fault_of};

@@ -11,13 +11,13 @@ use Rattle.unl_base.specs.Faults.{Rose}
 use Rattle.unl_base.specs.Peers.{PeerState, history_of}
 use Rattle.unl_base.specs.Streams.{Sends, SendsPrefix}
 use Rattle.unl_refresh.specs.declared.ask.Ask.{Ask}
-use Rattle.unl_refresh.specs.Exchange.{IsRead, ReplyOrFault}
+use Rattle.unl_refresh.specs.Exchange.{IsParsedFrom, ReplyOrFault}
 use Rattle.unl_refresh.specs.Refresh.{with_tag}
 use Rattle.unl_follow.specs.Replica.{Subject}
 use Rattle.unl_follow.specs.declared.fault.FollowFault.{FollowFault}
 use Rattle.unl_follow.specs.declared.fault.FollowFault.TheVariants.{WriteFault, Memory}
 use Rattle.unl_refresh.specs.declared.outcome.Outcome.{Outcome}
-use Rattle.unl_follow.specs.Run.{AreAsMany, AsksOnce, Ends, Follows, Meets, RoseBy, Runs, TakesTurn}
+use Rattle.unl_follow.specs.Run.{AreAsMany, AsksOnce, Endpoints, Follows, MeetsPeer, RoseBy, Runs, TakesTurn}
 use Rattle.unl_follow.specs.Turns.{IsReceived, IsAsked, TurnState, Turn, TurnEffect, first_state, follow_text, reply_at, request_at, state_after, turn_line, turned_to}
 
 -- ---- what is sent
@@ -71,11 +71,11 @@ one_more k before mid after rose more = omega (arith, rose, more)
 
 received_on : (received : ReplyOrFault) (request : List ℕ) (replies : Option (List (List ℕ))) (between peer_after : PeerState) (i k before mid after : ℕ)
     → between.replies ≡ option_map (λ list. drop i list) replies → RoseBy k before mid
-    → Meets received request between mid peer_after after → ReceivedOn received replies i k before peer_after.replies after
+    → MeetsPeer received request between mid peer_after after → ReceivedOn received replies i k before peer_after.replies after
 received_on (Some reading) request replies between peer_after i k before mid after left counted meets = record {
   taken = i + 1;
   failed = k;
-  comes = (subst (λ (o : Option (List ℕ)). IsRead o reading) (ap (option_map next_of) left ∙ next_is replies i) meets.0, refl, refl);
+  comes = (subst (λ (o : Option (List ℕ)). IsParsedFrom o reading) (ap (option_map next_of) left ∙ next_is replies i) meets.0, refl, refl);
   left = meets.1.one_reply ∙ ap (option_map (λ list. drop 1 list)) left ∙ taken_more replies i;
   counted = later_still k before mid after counted (omega (arith, meets.2));
 }
@@ -96,20 +96,20 @@ received_on None request replies between peer_after i k before mid after left co
 
 -- what the peer was sent in a turn
 asked_on : (received : ReplyOrFault) (request : List ℕ) (peer peer_after : PeerState) (faults faults_after : ℕ)
-    → Meets received request peer faults peer_after faults_after → IsAsked received request (history_of peer) (history_of peer_after)
+    → MeetsPeer received request peer faults peer_after faults_after → IsAsked received request (history_of peer) (history_of peer_after)
 asked_on (Some reading) request peer peer_after faults faults_after meets = meets.1.sends
 asked_on None request peer peer_after faults faults_after meets = ⊎_elim (λ kept. inl kept.1) (λ part. inr part.sends) meets.0
 
 -- ---- the run so far
 
 -- `count` turns were made, and this is the state after them
-pub record Reached (ask : Ask) (subject : Subject) (start : Ends) (count : ℕ) (turn_state : TurnState) (now : Ends) : Type 0 where
+pub record Reached (ask : Ask) (subject : Subject) (start : Endpoints) (count : ℕ) (turn_state : TurnState) (now : Endpoints) : Type 0 where
   pub turns : List Turn
   pub many : length turns ≡ count
   pub represents : turn_state ≡ state_after ask.delta turns
   pub follows : Follows Sends ask subject start turns now
 
-pub Reached_begin : (ask : Ask) (subject : Subject) (start : Ends) (turn_state : TurnState) → turn_state ≡ first_state
+pub Reached_begin : (ask : Ask) (subject : Subject) (start : Endpoints) (turn_state : TurnState) → turn_state ≡ first_state
     → Reached ask subject start 0 turn_state start
 unfolding state_after follow_text
 Reached_begin ask subject start turn_state first = record {
@@ -135,7 +135,7 @@ Reached_begin ask subject start turn_state first = record {
 -- one more turn, with its text sent by a relation that continues after what was sent in full
 turns_more : (Sent : Option (List ℕ) → List ℕ → Option (List ℕ) → Type 0)
     → ((old mid new : Option (List ℕ)) (a b : List ℕ) → Sends old a mid → Sent mid b new → Sent old (a ++ b) new)
-    → (ask : Ask) (subject : Subject) (start mid now : Ends) (count : ℕ) (turn_state next : TurnState) (reached : Reached ask subject start count turn_state mid)
+    → (ask : Ask) (subject : Subject) (start mid now : Endpoints) (count : ℕ) (turn_state next : TurnState) (reached : Reached ask subject start count turn_state mid)
     → (takes : TakesTurn Sent ask subject (count + 1) turn_state mid next now) → Follows Sent ask subject start (takes.turn ∷ reached.turns) now
 unfolding follow_text
 turns_more Sent has_next_turn ask subject start mid now count turn_state next reached takes =
@@ -160,7 +160,7 @@ turns_more Sent has_next_turn ask subject start mid now count turn_state next re
     }
 
 -- one more turn
-pub Reached_more : (ask : Ask) (subject : Subject) (start mid now : Ends) (count : ℕ) (turn_state next : TurnState) → Reached ask subject start count turn_state mid
+pub Reached_more : (ask : Ask) (subject : Subject) (start mid now : Endpoints) (count : ℕ) (turn_state next : TurnState) → Reached ask subject start count turn_state mid
     → TakesTurn Sends ask subject (count + 1) turn_state mid next now → Reached ask subject start (count + 1) next now
 unfolding state_after
 Reached_more ask subject start mid now count turn_state next reached takes = record {
@@ -171,7 +171,7 @@ Reached_more ask subject start mid now count turn_state next reached takes = rec
 }
 
 -- one more turn, with a prefix of its line sent
-pub Reached_cut : (ask : Ask) (subject : Subject) (start mid now : Ends) (count : ℕ) (turn_state next : TurnState) → Reached ask subject start count turn_state mid
+pub Reached_cut : (ask : Ask) (subject : Subject) (start mid now : Endpoints) (count : ℕ) (turn_state next : TurnState) → Reached ask subject start count turn_state mid
     → TakesTurn SendsPrefix ask subject (count + 1) turn_state mid next now → (turns : List Turn) × Follows SendsPrefix ask subject start turns now
 Reached_cut ask subject start mid now count turn_state next reached takes =
     (takes.turn ∷ reached.turns, turns_more SendsPrefix prefix_more ask subject start mid now count turn_state next reached takes)
@@ -238,7 +238,7 @@ stopped asked (suc made) start mid now turns paced many few first known unobserv
 -- ---- one turn of the code
 
 pub turn_taken : (Sent : Option (List ℕ) → List ℕ → Option (List ℕ) → Type 0) (ask : Ask) (subject : Subject) (number : ℕ)
-    (turn_state next : TurnState) (before after : Ends) (draw : Draw) (outcome : Option Outcome) (line : List ℕ)
+    (turn_state next : TurnState) (before after : Endpoints) (draw : Draw) (outcome : Option Outcome) (line : List ℕ)
     → TakesDraw before.coming draw after.coming
     → AsksOnce ask turn_state before.peer before.faults (record { outcome = outcome; turn_state = next }) after.peer after.faults
     → line ≡ turn_line subject number draw (record { outcome = outcome; turn_state = next })
@@ -254,7 +254,7 @@ turn_taken Sent ask subject number turn_state next before after draw outcome lin
 
 -- the ask of a turn differs from the run's only in its tag, and makes the request that the run's makes with the current tag
 of_the_run : (Sent : Option (List ℕ) → List ℕ → Option (List ℕ) → Type 0) (ask asked : Ask) → asked ≡ with_tag asked.tag ask
-    → (subject : Subject) (number : ℕ) (turn_state next : TurnState) (before after : Ends)
+    → (subject : Subject) (number : ℕ) (turn_state next : TurnState) (before after : Endpoints)
     → TakesTurn Sent asked subject number turn_state before next after → TakesTurn Sent ask subject number turn_state before next after
 of_the_run Sent ask asked same subject number turn_state next before after takes =
     at_tag asked.tag (subst (λ (a : Ask). TakesTurn Sent a subject number turn_state before next after) same takes)
@@ -265,7 +265,7 @@ of_the_run Sent ask asked same subject number turn_state next before after takes
         record { turn = turn.turn; drawn = turn.drawn; meets = turn.meets; represents = turn.represents; sends = turn.sends }
 
 -- one more turn, with an ask that differs from the run's only in its tag
-pub Reached_next : (ask asked : Ask) → asked ≡ with_tag asked.tag ask → (subject : Subject) (start mid now : Ends) (count : ℕ)
+pub Reached_next : (ask asked : Ask) → asked ≡ with_tag asked.tag ask → (subject : Subject) (start mid now : Endpoints) (count : ℕ)
     (turn_state next : TurnState) → Reached ask subject start count turn_state mid → TakesTurn Sends asked subject (count + 1) turn_state mid next now
     → Reached ask subject start (count + 1) next now
 Reached_next ask asked same subject start mid now count turn_state next reached takes =
@@ -273,7 +273,7 @@ Reached_next ask asked same subject start mid now count turn_state next reached 
     (of_the_run Sends ask asked same subject (count + 1) turn_state next mid now takes)
 
 -- the run after a turn that failed
-pub cut_runs : {T : Type 0} (ask asked : Ask) → asked ≡ with_tag asked.tag ask → (subject : Subject) (start mid now : Ends) (count : ℕ)
+pub cut_runs : {T : Type 0} (ask asked : Ask) → asked ≡ with_tag asked.tag ask → (subject : Subject) (start mid now : Endpoints) (count : ℕ)
     (turn_state next : TurnState) (most : ℕ) (pace : Option ℕ) (result : Result T FollowFault) (fault : FollowFault)
     → Reached ask subject start count turn_state mid → result ≡ Err fault
     → (result ≡ Err WriteFault → TakesTurn SendsPrefix asked subject (count + 1) turn_state mid next now)
@@ -285,7 +285,7 @@ cut_runs ask asked same subject start mid now count turn_state next most pace re
     (reached.turns, silent is ∙ reached.follows.sends)
 
 -- out of memory before the first turn: nothing was sent
-pub none_made : {T : Type 0} (most : ℕ) (pace : Option ℕ) (ask : Ask) (subject : Subject) (ends : Ends) (result : Result T FollowFault)
+pub none_made : {T : Type 0} (most : ℕ) (pace : Option ℕ) (ask : Ask) (subject : Subject) (ends : Endpoints) (result : Result T FollowFault)
     → result ≡ Err Memory → Runs {T = T} most pace ask subject ends result ends
 unfolding follow_text
 none_made {T} most pace ask subject ends result is =

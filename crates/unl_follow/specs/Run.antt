@@ -6,7 +6,7 @@ use Rattle.unl_base.specs.Draws.{TakesDraw}
 use Rattle.unl_base.specs.Peers.{PeerState, history_of}
 use Rattle.unl_base.specs.Streams.{Sends, SendsPrefix}
 use Rattle.unl_refresh.specs.declared.ask.Ask.{Ask}
-use Rattle.unl_refresh.specs.Exchange.{Meets as MeetsPeer, ReplyOrFault, peer_view}
+use Rattle.unl_refresh.specs.Exchange.{Meets, ReplyOrFault, peer_view}
 use Rattle.unl_follow.specs.declared.fault.FollowFault.{FollowFault}
 use Rattle.unl_follow.specs.declared.fault.FollowFault.TheVariants.{WriteFault, Memory}
 use Rattle.unl_follow.specs.Replica.{Subject}
@@ -15,7 +15,7 @@ use Rattle.unl_follow.specs.Turns.{turned_to}
 
 -- The endpoints of a run: the peer (what it was sent on each connection, and what its next ones give to read) with its count of faults;
 -- the draws to come; and what the sink was sent.
-pub record Ends : Type 0 where
+pub record Endpoints : Type 0 where
   pub peer : PeerState
   pub faults : ℕ
   pub coming : Option (List Draw × Draw)
@@ -24,25 +24,25 @@ pub record Ends : Type 0 where
 -- ---- one turn
 
 -- The peer was sent the request, and the next reply was read; or it failed, after at most one connection.
-abbrev pub Meets : ReplyOrFault → List ℕ → PeerState → ℕ → PeerState → ℕ → Type 0
-Meets received request peer faults peer_after faults_after =
-    MeetsPeer received request (peer_view peer faults) (peer_view peer_after faults_after)
+abbrev pub MeetsPeer : ReplyOrFault → List ℕ → PeerState → ℕ → PeerState → ℕ → Type 0
+MeetsPeer received request peer faults peer_after faults_after =
+    Meets received request (peer_view peer faults) (peer_view peer_after faults_after)
 
 -- One request was made in state `turn_state`, and it had this outcome and effect.
 pub record AsksOnce
     (ask : Ask) (turn_state : TurnState) (peer : PeerState) (faults : ℕ) (turned : TurnEffect) (peer_after : PeerState) (faults_after : ℕ)
     : Type 0 where
   pub received : ReplyOrFault
-  pub meets : Meets received (request_at ask turn_state) peer faults peer_after faults_after
+  pub meets : MeetsPeer received (request_at ask turn_state) peer faults peer_after faults_after
   pub turned_so : turned ≡ turned_to ask.delta turn_state received
 
 -- Turn `number` was made, and its line was sent, as `Sent` says (in full, or a prefix).
 pub record TakesTurn
     (Sent : Option (List ℕ) → List ℕ → Option (List ℕ) → Type 0) (ask : Ask) (subject : Subject) (number : ℕ)
-    (turn_state : TurnState) (before : Ends) (state_after : TurnState) (after : Ends) : Type 0 where
+    (turn_state : TurnState) (before : Endpoints) (state_after : TurnState) (after : Endpoints) : Type 0 where
   pub turn : Turn
   pub drawn : TakesDraw before.coming turn.draw after.coming
-  pub meets : Meets turn.received (request_at ask turn_state) before.peer before.faults after.peer after.faults
+  pub meets : MeetsPeer turn.received (request_at ask turn_state) before.peer before.faults after.peer after.faults
   pub represents : state_after ≡ (turned_to ask.delta turn_state turn.received).turn_state
   pub sends : Sent before.sent (turn_line subject number turn.draw (turned_to ask.delta turn_state turn.received)) after.sent
 
@@ -55,8 +55,8 @@ RoseBy m before now = min (before + m) (2 ^ 64 - 1) ≤ now
 -- These turns of an ask used the replies and draws to come, the peer was sent their requests, and their text was sent, as `Sent`
 -- says (in full, or a prefix).
 pub record Follows
-    (Sent : Option (List ℕ) → List ℕ → Option (List ℕ) → Type 0) (ask : Ask) (subject : Subject) (before : Ends)
-    (turns : List Turn) (after : Ends) : Type 0 where
+    (Sent : Option (List ℕ) → List ℕ → Option (List ℕ) → Type 0) (ask : Ask) (subject : Subject) (before : Endpoints)
+    (turns : List Turn) (after : Endpoints) : Type 0 where
   pub taken : ℕ
   pub failed : ℕ
   pub turned : HaveTurned before.peer.replies turns taken failed
@@ -74,7 +74,7 @@ AreAsMany asked (Some more) turns = length turns ≡ min asked (more + 1)
 
 -- How a run ends: after its turns; after a failed write, with a prefix of some turns' text sent; or out of memory, with the whole
 -- lines of some turns sent.
-abbrev pub Runs : {T : Type 0} → ℕ → Option ℕ → Ask → Subject → Ends → Result T FollowFault → Ends → Type 0
+abbrev pub Runs : {T : Type 0} → ℕ → Option ℕ → Ask → Subject → Endpoints → Result T FollowFault → Endpoints → Type 0
 Runs asked pace ask subject before (Ok done) after =
     (turns : List Turn) × AreAsMany asked pace turns × Follows Sends ask subject before turns after
 Runs asked pace ask subject before (Err WriteFault) after =

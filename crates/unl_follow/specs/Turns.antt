@@ -7,7 +7,7 @@ use Rattle.unl_delta.specs.declared.version.EnvVersion.{EnvVersion}
 use Rattle.unl_delta.specs.Installing.{Installed, place_of}
 use Rattle.unl_refresh.specs.declared.ask.Ask.{Ask}
 use Rattle.unl_refresh.specs.declared.outcome.Outcome.{Outcome}
-use Rattle.unl_refresh.specs.Exchange.{AddsPrefix, AddsText, IsRead, ReplyOrFault}
+use Rattle.unl_refresh.specs.Exchange.{AddsPrefix, AddsText, IsParsedFrom, ReplyOrFault}
 use Rattle.unl_refresh.specs.Refresh.{Refreshed, after_reading, refresh_request}
 use Rattle.unl_strategies.specs.Moment.{Moment}
 use Rattle.unl_follow.specs.Line.{line_of, number_text, on_text, word_of}
@@ -76,7 +76,7 @@ reply_at replies j = option_map (λ list. next_of (drop j list)) replies
 -- What a turn received, after turns that used up `i` replies and had `k` faults; with it these are `j` and `m`. A reply is the
 -- next one of the list and is used up. A fault counts as one more, and may have used up a reply.
 abbrev pub IsReceived : Option (List (List ℕ)) → ReplyOrFault → ℕ → ℕ → ℕ → ℕ → Type 0
-IsReceived replies (Some reading) i k j m = IsRead (reply_at replies i) reading × (j ≡ i + 1) × (m ≡ k)
+IsReceived replies (Some reading) i k j m = IsParsedFrom (reply_at replies i) reading × (j ≡ i + 1) × (m ≡ k)
 IsReceived replies None i k j m = ((j ≡ i) ⊎ (j ≡ i + 1)) × (m ≡ k + 1)
 
 -- these turns used up `j` of the replies and had `m` faults

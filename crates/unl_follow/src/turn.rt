@@ -4,7 +4,7 @@ ghost use Rattle.unl_base.specs.Faults.{Rose};
 ghost use Rattle.unl_base.specs.Streams.{Sends, SendsPrefix};
 ghost use Rattle.unl_follow.specs.Replica.{installed_by};
 ghost use Rattle.unl_follow.specs.Run.{AsksOnce, TakesTurn};
-ghost use Rattle.unl_follow.specs.Turns.{moment_of, turn_line};
+ghost use Rattle.unl_follow.specs.Turns.{turn_line};
 ghost use Rattle.unl_http_api.specs.RequestText.{fits_if_any, fits_line};
 ghost use Rattle.unl_refresh.specs.Refresh.{with_tag};
 

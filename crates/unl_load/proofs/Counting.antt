@@ -4,12 +4,12 @@ use Rattle.std.proofs.lemmas.List.Sums.{sum_by-cons}
 use Rattle.std.specs.List.{count_by}
 use Rattle.rand_pcg.specs.Lcg.{Lcg}
 use Rattle.unl_documents.specs.declared.state.State.{State}
-use Rattle.unl_load.specs.Input.{ask_by, asks, is_on}
-use Rattle.unl_load.specs.Words.{first, next}
+use Rattle.unl_load.specs.Input.{ask_by, asks, is_on_for}
+use Rattle.unl_load.specs.Words.{next_word, next}
 
 -- the count so far and that of the remaining asks make the total
 pub record Counts (state : State) (words : Lcg) (count asked on : ℕ) (left : Lcg) : Type 0 where
-  pub all : on + count_by (is_on state) (asks (count - asked) left) ≡ count_by (is_on state) (asks count words)
+  pub all : on + count_by (is_on_for state) (asks (count - asked) left) ≡ count_by (is_on_for state) (asks count words)
   pub most : on ≤ asked
 
 unfold_asks : (n : ℕ) (words : Lcg) → asks (suc n) words ≡ ask_by words ∷ asks n (next (next words))
@@ -25,24 +25,24 @@ one_more true on asked most = omega (arith, most)
 one_more false on asked most = omega (arith, most)
 
 counts_more : (state : State) (words : Lcg) (count asked on : ℕ) (left : Lcg) → asked < count → Counts state words count asked on left
-    → Counts state words count (asked + 1) (cond (is_on state (ask_by left)) (1 + on) on) (next (next left))
+    → Counts state words count (asked + 1) (cond (is_on_for state (ask_by left)) (1 + on) on) (next (next left))
 counts_more state words count asked on left inside counts =
-    let is = is_on state (ask_by left) in
+    let is = is_on_for state (ask_by left) in
     let rest = asks (count - (asked + 1)) (next (next left)) in
     let more : count - asked ≡ suc (count - (asked + 1)) = omega (arith, inside) in
     let listed : asks (count - asked) left ≡ ask_by left ∷ rest =
     ap (λ n. asks n left) more ∙ unfold_asks (count - (asked + 1)) left in
-    let summed : count_by (is_on state) (asks (count - asked) left) ≡ cond is 1 0 + count_by (is_on state) rest =
-    ap (count_by (is_on state)) listed ∙ sum_by-cons (λ ask. cond (is_on state ask) 1 0) (ask_by left) rest in
+    let summed : count_by (is_on_for state) (asks (count - asked) left) ≡ cond is 1 0 + count_by (is_on_for state) rest =
+    ap (count_by (is_on_for state)) listed ∙ sum_by-cons (λ ask. cond (is_on_for state ask) 1 0) (ask_by left) rest in
     record {
-      all = shift is on (count_by (is_on state) rest) ∙ ap (λ n. on + n) (sym summed) ∙ counts.all;
+      all = shift is on (count_by (is_on_for state) rest) ∙ ap (λ n. on + n) (sym summed) ∙ counts.all;
       most = one_more is on asked counts.most;
     }
 
 -- one more ask, made from two words
 pub counts_next : (state : State) (words : Lcg) (count asked on on_after feature user : ℕ) (left between after : Lcg) (is : Bool)
-    → asked < count → Counts state words count asked on left → feature ≡ first left → between ≡ next left → user ≡ first between
-    → after ≡ next between → is ≡ is_on state (record { feature = feature % 1000; user = user })
+    → asked < count → Counts state words count asked on left → feature ≡ next_word left → between ≡ next left → user ≡ next_word between
+    → after ≡ next between → is ≡ is_on_for state (record { feature = feature % 1000; user = user })
     → on_after ≡ cond is (1 + on) on → Counts state words count (asked + 1) on_after after
 counts_next state words count asked on on_after feature user left between after is inside counts from goes then_from then_goes same counted =
     rw (counted, same, then_from, then_goes, goes, from) (counts_more state words count asked on left inside counts)
@@ -53,10 +53,10 @@ none_left words = refl
 
 -- after all asks
 pub all_counted : (state : State) (words : Lcg) (count asked on : ℕ) (left : Lcg) → count ≤ asked → Counts state words count asked on left
-    → on ≡ count_by (is_on state) (asks count words)
+    → on ≡ count_by (is_on_for state) (asks count words)
 all_counted state words count asked on left over counts =
     let none : count - asked ≡ 0 = omega (arith, over) in
-    let nothing : count_by (is_on state) (asks (count - asked) left) ≡ 0 =
-    ap (λ n. count_by (is_on state) (asks n left)) none ∙ ap (count_by (is_on state)) (none_left left) in
-    let sum : on + count_by (is_on state) (asks (count - asked) left) ≡ on = ap (λ n. on + n) nothing ∙ omega arith in
+    let nothing : count_by (is_on_for state) (asks (count - asked) left) ≡ 0 =
+    ap (λ n. count_by (is_on_for state) (asks n left)) none ∙ ap (count_by (is_on_for state)) (none_left left) in
+    let sum : on + count_by (is_on_for state) (asks (count - asked) left) ≡ on = ap (λ n. on + n) nothing ∙ omega arith in
     sym sum ∙ counts.all

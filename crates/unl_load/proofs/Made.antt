@@ -13,8 +13,8 @@ use Rattle.unl_documents.specs.Limits.{Anything, IsName}
 use Rattle.unl_documents.specs.Parameters.{AreParameters, AreRising, IsValidPair}
 use Rattle.unl_documents.specs.States.{IsValidState, name_key}
 use Rattle.unl_documents.specs.Valid.{IsValidConstraint, IsValidDependency, IsValidFeature, IsValidSegment, IsValidStrategy, IsValidVariant}
-use Rattle.unl_load.specs.Input.{feature_of, features_from, name_of, pair, state_by, strategy_of}
-use Rattle.unl_load.specs.Words.{behind, first, next}
+use Rattle.unl_load.specs.Input.{generated_feature, features_from, name_of, pair, state_by, generated_strategy}
+use Rattle.unl_load.specs.Words.{behind, next_word, next}
 use Rattle.unl_load.proofs.Names.{name_rises}
 
 -- ---- the names
@@ -48,8 +48,8 @@ rollout_fits word =
 pair_fits : (key value : List ℕ) → IsName key → length value ≤ 1048576 → IsValidPair (pair key value)
 pair_fits key value named few = record { key = named; value = few }
 
-pairs_fit : (place word : ℕ) → AreParameters (strategy_of (name_of place) (word % 101)).parameters
-unfolding strategy_of IsStrictlySortedBy
+pairs_fit : (place word : ℕ) → AreParameters (generated_strategy (name_of place) (word % 101)).parameters
+unfolding generated_strategy IsStrictlySortedBy
 pairs_fit place word =
     let group = pair (codes "groupId") (name_of place) in
     let rollout = pair (codes "rollout") (decimal (word % 101)) in
@@ -68,8 +68,8 @@ pairs_fit place word =
       rising = ((refl, (refl, tt)), ((refl, tt), (tt, tt)));
     }
 
-strategy_fits : (place word : ℕ) → IsValidStrategy (strategy_of (name_of place) (word % 101))
-unfolding strategy_of
+strategy_fits : (place word : ℕ) → IsValidStrategy (generated_strategy (name_of place) (word % 101))
+unfolding generated_strategy
 strategy_fits place word = record {
   name = (omega arith, omega arith);
   parameters = pairs_fit place word;
@@ -78,14 +78,14 @@ strategy_fits place word = record {
   variants = (omega arith, All-nil IsValidVariant);
 }
 
-feature_fits : (place word : ℕ) → IsValidFeature (feature_of place word)
-unfolding feature_of
+feature_fits : (place word : ℕ) → IsValidFeature (generated_feature place word)
+unfolding generated_feature
 feature_fits place word = record {
   name = name_is place;
   project = (omega arith, omega arith);
   kind = (omega arith, omega arith);
   description = tt;
-  strategies = (omega arith, All-cons IsValidStrategy (strategy_of (name_of place) (word % 101)) [] (strategy_fits place word) (All-nil IsValidStrategy));
+  strategies = (omega arith, All-cons IsValidStrategy (generated_strategy (name_of place) (word % 101)) [] (strategy_fits place word) (All-nil IsValidStrategy));
   variants = (omega arith, All-nil IsValidVariant);
   dependencies = (omega arith, All-nil IsValidDependency);
 }
@@ -94,24 +94,20 @@ all_fit : (n place : ℕ) (words : Lcg) → All IsValidFeature (features_from pl
 unfolding features_from
 all_fit zero place words = All-nil IsValidFeature
 all_fit (suc n) place words =
-    All-cons IsValidFeature (feature_of place (first words)) (features_from (place + 1) n (next words))
-    (feature_fits place (first words)) (all_fit n (place + 1) (next words))
+    All-cons IsValidFeature (generated_feature place (next_word words)) (features_from (place + 1) n (next words))
+    (feature_fits place (next_word words)) (all_fit n (place + 1) (next words))
 
 -- ---- the order of the names
 
-key_is : (place word : ℕ) → name_key (feature_of place word) ≡ name_of place
-unfolding feature_of
-key_is place word = refl
-
 above : (n place before : ℕ) (words : Lcg) → before < place → place + n ≤ 1000
     → AllByRecursion (λ (name : List ℕ). slice_cmp nat_cmp (name_of before) name ≡ Less) (map name_key (features_from place n words))
-unfolding features_from feature_of
+unfolding features_from generated_feature
 above zero place before words less inside = tt
 above (suc n) place before words less inside =
     (name_rises before place less (omega (arith, inside)), above n (place + 1) before (next words) (omega (arith, less)) (omega (arith, inside)))
 
 rising : (n place : ℕ) (words : Lcg) → place + n ≤ 1000 → AreRising (map name_key (features_from place n words))
-unfolding features_from feature_of IsStrictlySortedBy
+unfolding features_from generated_feature IsStrictlySortedBy
 rising zero place words inside = tt
 rising (suc n) place words inside =
     (above n (place + 1) place (next words) (omega arith) (omega (arith, inside)), rising n (place + 1) (next words) (omega (arith, inside)))
@@ -139,7 +135,7 @@ pub record Makes (words : Lcg) (place : ℕ) (made : List Feature) (left : Lcg) 
 left_is : (place : ℕ) → place < 1000 → 1000 - place ≡ suc (1000 - (place + 1))
 left_is place inside = omega (arith, inside)
 
-unfold_features : (n place : ℕ) (words : Lcg) → features_from place (suc n) words ≡ feature_of place (first words) ∷ features_from (place + 1) n (next words)
+unfold_features : (n place : ℕ) (words : Lcg) → features_from place (suc n) words ≡ generated_feature place (next_word words) ∷ features_from (place + 1) n (next words)
 unfolding features_from
 unfold_features n place words = refl
 
@@ -148,9 +144,9 @@ unfolding behind
 unfold_behind n words = refl
 
 pub makes_more : (words : Lcg) (place : ℕ) (made : List Feature) (left : Lcg) → place < 1000 → Makes words place made left
-    → Makes words (place + 1) (made ++ feature_of place (first left) ∷ []) (next left)
+    → Makes words (place + 1) (made ++ generated_feature place (next_word left) ∷ []) (next left)
 makes_more words place made left inside makes = record {
-  all = append_assoc made (feature_of place (first left) ∷ []) (features_from (place + 1) (1000 - (place + 1)) (next left))
+  all = append_assoc made (generated_feature place (next_word left) ∷ []) (features_from (place + 1) (1000 - (place + 1)) (next left))
       ∙ ap (λ rest. made ++ rest) (sym (ap (λ n. features_from place n left) (left_is place inside) ∙ unfold_features (1000 - (place + 1)) place left))
       ∙ makes.all;
   taken = sym (ap (λ n. behind n left) (left_is place inside) ∙ unfold_behind (1000 - (place + 1)) left) ∙ makes.taken;
@@ -158,7 +154,7 @@ makes_more words place made left inside makes = record {
 
 -- one more feature, made from one word
 pub makes_next : (words : Lcg) (place : ℕ) (made made_after : List Feature) (left left_after : Lcg) (word : ℕ) (feature : Feature)
-    → place < 1000 → Makes words place made left → word ≡ first left → left_after ≡ next left → feature ≡ feature_of place word
+    → place < 1000 → Makes words place made left → word ≡ next_word left → left_after ≡ next left → feature ≡ generated_feature place word
     → made_after ≡ made ++ feature ∷ [] → Makes words (place + 1) made_after left_after
 makes_next words place made made_after left left_after word feature inside makes from goes is pushed =
     rw (pushed, is, from, goes) (makes_more words place made left inside makes)

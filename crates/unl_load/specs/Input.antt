@@ -10,7 +10,7 @@ use Rattle.unl_documents.specs.declared.parameters.Pair.{Pair}
 use Rattle.unl_documents.specs.declared.state.State.{State}
 use Rattle.unl_documents.specs.declared.strategy.Strategy.{Strategy}
 use Rattle.unl_strategies.specs.Moment.{Moment}
-use Rattle.unl_load.specs.Words.{behind, first, generator, next}
+use Rattle.unl_load.specs.Words.{behind, next_word, generator, next}
 
 -- ---- the features
 
@@ -27,8 +27,8 @@ abbrev pub pair : List ℕ → List ℕ → Pair
 pair key value = record { key = key; value = value }
 
 -- the strategy of a feature, with this rollout percentage
-unfoldable pub strategy_of : List ℕ → ℕ → Strategy
-strategy_of name rollout = record {
+unfoldable pub generated_strategy : List ℕ → ℕ → Strategy
+generated_strategy name rollout = record {
   name = codes "flexibleRollout";
   parameters = pair (codes "groupId") name ∷ pair (codes "rollout") (decimal rollout) ∷ pair (codes "stickiness") (codes "userId") ∷ [];
   constraints = [];
@@ -37,8 +37,8 @@ strategy_of name rollout = record {
 }
 
 -- the feature with this index, by its word
-unfoldable pub feature_of : ℕ → ℕ → Feature
-feature_of place word = record {
+unfoldable pub generated_feature : ℕ → ℕ → Feature
+generated_feature place word = record {
   name = name_of place;
   project = codes "default";
   kind = codes "release";
@@ -46,7 +46,7 @@ feature_of place word = record {
   enabled = true;
   stale = false;
   impression = false;
-  strategies = strategy_of (name_of place) (word % 101) ∷ [];
+  strategies = generated_strategy (name_of place) (word % 101) ∷ [];
   variants = [];
   dependencies = [];
 }
@@ -54,7 +54,7 @@ feature_of place word = record {
 -- `n` features, the first of which has this index, by the words to come
 unfoldable pub features_from : ℕ → ℕ → Lcg → List Feature
 features_from place zero words = []
-features_from place (suc n) words = feature_of place (first words) ∷ features_from (place + 1) n (next words)
+features_from place (suc n) words = generated_feature place (next_word words) ∷ features_from (place + 1) n (next words)
 
 -- the state of 1,000 features
 abbrev pub state_by : Lcg → State
@@ -63,37 +63,37 @@ state_by words = record { features = features_from 0 1000 words; segments = [] }
 -- ---- the asks
 
 -- what an ask evaluates: the index of a feature, and the number of a user
-pub record Ask : Type 0 where
+pub record LoadAsk : Type 0 where
   pub feature : ℕ
   pub user : ℕ
 
 -- the ask made from the next two words
-abbrev pub ask_by : Lcg → Ask
-ask_by words = record { feature = first words % 1000; user = first (next words) }
+abbrev pub ask_by : Lcg → LoadAsk
+ask_by words = record { feature = next_word words % 1000; user = next_word (next words) }
 
 -- `n` asks, by the words to come
-unfoldable pub asks : ℕ → Lcg → List Ask
+unfoldable pub asks : ℕ → Lcg → List LoadAsk
 asks zero words = []
 asks (suc n) words = ask_by words ∷ asks n (next (next words))
 
 -- the context of the user with this number
-unfoldable pub context_of : ℕ → Fields
-context_of user = record nothing { user_id = Some (decimal user) }
+unfoldable pub user_context : ℕ → Fields
+user_context user = record nothing { user_id = Some (decimal user) }
 
 -- time 0 with random word 0, on a host without a name
 abbrev pub beginning : Moment
 beginning = record { now = 0; word = 0; host = [] }
 
 -- the feature of the ask is on for its user
-unfoldable pub is_on : State → Ask → Bool
-is_on state ask = option_map_or (λ e. e.on) (evaluation_of state (name_of ask.feature) (context_of ask.user) beginning) false
+unfoldable pub is_on_for : State → LoadAsk → Bool
+is_on_for state ask = option_map_or (λ e. e.on) (evaluation_of state (name_of ask.feature) (user_context ask.user) beginning) false
 
 -- ---- both, from a seed
 
 -- the features of a seed
-abbrev pub state_of : ℕ → State
-state_of seed = state_by (generator seed)
+abbrev pub generated_state : ℕ → State
+generated_state seed = state_by (generator seed)
 
 -- the asks of a seed; their words follow those of the features
-abbrev pub asks_of : ℕ → ℕ → List Ask
+abbrev pub asks_of : ℕ → ℕ → List LoadAsk
 asks_of seed count = asks count (behind 1000 (generator seed))

@@ -1,7 +1,7 @@
 -- The line of a load.
 use Rattle.std.specs.Prelude.{ℕ, ◌-◌, List, ◌++◌, codes, decimal}
 use Rattle.std.specs.List.{count_by}
-use Rattle.unl_load.specs.Input.{asks_of, is_on, state_of}
+use Rattle.unl_load.specs.Input.{asks_of, is_on_for, generated_state}
 
 -- the line for `count` asks, `on` of which found their feature on
 unfoldable pub line_of : ℕ → ℕ → List ℕ
@@ -11,7 +11,7 @@ line_of count on =
 
 -- how many of the `count` asks of a seed find their feature on
 abbrev pub on_of : ℕ → ℕ → ℕ
-on_of seed count = count_by (is_on (state_of seed)) (asks_of seed count)
+on_of seed count = count_by (is_on_for (generated_state seed)) (asks_of seed count)
 
 -- the line written for `count` asks of a seed
 abbrev pub load_line : ℕ → ℕ → List ℕ

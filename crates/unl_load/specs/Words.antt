@@ -8,8 +8,8 @@ unfoldable pub generator : ℕ → Lcg
 generator seed = started 64 multiplier_64 seed (increment_of 64 1)
 
 -- the next word
-unfoldable pub first : Lcg → ℕ
-first words = (pcg32 words).0
+unfoldable pub next_word : Lcg → ℕ
+next_word words = (pcg32 words).0
 
 -- the generator after the next word
 unfoldable pub next : Lcg → Lcg

@@ -4,7 +4,7 @@ ghost use Rattle.std.specs.List.{count_by};
 ghost use Rattle.std.specs.Option.{option_map_or};
 ghost use Rattle.serde_json.specs.Data.{member, no_members, object, string};
 ghost use Rattle.serde_json.specs.View.{view};
-ghost use Rattle.unl_load.specs.Input.{asks, context_of, is_on};
+ghost use Rattle.unl_load.specs.Input.{asks, user_context, is_on_for};
 
 use crate::documents::{FEATURES, decimal_text, name};
 use crate::words::take;
@@ -25,14 +25,14 @@ pub(crate) fn count_on(
     words: &mut Lcg64Xsh32,
     count: u64,
 ) -> Result<u64, Memory>
-    ensures on { IfOk result (λ on. on ≡ count_by (is_on snapshot.now.state) (asks count words.old)) }
+    ensures on { IfOk result (λ on. on ≡ count_by (is_on_for snapshot.now.state) (asks count words.old)) }
     ensures most { IfOk result (λ on. on ≤ count) }
 {
     let mut on = 0;
     for asked in 0..count {
         let feature = take(words) % FEATURES;
         let user = take(words);
-        on = counted(on, is_on(alloc, snapshot, feature, user)?);
+        on = counted(on, is_on_for(alloc, snapshot, feature, user)?);
     }
     Ok(on)
 }
@@ -46,9 +46,9 @@ fn counted(count: u64, counts: bool) -> u64
 }
 
 /// Returns whether the feature with this index is on for the user with this number.
-#[tactic(auto, unfolding(crate::specs::Input::is_on))]
-fn is_on(alloc: Global, snapshot: &Snapshot, feature: u32, user: u32) -> Result<bool, Memory>
-    ensures { IfOk result (λ on. on ≡ is_on snapshot.now.state (record { feature = feature; user = user })) }
+#[tactic(auto, unfolding(crate::specs::Input::is_on_for))]
+fn is_on_for(alloc: Global, snapshot: &Snapshot, feature: u32, user: u32) -> Result<bool, Memory>
+    ensures { IfOk result (λ on. on ≡ is_on_for snapshot.now.state (record { feature = feature; user = user })) }
 {
     let name = name(alloc, feature)?;
     let context = context(alloc, user)?;
@@ -73,7 +73,7 @@ fn found_on(found: &Option<Evaluation>) -> bool
 
 /// Returns the context of the user with this number.
 fn context(alloc: Global, user: u32) -> Result<Context, Memory>
-    ensures { IfOk result (λ context. context ≡ context_of user) }
+    ensures { IfOk result (λ context. context ≡ user_context user) }
 {
     let number = decimal_text(alloc, user)?;
     let value = user_value(alloc, number.as_str())?;

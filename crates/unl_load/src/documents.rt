@@ -3,7 +3,7 @@ ghost use Rattle.std.specs.Prelude.{◌≡◌, ◌∷◌, [], None, IfOk, OnOk, 
 ghost use Rattle.unl_delta.specs.Valid.{IsValidBatch};
 ghost use Rattle.unl_delta.specs.declared.event.Event.TheVariants.{Hydration};
 ghost use Rattle.unl_documents.specs.States.{IsValidState};
-ghost use Rattle.unl_load.specs.Input.{feature_of, features_from, name_of, pair, state_by, strategy_of};
+ghost use Rattle.unl_load.specs.Input.{generated_feature, features_from, name_of, pair, state_by, generated_strategy};
 ghost use Rattle.unl_load.specs.Words.{behind};
 
 use crate::words::take;
@@ -43,9 +43,9 @@ fn features(alloc: Global, words: &mut Lcg64Xsh32) -> Result<List<Shared<Feature
 }
 
 /// Returns the feature with this index. Its rollout percentage is `word % 101`.
-#[tactic(auto, unfolding(crate::specs::Input::feature_of))]
+#[tactic(auto, unfolding(crate::specs::Input::generated_feature))]
 fn feature(alloc: Global, place: u32, word: u32) -> Result<Feature, Memory>
-    ensures { IfOk result (λ feature. feature ≡ feature_of place word) }
+    ensures { IfOk result (λ feature. feature ≡ generated_feature place word) }
 {
     let name = name(alloc, place)?;
     let mut strategies = List::new(alloc);
@@ -65,9 +65,9 @@ fn feature(alloc: Global, place: u32, word: u32) -> Result<Feature, Memory>
 }
 
 /// Returns the strategy of a feature, with this rollout percentage.
-#[tactic(auto, unfolding(crate::specs::Input::strategy_of))]
+#[tactic(auto, unfolding(crate::specs::Input::generated_strategy))]
 fn strategy(alloc: Global, name: &str, rollout: u32) -> Result<Strategy, Memory>
-    ensures { IfOk result (λ strategy. strategy ≡ strategy_of name.now rollout) }
+    ensures { IfOk result (λ strategy. strategy ≡ generated_strategy name.now rollout) }
 {
     let rollout = decimal_text(alloc, rollout)?;
     let mut parameters = List::new(alloc);

@@ -1,6 +1,6 @@
 //! The random words that a load is generated from.
 ghost use Rattle.std.specs.Prelude.{◌≡◌};
-ghost use Rattle.unl_load.specs.Words.{first, generator, next};
+ghost use Rattle.unl_load.specs.Words.{next_word, generator, next};
 
 use rand_pcg::Lcg64Xsh32;
 use rand_pcg::rand_core::utils::NextWord;
@@ -14,9 +14,9 @@ pub(crate) fn generator(seed: u64) -> Lcg64Xsh32
 }
 
 /// Takes the next word and returns it.
-#[tactic(auto, unfolding(crate::specs::Words::first, crate::specs::Words::next))]
+#[tactic(auto, unfolding(crate::specs::Words::next_word, crate::specs::Words::next))]
 pub(crate) fn take(words: &mut Lcg64Xsh32) -> u32
-    ensures word { result ≡ first words.old }
+    ensures word { result ≡ next_word words.old }
     ensures next { words.new ≡ next words.old }
 {
     words.next_word()

@@ -1,40 +1,40 @@
 -- The lines of a replay that were answered, and what holds along them.
-use Rattle.std.proofs.Common.{◌≡◌, ℕ, ◌+◌, ◌≤◌, Bool, true, false, cond, List, [], ◌∷◌, ◌++◌, length, ltb, take, Option, Result, Ok, Err, IfOk, refl, sym, ap, ◌∙◌, subst, arith, append-nil, append_assoc}
+use Rattle.std.proofs.Common.{◌≡◌, ℕ, ◌+◌, ◌≤◌, Bool, true, false, cond, List, [], ◌∷◌, ◌++◌, length, take, Option, Result, Ok, Err, IfOk, refl, sym, ap, ◌∙◌, subst, arith, append-nil}
 use Rattle.std.specs.List.{AllByRecursion, count_by}
-use Rattle.std.specs.Prelude.{codes, map, ok_or}
+use Rattle.std.specs.Prelude.{codes, ok_or}
 use Rattle.std.specs.Str.{bytes_eq}
 use Rattle.serde_json.specs.Data.{Data}
-use Rattle.unl_base.specs.Streams.{HasEnded, Sends, SendsPrefix, Takes}
+use Rattle.unl_base.specs.Streams.{Sends, SendsPrefix}
 use Rattle.unl_core.specs.DeskStates.{with_name}
 use Rattle.unl_core.specs.Histories.{AreLines, Histories, RepresentedAt}
 use Rattle.unl_core.proofs.Showing.{shows_revision}
 use Rattle.unl_delta.specs.History.{IsNotBelow}
 use Rattle.unl_documents.specs.declared.fault.BadDocument.TheVariants.{NotJson, WrongKind}
 use Rattle.unl_documents.specs.declared.field.Field.TheVariants as field
-use Rattle.unl_documents.specs.Kinds.{any_text, name, required}
+use Rattle.unl_documents.specs.Kinds.{any_text, required}
 use Rattle.unl_documents.specs.Results.{object_in}
 use Rattle.unl_input.specs.Lines.{ended_lines, is_end, lines}
-use Rattle.unl_input.specs.Taken.{Ending, IsRefused, LineResult, Outcome, Taken, done, ending_text, followed, refused, refused_text, take_from, take_line, whole_text}
+use Rattle.unl_input.specs.Taken.{Ending, IsRefused, LineResult, LinesOutcome, Taken, done, ending_text, followed, refused, refused_text, take_from, take_line, whole_text}
 use Rattle.unl_input.specs.Whole.{AnswersFirst, HoldsOfRead, IsRefusing, TakesLines}
 use Rattle.unl_input.specs.declared.taking.LinesFault.{LinesFault}
 use Rattle.unl_input.specs.declared.taking.LinesFault.TheVariants.{Bad, ReadFault, WriteFault, Memory}
 use Rattle.unl_input.proofs.Lines.{take_of_first}
 use Rattle.unl_input.proofs.Silent.{within_limits_of}
-use Rattle.unl_replay.specs.declared.ask.Ask.{Ask}
+use Rattle.unl_replay.specs.declared.ask.LineAsk.{LineAsk}
 use Rattle.unl_replay.specs.declared.replay_state.ReplayState.{ReplayState}
 use Rattle.unl_replay.specs.declared.refusal.Refusal.TheVariants.{Document}
 use Rattle.unl_replay.specs.Delivery.{AllSent, AnswersFromHistories, AsksFromHistories, DeliversRevisions, IsSentFromHistory, asked, asked_by, brought, by_op}
 use Rattle.unl_replay.specs.Forms.{ask_of}
 use Rattle.unl_replay.specs.Refusals.{LineReading, and_then, documented, refusing, refusal_text}
-use Rattle.unl_replay.specs.Replay.{LineEffect, answer_object, answer_op, answer_read, ask_of_line, batch_of_line, feed_of_line, leaving_book, line_answer, metrics_of_line, opening, put_ask, replay_of, tokens_of_line}
-use Rattle.unl_replay.specs.Replayed.{AllAnswerRevisions, AllSentFrom, AnswersLines, AnswersRevision, AreReplayed, DeliverRevisions, NeverFall, ReplayedLine, Replays, SendsAnswers, bytes_of, text_of, version_in}
+use Rattle.unl_replay.specs.Replay.{LineEffect, answer_object, answer_op, answer_read, ask_of_line, batch_of_line, feed_of_line, leaving_book, line_answer, metrics_of_line, empty_replay, put_ask, replay_of, tokens_of_line}
+use Rattle.unl_replay.specs.Replayed.{AllAnswerRevisions, AllSentFrom, AnswersLines, AnswersRevision, AreReplayed, ReplayedLine, Replays, SendsAnswers, bytes_of, text_of, version_in}
 use Rattle.unl_replay.proofs.LineSteps.{Leads, line_leaves}
 use Rattle.unl_replay.proofs.Rising.{Agrees, Rises, leads_up}
 use Rattle.unl_replay.proofs.Slots.{DeskRepresents, all_represented, desk_named, verdict_represents}
 
 -- ---- one ask
 
-ask_answered : (k : ℕ) (b : ReplayState) (r : LineReading Ask) → IfOk r (λ ask. and_then r (λ ask. Ok (put_ask k b ask)) ≡ Ok (put_ask k b ask))
+ask_answered : (k : ℕ) (b : ReplayState) (r : LineReading LineAsk) → IfOk r (λ ask. and_then r (λ ask. Ok (put_ask k b ask)) ≡ Ok (put_ask k b ask))
 ask_answered k b (Ok ask) = refl
 ask_answered k b (Err e) = tt
 
@@ -45,7 +45,7 @@ op_answered k b line op =
     decided : (tokens batch feed ask : Bool)
         → IfOk (cond tokens (Err (Document (WrongKind field.Op))) (cond batch (Err (Document (WrongKind field.Op))) (cond feed (Err (Document (WrongKind field.Op)))
         (cond ask (documented (ask_of line)) (Err (Document (WrongKind field.Op)))))))
-        (λ (asks : Ask). cond tokens (leaving_book b.book (tokens_of_line k b.desk line)) (cond batch (leaving_book b.book (batch_of_line k b.desk line)) (cond feed (leaving_book b.book (feed_of_line k b.desk line))
+        (λ (asks : LineAsk). cond tokens (leaving_book b.book (tokens_of_line k b.desk line)) (cond batch (leaving_book b.book (batch_of_line k b.desk line)) (cond feed (leaving_book b.book (feed_of_line k b.desk line))
         (cond ask (ask_of_line k b line) (cond (bytes_eq op (codes "metrics")) (metrics_of_line k b line) (Err (Document (WrongKind field.Op))))))) ≡ Ok (put_ask k b asks))
     decided true batch feed ask = tt
     decided false true feed ask = tt
@@ -89,7 +89,7 @@ leads_on histories b are all = record {
 
 from_histories : (histories : Histories) (k : ℕ) (b : ReplayState) (line : List ℕ) → DeskRepresents histories b.desk → IfOk (asked line) (AnswersFromHistories histories k b line)
 from_histories histories k b line all =
-    if_ok (asked line) (λ (ask : Ask). answer_read k b line ≡ Ok (put_ask k b ask)) (AnswersFromHistories histories k b line)
+    if_ok (asked line) (λ (ask : LineAsk). answer_read k b line ≡ Ok (put_ask k b ask)) (AnswersFromHistories histories k b line)
     (λ ask is. record {
       answers = is;
       represented = all_represented histories b.desk.board.slots b.desk.places all;
@@ -106,7 +106,7 @@ asks_from histories k b (line ∷ more) are all sent = (
 )
 
 pub delivered : (bytes : List ℕ) → DeliversRevisions bytes
-delivered bytes histories are sent = asks_from histories 1 opening (lines bytes) are tt sent
+delivered bytes histories are sent = asks_from histories 1 empty_replay (lines bytes) are tt sent
 
 -- ---- answered lines
 
@@ -132,7 +132,7 @@ answers_revision : (histories : Histories) (one : ReplayedLine) → DeskRepresen
     → take_line line_answer one.number one.before one.line ≡ Ok (record { text = one.text; desk = one.after })
     → IfOk (asked one.line) (AnswersRevision histories one)
 answers_revision histories one all is =
-    if_ok (asked one.line) (λ (ask : Ask). answer_read one.number one.before one.line ≡ Ok (put_ask one.number one.before ask)) (AnswersRevision histories one)
+    if_ok (asked one.line) (λ (ask : LineAsk). answer_read one.number one.before one.line ≡ Ok (put_ask one.number one.before ask)) (AnswersRevision histories one)
     (λ ask reads. record {
       answers = same_effect (put_ask one.number one.before ask) (record { text = one.text; desk = one.after }) (answer_read one.number one.before one.line) reads
           (within_limits_of line_answer one.before one.line one.number (record { text = one.text; desk = one.after }) is);
@@ -218,7 +218,7 @@ are_replayed k b (line ∷ more) = by_result (take_line line_answer k b line) re
     by_result (Err cause) is others = tt
 
 -- the outcome of the lines after a line
-abbrev outcome_after : ℕ → List (List ℕ) → ReplayState → Outcome ReplayState
+abbrev outcome_after : ℕ → List (List ℕ) → ReplayState → LinesOutcome ReplayState
 outcome_after k more after = take_from line_answer (k + 1) after more
 
 -- they print the text
@@ -245,15 +245,15 @@ all_of k b (line ∷ more) ends = by_result (take_line line_answer k b line) (λ
 
 -- the answered lines among the first `n` of some bytes
 among_first : (bytes : List ℕ) (ls : List (List ℕ)) (end : Result Unit LinesFault) (old new : Option (List ℕ))
-    → ((k : ℕ) → k ≤ length ls → take k ls ≡ take k (lines bytes)) → SendsAnswers end bytes (replayed_from 1 opening ls) old new
+    → ((k : ℕ) → k ≤ length ls → take k ls ≡ take k (lines bytes)) → SendsAnswers end bytes (replayed_from 1 empty_replay ls) old new
     → AnswersLines bytes end old new
 among_first bytes ls end old new are_first_lines sent = record {
-  ones = replayed_from 1 opening ls;
-  first = are_first 1 opening ls ∙ are_first_lines (length (replayed_from 1 opening ls)) (no_more 1 opening ls);
-  replayed = are_replayed 1 opening ls;
+  ones = replayed_from 1 empty_replay ls;
+  first = are_first 1 empty_replay ls ∙ are_first_lines (length (replayed_from 1 empty_replay ls)) (no_more 1 empty_replay ls);
+  replayed = are_replayed 1 empty_replay ls;
   sent = sent;
-  revisions = λ histories are all_sent. revisions_from histories 1 opening (replayed_from 1 opening ls) are tt (are_replayed 1 opening ls) all_sent;
-  rising = λ environment. never_falls_from environment 1 opening (replayed_from 1 opening ls) tt (are_replayed 1 opening ls);
+  revisions = λ histories are all_sent. revisions_from histories 1 empty_replay (replayed_from 1 empty_replay ls) are tt (are_replayed 1 empty_replay ls) all_sent;
+  rising = λ environment. never_falls_from environment 1 empty_replay (replayed_from 1 empty_replay ls) tt (are_replayed 1 empty_replay ls);
 }
 
 -- what holds of the bytes read, whatever follows them, if nothing does
@@ -267,14 +267,14 @@ refused_end text done old new is sends = absurd is
 refused_end text (refused k cause) old new is sends = (k, cause, sends)
 
 -- a replay, by its answered lines
-pub replays_lines : (end : Result Unit LinesFault) (left left_after old new : Option (List ℕ)) → TakesLines line_answer opening end left left_after old new
+pub replays_lines : (end : Result Unit LinesFault) (left left_after old new : Option (List ℕ)) → TakesLines line_answer empty_replay end left left_after old new
     → Replays end left left_after old new
 replays_lines (Ok u) left left_after old new takes = record {
   takes = takes;
   read = takes.read;
   took = takes.took;
   answered = among_first takes.read (lines takes.read) (Ok u) old new (λ k few. refl)
-      (all_of 1 opening (lines takes.read) takes.answered.ending, subst (λ t. Sends old t new) (same_text 1 opening (lines takes.read)) takes.answered.sent);
+      (all_of 1 empty_replay (lines takes.read) takes.answered.ending, subst (λ t. Sends old t new) (same_text 1 empty_replay (lines takes.read)) takes.answered.sent);
 }
 replays_lines (Err Bad) left left_after old new takes =
     let refuses : IsRefusing (replay_of takes.read) old new = of_read (λ bytes. IsRefusing (replay_of bytes) old new) left left_after takes in
@@ -283,8 +283,8 @@ replays_lines (Err Bad) left left_after old new takes =
       read = takes.read;
       took = takes.took;
       answered = among_first takes.read (lines takes.read) (Err Bad) old new (λ k few. refl)
-          (refused_end (text_of (replayed_from 1 opening (lines takes.read))) (replay_of takes.read).ending old new refuses.ending
-          (subst (λ t. Sends old (t ++ ending_text (replay_of takes.read).ending) new) (same_text 1 opening (lines takes.read)) refuses.sent));
+          (refused_end (text_of (replayed_from 1 empty_replay (lines takes.read))) (replay_of takes.read).ending old new refuses.ending
+          (subst (λ t. Sends old (t ++ ending_text (replay_of takes.read).ending) new) (same_text 1 empty_replay (lines takes.read)) refuses.sent));
     }
 replays_lines (Err ReadFault) left left_after old new takes =
     let ls : List (List ℕ) = ended_lines takes.read in record {
@@ -292,7 +292,7 @@ replays_lines (Err ReadFault) left left_after old new takes =
       read = takes.read;
       took = takes.took;
       answered = among_first takes.read ls (Err ReadFault) old new (λ k few. take_of_first (lines takes.read) (count_by is_end takes.read) k few)
-          (all_of 1 opening ls takes.answered.ending, subst (λ t. Sends old t new) (same_text 1 opening ls) takes.answered.sent);
+          (all_of 1 empty_replay ls takes.answered.ending, subst (λ t. Sends old t new) (same_text 1 empty_replay ls) takes.answered.sent);
     }
 replays_lines (Err WriteFault) left left_after old new takes =
     let front : SendsPrefix old (whole_text (replay_of takes.read)) new = of_read (λ bytes. SendsPrefix old (whole_text (replay_of bytes)) new) left left_after takes in
@@ -302,15 +302,15 @@ replays_lines (Err WriteFault) left left_after old new takes =
       took = takes.took;
       answered = among_first takes.read (lines takes.read) (Err WriteFault) old new (λ k few. refl) (
         (replay_of takes.read).ending,
-        subst (λ t. SendsPrefix old (t ++ ending_text (replay_of takes.read).ending) new) (same_text 1 opening (lines takes.read)) front,
+        subst (λ t. SendsPrefix old (t ++ ending_text (replay_of takes.read).ending) new) (same_text 1 empty_replay (lines takes.read)) front,
       );
     }
 replays_lines (Err Memory) left left_after old new takes =
-    let firsts : AnswersFirst line_answer opening takes.read old new = of_read (λ bytes. AnswersFirst line_answer opening bytes old new) left left_after takes in
+    let firsts : AnswersFirst line_answer empty_replay takes.read old new = of_read (λ bytes. AnswersFirst line_answer empty_replay bytes old new) left left_after takes in
     let ls : List (List ℕ) = take firsts.count (lines takes.read) in record {
       takes = takes;
       read = takes.read;
       took = takes.took;
       answered = among_first takes.read ls (Err Memory) old new (λ k few. take_of_first (lines takes.read) firsts.count k few)
-          (subst (λ t. Sends old t new) (same_text 1 opening ls) firsts.answered.sent);
+          (subst (λ t. Sends old t new) (same_text 1 empty_replay ls) firsts.answered.sent);
     }

@@ -1,5 +1,5 @@
 pub mod Books
-pub mod Judging
+pub mod VerdictLines
 pub mod RefusalLemmas
 pub mod Slots
 pub mod LineSteps

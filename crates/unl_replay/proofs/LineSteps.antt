@@ -24,7 +24,7 @@ use Rattle.unl_replay.specs.declared.refusal.Refusal.TheVariants.{Document}
 use Rattle.unl_replay.specs.Delivery.{Delivery, batch_brought, brought, brought_by, by_op, feed_brought, for_environment}
 use Rattle.unl_replay.specs.Forms.{ask_of, batch_in, feed_in}
 use Rattle.unl_replay.specs.Refusals.{LineReading, and_then, documented, refusing, refusal_for_book, refusal_text}
-use Rattle.unl_replay.specs.Replay.{Answered, LineEffect, after_verdict, answer_object, answer_op, answer_read, arrive, ask_of_line, at_desk, batch_of_line, environment_in, feed_of_line, leaving_book, line_answer, metrics_of_line, number_in, put_ask, put_batch, put_metrics, put_tokens, same_line, tokens_line, tokens_of_line}
+use Rattle.unl_replay.specs.Replay.{DeskEffect, LineEffect, after_verdict, answer_object, answer_op, answer_read, put_batch_at, ask_of_line, at_desk, batch_of_line, environment_in, feed_of_line, leaving_book, line_answer, metrics_of_line, number_in, put_ask, put_batch, put_metrics, put_tokens, same_line, tokens_line, tokens_of_line}
 
 -- What a line may do to a desk `d`, if its batch is as `Brings` says: nothing, publish a book, or name an environment and take
 -- a batch at its slot. `Holds` holds after each of these.
@@ -48,7 +48,7 @@ and_more (Ok x) f P step = step x
 and_more (Err e) f P step = tt
 
 -- `Holds` holds of the desk after a line
-abbrev Leaves : (DeskState → Type 0) → LineReading Answered → Type 0
+abbrev Leaves : (DeskState → Type 0) → LineReading DeskEffect → Type 0
 Leaves Holds r = IfOk r (λ answered. Holds answered.desk)
 
 abbrev LeavesState : (DeskState → Type 0) → LineReading LineEffect → Type 0
@@ -58,7 +58,7 @@ LeavesState Holds r = IfOk r (λ effect. Holds effect.desk.desk)
 
 arrives : (Brings : Delivery → Type 0) (Holds : DeskState → Type 0) (environment : List ℕ) (k : ℕ) (batch : Batch) (d : DeskState) (slot : Option ℕ)
     → Leads d Brings Holds → Brings (record { environment = environment; batch = batch })
-    → place_in environment (with_name environment d).board.slots ≡ slot → Leaves Holds (arrive k batch (with_name environment d) slot)
+    → place_in environment (with_name environment d).board.slots ≡ slot → Leaves Holds (put_batch_at k batch (with_name environment d) slot)
 arrives Brings Holds environment k batch d None leads brings named = tt
 arrives Brings Holds environment k batch d (Some slot) leads brings named =
     leads.batch environment batch brings slot named (verdict_of (place_of (installed_by (with_name environment d)) slot) batch) refl
@@ -73,19 +73,19 @@ batch_leaves : (Brings : Delivery → Type 0) (Holds : DeskState → Type 0) (k 
     → IfOk (batch_brought d line) Brings → Leaves Holds (batch_of_line k d line)
 batch_leaves Brings Holds k d line leads brings =
     and_both (environment_in d line) (λ environment. and_then (batch_in (number_in environment d.board) line) (put_batch k environment d))
-    (λ environment. for_environment environment (batch_in (number_in environment d.board) line)) (λ (answered : Answered). Holds answered.desk) Brings
+    (λ environment. for_environment environment (batch_in (number_in environment d.board) line)) (λ (answered : DeskEffect). Holds answered.desk) Brings
     (λ environment here. puts_read Brings Holds environment k d (batch_in (number_in environment d.board) line) leads here) brings
 
 feed_leaves : (Brings : Delivery → Type 0) (Holds : DeskState → Type 0) (k : ℕ) (d : DeskState) (line : Data) → Leads d Brings Holds
     → IfOk (feed_brought d line) Brings → Leaves Holds (feed_of_line k d line)
 feed_leaves Brings Holds k d line leads brings =
     and_both (environment_in d line) (λ environment. and_then (feed_in line) (put_batch k environment d))
-    (λ environment. for_environment environment (feed_in line)) (λ (answered : Answered). Holds answered.desk) Brings
+    (λ environment. for_environment environment (feed_in line)) (λ (answered : DeskEffect). Holds answered.desk) Brings
     (λ environment here. puts_read Brings Holds environment k d (feed_in line) leads here) brings
 
 -- ---- the other lines
 
-abbrev either_put : List ℕ → DeskState → Answered
+abbrev either_put : List ℕ → DeskState → DeskEffect
 either_put text d = record { text = text; desk = d }
 
 tokens_put : (Brings : Delivery → Type 0) (Holds : DeskState → Type 0) (k : ℕ) (d : DeskState) (tokens : List Token) → Leads d Brings Holds
@@ -99,7 +99,7 @@ tokens_put Brings Holds k d tokens leads = decided (same_book tokens d.board.boo
 tokens_leave : (Brings : Delivery → Type 0) (Holds : DeskState → Type 0) (k : ℕ) (d : DeskState) (line : Data) → Leads d Brings Holds
     → Leaves Holds (tokens_of_line k d line)
 tokens_leave Brings Holds k d line leads =
-    and_more (refusing refusal_for_book (book_of line)) (λ tokens. Ok (put_tokens k tokens d)) (λ (answered : Answered). Holds answered.desk)
+    and_more (refusing refusal_for_book (book_of line)) (λ tokens. Ok (put_tokens k tokens d)) (λ (answered : DeskEffect). Holds answered.desk)
     (λ tokens. tokens_put Brings Holds k d tokens leads)
 
 ask_leaves : (Holds : DeskState → Type 0) (k : ℕ) (b : ReplayState) (line : Data) → Holds b.desk → LeavesState Holds (ask_of_line k b line)
@@ -111,9 +111,9 @@ metrics_leave Holds k b line same =
     and_more (documented (required name field.Environment line)) (λ environment. Ok (at_desk b.desk (put_metrics k environment b.book)))
     (λ (effect : LineEffect). Holds effect.desk.desk) (λ environment. same)
 
-beside_leaves : (Holds : DeskState → Type 0) (book : Book) (r : LineReading Answered) → Leaves Holds r → LeavesState Holds (leaving_book book r)
-beside_leaves Holds book (Ok answered) leaves = leaves
-beside_leaves Holds book (Err e) leaves = tt
+leaving_book_leaves : (Holds : DeskState → Type 0) (book : Book) (r : LineReading DeskEffect) → Leaves Holds r → LeavesState Holds (leaving_book book r)
+leaving_book_leaves Holds book (Ok answered) leaves = leaves
+leaving_book_leaves Holds book (Err e) leaves = tt
 
 -- ---- one line
 
@@ -126,9 +126,9 @@ op_leaves Brings Holds k b line op leads brings =
         → IfOk (cond tokens (Err (Document (WrongKind field.Op))) (cond batch (batch_brought b.desk line) (cond feed (feed_brought b.desk line) (Err (Document (WrongKind field.Op)))))) Brings
         → LeavesState Holds (cond tokens (leaving_book b.book (tokens_of_line k b.desk line)) (cond batch (leaving_book b.book (batch_of_line k b.desk line)) (cond feed (leaving_book b.book (feed_of_line k b.desk line))
         (cond ask (ask_of_line k b line) (cond metrics (metrics_of_line k b line) (Err (Document (WrongKind field.Op))))))))
-    decided true batch feed ask metrics here = beside_leaves Holds b.book (tokens_of_line k b.desk line) (tokens_leave Brings Holds k b.desk line leads)
-    decided false true feed ask metrics here = beside_leaves Holds b.book (batch_of_line k b.desk line) (batch_leaves Brings Holds k b.desk line leads here)
-    decided false false true ask metrics here = beside_leaves Holds b.book (feed_of_line k b.desk line) (feed_leaves Brings Holds k b.desk line leads here)
+    decided true batch feed ask metrics here = leaving_book_leaves Holds b.book (tokens_of_line k b.desk line) (tokens_leave Brings Holds k b.desk line leads)
+    decided false true feed ask metrics here = leaving_book_leaves Holds b.book (batch_of_line k b.desk line) (batch_leaves Brings Holds k b.desk line leads here)
+    decided false false true ask metrics here = leaving_book_leaves Holds b.book (feed_of_line k b.desk line) (feed_leaves Brings Holds k b.desk line leads here)
     decided false false false true metrics here = ask_leaves Holds k b line leads.same
     decided false false false false true here = metrics_leave Holds k b line leads.same
     decided false false false false false here = tt

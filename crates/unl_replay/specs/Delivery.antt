@@ -1,5 +1,5 @@
 -- What the lines of a replay deliver to environments, and the state at each line.
-use Rattle.std.specs.Prelude.{◌≡◌, ⊤, ℕ, ◌+◌, List, [], ◌∷◌, codes, Option, Some, None, IfOk, IfSome, Ok, Err, ok_or, if◌then◌else◌}
+use Rattle.std.specs.Prelude.{◌≡◌, ⊤, ℕ, ◌+◌, List, [], ◌∷◌, codes, IfOk, Ok, Err, ok_or, if◌then◌else◌}
 use Rattle.std.specs.Str.{bytes_eq}
 use Rattle.serde_json.specs.Data.{Data}
 use Rattle.unl_core.specs.Histories.{AllRepresented, AreLines, Histories, ShowsRevisions}
@@ -12,12 +12,12 @@ use Rattle.unl_documents.specs.Kinds.{any_text, required}
 use Rattle.unl_documents.specs.Results.{object_in}
 use Rattle.unl_input.specs.Lines.{lines}
 use Rattle.unl_input.specs.Taken.{take_line}
-use Rattle.unl_replay.specs.declared.ask.Ask.{Ask}
+use Rattle.unl_replay.specs.declared.ask.LineAsk.{LineAsk}
 use Rattle.unl_replay.specs.declared.replay_state.ReplayState.{ReplayState}
 use Rattle.unl_replay.specs.declared.refusal.Refusal.TheVariants.{Document}
 use Rattle.unl_replay.specs.Forms.{ask_of, batch_in, feed_in}
 use Rattle.unl_replay.specs.Refusals.{LineReading, and_then, documented}
-use Rattle.unl_replay.specs.Replay.{answer_read, environment_in, line_answer, number_in, opening, put_ask}
+use Rattle.unl_replay.specs.Replay.{answer_read, environment_in, line_answer, number_in, empty_replay, put_ask}
 
 -- ---- what a line brings
 
@@ -47,7 +47,7 @@ brought_by d line op =
     else (if bytes_eq op (codes "feed") then feed_brought d line else Err (Document (WrongKind field.Op))))
 
 -- the ask of a line with this op
-abbrev pub asked_by : Data → List ℕ → LineReading Ask
+abbrev pub asked_by : Data → List ℕ → LineReading LineAsk
 asked_by line op =
     if bytes_eq op (codes "tokens") then Err (Document (WrongKind field.Op))
     else (if bytes_eq op (codes "batch") then Err (Document (WrongKind field.Op))
@@ -67,7 +67,7 @@ unfoldable pub brought : ReplayState → List ℕ → LineReading Delivery
 brought b bytes = by_object (brought_by b.desk) bytes
 
 -- the ask of a line
-unfoldable pub asked : List ℕ → LineReading Ask
+unfoldable pub asked : List ℕ → LineReading LineAsk
 asked bytes = by_object asked_by bytes
 
 -- ---- all lines
@@ -85,7 +85,7 @@ AllSent histories k b (line ∷ more) =
 
 -- The ask is answered over a board whose slots each represent the line of histories of their environment, and what a token is
 -- shown of it is one revision.
-pub record AnswersFromHistories (histories : Histories) (k : ℕ) (b : ReplayState) (line : List ℕ) (ask : Ask) : Type 0 where
+pub record AnswersFromHistories (histories : Histories) (k : ℕ) (b : ReplayState) (line : List ℕ) (ask : LineAsk) : Type 0 where
   pub answers : answer_read k b line ≡ Ok (put_ask k b ask)
   pub represented : AllRepresented histories b.desk.board.slots
   pub shows : ShowsRevisions histories b.desk.board
@@ -101,5 +101,5 @@ AsksFromHistories histories k b (line ∷ more) =
 -- each environment, each ask among them is answered from these histories.
 abbrev pub DeliversRevisions : List ℕ → Type 0
 DeliversRevisions bytes =
-    (histories : Histories) → AreLines histories → AllSent histories 1 opening (lines bytes)
-    → AsksFromHistories histories 1 opening (lines bytes)
+    (histories : Histories) → AreLines histories → AllSent histories 1 empty_replay (lines bytes)
+    → AsksFromHistories histories 1 empty_replay (lines bytes)

@@ -14,7 +14,7 @@ use Rattle.unl_documents.specs.Reading.{Reading, ◌>>=◌}
 use Rattle.unl_documents.specs.States.{feed_of}
 use Rattle.unl_http_api.specs.declared.request.Method.{Method}
 use Rattle.unl_http_api.specs.declared.request.Method.TheVariants.{Get, Post}
-use Rattle.unl_replay.specs.declared.ask.Ask.{Ask}
+use Rattle.unl_replay.specs.declared.ask.LineAsk.{LineAsk}
 use Rattle.unl_replay.specs.declared.refusal.Refusal.TheVariants.{NoNumber}
 use Rattle.unl_replay.specs.Refusals.{LineReading, and_then, documented, refusing, refusal_for_batch}
 
@@ -58,7 +58,7 @@ abbrev pub bytes_or_none : Option (List ℕ) → List ℕ
 bytes_or_none o = unwrap_or o []
 
 -- a request with the parts given in the line, and a draw
-unfoldable pub ask_of : Data → Reading Ask
+unfoldable pub ask_of : Data → Reading LineAsk
 ask_of d = do
   target ← required any_text field.Target d
   token ← optional any_text field.Token d

@@ -1,6 +1,6 @@
 pub mod Refusals
 pub mod Forms
 pub mod Replay
-pub mod Steps
+pub mod Effect
 pub mod Delivery
 pub mod Replayed

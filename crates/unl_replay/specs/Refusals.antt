@@ -56,11 +56,6 @@ refusing fault (Err e) = Err (fault e)
 abbrev pub documented : {A : Type 0} → Reading A → LineReading A
 documented = refusing refusal_for
 
--- The function's result is the reading, unless it is out of memory.
-abbrev pub Gives : {T : Type 0} → LineReading T → LineReading T → Type 0
-Gives (Ok x) reading = reading ≡ Ok x
-Gives (Err e) reading = e ≢ Memory → reading ≡ Err e
-
 -- ---- the text of a refusal
 
 -- a word and a number

@@ -22,12 +22,12 @@ use Rattle.unl_documents.specs.declared.field.Field.TheVariants as field
 use Rattle.unl_documents.specs.Kinds.{any_text, name, required}
 use Rattle.unl_documents.specs.Results.{object_in}
 use Rattle.unl_http_api.specs.declared.reply.Reply.{Reply}
-use Rattle.unl_input.specs.Taken.{Taken, LineResult, Outcome, outcome_of}
+use Rattle.unl_input.specs.Taken.{Taken, LineResult, LinesOutcome, lines_outcome}
 use Rattle.unl_metrics.specs.Book.{Book, acknowledge}
 use Rattle.unl_metrics.specs.Bulk.{bulk}
 use Rattle.unl_tokens.specs.declared.token.Token.{Token}
 use Rattle.unl_tokens.specs.Books.{book_of}
-use Rattle.unl_replay.specs.declared.ask.Ask.{Ask}
+use Rattle.unl_replay.specs.declared.ask.LineAsk.{LineAsk}
 use Rattle.unl_replay.specs.declared.replay_state.ReplayState.{ReplayState}
 use Rattle.unl_replay.specs.declared.refusal.Refusal.TheVariants.{Document, TooManyEnvironments}
 use Rattle.unl_replay.specs.Forms.{batch_in, feed_in, ask_of}
@@ -72,11 +72,11 @@ ask_line k front reply = ask_start k front reply.status (tag_or_dash reply.tag) 
 -- ---- one line
 
 -- the text that a line prints, and the desk after it
-abbrev pub Answered : Type 0
-Answered = Taken DeskState
+abbrev pub DeskEffect : Type 0
+DeskEffect = Taken DeskState
 
 -- publishes a book, unless it is the current one
-abbrev pub put_tokens : ℕ → List Token → DeskState → Answered
+abbrev pub put_tokens : ℕ → List Token → DeskState → DeskEffect
 put_tokens k tokens d =
     if same_book tokens d.board.book then record { text = same_line k; desk = d }
     else record { text = tokens_line k (with_book tokens d).board.generation (with_book tokens d).front; desk = with_book tokens d }
@@ -90,8 +90,9 @@ abbrev pub revision_at : ℕ → DeskState → Option Revision
 revision_at slot d = option_map revision_of (place_of (installed_by d) slot).version
 
 -- the line for a verdict, with the desk after it
-abbrev pub judged_as : ℕ → List ℕ → ℕ → DeskState → Answered
-judged_as k word slot after = record { text = verdict_line k word (revision_text (revision_at slot after)) after.front; desk = after }
+abbrev pub with_verdict_line : ℕ → List ℕ → ℕ → DeskState → DeskEffect
+with_verdict_line k word slot after =
+    record { text = verdict_line k word (revision_text (revision_at slot after)) after.front; desk = after }
 
 -- the word for a verdict
 abbrev pub word_of : Verdict → List ℕ
@@ -110,20 +111,21 @@ after_verdict Old slot batch d = d
 after_verdict Held slot batch d = d
 
 -- the line and the desk for a batch, by its verdict
-abbrev pub judged : ℕ → ℕ → Batch → DeskState → Verdict → Answered
-judged k slot batch d v = judged_as k (word_of v) slot (after_verdict v slot batch d)
+abbrev pub effect_of_verdict : ℕ → ℕ → Batch → DeskState → Verdict → DeskEffect
+effect_of_verdict k slot batch d v = with_verdict_line k (word_of v) slot (after_verdict v slot batch d)
 
 -- applies a batch to a slot; an error if there is no slot
-abbrev pub arrive : ℕ → Batch → DeskState → Option ℕ → LineReading Answered
-arrive k batch d None = Err TooManyEnvironments
-arrive k batch d (Some slot) = Ok (judged k slot batch d (verdict_of (place_of (installed_by d) slot) batch))
+abbrev pub put_batch_at : ℕ → Batch → DeskState → Option ℕ → LineReading DeskEffect
+put_batch_at k batch d None = Err TooManyEnvironments
+put_batch_at k batch d (Some slot) = Ok (effect_of_verdict k slot batch d (verdict_of (place_of (installed_by d) slot) batch))
 
 -- applies a batch to an environment; a new one gets its slot, whatever the verdict
-abbrev pub put_batch : ℕ → List ℕ → DeskState → Batch → LineReading Answered
-put_batch k environment d batch = arrive k batch (with_name environment d) (place_in environment (with_name environment d).board.slots)
+abbrev pub put_batch : ℕ → List ℕ → DeskState → Batch → LineReading DeskEffect
+put_batch k environment d batch =
+    put_batch_at k batch (with_name environment d) (place_in environment (with_name environment d).board.slots)
 
 -- the effect of a line of tokens
-abbrev pub tokens_of_line : ℕ → DeskState → Data → LineReading Answered
+abbrev pub tokens_of_line : ℕ → DeskState → Data → LineReading DeskEffect
 tokens_of_line k d line = and_then (refusing refusal_for_book (book_of line)) (λ tokens. Ok (put_tokens k tokens d))
 
 -- the environment of a line; it has a slot already, or there is room for one
@@ -132,12 +134,12 @@ environment_in d line = and_then (documented (required name field.Environment li
     if has_room environment d.board.slots then Ok environment else Err TooManyEnvironments)
 
 -- the effect of a line with a batch
-abbrev pub batch_of_line : ℕ → DeskState → Data → LineReading Answered
+abbrev pub batch_of_line : ℕ → DeskState → Data → LineReading DeskEffect
 batch_of_line k d line = and_then (environment_in d line) (λ environment.
     and_then (batch_in (number_in environment d.board) line) (put_batch k environment d))
 
 -- the effect of a line with a feed
-abbrev pub feed_of_line : ℕ → DeskState → Data → LineReading Answered
+abbrev pub feed_of_line : ℕ → DeskState → Data → LineReading DeskEffect
 feed_of_line k d line = and_then (environment_in d line) (λ environment.
     and_then (feed_in line) (put_batch k environment d))
 
@@ -148,7 +150,7 @@ abbrev pub LineEffect : Type 0
 LineEffect = Taken ReplayState
 
 -- an effect on the desk that leaves the metrics book unchanged
-abbrev pub leaving_book : Book → LineReading Answered → LineReading LineEffect
+abbrev pub leaving_book : Book → LineReading DeskEffect → LineReading LineEffect
 leaving_book book (Ok answered) = Ok (record { text = answered.text; desk = record { desk = answered.desk; book = book } })
 leaving_book book (Err cause) = Err cause
 
@@ -157,12 +159,12 @@ abbrev pub at_desk : DeskState → Taken Book → LineEffect
 at_desk d taken = record { text = taken.text; desk = record { desk = d; book = taken.desk } }
 
 -- prints an answer and records its report
-abbrev pub settled : ℕ → ℕ → Book → Answer → Taken Book
-settled k front book answer = record { text = ask_line k front (final_reply book answer); desk = final_book book answer }
+abbrev pub print_and_record : ℕ → ℕ → Book → Answer → Taken Book
+print_and_record k front book answer = record { text = ask_line k front (final_reply book answer); desk = final_book book answer }
 
 -- answers a request
-abbrev pub put_ask : ℕ → ReplayState → Ask → LineEffect
-put_ask k b ask = at_desk b.desk (settled k b.desk.front b.book (answer_of b.desk.board ask.request ask.draw))
+abbrev pub put_ask : ℕ → ReplayState → LineAsk → LineEffect
+put_ask k b ask = at_desk b.desk (print_and_record k b.desk.front b.book (answer_of b.desk.board ask.request ask.draw))
 
 -- the effect of a line with an ask
 abbrev pub ask_of_line : ℕ → ReplayState → Data → LineReading LineEffect
@@ -211,12 +213,12 @@ line_answer k b bytes = refusing refusal_text (answer_read k b bytes)
 -- ---- all lines
 
 -- no environments, no tokens, no publications, and no metrics
-abbrev pub opening : ReplayState
-opening = record {
+abbrev pub empty_replay : ReplayState
+empty_replay = record {
   desk = record { board = record { boot = 0; host = []; generation = 0; book = []; slots = [] }; places = []; front = 0 };
   book = [];
 }
 
 -- the replay of a whole input: the text, and how it ends
-abbrev pub replay_of : List ℕ → Outcome ReplayState
-replay_of bytes = outcome_of line_answer opening bytes
+abbrev pub replay_of : List ℕ → LinesOutcome ReplayState
+replay_of bytes = lines_outcome line_answer empty_replay bytes

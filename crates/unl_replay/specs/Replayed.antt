@@ -12,8 +12,8 @@ use Rattle.unl_input.specs.Whole.{TakesLines}
 use Rattle.unl_input.specs.declared.taking.LinesFault.{LinesFault}
 use Rattle.unl_input.specs.declared.taking.LinesFault.TheVariants.{Bad, ReadFault, WriteFault, Memory}
 use Rattle.unl_replay.specs.Delivery.{IsSentFromHistory, asked, brought}
-use Rattle.unl_replay.specs.Replay.{line_answer, opening, put_ask}
-use Rattle.unl_replay.specs.declared.ask.Ask.{Ask}
+use Rattle.unl_replay.specs.Replay.{line_answer, empty_replay, put_ask}
+use Rattle.unl_replay.specs.declared.ask.LineAsk.{LineAsk}
 use Rattle.unl_replay.specs.declared.replay_state.ReplayState.{ReplayState}
 
 -- ---- answered lines
@@ -52,7 +52,7 @@ AllSentFrom histories ones = AllByRecursion (λ one. IfOk (brought one.before on
 
 -- What was printed is the answer to the ask, over a board whose slots each represent the history of their environment, and what
 -- a token is shown of it is one revision.
-pub record AnswersRevision (histories : Histories) (one : ReplayedLine) (ask : Ask) : Type 0 where
+pub record AnswersRevision (histories : Histories) (one : ReplayedLine) (ask : LineAsk) : Type 0 where
   pub answers : put_ask one.number one.before ask ≡ record { text = one.text; desk = one.after }
   pub represented : AllRepresented histories one.before.desk.board.slots
   pub shows : ShowsRevisions histories one.before.desk.board
@@ -63,8 +63,8 @@ AllAnswerRevisions histories ones = AllByRecursion (λ one. IfOk (asked one.line
 
 -- Batches may be lost, duplicated or out of order: if everything that the lines bring was sent from one line of histories for
 -- each environment, each ask among them is answered from these histories.
-abbrev pub DeliverRevisions : List ReplayedLine → Type 0
-DeliverRevisions ones = (histories : Histories) → AreLines histories → AllSentFrom histories ones → AllAnswerRevisions histories ones
+abbrev pub LinesDeliverRevisions : List ReplayedLine → Type 0
+LinesDeliverRevisions ones = (histories : Histories) → AreLines histories → AllSentFrom histories ones → AllAnswerRevisions histories ones
 
 -- ---- revisions never fall
 
@@ -74,8 +74,8 @@ version_in environment state = snapshot_in environment state.desk.board.slots
 
 -- Whatever batches come, no line replaces the version of an environment by an older one: its epoch never falls, nor does its
 -- number within an epoch.
-abbrev pub NeverFall : List ReplayedLine → Type 0
-NeverFall ones = (environment : List ℕ)
+abbrev pub VersionsNeverFall : List ReplayedLine → Type 0
+VersionsNeverFall ones = (environment : List ℕ)
     → AllByRecursion (λ one. IsNotBelow (version_in environment one.before) (version_in environment one.after)) ones
 
 -- ---- the whole replay
@@ -95,15 +95,15 @@ SendsAnswers (Err Memory) bytes ones old new = Sends old (text_of ones) new
 pub record AnswersLines (bytes : List ℕ) (end : Result (Unit {0}) LinesFault) (old new : Option (List ℕ)) : Type 0 where
   pub ones : List ReplayedLine
   pub first : bytes_of ones ≡ take (length ones) (lines bytes)
-  pub replayed : AreReplayed 1 opening ones
+  pub replayed : AreReplayed 1 empty_replay ones
   pub sent : SendsAnswers end bytes ones old new
-  pub revisions : DeliverRevisions ones
-  pub rising : NeverFall ones
+  pub revisions : LinesDeliverRevisions ones
+  pub rising : VersionsNeverFall ones
 
 -- How a replay ends, given the bytes to come and the bytes sent, before and after: by the effect of each line, and by the list of
 -- the lines that were answered.
 pub record Replays (end : Result (Unit {0}) LinesFault) (left left_after old new : Option (List ℕ)) : Type 0 where
-  pub takes : TakesLines line_answer opening end left left_after old new
+  pub takes : TakesLines line_answer empty_replay end left left_after old new
   pub read : List ℕ
   pub took : Takes left read left_after
   pub answered : AnswersLines read end old new

@@ -1,5 +1,5 @@
 //! Reading an ask: a request, and the draw to answer it with.
-ghost use Rattle.std.specs.Prelude.{◌≡◌, [], unwrap_or};
+ghost use Rattle.std.specs.Prelude.{◌≡◌};
 ghost use Rattle.serde_json.specs.View.{view};
 ghost use Rattle.unl_documents.specs.Reading.{Gives};
 ghost use Rattle.unl_replay.specs.Forms.{ask_of, bytes_or_none, method_by};
@@ -17,7 +17,7 @@ const LAST_MOMENT: u64 = 100_000_000_000_000;
 
 /// A request with the parts given in the line, and the draw to answer it with.
 #[derive(Drop)]
-pub struct Ask {
+pub struct LineAsk {
     /// The request.
     pub request: Request,
     /// The moment and the random word to answer it with.
@@ -85,7 +85,7 @@ fn bytes_or_none(alloc: Global, text: Option<Text>) -> Bytes
 
 /// Reads the object of an ask.
 #[tactic(auto, unfolding(crate::specs::Forms::ask_of))]
-pub fn ask_of(alloc: Global, object: &Value) -> Result<Ask, BadDocument>
+pub fn ask_of(alloc: Global, object: &Value) -> Result<LineAsk, BadDocument>
     ensures { Gives result (ask_of (view object.now)) }
 {
     let target = required::<AnyText>(alloc, Field::Target, object)?;
@@ -96,7 +96,7 @@ pub fn ask_of(alloc: Global, object: &Value) -> Result<Ask, BadDocument>
     let method = defaulted::<MethodWord>(alloc, Method::Get, Field::Method, object)?;
     let now = defaulted::<Whole<LAST_MOMENT>>(alloc, 0, Field::Now, object)?;
     let word = defaulted::<AnyWhole>(alloc, 0, Field::Word, object)?;
-    Ok(Ask {
+    Ok(LineAsk {
         request: Request {
             method,
             target: bytes_of(target),

@@ -3,10 +3,10 @@ ghost use Rattle.std.specs.Prelude.{◌≡◌, ◌+◌, ◌-◌, ◌^◌, ◌<�
 ghost use Rattle.serde_json.specs.View.{view};
 ghost use Rattle.unl_metrics.specs.Reports.{IsReport};
 ghost use Rattle.unl_replay.specs.Replay.{answer_object, answer_op, answer_read, ask_line, ask_of_line, ask_start, metrics_line};
-ghost use Rattle.unl_replay.specs.Replay.{metrics_of_line, put_ask, put_metrics, settled, tag_or_dash};
-ghost use Rattle.unl_replay.specs.Steps.{Steps};
+ghost use Rattle.unl_replay.specs.Replay.{metrics_of_line, put_ask, put_metrics, print_and_record, tag_or_dash};
+ghost use Rattle.unl_replay.specs.Effect.{HasEffect};
 
-use crate::ask::{Ask, ask_of};
+use crate::ask::{LineAsk, ask_of};
 use crate::refusal::Refusal;
 use crate::step::{batch_of_line, feed_of_line, tokens_of_line};
 use serde_json::Value;
@@ -67,7 +67,7 @@ fn ask_of_line(
     number: u64,
     line: &Value,
 ) -> Result<Vec<u8>, Refusal>
-    ensures given { Steps result replay_state.new (ask_of_line number replay_state.old (view line.now)) }
+    ensures effect { HasEffect result replay_state.new (ask_of_line number replay_state.old (view line.now)) }
     ensures same { replay_state.new.desk ≡ replay_state.old.desk }
 {
     let ask = ask_of(alloc, line)?;
@@ -78,17 +78,17 @@ fn put_ask(
     alloc: Global,
     replay_state: &mut ReplayState,
     number: u64,
-    ask: &Ask,
+    ask: &LineAsk,
 ) -> Result<Vec<u8>, Refusal>
-    ensures given { Steps result replay_state.new (Ok (put_ask number replay_state.old ask.now)) }
+    ensures effect { HasEffect result replay_state.new (Ok (put_ask number replay_state.old ask.now)) }
     ensures same { replay_state.new.desk ≡ replay_state.old.desk }
 {
     let (front, answer) = replay_state.desk.answer(alloc, &ask.request, &ask.draw)?;
-    settled(alloc, &mut replay_state.book, number, front, answer)
+    print_and_record(alloc, &mut replay_state.book, number, front, answer)
 }
 
 /// Prints an answer and records its report in the metrics book.
-fn settled(
+fn print_and_record(
     alloc: Global,
     book: &mut MetricsBook,
     number: u64,
@@ -96,7 +96,7 @@ fn settled(
     answer: Answer,
 ) -> Result<Vec<u8>, Refusal>
     requires { IfSome answer.report IsReport }
-    ensures { Steps result book.new (Ok (settled number front book.old answer)) }
+    ensures { HasEffect result book.new (Ok (print_and_record number front book.old answer)) }
 {
     let reply = record_report(alloc, book, answer)?;
     Ok(ask_line(alloc, number, front, &reply)?)
@@ -109,7 +109,7 @@ fn metrics_of_line(
     number: u64,
     line: &Value,
 ) -> Result<Vec<u8>, Refusal>
-    ensures given { Steps result replay_state.new (metrics_of_line number replay_state.old (view line.now)) }
+    ensures effect { HasEffect result replay_state.new (metrics_of_line number replay_state.old (view line.now)) }
     ensures same { replay_state.new.desk ≡ replay_state.old.desk }
 {
     let environment = required::<Name>(alloc, Field::Environment, line)?;
@@ -123,7 +123,7 @@ fn put_metrics(
     number: u64,
     environment: &str,
 ) -> Result<Vec<u8>, Refusal>
-    ensures { Steps result book.new (Ok (put_metrics number environment.now book.old)) }
+    ensures { HasEffect result book.new (Ok (put_metrics number environment.now book.old)) }
 {
     match book.bulk(alloc, environment)? {
         None => Ok(metrics_line(alloc, number, "-")?.into_bytes()),
@@ -151,7 +151,7 @@ fn answer_op(
     op: &str,
 ) -> Result<Vec<u8>, Refusal>
     requires { replay_state.old.desk.front < 2 ^ 64 - 1 }
-    ensures given { Steps result replay_state.new (answer_op number replay_state.old (view line) op.now) }
+    ensures effect { HasEffect result replay_state.new (answer_op number replay_state.old (view line) op.now) }
     ensures front { replay_state.new.desk.front ≤ replay_state.old.desk.front + 1 }
 {
     match op {
@@ -172,7 +172,7 @@ fn answer_object(
     line: Value,
 ) -> Result<Vec<u8>, Refusal>
     requires { replay_state.old.desk.front < 2 ^ 64 - 1 }
-    ensures given { Steps result replay_state.new (answer_object number replay_state.old (view line)) }
+    ensures effect { HasEffect result replay_state.new (answer_object number replay_state.old (view line)) }
     ensures front { replay_state.new.desk.front ≤ replay_state.old.desk.front + 1 }
 {
     let op = required::<AnyText>(alloc, Field::Op, &line)?;
@@ -188,7 +188,7 @@ pub fn answer_line(
     bytes: &[u8],
 ) -> Result<Vec<u8>, Refusal>
     requires { replay_state.old.desk.front < 2 ^ 64 - 1 }
-    ensures given { Steps result replay_state.new (answer_read number replay_state.old bytes.now) }
+    ensures effect { HasEffect result replay_state.new (answer_read number replay_state.old bytes.now) }
     ensures front { replay_state.new.desk.front ≤ replay_state.old.desk.front + 1 }
 {
     match read_object(alloc, bytes)? {

@@ -3,7 +3,7 @@ ghost use Rattle.std.specs.Prelude.{◌≡◌, ◌<◌, ◌≤◌, IfOk, IsErrOf
 ghost use Rattle.unl_base.specs.Faults.{Rose};
 ghost use Rattle.unl_input.specs.Whole.{TakesLines};
 ghost use Rattle.unl_replay.specs.Refusals.{Causes};
-ghost use Rattle.unl_replay.specs.Replay.{line_answer, opening};
+ghost use Rattle.unl_replay.specs.Replay.{line_answer, empty_replay};
 ghost use Rattle.unl_replay.specs.Replayed.{Replays};
 
 use crate::refusal::Refusal;
@@ -84,7 +84,7 @@ fn answer_lines<S: Source, K: Sink>(
     source: &mut S,
     sink: &mut K,
 ) -> Result<(), LinesFault>
-    ensures lines { TakesLines line_answer opening result (S.left source.old) (S.left source.new) (K.sent sink.old) (K.sent sink.new) }
+    ensures lines { TakesLines line_answer empty_replay result (S.left source.old) (S.left source.new) (K.sent sink.old) (K.sent sink.new) }
     ensures read { IsErrOf result LinesFault.ReadFault → Rose (S.faults source.old) (S.faults source.new) }
     ensures write { IsErrOf result LinesFault.WriteFault → Rose (K.faults sink.old) (K.faults sink.new) }
     ensures source_later { S.faults source.old ≤ S.faults source.new }
@@ -96,7 +96,7 @@ fn answer_lines<S: Source, K: Sink>(
 
 /// Creates the state before the first line.
 fn new_state(alloc: Global) -> Result<ReplayState, Memory>
-    ensures is { IfOk result (λ state. state ≡ opening) }
+    ensures is { IfOk result (λ state. state ≡ empty_replay) }
     ensures front { IfOk result (λ state. state.desk.front ≡ 0) }
 {
     let board = Board::new(alloc, 0, "", &List::new(alloc))?;

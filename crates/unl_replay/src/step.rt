@@ -6,11 +6,12 @@ ghost use Rattle.unl_core.specs.Tag.{with_epoch};
 ghost use Rattle.unl_delta.specs.Batch.{verdict_of};
 ghost use Rattle.unl_delta.specs.Installing.{place_of};
 ghost use Rattle.unl_delta.specs.Valid.{IsValidBatch};
-ghost use Rattle.unl_replay.specs.Replay.{batch_of_line, environment_in, feed_of_line, judged, judged_as, number_in, put_batch};
+ghost use Rattle.unl_documents.specs.Results.{Gives};
+ghost use Rattle.unl_replay.specs.Replay.{batch_of_line, effect_of_verdict, environment_in, feed_of_line, number_in, put_batch};
 ghost use Rattle.unl_replay.specs.Replay.{revision_at, revision_text, put_tokens, same_line, tokens_line, tokens_of_line, verdict_line};
-ghost use Rattle.unl_replay.specs.Replay.{word_of};
-ghost use Rattle.unl_replay.specs.Refusals.{Gives};
-ghost use Rattle.unl_replay.specs.Steps.{Steps};
+ghost use Rattle.unl_replay.specs.Replay.{with_verdict_line, word_of};
+ghost use Rattle.unl_replay.specs.declared.refusal.Refusal.TheVariants.{Memory};
+ghost use Rattle.unl_replay.specs.Effect.{HasEffect};
 
 use crate::batch::{batch_in, feed_in};
 use crate::refusal::Refusal;
@@ -90,7 +91,7 @@ fn put_tokens(
     tokens: Book,
 ) -> Result<Vec<u8>, Refusal>
     requires { desk.old.front < 2 ^ 64 - 1 }
-    ensures given { Steps result desk.new (Ok (put_tokens number tokens desk.old)) }
+    ensures effect { HasEffect result desk.new (Ok (put_tokens number tokens desk.old)) }
     ensures front { desk.new.front ≤ desk.old.front + 1 }
 {
     match desk.install_book(alloc, tokens)? {
@@ -102,7 +103,7 @@ fn put_tokens(
 }
 
 /// Returns the line for a verdict.
-fn judged_as(
+fn with_verdict_line(
     alloc: Global,
     desk: &OneDesk,
     number: u64,
@@ -110,15 +111,15 @@ fn judged_as(
     slot: usize,
 ) -> Result<Vec<u8>, Refusal>
     requires { slot < length desk.now.places }
-    ensures { Steps result desk.now (Ok (judged_as number word.now slot desk.now)) }
+    ensures { HasEffect result desk.now (Ok (with_verdict_line number word.now slot desk.now)) }
 {
     let version = revision_text(alloc, desk, slot)?;
     Ok(verdict_line(alloc, number, word, version.as_str(), desk.front())?.into_bytes())
 }
 
 /// Judges a batch at a slot, and applies it if the verdict says so.
-#[tactic(auto, using(crate::proofs::Judging::judged_so))]
-fn judge(
+#[tactic(auto, using(crate::proofs::VerdictLines::line_of_verdict))]
+fn apply_to_slot(
     alloc: Global,
     desk: &mut OneDesk,
     number: u64,
@@ -128,12 +129,12 @@ fn judge(
     requires room { desk.old.front < 2 ^ 64 - 1 }
     requires slot { slot < length desk.old.places }
     requires batch { IsValidBatch batch.now }
-    ensures given { Steps result desk.new
-        (Ok (judged number slot batch.now desk.old (verdict_of (place_of (installed_by desk.old) slot) batch.now))) }
+    ensures effect { HasEffect result desk.new
+        (Ok (effect_of_verdict number slot batch.now desk.old (verdict_of (place_of (installed_by desk.old) slot) batch.now))) }
     ensures front { desk.new.front ≤ desk.old.front + 1 }
 {
     let verdict = take_batch(alloc, desk, slot, batch)?;
-    judged_as(alloc, desk, number, word_of(verdict), slot)
+    with_verdict_line(alloc, desk, number, word_of(verdict), slot)
 }
 
 fn word_of(verdict: Verdict) -> &'static str
@@ -158,12 +159,12 @@ fn put_batch(
 ) -> Result<Vec<u8>, Refusal>
     requires room { desk.old.front < 2 ^ 64 - 1 }
     requires batch { IsValidBatch batch.now }
-    ensures given { Steps result desk.new (put_batch number environment.now desk.old batch.now) }
+    ensures effect { HasEffect result desk.new (put_batch number environment.now desk.old batch.now) }
     ensures front { desk.new.front ≤ desk.old.front + 1 }
 {
     match desk.name_slot(alloc, environment)? {
         None => Err(Refusal::TooManyEnvironments),
-        Some(slot) => judge(alloc, desk, number, slot, batch),
+        Some(slot) => apply_to_slot(alloc, desk, number, slot, batch),
     }
 }
 
@@ -175,7 +176,7 @@ pub(crate) fn tokens_of_line(
     line: &Value,
 ) -> Result<Vec<u8>, Refusal>
     requires { desk.old.front < 2 ^ 64 - 1 }
-    ensures given { Steps result desk.new (tokens_of_line number desk.old (view line.now)) }
+    ensures effect { HasEffect result desk.new (tokens_of_line number desk.old (view line.now)) }
     ensures front { desk.new.front ≤ desk.old.front + 1 }
 {
     let tokens = Book::read_value(alloc, line)?;
@@ -185,7 +186,7 @@ pub(crate) fn tokens_of_line(
 /// Reads the environment of a line. It has a slot already, or there is room for one.
 #[tactic(auto, using(crate::proofs::RefusalLemmas::refused))]
 fn environment_in(alloc: Global, desk: &OneDesk, line: &Value) -> Result<Text, Refusal>
-    ensures { Gives result (environment_in desk.now (view line.now)) }
+    ensures { Gives Memory result (environment_in desk.now (view line.now)) }
 {
     let environment = required::<Name>(alloc, Field::Environment, line)?;
     if desk.has_room(environment.as_str()) {
@@ -203,7 +204,7 @@ pub(crate) fn batch_of_line(
     line: Value,
 ) -> Result<Vec<u8>, Refusal>
     requires { desk.old.front < 2 ^ 64 - 1 }
-    ensures given { Steps result desk.new (batch_of_line number desk.old (view line)) }
+    ensures effect { HasEffect result desk.new (batch_of_line number desk.old (view line)) }
     ensures front { desk.new.front ≤ desk.old.front + 1 }
 {
     let environment = environment_in(alloc, desk, &line)?;
@@ -221,7 +222,7 @@ pub(crate) fn feed_of_line(
     line: Value,
 ) -> Result<Vec<u8>, Refusal>
     requires { desk.old.front < 2 ^ 64 - 1 }
-    ensures given { Steps result desk.new (feed_of_line number desk.old (view line)) }
+    ensures effect { HasEffect result desk.new (feed_of_line number desk.old (view line)) }
     ensures front { desk.new.front ≤ desk.old.front + 1 }
 {
     let environment = environment_in(alloc, desk, &line)?;

@@ -4,7 +4,7 @@ use Rattle.unl_base.specs.declared.draws.Draw.{Draw}
 use Rattle.unl_documents.specs.Reading.{Reading, ◌>>=◌}
 use Rattle.unl_input.specs.declared.refusal.InputRefusal.{InputRefusal}
 use Rattle.unl_input.specs.declared.refusal.InputRefusal.TheVariants as refusal
-use Rattle.unl_input.specs.Answer.{BreaksOff, IsRefused, Outcome, Says, outcome_of}
+use Rattle.unl_input.specs.Answer.{SaysAnswerPrefix, RefusesSilently, InputOutcome, Says, input_outcome}
 use Rattle.unl_spec_runner.specs.declared.fault.CheckFault.{CheckFault}
 use Rattle.unl_spec_runner.specs.declared.fault.CheckFault.TheVariants.{BadFile, TooLarge, ReadFault, WriteFault, Memory}
 use Rattle.unl_spec_runner.specs.declared.fault.Summary.{Summary}
@@ -12,14 +12,14 @@ use Rattle.unl_spec_runner.specs.Report.{Report, report_of_files}
 use Rattle.unl_spec_runner.specs.TestFile.{files_in}
 
 -- The report of the files that an input spells, or its first fault.
-unfoldable pub accepted : Draw → List ℕ → Reading Report
-accepted draw bytes = do
+unfoldable pub report_reading : Draw → List ℕ → Reading Report
+report_reading draw bytes = do
   files ← files_in bytes
   Ok (report_of_files draw files)
 
 -- The report of an input, or its refusal. The size of the input is checked first.
-abbrev pub report_of : Draw → List ℕ → Outcome Report
-report_of draw bytes = outcome_of (accepted draw) bytes
+abbrev pub report_of : Draw → List ℕ → InputOutcome Report
+report_of draw bytes = input_outcome (report_reading draw) bytes
 
 -- The text of a report.
 abbrev pub text_of : Report → List ℕ
@@ -33,7 +33,7 @@ fault_of refusal.TooLarge = TooLarge
 -- The whole input was read, its whole report was sent, and the summary has the report's counts.
 pub record ReportsAll (draw : Draw) (summary : Summary) (left left_after old new : Option (List ℕ)) : Type 0 where
   pub report : Report
-  pub says : Says (accepted draw) text_of (Ok report) left left_after old new
+  pub says : Says (report_reading draw) text_of (Ok report) left left_after old new
   pub passed : summary.passed ≡ report.passed
   pub failed : summary.failed ≡ report.failed
 
@@ -41,8 +41,9 @@ pub record ReportsAll (draw : Draw) (summary : Summary) (left left_after old new
 -- not the source's bytes are observable. If the input is refused, nothing was sent.
 abbrev pub Checks : Result Summary CheckFault → Draw → Option (List ℕ) → Option (List ℕ) → Option (List ℕ) → Option (List ℕ) → Type 0
 Checks (Ok summary) draw left left_after old new = ReportsAll draw summary left left_after old new
-Checks (Err (BadFile fault)) draw left left_after old new = IsRefused (accepted draw) (refusal.BadInput fault) left left_after old new
-Checks (Err TooLarge) draw left left_after old new = IsRefused (accepted draw) refusal.TooLarge left left_after old new
+Checks (Err (BadFile fault)) draw left left_after old new =
+    RefusesSilently (report_reading draw) (refusal.BadInput fault) left left_after old new
+Checks (Err TooLarge) draw left left_after old new = RefusesSilently (report_reading draw) refusal.TooLarge left left_after old new
 Checks (Err ReadFault) draw left left_after old new = new ≡ old
-Checks (Err WriteFault) draw left left_after old new = BreaksOff (accepted draw) text_of left left_after old new
+Checks (Err WriteFault) draw left left_after old new = SaysAnswerPrefix (report_reading draw) text_of left left_after old new
 Checks (Err Memory) draw left left_after old new = new ≡ old

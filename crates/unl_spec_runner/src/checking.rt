@@ -1,7 +1,7 @@
 //! Checks an input of test files.
 ghost use Rattle.std.specs.Prelude.{◌≡◌, ◌≢◌, ◌≤◌, Err, IsErrOf};
 ghost use Rattle.unl_base.specs.Faults.{Rose};
-ghost use Rattle.unl_spec_runner.specs.Check.{Checks, accepted, fault_of, text_of};
+ghost use Rattle.unl_spec_runner.specs.Check.{Checks, report_reading, fault_of, text_of};
 
 use crate::document::files_in;
 use crate::fault::{CheckFault, Summary};
@@ -70,11 +70,11 @@ struct Checking {
 impl InputAnswer for Checking {
     type Answer = Report;
 
-    ghost reads = { λ checking. accepted checking.draw };
+    ghost reads = { λ checking. report_reading checking.draw };
 
     ghost says = { text_of };
 
-    #[tactic(auto, unfolding(crate::specs::Check::accepted))]
+    #[tactic(auto, unfolding(crate::specs::Check::report_reading))]
     fn answer(&self, alloc: Global, bytes: &[u8]) -> Result<Report, BadDocument> {
         let files = files_in(alloc, bytes)?;
         Ok(report_files(alloc, files.as_slice(), &self.draw)?)

@@ -1,5 +1,5 @@
 //! Test files in the format of the Unleash client specification.
-ghost use Rattle.std.specs.Prelude.{◌≡◌, Result, IfOk, All};
+ghost use Rattle.std.specs.Prelude.{Result, IfOk, All};
 ghost use Rattle.serde_json.specs.Data.{Data};
 ghost use Rattle.serde_json.specs.View.{view};
 ghost use Rattle.unl_documents.specs.declared.fault.BadDocument.{BadDocument};

@@ -1,5 +1,5 @@
 //! Runs tests one by one and reports their results.
-ghost use Rattle.std.specs.Prelude.{◌≡◌, ◌<◌, length, All, IfOk, OnOk, string_bytes};
+ghost use Rattle.std.specs.Prelude.{◌≡◌, ◌<◌, All, IfOk, OnOk, string_bytes};
 ghost use Rattle.unl_dependencies.specs.Evaluation.{off};
 ghost use Rattle.unl_documents.specs.States.{IsValidState};
 ghost use Rattle.unl_spec_runner.specs.Report.{evaluated, fail_line, given, line_of, pass_line, quoted, report_of_files};

@@ -1,5 +1,5 @@
 use Rattle.unl_load.proofs.Users.{found_is}
-use Rattle.unl_load.proofs.asking.is_on.Goals as goal
+use Rattle.unl_load.proofs.asking.is_on_for.Goals as goal
 
 pub returns : goal.returns
 returns c =
