@@ -5,7 +5,7 @@ use Rattle.unl_http_api.specs.declared.reply.Reply.{Reply}
 use Rattle.unl_upstream.specs.declared.command.Command.{Command}
 use Rattle.unl_upstream.specs.declared.refusal.CommandRefusal.{CommandRefusal}
 use Rattle.unl_upstream.specs.declared.refusal.KeepCommandRefusal.{KeepCommandRefusal}
-use Rattle.unl_upstream.specs.Answer.{numbered, refused, replied, unchanged}
+use Rattle.unl_upstream.specs.Answer.{numbered, refused, replied, changing_nothing}
 use Rattle.unl_upstream.specs.Upstream.{AppliedCommand, CommandResult, Prepared, UpstreamState}
 use Rattle.unl_upstream.specs.Upstream.{apply_command, committed, prepared, refused_as}
 
@@ -47,4 +47,4 @@ pub replies_refused_command : (command : Command) (up : UpstreamState) (refusal 
     → prepared command up ≡ Err refusal → given ≡ refused_as refusal → reply ≡ refused given
     → replied up (apply_command command up) ≡ record { reply = reply; up = up }
 replies_refused_command command up refusal given reply is same made =
-    ap (replied up) (refuses_command command up refusal is) ∙ sym (ap (unchanged up) (made ∙ ap refused same))
+    ap (replied up) (refuses_command command up refusal is) ∙ sym (ap (changing_nothing up) (made ∙ ap refused same))

@@ -15,7 +15,7 @@ use Rattle.unl_upstream.specs.declared.refusal.KeepCommandRefusal.{KeepCommandRe
 use Rattle.unl_upstream.specs.declared.refusal.KeepCommandRefusal.TheVariants.{NoSuchEnvironment, NoSuchFeature, NoSuchSegment, TooMany, KeeperFull, KeeperFault, Memory}
 use Rattle.unl_upstream.specs.Command.{command_in}
 use Rattle.unl_upstream.specs.History.{accepted, after_commands, if_accepted, up_after}
-use Rattle.unl_upstream.specs.Kept.{Acknowledges, AreLeft, Carries, FailsToKeep, AttemptsPreserve, IsLeft, IsPending, Keeps, AttemptsInOrder, SomeAttempts, KeptState, ResultIn, LeavesOne, Moves, Puts, KeepAttempt, acknowledged, commands_in, failed_after, faults_among, if_kept, keepable, kept_commands, most_rows, past_rows, with_room}
+use Rattle.unl_upstream.specs.Kept.{Acknowledges, AreLeft, Carries, FailsToKeep, AttemptsPreserve, IsLeft, IsPending, KeepsCommand, AttemptsInOrder, SomeAttempts, KeptState, ResultIn, LeavesOne, Moves, Puts, KeepAttempt, acknowledged, commands_in, failed_after, faults_among, if_kept, keepable, kept_commands, most_rows, past_rows, with_room}
 use Rattle.unl_upstream.specs.Upstream.{AppliedCommand, CommandResult, Prepared, UpstreamState, apply_command, prepared, refused_as}
 use Rattle.unl_upstream.specs.Writing.{command_text}
 use Rattle.unl_upstream.proofs.Applying.{applied_by, applied_with, applies, refuses_command}
@@ -108,7 +108,7 @@ not_memory : (refusal : KeepCommandRefusal) → is_memory refusal ≡ false → 
 not_memory refusal other is = true_is_no_false (sym (ap is_memory is) ∙ other)
 
 -- a refused command is not kept, and nothing changes
-pub refuses : (command : Command) (state : KeptState) (e : KeepCommandRefusal) → (e ≢ Memory → keepable command state ≡ Err e) → Keeps command state (Err e) state
+pub refuses : (command : Command) (state : KeptState) (e : KeepCommandRefusal) → (e ≢ Memory → keepable command state ≡ Err e) → KeepsCommand command state (Err e) state
 refuses command state NoSuchEnvironment because = record { cause = because (not_memory NoSuchEnvironment refl); same = refl }
 refuses command state NoSuchFeature because = record { cause = because (not_memory NoSuchFeature refl); same = refl }
 refuses command state NoSuchSegment because = record { cause = because (not_memory NoSuchSegment refl); same = refl }
@@ -130,7 +130,7 @@ is_ok (Err e) x is = absurd cc
 
 -- the result of keeping a command, by that of the put of its text
 pub keeps_by_put : (command : Command) (before after : KeptState) (ready : Prepared) (text : List ℕ) (result : Result ℕ KeepRefusal)
-    → IsPending command before ready text → Puts ready text before result after → Keeps command before (kept_as result) after
+    → IsPending command before ready text → Puts ready text before result after → KeepsCommand command before (kept_as result) after
 keeps_by_put command before after ready text (Ok number) pending puts =
     let applied : keepable command before ≡ Ok (applied_with ready before.up) = keepable_is command before ready pending.accepts in record {
       obeyed = applied ∙ (λ i. Ok (record { up = sym puts.up i; number = sym puts.is i }));
@@ -190,7 +190,7 @@ moves_failed : (command : Command) (before after : KeptState) → FailsToKeep co
 moves_failed command before after fails =
     moves_by (record { command = command; result = Err KeeperFault } ∷ []) before after fails.up refl (fails.row.counted ∙ omega arith)
 
-moves_one : (command : Command) (before : KeptState) (result : Result ℕ KeepCommandRefusal) (after : KeptState) → Keeps command before result after
+moves_one : (command : Command) (before : KeptState) (result : Result ℕ KeepCommandRefusal) (after : KeptState) → KeepsCommand command before result after
     → Moves (record { command = command; result = result } ∷ []) before after
 moves_one command before (Ok number) after keeps = moves_written command before number after keeps
 moves_one command before (Err NoSuchEnvironment) after keeps = moves_same (record { command = command; result = Err NoSuchEnvironment }) refl before after keeps.same
@@ -329,7 +329,7 @@ carries_failed command before after has fails =
 
 -- what one attempt to keep a command preserves and changes
 pub carries_one : (command : Command) (before : KeptState) (result : Result ℕ KeepCommandRefusal) (after : KeptState) → HasKept before.keeper
-    → Keeps command before result after → Carries (record { command = command; result = result } ∷ []) before after
+    → KeepsCommand command before result after → Carries (record { command = command; result = result } ∷ []) before after
 carries_one command before (Ok number) after has keeps = carries_written command before number after has keeps
 carries_one command before (Err NoSuchEnvironment) after has keeps = carries_same (record { command = command; result = Err NoSuchEnvironment }) refl refl (λ failed. refl) before after keeps.same
 carries_one command before (Err NoSuchFeature) after has keeps = carries_same (record { command = command; result = Err NoSuchFeature }) refl refl (λ failed. refl) before after keeps.same
@@ -343,7 +343,7 @@ has_same : (before after : KeptState) → HasKept before.keeper → after ≡ be
 has_same before after has same = subst (λ (s : KeptState). HasKept s.keeper) (sym same) has
 
 has_one : (command : Command) (before : KeptState) (result : Result ℕ KeepCommandRefusal) (after : KeptState) → HasKept before.keeper
-    → Keeps command before result after → HasKept after.keeper
+    → KeepsCommand command before result after → HasKept after.keeper
 has_one command before (Ok number) after has keeps = has_written (command_text command) before.keeper after.keeper has keeps.row
 has_one command before (Err NoSuchEnvironment) after has keeps = has_same before after has keeps.same
 has_one command before (Err NoSuchFeature) after has keeps = has_same before after has keeps.same

@@ -1,8 +1,8 @@
 -- What the answered requests of a connection keep.
 use Rattle.std.proofs.Common.{◌≡◌, ◌≢◌, ℕ, ◌+◌, ◌⊎◌, inl, inr, List, [], ◌∷◌, ◌++◌, Option, Some, None, Result, Ok, Err, IfOk, OnErr, refl, sym, ap, ◌∙◌, subst, arith}
 use Rattle.unl_base.specs.declared.draws.Draw.{Draw}
-use Rattle.unl_server.specs.Handling.{HandlerState, Answers, RunsOutOfMemory}
-use Rattle.unl_server.specs.Conversation.{Answered as AnsweredAll, Reaches}
+use Rattle.unl_server.specs.Handling.{HandlerState, HandlesRequest, RunsOutOfMemory}
+use Rattle.unl_server.specs.Conversation.{AreAnswered, Reaches}
 use Rattle.unl_server.specs.Exchange.{Unreplied}
 use Rattle.unl_server.proofs.ShowsLemmas.{Shows}
 use Rattle.unl_http_api.specs.declared.end.End.{End}
@@ -31,7 +31,7 @@ use Rattle.unl_upstream.proofs.Statuses.{answered_without_fault, answered_status
 
 -- one answer, for a handler that is seen through `seen`
 abbrev pub AnswersOver : {S : Type 0} → (S → KeptState) → HandlerState S → Request → Reply → HandlerState S → Type 0
-AnswersOver seen = Answers (λ state request draw reply after. AnswersByKeeping (seen state) request draw reply (seen after))
+AnswersOver seen = HandlesRequest (λ state request draw reply after. AnswersByKeeping (seen state) request draw reply (seen after))
 
 -- memory ran out at a request, for such a handler
 abbrev pub RunsOutOver : {S : Type 0} → (S → KeptState) → HandlerState S → Request → HandlerState S → Type 0
@@ -46,14 +46,14 @@ one_seen : {S : Type 0} (seen : S → KeptState) (before after : HandlerState S)
 one_seen seen before after q reply step = record { draw = step.draw; taken = step.taken; given = step.given; counted = step.counted }
 
 chain_seen : {S : Type 0} (seen : S → KeptState) (count : ℕ) (before after : HandlerState S) (qs : List Request) (text : List ℕ)
-    → AnsweredAll (AnswersOver seen) count before qs text after → AnsweredAll ServesKeptRequest count (serving_seen seen before) qs text (serving_seen seen after)
+    → AreAnswered (AnswersOver seen) count before qs text after → AreAnswered ServesKeptRequest count (serving_seen seen before) qs text (serving_seen seen after)
 chain_seen seen count before after [] text answered = (answered.0, ap (serving_seen seen) answered.1)
 chain_seen seen count before after (q ∷ qs) text (reply, middle, more, step, split, rest) =
     (reply, serving_seen seen middle, more, one_seen seen before middle q reply step, split, chain_seen seen (count + 1) middle after qs more rest)
 
 runs_out_seen : {S : Type 0} (seen : S → KeptState) (state after : HandlerState S) (q : Request) → RunsOutOver seen state q after
     → KeptServingRunsOut (serving_seen seen state) q (serving_seen seen after)
-runs_out_seen seen state after q lacks = record { draw = lacks.draw; taken = lacks.taken; given_up = lacks.given_up; counted = lacks.counted }
+runs_out_seen seen state after q lacks = record { draw = lacks.draw; taken = lacks.taken; ran_out = lacks.ran_out; counted = lacks.counted }
 
 last_seen : {S : Type 0} (seen : S → KeptState) (state after : HandlerState S) (q : Request) → Unreplied (AnswersOver seen) (RunsOutOver seen) state q after
     → Unreplied ServesKeptRequest KeptServingRunsOut (serving_seen seen state) q (serving_seen seen after)
@@ -76,7 +76,7 @@ keeps_first : (given : Option Command) (before middle after : KeptState) (q : Re
 keeps_first None before middle after q draw reply others by_command more = subst (λ (s : KeptState). AttemptsInOrder others s after) by_command.0 more
 keeps_first (Some command) before middle after q draw reply others by_command more = (middle, by_command.keeps, more)
 
-pub keeps_in : (count : ℕ) (qs : List Request) (text : List ℕ) (before after : KeptServing) (answered : AnsweredAll ServesKeptRequest count before qs text after)
+pub keeps_in : (count : ℕ) (qs : List Request) (text : List ℕ) (before after : KeptServing) (answered : AreAnswered ServesKeptRequest count before qs text after)
     → AttemptsInOrder (tried_in count before qs text after answered) before.state after.state
 keeps_in count [] text before after answered = ap (λ (s : KeptServing). s.state) answered.1
 keeps_in count (q ∷ qs) text before after (reply, middle, more, step, split, rest) =
@@ -90,7 +90,7 @@ replies_without_fault None before after q draw reply by_command none = answered_
 replies_without_fault (Some command) before after q draw reply by_command none = λ is. kept_without_fault by_command.result (omega (arith, none)) (sym by_command.is ∙ is)
 
 -- so no reply is, if the keeper failed at none of them
-pub without_fault_in : (count : ℕ) (qs : List Request) (text : List ℕ) (before after : KeptServing) (answered : AnsweredAll ServesKeptRequest count before qs text after)
+pub without_fault_in : (count : ℕ) (qs : List Request) (text : List ℕ) (before after : KeptServing) (answered : AreAnswered ServesKeptRequest count before qs text after)
     → faults_among (tried_in count before qs text after answered) ≡ 0 → NoKeeperFault count before qs text after answered
 without_fault_in count [] text before after answered none = tt
 without_fault_in count (q ∷ qs) text before after (reply, middle, more, step, split, rest) none =
@@ -119,7 +119,7 @@ keeps_on before after end count has reaches =
   where
     by_next : (after ≡ reaches.reached) ⊎ ((end ≡ ends.Memory) × (request : Request) × KeptServingRunsOut reaches.reached request after) → after.state ≡ reaches.reached.state
     by_next (inl same) = ap (λ (s : KeptServing). s.state) same
-    by_next (inr lacks) = lacks.2.given_up
+    by_next (inr lacks) = lacks.2.ran_out
 
 -- ---- one reply
 

@@ -5,7 +5,7 @@ use Rattle.unl_server.specs.Handling.{Coming, handler_state}
 use Rattle.unl_server.specs.Conversation.{Concludes, GivesUp}
 use Rattle.unl_server.specs.ServingDoor.{ServerAndDoor, ServesDoor, ServesDoorLink, ServesDoorLinks, server_and_door}
 use Rattle.unl_server.specs.Linked.{HandsBack, linking}
-use Rattle.unl_server.specs.Links.{LinkState}
+use Rattle.unl_server.specs.Links.{LinkView}
 use Rattle.unl_server.proofs.DoorLemmas.{Observable, hands_back, sent_observable}
 use Rattle.unl_upstream.specs.Served.{Changing, ServesAllLinksBy, LinkServedBy, RunsOut, ServesLinkBy, Steps}
 
@@ -32,13 +32,13 @@ link_observable Step RunsOutAtRequest Changes before coming bytes link_after aft
 -- ---- from the server's parts to its model
 
 -- serving a link, for a server that is seen through `seen`
-abbrev pub ServesOver : {S T : Type 0} → (T → Coming → LinkState → LinkState → T → Coming → Type 0) → (S → T) → S → Coming → LinkState → LinkState → S → Coming → Type 0
+abbrev pub ServesOver : {S T : Type 0} → (T → Coming → LinkView → LinkView → T → Coming → Type 0) → (S → T) → S → Coming → LinkView → LinkView → S → Coming → Type 0
 ServesOver Serves seen server coming link link_after after coming_after = Serves (seen server) coming link link_after (seen after) coming_after
 
 abbrev pub server_seen : {S T : Type 0} → (S → T) → ServerAndDoor S → ServerAndDoor T
 server_seen seen h = server_and_door (seen h.server) h.coming h.door
 
-link_seen : {S T : Type 0} (Serves : T → Coming → LinkState → LinkState → T → Coming → Type 0) (seen : S → T) (before after : ServerAndDoor S)
+link_seen : {S T : Type 0} (Serves : T → Coming → LinkView → LinkView → T → Coming → Type 0) (seen : S → T) (before after : ServerAndDoor S)
     → ServesDoorLink (ServesOver Serves seen) before after → ServesDoorLink Serves (server_seen seen before) (server_seen seen after)
 link_seen Serves seen before after one = record {
   link = one.link;
@@ -50,7 +50,7 @@ link_seen Serves seen before after one = record {
   door = one.door;
 }
 
-door_links_seen : {S T : Type 0} (Serves : T → Coming → LinkState → LinkState → T → Coming → Type 0) (seen : S → T) (n : ℕ) (before after : ServerAndDoor S)
+door_links_seen : {S T : Type 0} (Serves : T → Coming → LinkView → LinkView → T → Coming → Type 0) (seen : S → T) (n : ℕ) (before after : ServerAndDoor S)
     → ServesDoorLinks (ServesOver Serves seen) n before after → ServesDoorLinks Serves n (server_seen seen before) (server_seen seen after)
 door_links_seen Serves seen zero before after links = ap (server_seen seen) links
 door_links_seen Serves seen (suc n) before after links =

@@ -16,7 +16,7 @@ use Rattle.unl_delta.specs.Valid.{IsValidBatch}
 use Rattle.unl_documents.specs.declared.feature.Feature.{Feature}
 use Rattle.unl_documents.specs.Limits.{IsName}
 use Rattle.unl_documents.specs.Valid.{IsValidFeature}
-use Rattle.unl_upstream.specs.Upstream.{IsNext, batch_of, is_named, place_with}
+use Rattle.unl_upstream.specs.Upstream.{IsNext, batch_of, is_feature_named, place_with}
 
 -- ---- its batch
 
@@ -50,12 +50,12 @@ abbrev pub project_found : Option Feature → Option (List ℕ)
 project_found found = option_map (λ feature. feature.project) found
 
 -- `project_of` is the project of the first feature with the name
-pub found_project : (name : List ℕ) (features : List Feature) → project_found (find (is_named name) features) ≡ project_of name features
+pub found_project : (name : List ℕ) (features : List Feature) → project_found (find (is_feature_named name) features) ≡ project_of name features
 found_project name [] = refl
 found_project name (f ∷ fs) = decided (bytes_eq f.name name) (found_project name fs)
   where
-    decided : (t : Bool) → project_found (find (is_named name) fs) ≡ project_of name fs
-        → project_found (cond t (Some f) (find (is_named name) fs)) ≡ cond t (Some f.project) (project_of name fs)
+    decided : (t : Bool) → project_found (find (is_feature_named name) fs) ≡ project_of name fs
+        → project_found (cond t (Some f) (find (is_feature_named name) fs)) ≡ cond t (Some f.project) (project_of name fs)
     decided true others = refl
     decided false others = others
 

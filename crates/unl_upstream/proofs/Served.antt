@@ -2,7 +2,7 @@
 use Rattle.std.proofs.Common.{◌≡◌, ℕ, ◌+◌, ◌⊎◌, inl, inr, List, [], ◌∷◌, ◌++◌, refl, sym, ap, ◌∙◌}
 use Rattle.std.specs.Prelude.{option_to_list}
 use Rattle.unl_base.specs.declared.draws.Draw.{Draw}
-use Rattle.unl_server.specs.Conversation.{Answered as AnsweredAll, Reaches}
+use Rattle.unl_server.specs.Conversation.{AreAnswered, Reaches}
 use Rattle.unl_http_api.specs.declared.end.End.{End}
 use Rattle.unl_http_api.specs.declared.end.End.TheVariants as ends
 use Rattle.unl_http_api.specs.declared.reply.Reply.{Reply}
@@ -33,7 +33,7 @@ after_both [] second up = refl
 after_both (command ∷ first) second up = after_both first second (after_command command up)
 
 -- the upstream after requests is that after their commands
-pub requests_up : (count : ℕ) (qs : List Request) (text : List ℕ) (before after : Serving) → AnsweredAll ServesRequest count before qs text after
+pub requests_up : (count : ℕ) (qs : List Request) (text : List ℕ) (before after : Serving) → AreAnswered ServesRequest count before qs text after
     → after.state ≡ after_commands (commands_given before.state.secret qs) before.state
 requests_up count [] text before after answered = ap (λ (s : Serving). s.state) answered.1
 requests_up count (q ∷ qs) text before after answered =
@@ -63,4 +63,4 @@ obeys_requests before after end count reaches = record {
     by_next : (after ≡ reaches.reached) ⊎ ((end ≡ ends.Memory) × (request : Request) × ServingRunsOut reaches.reached request after)
         → after.state ≡ after_commands (commands_given before.state.secret reaches.requests) before.state
     by_next (inl same) = ap (λ (s : Serving). s.state) same ∙ answered_up
-    by_next (inr lacks) = lacks.2.given_up ∙ answered_up
+    by_next (inr lacks) = lacks.2.ran_out ∙ answered_up

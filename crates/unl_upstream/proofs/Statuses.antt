@@ -1,37 +1,18 @@
 -- The statuses of an upstream's replies: each is an HTTP status, and only the reply to a command that was to be kept may be
 -- 503 `KeeperFault`.
-use Rattle.std.proofs.Common.{◌≡◌, ◌≢◌, ◌≤◌, ◌⊎◌, inl, inr, sym, subst, refl, ap, ◌∙◌, ℕ, List, length, Bool, true, false, ◌||◌, Option, Some, None, cond, arith, Result, Ok, Err}
+use Rattle.std.proofs.Common.{◌≡◌, ◌≢◌, inl, inr, sym, subst, ap, ◌∙◌, ℕ, List, length, Bool, true, false, Option, Some, None, cond, arith, Result, Ok, Err}
 use Rattle.std.specs.Prelude.{codes}
 use Rattle.std.specs.Str.{bytes_eq}
 use Rattle.http.specs.StatusCode.{IsStatusCode}
-use Rattle.serde_json.specs.Data.{Data}
 use Rattle.serde_json.proofs.OnLiterals.{serde_json_on_literals}
 use Rattle.unl_base.specs.declared.draws.Draw.{Draw}
-use Rattle.unl_core.specs.declared.board.Board.{Board}
-use Rattle.unl_core.specs.declared.desk.Answer.{Answer as DeskAnswer}
-use Rattle.unl_core.specs.declared.shown.TokenRefusal.{TokenRefusal}
-use Rattle.unl_core.specs.declared.shown.TokenRefusal.TheVariants.{NoToken, UnknownToken, WrongKind, NotReady}
-use Rattle.unl_core.specs.Answer.{accepted_if, answer_of, asked_context, at_route, bad_method, by_route, delta_reply, document_reply, feature_reply, feed_reply, feed_state, feed_tag, feed_with, has_tag, news, plain, refusal, registered, reported, seen, not_modified_at, toggles_for, toggles_reply, token_refusal_reply, unchanged, validated}
-use Rattle.unl_core.specs.Client.{knows_no_segments}
-use Rattle.unl_core.specs.Shown.{Shown, Ready, shown_by, ready_by}
-use Rattle.unl_core.specs.Tag.{since_of}
-use Rattle.unl_delta.specs.Batch.{delta_answer}
-use Rattle.unl_delta.specs.declared.batch.DeltaAnswer.{DeltaAnswer}
-use Rattle.unl_delta.specs.declared.batch.DeltaAnswer.TheVariants.{Same, Batch as Sent}
-use Rattle.unl_documents.specs.declared.feature.Feature.{Feature}
-use Rattle.unl_documents.specs.declared.inlining.InlineRefusal.{InlineRefusal}
-use Rattle.unl_documents.specs.declared.state.State.{State}
+use Rattle.unl_core.specs.Answer.{answer_of, bad_method, refusal}
+use Rattle.unl_core.proofs.Statuses.{IsPlain, IsUsual, answer_plain, plain_status}
 use Rattle.unl_documents.specs.Reading.{Reading}
-use Rattle.unl_documents.specs.Results.{object_in}
 use Rattle.unl_http_api.specs.declared.reply.Reply.{Reply as AReply}
 use Rattle.unl_http_api.specs.declared.request.Request.{Request}
-use Rattle.unl_http_api.specs.declared.route.Route.{Route}
 use Rattle.unl_http_api.specs.declared.route.Route.TheVariants as route
-use Rattle.unl_http_api.specs.Route.{allows, is_commands, is_post, methods_of, route_of}
-use Rattle.unl_tokens.specs.declared.fault.BadRequest.{BadRequest}
-use Rattle.unl_tokens.specs.declared.kind.Kind.TheVariants.{Client, Frontend}
-use Rattle.unl_tokens.specs.Names.{sees}
-use Rattle.unl_tokens.specs.Requests.{asked_in}
+use Rattle.unl_http_api.specs.Route.{is_post, route_of}
 use Rattle.unl_upstream.specs.declared.command.Command.{Command}
 use Rattle.unl_upstream.specs.declared.command_or_reply.CommandOrReply.{CommandOrReply}
 use Rattle.unl_upstream.specs.declared.command_or_reply.CommandOrReply.TheVariants.{Reply}
@@ -45,23 +26,7 @@ use Rattle.unl_upstream.specs.Kept.{keeper_faults}
 use Rattle.unl_upstream.specs.KeptServing.{kept_reply}
 use Rattle.unl_upstream.specs.Upstream.{AppliedCommand, CommandResult, UpstreamState, apply_command, refused_as}
 
--- the status is from 100 to 500
-abbrev IsUsual : ℕ → Type 0
-IsUsual status = (100 ≤ status) × (status ≤ 500)
-
--- the reply has such a status, or is a 503 with one of two error names
-abbrev IsPlain : AReply → Type 0
-IsPlain r = IsUsual r.status ⊎ ((r ≡ refusal 503 (codes "NotReady")) ⊎ (r ≡ refusal 503 (codes "TooManyConstraints")))
-
-code_503 : IsStatusCode 503
-code_503 = omega arith
-
-plain_status : (r : AReply) → IsPlain r → IsStatusCode r.status
-plain_status r (inl within) = omega (arith, within.0, within.1)
-plain_status r (inr (inl is)) = subst (λ (x : AReply). IsStatusCode x.status) (sym is) code_503
-plain_status r (inr (inr is)) = subst (λ (x : AReply). IsStatusCode x.status) (sym is) code_503
-
--- neither of these names is that of a keeper's fault
+-- a plain reply is not 503 `KeeperFault`
 plain_differs : (r : AReply) → IsPlain r → r ≢ refused KeeperFault
 unfolding serde_json_on_literals
 plain_differs r (inl within) is = let status : r.status ≡ 503 = ap (λ (x : AReply). x.status) is in absurd (omega (arith, within.1, status))
@@ -72,12 +37,6 @@ plain_differs r (inr (inr is)) same = let many : 30 ≡ 23 = ap (λ (x : AReply)
 
 is_200 : IsUsual 200
 is_200 = omega arith
-
-is_202 : IsUsual 202
-is_202 = omega arith
-
-is_304 : IsUsual 304
-is_304 = omega arith
 
 is_400 : IsUsual 400
 is_400 = omega arith
@@ -99,108 +58,6 @@ is_409 = omega arith
 
 is_500 : IsUsual 500
 is_500 = omega arith
-
--- ---- replies from a board
-
--- the argument type of a function
-abbrev ArgumentOf : {A B : Type 0} → (A → B) → Type 0
-ArgumentOf {A} f = A
-
-either : (b : Bool) (x y : AReply) → IsPlain x → IsPlain y → IsPlain (cond b x y)
-either true x y p q = p
-either false x y p q = q
-
-token_refusal_plain : (why : TokenRefusal) → IsPlain (token_refusal_reply why)
-token_refusal_plain NoToken = inl is_401
-token_refusal_plain UnknownToken = inl is_403
-token_refusal_plain WrongKind = inl is_403
-token_refusal_plain NotReady = inr (inl refl)
-
-validate_plain : (board : Board) (asked : Result (List (List ℕ)) BadRequest) → IsPlain (validated board asked)
-validate_plain board (Err fault) = inl is_400
-validate_plain board (Ok texts) = inl is_200
-
-accepted_plain : (found : Option Data) → IsPlain (accepted_if found)
-accepted_plain None = inl is_400
-accepted_plain (Some value) = inl is_202
-
-register_plain : (q : Request) (shown : Result Shown TokenRefusal) → IsPlain (registered q shown)
-register_plain q (Err why) = token_refusal_plain why
-register_plain q (Ok shown) = accepted_plain (object_in q.body)
-
-context_plain : (board : Board) (draw : Draw) (all : Bool) (ready : Ready) (context : ArgumentOf (toggles_for board draw all ready)) → IsPlain (toggles_for board draw all ready context)
-context_plain board draw all ready (Err fault) = inl is_400
-context_plain board draw all ready (Ok context) = inl is_200
-
-toggles_plain : (board : Board) (q : Request) (draw : Draw) (all : Bool) (ready : Result Ready TokenRefusal) → IsPlain (toggles_reply board q draw all ready)
-toggles_plain board q draw all (Err why) = token_refusal_plain why
-toggles_plain board q draw all (Ok ready) = context_plain board draw all ready (asked_context q)
-
-document_plain : (found : Option Feature) → IsPlain (document_reply found)
-document_plain None = inl is_404
-document_plain (Some feature) = inl is_200
-
-feature_plain : (name : Option (List ℕ)) (ready : Result Ready TokenRefusal) → IsPlain (feature_reply name ready)
-feature_plain name (Err why) = token_refusal_plain why
-feature_plain name (Ok ready) = document_plain _
-
-inlined_plain : (ready : Ready) (tag : List ℕ) (state : Result State InlineRefusal) → IsPlain (feed_with ready tag state)
-inlined_plain ready tag (Err fault) = inr (inr refl)
-inlined_plain ready tag (Ok state) = inl is_200
-
-feed_plain : (board : Board) (q : Request) (ready : Result Ready TokenRefusal) → IsPlain (feed_reply board q ready)
-feed_plain board q (Err why) = token_refusal_plain why
-feed_plain board q (Ok ready) =
-    let inlined : Bool = knows_no_segments q in
-    let tag : List ℕ = feed_tag board inlined ready in
-    either (has_tag tag q.tag) (unchanged tag) (feed_with ready tag (feed_state inlined (seen ready))) (inl is_304)
-    (inlined_plain ready tag (feed_state inlined (seen ready)))
-
-not_modified_plain : (board : Board) (ready : Ready) (since : Option ℕ) → IsPlain (not_modified_at board ready since)
-not_modified_plain board ready None = inl is_304
-not_modified_plain board ready (Some n) = inl is_304
-
-news_plain : (board : Board) (ready : Ready) (since : Option ℕ) (answer : DeltaAnswer) → IsPlain (news board ready since answer)
-news_plain board ready since Same = not_modified_plain board ready since
-news_plain board ready since (Sent batch) = inl is_200
-
-delta_plain : (board : Board) (q : Request) (ready : Result Ready TokenRefusal) → IsPlain (delta_reply board q ready)
-delta_plain board q (Err why) = token_refusal_plain why
-delta_plain board q (Ok ready) =
-    let since : Option ℕ = since_of board ready.place ready.version.epoch q.tag in
-    news_plain board ready since (delta_answer ready.version since (sees ready.token.projects))
-
-report_plain : (shown : Result Shown TokenRefusal) (reading : ArgumentOf (reported shown)) → IsPlain (reported shown reading).reply
-report_plain (Err why) reading = token_refusal_plain why
-report_plain (Ok shown) (Err fault) = inl is_400
-report_plain (Ok shown) (Ok report) = inl is_202
-
-route_plain : (board : Board) (q : Request) (draw : Draw) (r : Route) → IsPlain (at_route board q draw r).reply
-route_plain board q draw route.Health = inl is_200
-route_plain board q draw route.Validate = validate_plain board (asked_in q.body)
-route_plain board q draw route.Features = feed_plain board q (ready_by board q Client)
-route_plain board q draw (route.Feature name) = feature_plain name (ready_by board q Client)
-route_plain board q draw route.Delta = delta_plain board q (ready_by board q Client)
-route_plain board q draw route.Enabled = toggles_plain board q draw false (ready_by board q Frontend)
-route_plain board q draw route.All = toggles_plain board q draw true (ready_by board q Frontend)
-route_plain board q draw route.Register = register_plain q (shown_by board q Client)
-route_plain board q draw route.FrontRegister = register_plain q (shown_by board q Frontend)
-route_plain board q draw route.Metrics = report_plain (shown_by board q Client) _
-route_plain board q draw route.FrontMetrics = report_plain (shown_by board q Frontend) _
-route_plain board q draw route.Bulk = report_plain (shown_by board q Client) _
-route_plain board q draw route.Commands = inl is_404
-
-allowed : (b : Bool) (x : DeskAnswer) (y : AReply) → IsPlain x.reply → IsPlain y → IsPlain (cond b x (plain y)).reply
-allowed true x y p q = p
-allowed false x y p q = q
-
-board_plain : (board : Board) (q : Request) (draw : Draw) → IsPlain (answer_of board q draw).reply
-unfolding answer_of
-board_plain board q draw = by_known (route_of q.target)
-  where
-    by_known : (o : Option Route) → IsPlain (by_route board q draw o).reply
-    by_known None = inl is_404
-    by_known (Some route) = allowed (is_commands route || allows (methods_of route) q.method) (at_route board q draw route) (bad_method route) (route_plain board q draw route) (inl is_405)
 
 -- ---- replies of an upstream
 
@@ -234,7 +91,7 @@ unfolding upstream_answer order_of
 answered_plain up q draw =
     either_order up (is_commands_route (route_of q.target)) (order_at up q) (Reply (answer_of up.board q draw).reply)
     (either_order up (is_post q.method) (order_with up q q.token) (Reply (bad_method route.Commands)) (token_plain up q q.token) (inl is_405))
-    (board_plain up.board q draw)
+    (answer_plain up.board q draw)
 
 -- so every reply has an HTTP status
 pub answered_status : (r : AReply) (up after : UpstreamState) (q : Request) (draw : Draw) → upstream_answer up q draw ≡ record { reply = r; up = after } → IsStatusCode r.status
@@ -269,7 +126,7 @@ kept_status (Err NoSuchFeature) = usual_code is_404
 kept_status (Err NoSuchSegment) = usual_code is_404
 kept_status (Err (TooMany n)) = usual_code is_409
 kept_status (Err (KeeperFull n)) = usual_code is_409
-kept_status (Err KeeperFault) = code_503
+kept_status (Err KeeperFault) = omega arith
 kept_status (Err Memory) = usual_code is_500
 
 -- such a reply is 503 `KeeperFault` only if the keeper failed

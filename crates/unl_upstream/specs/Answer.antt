@@ -27,8 +27,8 @@ pub record Answered : Type 0 where
   pub up : UpstreamState
 
 -- a reply that changes nothing
-abbrev pub unchanged : UpstreamState → AReply → Answered
-unchanged up given = record { reply = given; up = up }
+abbrev pub changing_nothing : UpstreamState → AReply → Answered
+changing_nothing up given = record { reply = given; up = up }
 
 -- ---- commands
 
@@ -49,7 +49,7 @@ refused Memory = status_only 500
 -- the reply to a command with this result, and the upstream after it
 abbrev pub replied : UpstreamState → CommandResult AppliedCommand → Answered
 replied up (Ok applied) = record { reply = numbered applied.number; up = applied.up }
-replied up (Err cause) = unchanged up (refused (refused_as cause))
+replied up (Err cause) = changing_nothing up (refused (refused_as cause))
 
 -- ---- all requests
 
@@ -86,7 +86,7 @@ IsValidOrder (Reply reply) = Unit {0}
 -- the reply to what a request asks for, and the upstream after it
 abbrev pub done : UpstreamState → CommandOrReply → Answered
 done up (Execute command) = replied up (apply_command command up)
-done up (Reply reply) = unchanged up reply
+done up (Reply reply) = changing_nothing up reply
 
 -- the reply to a request, and the upstream after it
 unfoldable pub upstream_answer : UpstreamState → Request → Draw → Answered

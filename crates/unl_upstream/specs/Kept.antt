@@ -102,15 +102,15 @@ pub record Refuses (command : Command) (before : KeptState) (refusal : KeepComma
   pub same : after ≡ before
 
 -- the result of keeping a command; running out of memory changes nothing
-abbrev pub Keeps : Command → KeptState → Result ℕ KeepCommandRefusal → KeptState → Type 0
-Keeps command before (Ok number) after = Acknowledges command before number after
-Keeps command before (Err NoSuchEnvironment) after = Refuses command before NoSuchEnvironment after
-Keeps command before (Err NoSuchFeature) after = Refuses command before NoSuchFeature after
-Keeps command before (Err NoSuchSegment) after = Refuses command before NoSuchSegment after
-Keeps command before (Err (TooMany n)) after = Refuses command before (TooMany n) after
-Keeps command before (Err (KeeperFull count)) after = Refuses command before (KeeperFull count) after
-Keeps command before (Err KeeperFault) after = FailsToKeep command before after
-Keeps command before (Err Memory) after = after ≡ before
+abbrev pub KeepsCommand : Command → KeptState → Result ℕ KeepCommandRefusal → KeptState → Type 0
+KeepsCommand command before (Ok number) after = Acknowledges command before number after
+KeepsCommand command before (Err NoSuchEnvironment) after = Refuses command before NoSuchEnvironment after
+KeepsCommand command before (Err NoSuchFeature) after = Refuses command before NoSuchFeature after
+KeepsCommand command before (Err NoSuchSegment) after = Refuses command before NoSuchSegment after
+KeepsCommand command before (Err (TooMany n)) after = Refuses command before (TooMany n) after
+KeepsCommand command before (Err (KeeperFull count)) after = Refuses command before (KeeperFull count) after
+KeepsCommand command before (Err KeeperFault) after = FailsToKeep command before after
+KeepsCommand command before (Err Memory) after = after ≡ before
 
 -- ---- one after another
 
@@ -123,7 +123,7 @@ pub record KeepAttempt : Type 0 where
 abbrev pub AttemptsInOrder : List KeepAttempt → KeptState → KeptState → Type 0
 AttemptsInOrder [] before after = after ≡ before
 AttemptsInOrder (one ∷ others) before after =
-    (middle : KeptState) × Keeps one.command before one.result middle × AttemptsInOrder others middle after
+    (middle : KeptState) × KeepsCommand one.command before one.result middle × AttemptsInOrder others middle after
 
 -- the other commands, preceded by this one if it was acknowledged
 abbrev pub if_kept : Command → Result ℕ KeepCommandRefusal → List Command → List Command

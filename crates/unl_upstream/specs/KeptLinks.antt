@@ -3,11 +3,11 @@
 use Rattle.std.specs.Prelude.{◌≡◌, ℕ, ◌+◌, ◌⊎◌, List, [], ◌∷◌, ◌++◌, length, Result, ⊤}
 use Rattle.unl_base.specs.declared.Failed.{Failed}
 use Rattle.unl_server.specs.Handling.{Coming}
-use Rattle.unl_server.specs.Conversation.{Answered}
-use Rattle.unl_server.specs.Linked.{HandsBack, Linked as LinkedBy, Linking}
+use Rattle.unl_server.specs.Conversation.{AreAnswered}
+use Rattle.unl_server.specs.Linked.{HandsBack, AreServed as LinkedBy, Linking}
 use Rattle.unl_http_api.specs.declared.end.End.TheVariants.{Memory}
 use Rattle.unl_http_api.specs.declared.request.Request.{Request}
-use Rattle.unl_http_api.specs.Session.{Reads}
+use Rattle.unl_http_api.specs.Session.{ReadsRequests}
 use Rattle.unl_upstream.specs.declared.command.Command.{Command}
 use Rattle.unl_upstream.specs.History.{after_commands}
 use Rattle.unl_upstream.specs.Kept.{AttemptsInOrder, SomeAttempts, KeptState, KeepAttempt, acknowledged, faults_among}
@@ -60,11 +60,11 @@ pub record LinkEffect
   pub served : LinkServed before coming bytes back after coming_after
   pub requests : List Request
   pub rest : List ℕ
-  pub asked : Reads bytes requests rest
+  pub asked : ReadsRequests bytes requests rest
   pub counted : length requests ≡ served.count
   pub text : List ℕ
   pub reached : KeptServing
-  pub answered : Answered ServesKeptRequest 0 (kept_serving_state before 0 coming) requests text reached
+  pub answered : AreAnswered ServesKeptRequest 0 (kept_serving_state before 0 coming) requests text reached
   pub gives : commands ≡ acknowledged (tried_in 0 (kept_serving_state before 0 coming) requests text reached answered)
   pub takes : (taken ≡ served.count) ⊎ ((served.end ≡ Memory) × (taken ≡ served.count + 1))
 

@@ -1,9 +1,9 @@
 -- An upstream that keeps its commands, on a connection.
 use Rattle.std.specs.Prelude.{◌≡◌, ◌≢◌, ℕ, ◌+◌, List, [], ◌∷◌, ◌++◌, Option, Some, None, Result, Ok, Err, ⊤}
 use Rattle.unl_base.specs.declared.draws.Draw.{Draw}
-use Rattle.unl_server.specs.Handling.{HandlerState, Answers, Coming, RunsOutOfMemory, handler_state}
-use Rattle.unl_server.specs.Conversation.{Answered, Reaches}
-use Rattle.unl_server.specs.Links.{LinkState}
+use Rattle.unl_server.specs.Handling.{HandlerState, HandlesRequest, Coming, RunsOutOfMemory, handler_state}
+use Rattle.unl_server.specs.Conversation.{AreAnswered, Reaches}
+use Rattle.unl_server.specs.Links.{LinkView}
 use Rattle.unl_http_api.specs.declared.end.End.{End}
 use Rattle.unl_http_api.specs.declared.reply.Reply.{Reply}
 use Rattle.unl_http_api.specs.declared.request.Request.{Request}
@@ -12,8 +12,8 @@ use Rattle.unl_upstream.specs.declared.command.Command.{Command}
 use Rattle.unl_upstream.specs.declared.keeping_server.DurableUpstream.{DurableUpstream}
 use Rattle.unl_upstream.specs.declared.refusal.KeepCommandRefusal.{KeepCommandRefusal}
 use Rattle.unl_upstream.specs.declared.refusal.KeepCommandRefusal.TheVariants.{KeeperFault, Memory}
-use Rattle.unl_upstream.specs.Answer.{numbered, refused, unchanged, upstream_answer}
-use Rattle.unl_upstream.specs.Kept.{Carries, Keeps, AttemptsInOrder, KeptState, KeepAttempt, faults_among, kept_state}
+use Rattle.unl_upstream.specs.Answer.{numbered, refused, changing_nothing, upstream_answer}
+use Rattle.unl_upstream.specs.Kept.{Carries, KeepsCommand, AttemptsInOrder, KeptState, KeepAttempt, faults_among, kept_state}
 use Rattle.unl_upstream.specs.Requests.{command_given}
 use Rattle.unl_upstream.specs.Served.{ServesLinkBy}
 
@@ -33,13 +33,13 @@ kept_reply (Err refusal) = refused refusal
 -- an attempt was made to keep a command, and the reply states its result
 pub record RepliesTo (command : Command) (before : KeptState) (reply : Reply) (after : KeptState) : Type 0 where
   pub result : Result ℕ KeepCommandRefusal
-  pub keeps : Keeps command before result after
+  pub keeps : KeepsCommand command before result after
   pub found : result ≢ Err Memory
   pub is : reply ≡ kept_reply result
 
 -- the reply to a request that gives this command, or none
 abbrev pub RepliesByCommand : Option Command → KeptState → Request → Draw → Reply → KeptState → Type 0
-RepliesByCommand None before q draw reply after = (after ≡ before) × (upstream_answer before.up q draw ≡ unchanged before.up reply)
+RepliesByCommand None before q draw reply after = (after ≡ before) × (upstream_answer before.up q draw ≡ changing_nothing before.up reply)
 RepliesByCommand (Some command) before q draw reply after = RepliesTo command before reply after
 
 -- a request is answered: its command, if it gives one, is kept, and any other request is answered as without a keeper
@@ -77,7 +77,7 @@ kept_serving_state state count coming = handler_state state count coming
 
 -- one request is answered, with the next draw
 abbrev pub ServesKeptRequest : KeptServing → Request → Reply → KeptServing → Type 0
-ServesKeptRequest = Answers AnswersByKeeping
+ServesKeptRequest = HandlesRequest AnswersByKeeping
 
 -- a draw was taken, and then memory ran out
 abbrev pub KeptServingRunsOut : KeptServing → Request → KeptServing → Type 0
@@ -85,7 +85,7 @@ KeptServingRunsOut = RunsOutOfMemory KeptStateUnchanged
 
 -- the attempts to keep the commands of answered requests, in order
 abbrev pub tried_in : (count : ℕ) (before : KeptServing) (qs : List Request) (text : List ℕ) (after : KeptServing)
-    → Answered ServesKeptRequest count before qs text after → List KeepAttempt
+    → AreAnswered ServesKeptRequest count before qs text after → List KeepAttempt
 tried_in count before [] text after answered = []
 tried_in count before (q ∷ qs) text after (reply, middle, more, step, split, rest) =
     tried_of (command_given before.state.up.secret q) before.state q step.draw reply middle.state step.given
@@ -93,7 +93,7 @@ tried_in count before (q ∷ qs) text after (reply, middle, more, step, split, r
 
 -- none of the replies to these requests is 503 `KeeperFault`
 abbrev pub NoKeeperFault : (count : ℕ) (before : KeptServing) (qs : List Request) (text : List ℕ) (after : KeptServing)
-    → Answered ServesKeptRequest count before qs text after → Type 0
+    → AreAnswered ServesKeptRequest count before qs text after → Type 0
 NoKeeperFault count before [] text after answered = ⊤
 NoKeeperFault count before (q ∷ qs) text after (reply, middle, more, step, split, rest) =
     (reply ≢ refused KeeperFault) × NoKeeperFault (count + 1) middle qs more after rest
@@ -109,5 +109,5 @@ pub record ServesKept (before : KeptServing) (end : End) (count : ℕ) (after : 
   pub no_faults : faults_among tried ≡ 0 → NoKeeperFault 0 before reaches.requests reaches.text reaches.reached reaches.answered
 
 -- a link was served
-abbrev pub ServesLink : KeptState → Coming → LinkState → LinkState → KeptState → Coming → Type 0
+abbrev pub ServesLink : KeptState → Coming → LinkView → LinkView → KeptState → Coming → Type 0
 ServesLink = ServesLinkBy ServesKeptRequest KeptServingRunsOut ServesKept

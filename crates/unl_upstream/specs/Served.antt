@@ -5,7 +5,7 @@ use Rattle.unl_base.specs.declared.Failed.{Failed}
 use Rattle.unl_server.specs.Handling.{HandlerState, Coming, handler_state}
 use Rattle.unl_server.specs.Conversation.{Concludes, Converses, GivesUp}
 use Rattle.unl_server.specs.Linked.{HandsBack, Linking}
-use Rattle.unl_server.specs.Links.{LinkState}
+use Rattle.unl_server.specs.Links.{LinkView}
 use Rattle.unl_http_api.specs.declared.end.End.{End}
 use Rattle.unl_http_api.specs.declared.end.End.TheVariants.{ReadFault, WriteFault, Memory}
 use Rattle.unl_http_api.specs.declared.reply.Reply.{Reply}
@@ -30,7 +30,7 @@ Changing S = HandlerState S → End → ℕ → HandlerState S → Type 0
 -- a link was served: `count` of its requests were answered, with these changes
 pub record ServesLinkBy
     {S : Type 0} (Step : Steps S) (RunsOutAtRequest : RunsOut S) (Changes : Changing S) (before : S) (coming : Coming)
-    (link link_after : LinkState) (after : S) (coming_after : Coming) : Type 0 where
+    (link link_after : LinkView) (after : S) (coming_after : Coming) : Type 0 where
   pub count : ℕ
   pub end : End
   pub conversation : Converses Step RunsOutAtRequest link (handler_state before 0 coming) end (handler_state after count coming_after) count

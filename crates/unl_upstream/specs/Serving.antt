@@ -1,7 +1,7 @@
 -- An upstream on a connection: each request is answered, and its command, if it gives one, is applied, in order.
 use Rattle.std.specs.Prelude.{◌≡◌, ℕ, List, [], ◌∷◌, ◌++◌, length, option_to_list}
 use Rattle.unl_base.specs.declared.draws.Draw.{Draw}
-use Rattle.unl_server.specs.Handling.{HandlerState, Answers, Coming, RunsOutOfMemory, handler_state}
+use Rattle.unl_server.specs.Handling.{HandlerState, HandlesRequest, Coming, RunsOutOfMemory, handler_state}
 use Rattle.unl_http_api.specs.declared.reply.Reply.{Reply}
 use Rattle.unl_http_api.specs.declared.request.Request.{Request}
 use Rattle.unl_upstream.specs.declared.command.Command.{Command}
@@ -30,7 +30,7 @@ serving_state up count coming = handler_state up count coming
 
 -- one request is answered, with the next draw
 abbrev pub ServesRequest : Serving → Request → Reply → Serving → Type 0
-ServesRequest = Answers AnswersRequest
+ServesRequest = HandlesRequest AnswersRequest
 
 -- a draw was taken, and then memory ran out
 abbrev pub ServingRunsOut : Serving → Request → Serving → Type 0

@@ -70,8 +70,8 @@ abbrev pub last_number : ℕ
 last_number = 2 ^ 64 - 1
 
 -- whether the feature has this name
-abbrev pub is_named : List ℕ → Feature → Bool
-is_named name feature = bytes_eq feature.name name
+abbrev pub is_feature_named : List ℕ → Feature → Bool
+is_feature_named name feature = bytes_eq feature.name name
 
 -- whether any feature has this name
 abbrev pub has_feature : List ℕ → List Feature → Bool

@@ -18,12 +18,11 @@ use crate::command_or_reply::CommandOrReply;
 use crate::reading::read_command_bytes;
 use crate::refusal::{CommandRefusal, KeepCommandRefusal};
 use crate::upstream::Upstream;
-use http::StatusCode;
 use serde_json::{Map, Value};
 use std::alloc::Global;
 use unl_base::Draw;
-use unl_core::answer;
 use unl_core::reply::{made, refuse, refuse_method};
+use unl_core::{answer, status};
 use unl_documents::to_value::put;
 use unl_documents::{BadDocument, Field, List, Memory};
 use unl_http_api::{Reply, Request, Route, is_post};
@@ -84,10 +83,10 @@ impl Upstream {
             return Ok(CommandOrReply::Reply(refuse_method(alloc, &Route::Commands)?));
         }
         let Some(token) = &request.token else {
-            return Ok(CommandOrReply::Reply(refuse(alloc, StatusCode::UNAUTHORIZED, "NoToken")?));
+            return Ok(CommandOrReply::Reply(refuse(alloc, status::UNAUTHORIZED, "NoToken")?));
         };
         if !self.is_secret(token.as_slice()) {
-            return Ok(CommandOrReply::Reply(refuse(alloc, StatusCode::FORBIDDEN, "UnknownToken")?));
+            return Ok(CommandOrReply::Reply(refuse(alloc, status::FORBIDDEN, "UnknownToken")?));
         }
         order_in(alloc, request.body.as_slice())
     }
@@ -121,7 +120,7 @@ fn order_in(alloc: Global, body: &[u8]) -> Result<CommandOrReply, Memory>
     match read_command_bytes(alloc, body) {
         Ok(command) => Ok(CommandOrReply::Execute(command)),
         Err(BadDocument::Memory) => Err(Memory),
-        Err(_) => Ok(CommandOrReply::Reply(refuse(alloc, StatusCode::BAD_REQUEST, "BadBody")?)),
+        Err(_) => Ok(CommandOrReply::Reply(refuse(alloc, status::BAD_REQUEST, "BadBody")?)),
     }
 }
 
@@ -140,7 +139,7 @@ pub(crate) fn numbered(alloc: Global, number: u64) -> Result<Reply, Memory>
     ensures { IfOk result (λ reply. reply ≡ numbered number) }
 {
     let body = number_object(alloc, number)?;
-    made(alloc, StatusCode::OK, &body)
+    made(alloc, status::OK, &body)
 }
 
 /// Returns an object with the member `number`.
@@ -158,14 +157,14 @@ pub(crate) fn refused(alloc: Global, refusal: KeepCommandRefusal) -> Result<Repl
 {
     match refusal {
         KeepCommandRefusal::NoSuchEnvironment => {
-            refuse(alloc, StatusCode::NOT_FOUND, "NoSuchEnvironment")
+            refuse(alloc, status::NOT_FOUND, "NoSuchEnvironment")
         }
-        KeepCommandRefusal::NoSuchFeature => refuse(alloc, StatusCode::NOT_FOUND, "NoSuchFeature"),
-        KeepCommandRefusal::NoSuchSegment => refuse(alloc, StatusCode::NOT_FOUND, "NoSuchSegment"),
-        KeepCommandRefusal::TooMany(_) => refuse(alloc, StatusCode::CONFLICT, "TooMany"),
-        KeepCommandRefusal::KeeperFull(_) => refuse(alloc, StatusCode::CONFLICT, "TooMany"),
+        KeepCommandRefusal::NoSuchFeature => refuse(alloc, status::NOT_FOUND, "NoSuchFeature"),
+        KeepCommandRefusal::NoSuchSegment => refuse(alloc, status::NOT_FOUND, "NoSuchSegment"),
+        KeepCommandRefusal::TooMany(_) => refuse(alloc, status::CONFLICT, "TooMany"),
+        KeepCommandRefusal::KeeperFull(_) => refuse(alloc, status::CONFLICT, "TooMany"),
         KeepCommandRefusal::KeeperFault => {
-            refuse(alloc, StatusCode::SERVICE_UNAVAILABLE, "KeeperFault")
+            refuse(alloc, status::SERVICE_UNAVAILABLE, "KeeperFault")
         }
         KeepCommandRefusal::Memory => Err(Memory),
     }

@@ -7,7 +7,7 @@ ghost use Rattle.unl_documents.specs.Results.{Gives};
 ghost use Rattle.unl_documents.specs.Valid.{IsValidFeature, IsValidSegment};
 ghost use Rattle.unl_upstream.specs.declared.refusal.CommandRefusal.TheVariants.{Memory as memory};
 ghost use Rattle.unl_upstream.specs.Command.{IsValidCommand};
-ghost use Rattle.unl_upstream.specs.Upstream.{IsNext, event_of, feature_put, feature_removed, has_feature, has_segment, is_named};
+ghost use Rattle.unl_upstream.specs.Upstream.{IsNext, event_of, feature_put, feature_removed, has_feature, has_segment, is_feature_named};
 ghost use Rattle.unl_upstream.specs.Upstream.{number_after, segment_put, segment_removed};
 ghost use Rattle.unl_upstream.specs.Writing.{RemovesName};
 
@@ -138,7 +138,7 @@ fn project_of<'a>(name: &Text, version: &'a EnvVersion) -> Option<&'a Text>
 /// Returns the feature with this name.
 fn feature_named<'a>(name: &Text, version: &'a EnvVersion) -> Option<&'a Feature>
     requires { IsValidVersion version.now }
-    ensures { option_map (λ f. f.now) result ≡ find (is_named name.now) version.now.state.features }
+    ensures { option_map (λ f. f.now) result ≡ find (is_feature_named name.now) version.now.state.features }
 {
     find_in_chunks(&version.state.features, name)
 }

@@ -1,7 +1,7 @@
 //! Keeps a command: its text is stored before it is published.
 ghost use Rattle.std.specs.Prelude.{◌≡◌, ◌≢◌, ◌<◌, true, [], ◌∷◌, Err, IfOk, IfErr, OnOk};
 ghost use Rattle.unl_upstream.specs.Command.{IsValidCommand};
-ghost use Rattle.unl_upstream.specs.Kept.{Carries, IsPending, Keeps, Puts, kept_state, with_room};
+ghost use Rattle.unl_upstream.specs.Kept.{Carries, IsPending, KeepsCommand, Puts, kept_state, with_room};
 ghost use Rattle.unl_upstream.specs.Upstream.{apply_command};
 ghost use Rattle.unl_upstream.specs.declared.refusal.KeepCommandRefusal.TheVariants.{Memory as memory};
 
@@ -40,7 +40,7 @@ pub fn keep<K: Keeper>(
     requires valid { IsValidCommand command.now }
     requires opened { (K.state keeper.old).opened ≡ true }
     ensures stays { (K.state keeper.new).opened ≡ true }
-    ensures keeps { Keeps command.now (kept_state up.old (K.state keeper.old)) result (kept_state up.new (K.state keeper.new)) }
+    ensures keeps { KeepsCommand command.now (kept_state up.old (K.state keeper.old)) result (kept_state up.new (K.state keeper.new)) }
     ensures carries { Carries (record { command = command.now; result = result } ∷ [])
         (kept_state up.old (K.state keeper.old)) (kept_state up.new (K.state keeper.new)) }
 {
@@ -58,7 +58,7 @@ fn keep_one<K: Keeper>(
     requires valid { IsValidCommand command.now }
     requires opened { (K.state keeper.old).opened ≡ true }
     ensures stays { (K.state keeper.new).opened ≡ true }
-    ensures keeps { Keeps command.now (kept_state up.old (K.state keeper.old)) result (kept_state up.new (K.state keeper.new)) }
+    ensures keeps { KeepsCommand command.now (kept_state up.old (K.state keeper.old)) result (kept_state up.new (K.state keeper.new)) }
 {
     let pending = prepare_put(alloc, up, keeper, command)?;
     match put(alloc, up, keeper, pending) {

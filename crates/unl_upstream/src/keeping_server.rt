@@ -1,6 +1,6 @@
 //! Answers requests with an upstream and its keeper, and serves connections with them.
 ghost use Rattle.unl_server.specs.Conversation.{Converses};
-ghost use Rattle.unl_server.specs.Links.{link_state};
+ghost use Rattle.unl_server.specs.Links.{link_view};
 ghost use Rattle.std.specs.Prelude.{◌≡◌, true, IfOk, OnErr};
 ghost use Rattle.unl_upstream.specs.Command.{IsValidCommand};
 ghost use Rattle.unl_upstream.specs.Kept.{kept_state};
@@ -116,7 +116,7 @@ impl<'a, K: Keeper> RequestHandler for ByKept<'a, K> {
 
     ghost gives = { λ state request draw reply after. AnswersByKeeping (kept_in K.state state) request draw reply (kept_in K.state after) };
 
-    ghost gives_up = { λ state request draw after. KeptStateUnchanged (kept_in K.state state) request draw (kept_in K.state after) };
+    ghost out_of_memory = { λ state request draw after. KeptStateUnchanged (kept_in K.state state) request draw (kept_in K.state after) };
 
     fn answer(
         alloc: Global,
@@ -148,10 +148,10 @@ pub fn serve_kept<K: Keeper, L: Link, R: Draws>(
     // The whole conversation: its session, its replies, how it ended, how many requests were answered (each with the next
     // draw), and the cause of each failure.
     ensures converses { Converses ServesKeptRequest KeptServingRunsOut
-        (link_state (L.left link.old) (L.sent link.old) (L.Source.faults link.old))
+        (link_view (L.left link.old) (L.sent link.old) (L.Source.faults link.old))
         (kept_serving_state (kept_state up.old (K.state keeper.old)) 0 (R.coming draws.old)) result.1
         (kept_serving_state (kept_state up.new (K.state keeper.new)) result.0 (R.coming draws.new)) result.0
-        (link_state (L.left link.new) (L.sent link.new) (L.Source.faults link.new)) }
+        (link_view (L.left link.new) (L.sent link.new) (L.Source.faults link.new)) }
 
     // In every case, attempts to keep the commands of the answered requests are all that changed the upstream and its keeper.
     ensures keeps { ServesKept

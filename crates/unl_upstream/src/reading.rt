@@ -1,5 +1,5 @@
 //! Reading commands from JSON.
-ghost use Rattle.std.specs.Prelude.{◌≡◌, IfOk};
+ghost use Rattle.std.specs.Prelude.{IfOk};
 ghost use Rattle.serde_json.specs.View.{view};
 ghost use Rattle.unl_documents.specs.Kinds.{document};
 ghost use Rattle.unl_documents.specs.Reading.{Gives};

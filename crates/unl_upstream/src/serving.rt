@@ -1,6 +1,6 @@
 //! Serves a connection with an upstream.
 ghost use Rattle.unl_server.specs.Conversation.{Converses};
-ghost use Rattle.unl_server.specs.Links.{link_state};
+ghost use Rattle.unl_server.specs.Links.{link_view};
 ghost use Rattle.unl_upstream.specs.Serving.{ServingRunsOut, ObeysRequests, ServesRequest, serving_state};
 
 use crate::upstream::Upstream;
@@ -24,7 +24,7 @@ impl RequestHandler for ByUpstream {
 
     ghost gives = { AnswersRequest };
 
-    ghost gives_up = { UpstreamUnchanged };
+    ghost out_of_memory = { UpstreamUnchanged };
 
     fn answer(
         alloc: Global,
@@ -54,9 +54,9 @@ impl Upstream {
         // The whole conversation: its session, its replies, how it ended, how many requests were answered (each with the next
         // draw), and the cause of each failure.
         ensures converses { Converses ServesRequest ServingRunsOut
-            (link_state (L.left link.old) (L.sent link.old) (L.Source.faults link.old))
+            (link_view (L.left link.old) (L.sent link.old) (L.Source.faults link.old))
             (serving_state self.old 0 (R.coming draws.old)) result.1 (serving_state self.new result.0 (R.coming draws.new)) result.0
-            (link_state (L.left link.new) (L.sent link.new) (L.Source.faults link.new)) }
+            (link_view (L.left link.new) (L.sent link.new) (L.Source.faults link.new)) }
 
         // In every case, the commands of the answered requests are all that changed the upstream.
         ensures obeyed { ObeysRequests self.old result.0 self.new }
