@@ -1,7 +1,7 @@
 -- How an edge ends after it took its first draw and tried to listen.
-use Rattle.std.proofs.Common.{◌≡◌, ◌<◌, ◌≤◌, ◌∙◌, ℕ, Bool, List, length, Option, Some, None, Result, Ok, Err, IfSome, ap, arith, inl, inr, refl, sym, subst}
+use Rattle.std.proofs.Common.{◌≡◌, ◌<◌, ◌≤◌, ◌∙◌, ℕ, Bool, List, length, Option, Some, None, Result, Ok, Err, IfSome, ap, arith, inl, inr, sym, subst}
 use Rattle.std.proofs.Common.{false, true}
-use Rattle.std.specs.Prelude.{◌⊎◌, OnErr, OnOk}
+use Rattle.std.specs.Prelude.{OnErr, OnOk}
 use Rattle.unl_base.specs.Draws.{TakesDraw}
 use Rattle.unl_base.specs.Doors.{DoorState, IsClosed, IsClosedAt, ListenedAt, ListenedOnlyAt, ServedOnlyAt, listening_at}
 use Rattle.unl_base.specs.Streams.{Sends, SendsPrefix}

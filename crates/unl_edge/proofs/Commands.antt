@@ -4,21 +4,21 @@ use Rattle.std.specs.Prelude.{option_and_then, option_map, slice_get, unwrap_or}
 use Rattle.std.specs.List.{list_all}
 use Rattle.clap.proofs.WalkLemmas.{both}
 use Rattle.unl_base.specs.Faults.{Rose}
-use Rattle.unl_base.specs.Streams.{HasEnded, Sends, SendsPrefix, Takes}
-use Rattle.unl_base.proofs.Sending.{Sends_nothing}
+use Rattle.unl_base.specs.Streams.{Sends, SendsPrefix}
 use Rattle.unl_core.specs.Board.{AreDifferent}
 use Rattle.unl_documents.specs.Texts.{is_name}
 use Rattle.unl_edge.specs.Keeping.{KeptLines, SpellKept, keeping, kept_lines_of}
 use Rattle.unl_edge.specs.Scene.{Scene}
 use Rattle.unl_edge.specs.Status.{Caused, code_of, ending_status, upstream_status}
-use Rattle.unl_edge.specs.Upstreams.{Begins, ComesBack, EndsKept, Facing, IsDecidedByLines, IsDecidedFrom, IsOfRow, KeeperEnd, LinesEnd}
-use Rattle.unl_edge.specs.Upstreams.{IsNew, LinksEnd, Opens, RefusesRow, RunsUpstream, ServesAfterLines, ServesLinks, UpstreamEnds, UpstreamRuns}
+use Rattle.unl_edge.specs.Upstreams.{Begins, ComesBack, EndsKept, UpstreamFacing, IsDecidedByLines, IsDecidedFrom, IsOfRow, KeeperEnd, LinesEnd}
+use Rattle.unl_edge.specs.Upstreams.{IsNew, UpstreamLinksEnd, ReopensUpstream, RefusesUpstreamRow, RunsUpstream, ServesAfterLines, ServesUpstreamLinks, UpstreamEnds, UpstreamRuns}
 use Rattle.unl_edge.specs.Upstreams.{connections_line, facing_of, lines_code, obeying}
 use Rattle.unl_edge.specs.declared.ends.ServingEnd.{ServingEnd}
 use Rattle.unl_edge.specs.declared.ends.ServingEnd.TheVariants.{Closed, WriteFault, DoorFault, OutOfMemory}
 use Rattle.unl_edge.specs.declared.ends.UpstreamEnd.{UpstreamEnd}
 use Rattle.unl_edge.specs.declared.ends.UpstreamEnd.TheVariants.{OutOfMemory as NoMemory, KeeperFault, Row, Lines, Links}
 use Rattle.unl_edge.specs.declared.status.Status.TheVariants as status
+use Rattle.unl_edge.proofs.Fitting.{texts_differ}
 use Rattle.unl_edge.proofs.Keeping.{all_taken, lines_keep, same_ending, silent}
 use Rattle.unl_edge.proofs.Named.{links_named}
 use Rattle.unl_server.specs.Handling.{Coming}
@@ -26,10 +26,10 @@ use Rattle.unl_input.specs.declared.refusal.WriteLineFault.TheVariants as say
 use Rattle.unl_keeper.specs.Rows.{kept}
 use Rattle.unl_keeper.specs.State.{HasKept, IsNewKeeper, KeeperState, kept_rows}
 use Rattle.unl_input.specs.Lines.{lines}
-use Rattle.unl_input.specs.Taken.{Ending, IsRefused, Outcome, done, outcome_of, refused}
+use Rattle.unl_input.specs.Taken.{Ending, IsRefused, LinesOutcome, done, lines_outcome, refused}
 use Rattle.unl_input.specs.declared.taking.LinesFault.{LinesFault}
 use Rattle.unl_input.specs.declared.taking.LinesFault.TheVariants as line
-use Rattle.unl_input.specs.Whole.{AnswersAll, IsRefusing, HoldsOfRead, TakesLines}
+use Rattle.unl_input.specs.Whole.{AnswersAllLines, IsRefusing, HoldsOfRead, TakesLines}
 use Rattle.unl_input.proofs.Silent.{memory_is_silent, nothing_sent, prints_cause_alone}
 use Rattle.unl_input.proofs.Whole.{holds_of_observable, whole_read}
 use Rattle.unl_tokens.specs.declared.token.Token.{Token}
@@ -42,14 +42,13 @@ use Rattle.unl_upstream.specs.declared.reopening.ReopenFault.{ReopenFault}
 use Rattle.unl_upstream.specs.declared.reopening.ReopenFault.TheVariants.{BadRow, NoRow, Fault, Memory}
 use Rattle.unl_words.specs.Lists.{are_different, are_environments, has_count}
 use Rattle.unl_words.specs.declared.words.UpstreamArguments.{UpstreamArguments}
-use Rattle.unl_words.proofs.Known.{others_differ}
 
 -- ---- the links
 
 -- no link was handed out
-pub serves_none : (state : KeptState) (before after : Facing) → HasKept state.keeper → after.coming ≡ before.coming
+pub serves_none : (state : KeptState) (before after : UpstreamFacing) → HasKept state.keeper → after.coming ≡ before.coming
     → after.door.given ≡ before.door.given → after.door.back ≡ before.door.back → after.door.links ≡ before.door.links
-    → after.door.returned ≡ before.door.returned → ServesLinks state state before after 0
+    → after.door.returned ≡ before.door.returned → ServesUpstreamLinks state state before after 0
 serves_none state before after has coming given back left returned = record {
   serves_links = record {
     given = given ∙ omega arith;
@@ -84,23 +83,23 @@ silent_at opened result left left_after old new is takes =
 
 -- how an upstream ends after all its lines were accepted, from the state after them
 pub after_lines : (opened kept : KeptState) (port : ℕ) (last : KeptState) (desk : KeptLines) (end : ServingEnd) (left left_after : Option (List ℕ))
-    (before after : Facing) (sent : Option (List ℕ)) → HasKept kept.keeper → kept_lines_of kept ≡ desk → AnswersAll keeping (kept_lines_of opened) desk left left_after before.sent sent
-    → LinksEnd kept port end last (record before { sent = sent }) after
+    (before after : UpstreamFacing) (sent : Option (List ℕ)) → HasKept kept.keeper → kept_lines_of kept ≡ desk → AnswersAllLines keeping (kept_lines_of opened) desk left left_after before.sent sent
+    → UpstreamLinksEnd kept port end last (record before { sent = sent }) after
     → LinesEnd opened port (Links end) last.keeper left left_after before after
 after_lines opened kept port last desk end left left_after before after sent has is taken links = by_end end links
   where
     same_sent : sent ≡ before.sent
     same_sent =
-        nothing_sent before.sent sent (outcome_of keeping (kept_lines_of opened) taken.read).text
+        nothing_sent before.sent sent (lines_outcome keeping (kept_lines_of opened) taken.read).text
         (prints_cause_alone keeping silent (kept_lines_of opened) taken.read) taken.answered.sent
 
-    accepted : outcome_of keeping (kept_lines_of opened) taken.read ≡ record { text = []; ending = done; desk = kept_lines_of kept }
+    accepted : lines_outcome keeping (kept_lines_of opened) taken.read ≡ record { text = []; ending = done; desk = kept_lines_of kept }
     accepted = all_taken keeping (kept_lines_of opened) (kept_lines_of kept) taken.read silent taken.answered.ending (taken.leaves ∙ sym is)
 
     spelled : SpellKept (kept_lines_of opened) (lines taken.read) (kept_lines_of kept)
     spelled = lines_keep (kept_lines_of opened) (kept_lines_of kept) taken.read accepted
 
-    serves : (served : ℕ) → ServesLinks kept last (record before { sent = sent }) after served
+    serves : (served : ℕ) → ServesUpstreamLinks kept last (record before { sent = sent }) after served
         → ServesAfterLines opened last.keeper left left_after before after served
     serves served all = record {
       read = taken.read;
@@ -119,7 +118,7 @@ after_lines opened kept port last desk end left left_after before after sent has
           (record { up = spelled.leads; count = spelled.counted }) (all.serves_links.linked links returned observed observed_back);
     }
 
-    by_end : (end : ServingEnd) → LinksEnd kept port end last (record before { sent = sent }) after
+    by_end : (end : ServingEnd) → UpstreamLinksEnd kept port end last (record before { sent = sent }) after
         → LinesEnd opened port (Links end) last.keeper left left_after before after
     by_end Closed links = (
       links.0,
@@ -140,7 +139,7 @@ after_lines opened kept port last desk end left left_after before after sent has
 
 -- a row that is missing or isn't an accepted command
 pub bad_row : (start reached : KeptState) (place : ℕ) (text : List ℕ) (fault : ReopenFault) → fault ≡ BadRow place text
-    → IsSameKeeper start.keeper reached.keeper → Reopens start (Err fault) reached → RefusesRow start place
+    → IsSameKeeper start.keeper reached.keeper → Reopens start (Err fault) reached → RefusesUpstreamRow start place
 bad_row start reached place text fault is same reopens = record {
   fault = fault;
   of_row = subst (IsOfRow place) (sym is) refl;
@@ -150,7 +149,7 @@ bad_row start reached place text fault is same reopens = record {
 }
 
 pub no_row_there : (start reached : KeptState) (place : ℕ) (fault : ReopenFault) → fault ≡ NoRow place
-    → IsSameKeeper start.keeper reached.keeper → Reopens start (Err fault) reached → RefusesRow start place
+    → IsSameKeeper start.keeper reached.keeper → Reopens start (Err fault) reached → RefusesUpstreamRow start place
 no_row_there start reached place fault is same reopens = record {
   fault = fault;
   of_row = subst (IsOfRow place) (sym is) refl;
@@ -169,7 +168,7 @@ none_applied start up [] none leads = sym (ap (λ (o : Option UpstreamState). un
 none_applied start up (text ∷ texts) none leads = absurd (omega (arith, none))
 
 -- an upstream reopened on such a keeper is in its opening state, and no command is kept
-opens_empty : (start : UpstreamState) (made : KeeperState) (reopened : ℕ) (opened : KeptState) → made.rows ≡ Some [] → Opens (kept_state start made) reopened opened
+opens_empty : (start : UpstreamState) (made : KeeperState) (reopened : ℕ) (opened : KeptState) → made.rows ≡ Some [] → ReopensUpstream (kept_state start made) reopened opened
     → kept_lines_of opened ≡ record { up = start; count = 0; commands = Some [] }
 opens_empty start made reopened opened empty opens =
     let rows : opened.keeper.rows ≡ Some [] = opens.same.rows ∙ empty in
@@ -181,7 +180,7 @@ opens_empty start made reopened opened empty opens =
 
 -- the same, if what the maker holds is observable
 opens_plain : (start : UpstreamState) (made : KeeperState) (held : Option (List (List ℕ))) → IsNewKeeper held made → (reopened : ℕ) (opened : KeptState)
-    → Opens (kept_state start made) reopened opened → IfSome held (λ _. kept_lines_of opened ≡ record { up = start; count = 0; commands = Some [] })
+    → ReopensUpstream (kept_state start made) reopened opened → IfSome held (λ _. kept_lines_of opened ≡ record { up = start; count = 0; commands = Some [] })
 opens_plain start made held is_new_keeper reopened opened opens = by_held held is_new_keeper.empty
   where
     by_held : (held : Option (List (List ℕ))) → IfSome held (λ _. made.rows ≡ Some [])
@@ -263,22 +262,16 @@ upstream_runs words end before after start coming begins ends = by_end end ends
 
 -- ---- the environments
 
--- the names in a list without duplicates differ
-environments_differ : (texts : List (List ℕ)) → are_different texts ≡ true → AreDifferent texts
-environments_differ [] differ = tt
-environments_differ (name ∷ texts) differ =
-    let parts = others_differ name texts differ in (parts.0, environments_differ texts parts.1)
-
 -- the environments of the arguments have different names
 pub environments_are_different : (environments : List (List ℕ)) → are_environments environments ≡ true → AreDifferent environments
 environments_are_different environments are =
     let parts = both (has_count 1 8 environments) (list_all is_name environments && are_different environments) are in
-    environments_differ environments (both (list_all is_name environments) (are_different environments) parts.1).1
+    texts_differ environments (both (list_all is_name environments) (are_different environments) parts.1).1
 
 -- ---- a keeper without rows
 
 -- no row of such a keeper is refused
-no_row : (start : UpstreamState) (made : KeeperState) (place : ℕ) → made.rows ≡ Some [] → RefusesRow (kept_state start made) place → ⊥
+no_row : (start : UpstreamState) (made : KeeperState) (place : ℕ) → made.rows ≡ Some [] → RefusesUpstreamRow (kept_state start made) place → ⊥
 no_row start made place empty refuses = by_fault refuses.fault refuses.of_row refuses.reopens
   where
     rows : refuses.reached.keeper.rows ≡ Some []
@@ -300,20 +293,20 @@ refused_is done is = absurd is
 refused_is (refused k cause) is = refl
 
 -- a refused line determines the exit code, if the input is observable
-observable_decide : {D : Type 0} (outcome : List ℕ → Outcome D) (left old new : Option (List ℕ))
+observable_decide : {D : Type 0} (outcome : List ℕ → LinesOutcome D) (left old new : Option (List ℕ))
     → IfSome left (λ bytes. IsRefusing (outcome bytes) old new) → IfSome left (λ bytes. 3 ≡ code_of (ending_status (outcome bytes).ending))
 observable_decide outcome None old new is = tt
 observable_decide outcome (Some bytes) old new is = ap code_of (sym (refused_is (outcome bytes).ending is.ending))
 
 -- a refused line determines the exit code
-pub refusing_decides : {D : Type 0} (outcome : List ℕ → Outcome D) (left left_after old new : Option (List ℕ))
+pub refusing_decides : {D : Type 0} (outcome : List ℕ → LinesOutcome D) (left left_after old new : Option (List ℕ))
     → HoldsOfRead left left_after (λ bytes. IsRefusing (outcome bytes) old new)
     → IfSome left (λ bytes. 3 ≡ code_of (ending_status (outcome bytes).ending))
 refusing_decides outcome left left_after old new is =
     observable_decide outcome left old new (holds_of_observable (λ bytes. IsRefusing (outcome bytes) old new) left left_after is)
 
 -- if all lines were accepted, the exit code by the lines is 0
-lines_decide : (opened : KeptState) (last : KeeperState) (left left_after : Option (List ℕ)) (before after : Facing) (served : ℕ)
+lines_decide : (opened : KeptState) (last : KeeperState) (left left_after : Option (List ℕ)) (before after : UpstreamFacing) (served : ℕ)
     → ServesAfterLines opened last left left_after before after served → IfSome left (λ bytes. 0 ≡ lines_code keeping (kept_lines_of opened) bytes)
 lines_decide opened last left left_after before after served serves = of_read left (whole_read left left_after serves.read serves.took serves.end)
   where
@@ -321,11 +314,11 @@ lines_decide opened last left left_after before after served serves = of_read le
     of_read None is = tt
     of_read (Some bytes) is =
         subst (λ (bs : List ℕ). 0 ≡ lines_code keeping (kept_lines_of opened) bs) (sym is)
-        (ap (λ (o : Outcome KeptLines). code_of (ending_status o.ending)) (sym serves.accepted))
+        (ap (λ (o : LinesOutcome KeptLines). code_of (ending_status o.ending)) (sym serves.accepted))
 
 -- the lines determine the exit code of a reopened upstream
 by_lines : (start : UpstreamState) (made : KeeperState) (reopened : ℕ) (opened : KeptState) (code : ℕ) (held : Option (List (List ℕ))) (left : Option (List ℕ))
-    → IsNewKeeper held made → Opens (kept_state start made) reopened opened → IfSome left (λ bytes. code ≡ lines_code keeping (kept_lines_of opened) bytes)
+    → IsNewKeeper held made → ReopensUpstream (kept_state start made) reopened opened → IfSome left (λ bytes. code ≡ lines_code keeping (kept_lines_of opened) bytes)
     → IsDecidedFrom (kept_state start made) code left × IfSome held (λ _. IfSome left (λ bytes. code ≡ lines_code obeying start bytes))
 by_lines start made reopened opened code held left is_new_keeper opens decides = (inr (reopened, opened, opens, decides), by_held held is_new_keeper.empty)
   where
@@ -347,7 +340,7 @@ by_lines start made reopened opened code held left is_new_keeper opens decides =
 
 -- a refused row determines the exit code
 by_row : (start : UpstreamState) (made : KeeperState) (place : ℕ) (held : Option (List (List ℕ))) (left : Option (List ℕ))
-    → IsNewKeeper held made → RefusesRow (kept_state start made) place
+    → IsNewKeeper held made → RefusesUpstreamRow (kept_state start made) place
     → IsDecidedFrom (kept_state start made) 3 left × IfSome held (λ _. IfSome left (λ bytes. 3 ≡ lines_code obeying start bytes))
 by_row start made place held left is_new_keeper refuses = (inl (place, refuses, refl), by_held held is_new_keeper.empty)
   where
@@ -358,7 +351,7 @@ by_row start made place held left is_new_keeper refuses = (inl (place, refuses, 
 
 -- the exit code of an upstream with a keeper
 kept_decided : {Read Write Door Keep : Type 0} (start : UpstreamState) (port : ℕ) (made last : KeeperState) (end : UpstreamEnd) (held : Option (List (List ℕ)))
-    (left left_after : Option (List ℕ)) (before after : Facing) → IsNewKeeper held made → KeeperEnd (kept_state start made) port end last left left_after before after
+    (left left_after : Option (List ℕ)) (before after : UpstreamFacing) → IsNewKeeper held made → KeeperEnd (kept_state start made) port end last left left_after before after
     → Caused (upstream_status end) Read Write Door Keep → ¬ Read → ¬ Write → ¬ Door → ¬ Keep → code_of (upstream_status end) ≢ 6
     → IsDecidedFrom (kept_state start made) (code_of (upstream_status end)) left
     × IfSome held (λ _. IfSome left (λ bytes. code_of (upstream_status end) ≡ lines_code obeying start bytes))
@@ -372,7 +365,7 @@ kept_decided start port made last (Row (Err say.Memory)) held left left_after be
     absurd (memory refl)
 kept_decided start port made last (Lines line.Bad) held left left_after before after is_new_keeper ends caused read write door keep memory =
     by_lines start made ends.reopened ends.opened 3 held left is_new_keeper ends.opens
-    (refusing_decides (outcome_of keeping (kept_lines_of ends.opened)) left left_after before.sent after.sent ends.ends.0)
+    (refusing_decides (lines_outcome keeping (kept_lines_of ends.opened)) left left_after before.sent after.sent ends.ends.0)
 kept_decided start port made last (Lines line.ReadFault) held left left_after before after is_new_keeper ends caused read write door keep memory = absurd (read caused)
 kept_decided start port made last (Lines line.WriteFault) held left left_after before after is_new_keeper ends caused read write door keep memory = absurd (write caused)
 kept_decided start port made last (Lines line.Memory) held left left_after before after is_new_keeper ends caused read write door keep memory = absurd (memory refl)

@@ -3,10 +3,10 @@ use Rattle.std.proofs.Common.{◌≡◌, ◌≢◌, ℕ, ◌==◌, List, cond, O
 use Rattle.unl_base.specs.declared.draws.Draw.{Draw}
 use Rattle.unl_documents.specs.Reading.{Reading}
 use Rattle.unl_documents.specs.Results.{Gives}
-use Rattle.unl_edge.specs.Ends.{CheckEnds, Ended, Ends, HasCauses, IsDecided, LeavesAlone, PrintsReport, explained_status, outcome_end}
+use Rattle.unl_edge.specs.Ends.{CheckEnds, Ended, Ends, CodeHasCauses, IsDecided, LeavesAlone, PrintsReport, explained_status, outcome_end}
 use Rattle.unl_edge.specs.Follows.{ask_of, ends_in, subject_of}
 use Rattle.unl_edge.specs.Scene.{Scene}
-use Rattle.unl_edge.specs.Status.{Caused, FailsToKeep, IsCaused, check_status, code_of, ending_status, explain_status, follow_status, lines_status, load_status, serving_status, arguments_status}
+use Rattle.unl_edge.specs.Status.{Caused, FailsToOpenKeeper, IsCaused, check_status, code_of, ending_status, explain_status, follow_status, lines_status, load_status, serving_status, arguments_status}
 use Rattle.unl_edge.proofs.Closing.{stops_at_once}
 use Rattle.unl_edge.proofs.Commands.{refusing_decides, upstream_decided}
 use Rattle.unl_edge.specs.declared.ends.CheckEnd.{CheckEnd}
@@ -25,16 +25,16 @@ use Rattle.unl_follow.specs.declared.fault.FollowFault.{FollowFault}
 use Rattle.unl_follow.specs.declared.fault.FollowFault.TheVariants as follow
 use Rattle.unl_follow.proofs.Turning.{none_made}
 use Rattle.unl_input.proofs.Outcomes.{decides}
-use Rattle.unl_input.specs.Answer.{HasOutcome, Outcome, outcome_of}
+use Rattle.unl_input.specs.Answer.{HasOutcome, InputOutcome, input_outcome}
 use Rattle.unl_input.proofs.Whole.{ends_at_once, whole_read}
 use Rattle.unl_input.specs.declared.taking.LinesFault.{LinesFault}
 use Rattle.unl_input.specs.declared.taking.LinesFault.TheVariants as lines
 use Rattle.unl_load.specs.declared.fault.LoadFault.{LoadFault}
 use Rattle.unl_load.specs.declared.fault.LoadFault.TheVariants as load
-use Rattle.unl_replay.specs.Replay.{line_answer, opening, replay_of}
+use Rattle.unl_replay.specs.Replay.{line_answer, empty_replay, replay_of}
 use Rattle.unl_replay.specs.Replayed.{Replays}
 use Rattle.unl_replay.proofs.Delivering.{replays_lines}
-use Rattle.unl_spec_runner.specs.Check.{accepted, report_of}
+use Rattle.unl_spec_runner.specs.Check.{report_reading, report_of}
 use Rattle.unl_spec_runner.specs.Report.{Report}
 use Rattle.unl_words.specs.Words.{WordsReading}
 use Rattle.unl_words.specs.declared.refusal.WordsRefusal.TheVariants.{Bad, Memory}
@@ -48,7 +48,7 @@ at_memory (Ok Replay) scene = record {
   end = Err lines.Memory;
   is = refl;
   ends = replays_lines (Err lines.Memory) scene.input.left scene.input.left scene.output.sent scene.output.sent
-      (ends_at_once line_answer opening scene.input.left scene.output.sent);
+      (ends_at_once line_answer empty_replay scene.input.left scene.output.sent);
 }
 at_memory (Ok (Check now word)) scene = record { end = check.OutOfMemory; is = refl; ends = refl }
 at_memory (Ok Explain) scene = record { end = Err explain.Memory; is = refl; ends = refl }
@@ -115,7 +115,7 @@ status_back DoorFault = refl
 status_back KeeperFault = refl
 
 -- the cause of each fault, by its exit code
-pub all_causes : (status : Status) (code : ℕ) (before after : Scene) → code ≡ code_of status → IsCaused status before after → HasCauses code before after
+pub all_causes : (status : Status) (code : ℕ) (before after : Scene) → code ≡ code_of status → IsCaused status before after → CodeHasCauses code before after
 all_causes status code before after is caused = record {
   read = by_number ReadFault;
   write = by_number WriteFault;
@@ -130,11 +130,11 @@ all_causes status code before after is caused = record {
 -- ---- what determines the exit code if nothing fails and memory doesn't run out
 
 -- the result of processing an input determines what follows from it
-decided_by : {T : Type 0} (reads : List ℕ → Reading T) (code : Outcome T → ℕ) (number : ℕ) (outcome : Outcome T) (left left_after : Option (List ℕ))
-    → HasOutcome reads outcome left left_after → number ≡ code outcome → IfSome left (λ bytes. number ≡ code (outcome_of reads bytes))
+decided_by : {T : Type 0} (reads : List ℕ → Reading T) (code : InputOutcome T → ℕ) (number : ℕ) (outcome : InputOutcome T) (left left_after : Option (List ℕ))
+    → HasOutcome reads outcome left left_after → number ≡ code outcome → IfSome left (λ bytes. number ≡ code (input_outcome reads bytes))
 decided_by reads code number outcome left left_after comes is = at_each left (decides reads outcome left left_after comes)
   where
-    at_each : (l : Option (List ℕ)) → IfSome l (λ all. outcome_of reads all ≡ outcome) → IfSome l (λ bytes. number ≡ code (outcome_of reads bytes))
+    at_each : (l : Option (List ℕ)) → IfSome l (λ all. input_outcome reads all ≡ outcome) → IfSome l (λ bytes. number ≡ code (input_outcome reads bytes))
     at_each None same = tt
     at_each (Some all) same = is ∙ sym (ap code same)
 
@@ -156,7 +156,7 @@ replay_decided Read Write Door Keep (Err lines.WriteFault) left left_after old n
 replay_decided Read Write Door Keep (Err lines.Memory) left left_after old new ends caused read write memory = absurd (memory refl)
 
 -- the exit code of a check, from the result of processing its input
-check_code : Outcome Report → ℕ
+check_code : InputOutcome Report → ℕ
 check_code outcome = code_of (check_status (outcome_end outcome))
 
 -- the text sent about the input determines the exit code
@@ -164,7 +164,7 @@ said_decides : (draw : Draw) (end : CheckEnd) (left left_after old new : Option 
     → IfSome left (λ bytes. code_of (check_status end) ≡ code_of (check_status (outcome_end (report_of draw bytes))))
 unfolding check_code
 said_decides draw end left left_after old new prints =
-    decided_by (accepted draw) check_code (code_of (check_status end)) prints.outcome left left_after prints.says.comes
+    decided_by (report_reading draw) check_code (code_of (check_status end)) prints.outcome left left_after prints.says.comes
     (ap (λ (e : CheckEnd). code_of (check_status e)) prints.ends)
 
 -- the input determines how a check ends
@@ -179,13 +179,13 @@ check_decided Read Write Door Keep draw check.WriteFault left left_after old new
 check_decided Read Write Door Keep draw check.OutOfMemory left left_after old new ends caused read write memory = absurd (memory refl)
 
 -- the exit code of an explanation, from the result of processing its input
-explained_code : Outcome (List ℕ) → ℕ
+explained_code : InputOutcome (List ℕ) → ℕ
 explained_code outcome = code_of (explained_status outcome)
 
 -- the input determines how an explanation ends
 explain_decided : (Read Write Door Keep : Type 0) (end : Result Unit ExplainFault) (left left_after old new : Option (List ℕ))
     → Explains end left left_after old new → Caused (explain_status end) Read Write Door Keep → ¬ Read → ¬ Write → code_of (explain_status end) ≢ 6
-    → IfSome left (λ bytes. code_of (explain_status end) ≡ code_of (explained_status (outcome_of explained bytes)))
+    → IfSome left (λ bytes. code_of (explain_status end) ≡ code_of (explained_status (input_outcome explained bytes)))
 unfolding explained_code
 explain_decided Read Write Door Keep (Ok u) left left_after old new ends caused read write memory =
     decided_by explained explained_code 0 (Ok ends.0) left left_after ends.1.comes refl
@@ -236,40 +236,40 @@ of_end status Read Write Door Keep P ended caused memory then =
 
 -- the arguments and the input determine how the program ends
 by_arguments : {Read Write Door : Type 0} (reading : WordsReading) (status : Status) (before after : Scene) → Ends reading status before after
-    → Caused status Read Write Door (FailsToKeep before after) → ¬ Read → ¬ Write → ¬ Door → code_of status ≢ 6 → IsDecided reading (code_of status) before after
+    → Caused status Read Write Door (FailsToOpenKeeper before after) → ¬ Read → ¬ Write → ¬ Door → code_of status ≢ 6 → IsDecided reading (code_of status) before after
 by_arguments {Read} {Write} {Door} (Ok Replay) status before after ended caused read write door memory =
-    of_end status Read Write Door (FailsToKeep before after) (λ code. IsDecided (Ok Replay) code before after) ended caused memory
-    (λ cause some. replay_decided Read Write Door (FailsToKeep before after) ended.end before.input.left after.input.left before.output.sent after.output.sent ended.ends cause
+    of_end status Read Write Door (FailsToOpenKeeper before after) (λ code. IsDecided (Ok Replay) code before after) ended caused memory
+    (λ cause some. replay_decided Read Write Door (FailsToOpenKeeper before after) ended.end before.input.left after.input.left before.output.sent after.output.sent ended.ends cause
     read write some)
 by_arguments {Read} {Write} {Door} (Ok (Check now word)) status before after ended caused read write door memory =
-    of_end status Read Write Door (FailsToKeep before after) (λ code. IsDecided (Ok (Check now word)) code before after) ended caused memory
-    (λ cause some. check_decided Read Write Door (FailsToKeep before after) (record { now = now; word = word }) ended.end before.input.left after.input.left before.output.sent
+    of_end status Read Write Door (FailsToOpenKeeper before after) (λ code. IsDecided (Ok (Check now word)) code before after) ended caused memory
+    (λ cause some. check_decided Read Write Door (FailsToOpenKeeper before after) (record { now = now; word = word }) ended.end before.input.left after.input.left before.output.sent
     after.output.sent ended.ends cause read write some)
 by_arguments {Read} {Write} {Door} (Ok Explain) status before after ended caused read write door memory =
-    of_end status Read Write Door (FailsToKeep before after) (λ code. IsDecided (Ok Explain) code before after) ended caused memory
-    (λ cause some. explain_decided Read Write Door (FailsToKeep before after) ended.end before.input.left after.input.left before.output.sent after.output.sent ended.ends cause
+    of_end status Read Write Door (FailsToOpenKeeper before after) (λ code. IsDecided (Ok Explain) code before after) ended caused memory
+    (λ cause some. explain_decided Read Write Door (FailsToOpenKeeper before after) ended.end before.input.left after.input.left before.output.sent after.output.sent ended.ends cause
     read write some)
 by_arguments {Read} {Write} {Door} (Ok (Edge edge)) status before after ended caused read write door memory =
-    of_end status Read Write Door (FailsToKeep before after) (λ code. IsDecided (Ok (Edge edge)) code before after) ended caused memory
-    (λ cause some. edge_decided Read Write Door (FailsToKeep before after) ended.end cause write door some)
+    of_end status Read Write Door (FailsToOpenKeeper before after) (λ code. IsDecided (Ok (Edge edge)) code before after) ended caused memory
+    (λ cause some. edge_decided Read Write Door (FailsToOpenKeeper before after) ended.end cause write door some)
 by_arguments {Read} {Write} {Door} (Ok (Upstream up)) status before after ended caused read write door memory =
-    of_end status Read Write Door (FailsToKeep before after) (λ code. IsDecided (Ok (Upstream up)) code before after) ended caused memory
+    of_end status Read Write Door (FailsToOpenKeeper before after) (λ code. IsDecided (Ok (Upstream up)) code before after) ended caused memory
     (λ cause some quiet. upstream_decided up ended.end before after
     ended.ends cause read write door (λ fails. quiet fails.0) some)
 by_arguments {Read} {Write} {Door} (Ok (Follow replica)) status before after ended caused read write door memory =
-    of_end status Read Write Door (FailsToKeep before after) (λ code. IsDecided (Ok (Follow replica)) code before after) ended caused memory
-    (λ cause some. follow_decided Read Write Door (FailsToKeep before after) ended.end cause write some)
+    of_end status Read Write Door (FailsToOpenKeeper before after) (λ code. IsDecided (Ok (Follow replica)) code before after) ended caused memory
+    (λ cause some. follow_decided Read Write Door (FailsToOpenKeeper before after) ended.end cause write some)
 by_arguments {Read} {Write} {Door} (Ok (Load seed count)) status before after ended caused read write door memory =
-    of_end status Read Write Door (FailsToKeep before after) (λ code. IsDecided (Ok (Load seed count)) code before after) ended caused memory
-    (λ cause some. load_decided Read Write Door (FailsToKeep before after) ended.end cause write some)
+    of_end status Read Write Door (FailsToOpenKeeper before after) (λ code. IsDecided (Ok (Load seed count)) code before after) ended caused memory
+    (λ cause some. load_decided Read Write Door (FailsToOpenKeeper before after) ended.end cause write some)
 by_arguments {Read} {Write} {Door} (Err Bad) status before after ended caused read write door memory =
-    of_end status Read Write Door (FailsToKeep before after) (λ code. IsDecided (Err Bad) code before after) ended caused memory
-    (λ cause some. bad_decided Read Write Door (FailsToKeep before after) ended.end cause write some)
+    of_end status Read Write Door (FailsToOpenKeeper before after) (λ code. IsDecided (Err Bad) code before after) ended caused memory
+    (λ cause some. bad_decided Read Write Door (FailsToOpenKeeper before after) ended.end cause write some)
 by_arguments (Err Memory) status before after ends caused read write door memory = ap code_of ends
 
 -- so they determine its exit code, if no count rose and memory didn't run out
 pub decided : {Read Write Door : Type 0} (reading : WordsReading) (status : Status) (code : ℕ) (before after : Scene)
-    → code ≡ code_of status → Ends reading status before after → Caused status Read Write Door (FailsToKeep before after)
+    → code ≡ code_of status → Ends reading status before after → Caused status Read Write Door (FailsToOpenKeeper before after)
     → ¬ Read → ¬ Write → ¬ Door → code ≢ 6 → IsDecided reading code before after
 decided {Read} {Write} {Door} reading status code before after is ends caused read write door memory =
     subst (λ c. IsDecided reading c before after) (sym is)

@@ -129,15 +129,16 @@ tokens_fit tokens are =
     let parts = both (has_count 1 8 tokens) (list_all (is_token true) tokens && are_different (map environment_of tokens)) are in
     all_fit tokens (both (list_all (is_token true) tokens) (are_different (map environment_of tokens)) parts.1).0
 
-differ : (texts : List (List ℕ)) → are_different texts ≡ true → AreDifferent texts
-differ [] are = tt
-differ (text ∷ texts) are = let parts = others_differ text texts are in (parts.0, differ texts parts.1)
+-- the names in a list without duplicates differ
+pub texts_differ : (texts : List (List ℕ)) → are_different texts ≡ true → AreDifferent texts
+texts_differ [] are = tt
+texts_differ (text ∷ texts) are = let parts = others_differ text texts are in (parts.0, texts_differ texts parts.1)
 
 -- their environments differ
 pub names_differ : (tokens : List (List ℕ)) → are_upstream_tokens tokens ≡ true → AreDifferent (map environment_of tokens)
 names_differ tokens are =
     let parts = both (has_count 1 8 tokens) (list_all (is_token true) tokens && are_different (map environment_of tokens)) are in
-    differ (map environment_of tokens) (both (list_all (is_token true) tokens) (are_different (map environment_of tokens)) parts.1).1
+    texts_differ (map environment_of tokens) (both (list_all (is_token true) tokens) (are_different (map environment_of tokens)) parts.1).1
 
 -- an empty slot for each of them gives as many places
 pub opened_places : (tokens : List (List ℕ)) → length (map place_at (map empty_slot (map environment_of tokens))) ≡ length tokens

@@ -8,7 +8,7 @@ use Rattle.unl_edge.specs.Upstreams.{obeying}
 use Rattle.unl_input.specs.Laws.{IsSilent}
 use Rattle.unl_input.specs.Lines.{lines}
 use Rattle.unl_input.specs.Reading.{longest_line}
-use Rattle.unl_input.specs.Taken.{LineResult, Outcome, Taken, Taking, done, followed, most_lines, outcome_of, refused, take_from, take_line}
+use Rattle.unl_input.specs.Taken.{LineResult, LinesOutcome, Taken, Taking, done, followed, most_lines, lines_outcome, refused, take_from, take_line}
 use Rattle.unl_input.proofs.Silent.{prints_cause_alone, within_limits_of}
 use Rattle.unl_upstream.specs.Command.{command_in}
 use Rattle.unl_upstream.specs.History.{accepted, after_commands, if_accepted, up_after}
@@ -43,10 +43,10 @@ unfolding kept_line
 silent k kept_lines line taken is = read_silent kept_lines (command_in line) taken is
 
 -- the lines of a whole input, all of which were accepted
-pub all_taken : {D : Type 0} (taking : Taking D) (start last : D) (read : List ℕ) → IsSilent taking → (outcome_of taking start read).ending ≡ done
-    → (outcome_of taking start read).desk ≡ last → outcome_of taking start read ≡ record { text = []; ending = done; desk = last }
+pub all_taken : {D : Type 0} (taking : Taking D) (start last : D) (read : List ℕ) → IsSilent taking → (lines_outcome taking start read).ending ≡ done
+    → (lines_outcome taking start read).desk ≡ last → lines_outcome taking start read ≡ record { text = []; ending = done; desk = last }
 all_taken {D} taking start last read silent ending leaves =
-    let text : (outcome_of taking start read).text ≡ [] = prints_cause_alone taking silent start read in
+    let text : (lines_outcome taking start read).text ≡ [] = prints_cause_alone taking silent start read in
     λ i. record { text = text i; ending = ending i; desk = leaves i }
 
 -- ---- the commands in lines
@@ -89,7 +89,7 @@ keeps_one kept_lines line taken is = decided (command_in line) refl is
     decided (Err fault) spelled is = absurd (cc is)
 
 -- the lines from line `k` on
-abbrev rest_from : ℕ → List (List ℕ) → KeptLines → Outcome KeptLines
+abbrev rest_from : ℕ → List (List ℕ) → KeptLines → LinesOutcome KeptLines
 rest_from k more kept_lines = take_from keeping k kept_lines more
 
 -- a line with a command that is kept, before others like it
@@ -132,11 +132,11 @@ keeps_from [] k kept_lines ends = record {
 keeps_from (line ∷ more) k kept_lines ends = keeps_step kept_lines k line more (take_line keeping k kept_lines line) refl (λ now. keeps_from more (k + 1) now) ends
 
 -- lines that are all accepted hold commands that are kept
-pub lines_keep : (start last : KeptLines) (read : List ℕ) → outcome_of keeping start read ≡ record { text = []; ending = done; desk = last }
+pub lines_keep : (start last : KeptLines) (read : List ℕ) → lines_outcome keeping start read ≡ record { text = []; ending = done; desk = last }
     → SpellKept start (lines read) last
 lines_keep start last read is =
-    subst (SpellKept start (lines read)) (ap (λ (o : Outcome KeptLines). o.desk) is)
-    (keeps_from (lines read) 1 start (ap (λ (o : Outcome KeptLines). o.ending) is))
+    subst (SpellKept start (lines read)) (ap (λ (o : LinesOutcome KeptLines). o.desk) is)
+    (keeps_from (lines read) 1 start (ap (λ (o : LinesOutcome KeptLines). o.ending) is))
 
 -- ---- the same lines without a keeper
 
@@ -149,7 +149,7 @@ same_name (plain.TooMany n) = refl
 same_name plain.Memory = refl
 
 -- the lines from line `k` on, without a keeper
-abbrev plain_from : ℕ → List (List ℕ) → UpstreamState → Outcome UpstreamState
+abbrev plain_from : ℕ → List (List ℕ) → UpstreamState → LinesOutcome UpstreamState
 plain_from k more up = take_from obeying k up more
 
 -- what follows a line ends as it does without a keeper
@@ -196,5 +196,5 @@ same_from [] k kept_lines few = refl
 same_from (line ∷ more) k kept_lines few =
     same_step k kept_lines line more few (λ next count. same_from more (k + 1) next (omega (arith, few, count)))
 
-pub same_ending : (kept_lines : KeptLines) (bytes : List ℕ) → kept_lines.count ≡ 0 → (outcome_of keeping kept_lines bytes).ending ≡ (outcome_of obeying kept_lines.up bytes).ending
+pub same_ending : (kept_lines : KeptLines) (bytes : List ℕ) → kept_lines.count ≡ 0 → (lines_outcome keeping kept_lines bytes).ending ≡ (lines_outcome obeying kept_lines.up bytes).ending
 same_ending kept_lines bytes none = same_from (lines bytes) 1 kept_lines (omega (arith, none))

@@ -1,10 +1,10 @@
 -- The commands that links give to an upstream with its keeper, which are kept.
 use Rattle.std.proofs.Common.{◌≡◌, ℕ, ◌++◌, ◌∙◌, List, Some, None, refl, sym, ap, subst, arith}
 use Rattle.std.specs.Prelude.{option_map}
-use Rattle.unl_edge.specs.Upstreams.{Facing, NamesLinks}
+use Rattle.unl_edge.specs.Upstreams.{UpstreamFacing, NamesUpstreamLinks}
 use Rattle.unl_keeper.specs.State.{HasKept}
 use Rattle.unl_server.specs.Handling.{Coming}
-use Rattle.unl_server.specs.Linked.{ServesLinks as ServesObservable, linking}
+use Rattle.unl_server.specs.Linked.{ServesLinks, linking}
 use Rattle.unl_upstream.specs.declared.command.Command.{Command}
 use Rattle.unl_upstream.specs.Kept.{Carries, KeptState, acknowledged, kept_commands}
 use Rattle.unl_upstream.specs.KeptLinks.{IsNamed, LinkServed, Linked, AllLinksEffect}
@@ -18,11 +18,11 @@ none_drawn None = refl
 none_drawn (Some list) = refl
 
 -- the links of a door whose links are observable
-pub links_named : (opened kept last : KeptState) (commands : List Command) (before after : Facing) (served : ℕ) (links : List (List ℕ))
+pub links_named : (opened kept last : KeptState) (commands : List Command) (before after : UpstreamFacing) (served : ℕ) (links : List (List ℕ))
     (returned : List (List ℕ × ℕ)) → HasKept kept.keeper → kept_commands kept.keeper ≡ option_map (λ kept. kept ++ commands) (kept_commands opened.keeper)
     → IsNamed opened.up opened.keeper.count commands kept
-    → ServesObservable LinkServed (linking kept before.coming before.door) (linking last after.coming after.door) served links returned
-    → NamesLinks opened commands kept last before after served links returned
+    → ServesLinks LinkServed (linking kept before.coming before.door) (linking last after.coming after.door) served links returned
+    → NamesUpstreamLinks opened commands kept last before after served links returned
 links_named opened kept last commands before after served links returned has keeps named serves =
     let names : AllLinksEffect opened.up opened.keeper.count before.coming commands 0 kept serves.given_links serves.backs last after.coming =
     links_are_named opened.up opened.keeper.count before.coming commands 0 kept serves.given_links serves.backs last after.coming named

@@ -2,10 +2,10 @@
 use Rattle.std.proofs.Common.{◌≡◌, ◌⊎◌, ◌<◌, ◌≤◌, ◌+◌, ◌-◌, ◌^◌, ◌∙◌, ℕ, zero, suc, Option, List, length, Result, Ok, Err, ap, inl, inr, refl, subst, sym}
 use Rattle.unl_delta.specs.Installing.{Installed}
 use Rattle.unl_documents.specs.declared.memory.Memory.{Memory}
-use Rattle.unl_edge.specs.Polling.{LaterTurn, PollsOn, SameWork}
+use Rattle.unl_edge.specs.Polling.{LaterTurn, PollsOn, Refreshing, SameWork, refreshing}
 use Rattle.unl_metrics.specs.Book.{Book}
 use Rattle.unl_refresh.specs.Exchange.{PeerView}
-use Rattle.unl_refresh.specs.Handing.{DrainsShared}
+use Rattle.unl_refresh.specs.MetricsQueues.{Intake, Merges}
 use Rattle.unl_refresh.specs.Turns.{ByResult, Duty, KeepsDuty, MakesTurn, PollState, StopsInTurn, poll_state}
 use Rattle.unl_workers.specs.Periodic.{MakesTurns, Turns}
 
@@ -23,16 +23,17 @@ TurnEndsByResult result duty tags metrics installed peer after =
     → ByResult result (MakesTurn duty.known duty.upstream duty.slot_pollers) (StopsInTurn duty.known duty.upstream duty.slot_pollers)
     (poll_state installed tags metrics peer) after
 
--- metrics were drained, and then a turn was made
+-- metrics were taken, and then a turn was made
 pub later_made : (duty drained last : Duty) (installed installed_last : Installed) (peer peer_last : PeerView) (result : Result Unit Memory)
-    → drained ≡ record duty { metrics = drained.metrics } → DrainsShared duty.metrics drained.metrics → KeepsDuty drained last
+    (intake intake_after : Intake) → drained ≡ record duty { metrics = drained.metrics }
+    → Merges duty.metrics intake drained.metrics intake_after → KeepsDuty drained last
     → TurnEndsByResult result drained drained.tags drained.metrics installed peer (poll_state installed_last last.tags last.metrics peer_last)
-    → LaterTurn duty (poll_state installed duty.tags duty.metrics peer) (poll_state installed_last last.tags last.metrics peer_last)
-    × SameWork duty last
-later_made duty drained last installed installed_last peer peer_last result same drains keeps ends = (
+    → LaterTurn duty (refreshing (poll_state installed duty.tags duty.metrics peer) intake)
+    (refreshing (poll_state installed_last last.tags last.metrics peer_last) intake_after) × SameWork duty last
+later_made duty drained last installed installed_last peer peer_last result intake intake_after same merges keeps ends = (
   record {
     metrics = drained.metrics;
-    drains = drains;
+    merges = merges;
     ends = λ room slots. ends_so result (MakesTurn duty.known duty.upstream duty.slot_pollers) (StopsInTurn duty.known duty.upstream duty.slot_pollers)
         (poll_state installed duty.tags drained.metrics peer) (poll_state installed_last last.tags last.metrics peer_last) (at_duty room slots);
   },
@@ -61,11 +62,11 @@ work_on first middle last one two = record {
 }
 
 -- a turn with a duty is one with another that is the same work
-same_turn : (first now : Duty) (before after : PollState) → SameWork first now → LaterTurn now before after → LaterTurn first before after
+same_turn : (first now : Duty) (before after : Refreshing) → SameWork first now → LaterTurn now before after → LaterTurn first before after
 same_turn first now before after same turn =
     let moved : LaterTurn (record first { tags = now.tags; metrics = now.metrics }) before after =
     subst (λ (d : Duty). LaterTurn d before after) path turn in
-    record { metrics = moved.metrics; drains = moved.drains; ends = moved.ends }
+    record { metrics = moved.metrics; merges = moved.merges; ends = moved.ends }
   where
     path : now ≡ record first { tags = now.tags; metrics = now.metrics }
     path = λ i. record {
@@ -86,18 +87,18 @@ work_of first now keeps = record {
   upstream = ap (λ (d : Duty). d.upstream) keeps;
 }
 
-turns_same : (first now : Duty) → SameWork first now → (n : ℕ) (before after : PollState) → Turns (LaterTurn now) n before after
+turns_same : (first now : Duty) → SameWork first now → (n : ℕ) (before after : Refreshing) → Turns (LaterTurn now) n before after
     → Turns (LaterTurn first) n before after
 turns_same first now same zero before after made = made
 turns_same first now same (suc n) before after made =
     (made.0, turns_same first now same n before made.0 made.1, same_turn first now made.0 after same made.2)
 
 -- turns after the first, with the poller that it left
-pub polls_same : (first now : Duty) (before after : PollState) → KeepsDuty first now → PollsOn now before after → PollsOn first before after
+pub polls_same : (first now : Duty) (before after : Refreshing) → KeepsDuty first now → PollsOn now before after → PollsOn first before after
 polls_same first now before after keeps polls =
     record { turns = polls.turns; made = turns_same first now (work_of first now keeps) polls.turns before after polls.made }
 
-turns_on : {N : Type 0} (state_of : N → PollState) (duty_of : N → Duty) (Turned : N → N → Type 0)
+turns_on : {N : Type 0} (state_of : N → Refreshing) (duty_of : N → Duty) (Turned : N → N → Type 0)
     → ((x y : N) → Turned x y → LaterTurn (duty_of x) (state_of x) (state_of y) × SameWork (duty_of x) (duty_of y))
     → (n : ℕ) (before after : N) → Turns Turned n before after
     → Turns (LaterTurn (duty_of before)) n (state_of before) (state_of after) × SameWork (duty_of before) (duty_of after)
@@ -114,7 +115,7 @@ turns_on state_of duty_of Turned one (suc n) before after many =
 
 -- the turns of a periodic job, seen as those of its poller
 pub polls_on : {N : Type 0} (after before : N) (Turned Keeps : N → N → Type 0) (n : ℕ) (pace pace_after : Option ℕ)
-    → MakesTurns Turned Keeps n before after pace pace_after → (state_of : N → PollState) (duty_of : N → Duty)
+    → MakesTurns Turned Keeps n before after pace pace_after → (state_of : N → Refreshing) (duty_of : N → Duty)
     → ((x y : N) → Turned x y → LaterTurn (duty_of x) (state_of x) (state_of y) × SameWork (duty_of x) (duty_of y))
     → PollsOn (duty_of before) (state_of before) (state_of after)
 polls_on after before Turned Keeps n pace pace_after makes state_of duty_of one =

@@ -9,6 +9,7 @@ use Rattle.unl_edge.specs.contracts.link_handler.FreshDesk as FreshDesk
 use Rattle.unl_edge_state.specs.contracts.reader.EdgeReader as EdgeReader
 use Rattle.unl_metrics.specs.contracts.book.MetricsBook as MetricsBook
 use Rattle.unl_connection.specs.contracts.served.Served as Served
+use Rattle.unl_refresh.specs.contracts.metrics_sender.MetricsSender as MetricsSender
 
 -- a desk, from its reader
 pub desk_send : IsSend EdgeReader.the_row → IsSend FreshDesk.the_row
@@ -16,7 +17,7 @@ desk_send reader = declared_send FreshDesk.the_type (reader, tt)
 
 -- the state of a worker, from its parts
 pub handler_send : (lifetime : NamedLft) (wait : RattleType) → IsSync wait → IsSend FreshDesk.the_row → IsSend MetricsBook.the_row
-    → IsSend Served.the_row → IsSend (EdgeLinkHandler.the_row lifetime wait)
-handler_send lifetime wait shared desk book notes =
+    → IsSend (MetricsSender.the_row lifetime) → IsSend Served.the_row → IsSend (EdgeLinkHandler.the_row lifetime wait)
+handler_send lifetime wait shared desk book sender notes =
     declared_send (EdgeLinkHandler.the_type lifetime wait)
-    (desk, (book, (notes, (search (sendable, crosses) depth 20, (search (sendable, crosses) depth 20, tt)))))
+    (desk, (book, (sender, (notes, (search (sendable, crosses) depth 20, tt)))))

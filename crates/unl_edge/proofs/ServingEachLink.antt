@@ -3,27 +3,29 @@ use Rattle.std.proofs.Common.{◌≡◌, ◌∙◌, ◌<◌, ℕ, ◌+◌, List,
 use Rattle.std.specs.Prelude.{All, IfOk, OnOk, flat_map}
 use Rattle.std.specs.List.{AllZip}
 use Rattle.std.proofs.lemmas.List.{length-map, map-append}
+use Rattle.std.proofs.lemmas.List.Elements.{All-head, All-tail}
 use Rattle.unl_base.specs.Doors.{DoorState, listening_at}
 use Rattle.unl_core.specs.declared.board.Board.{Board}
 use Rattle.unl_core.specs.declared.board.Install.{Install}
 use Rattle.unl_delta.specs.Installing.{Installed}
-use Rattle.unl_edge.specs.EdgeLinks.{EachLinkServed, ServesEachLink, ServesShares, WorkOnEachLink, WorkerServes}
-use Rattle.unl_edge.specs.EdgeServices.{EdgeService, Worker, opened, service_at, worker_of}
-use Rattle.unl_edge.specs.Edges.{accepted_in}
-use Rattle.unl_edge.specs.Polling.{PollsOn}
+use Rattle.unl_edge.specs.EdgeLinks.{EachLinkServed, ServesEachLink, ServesShares, WorkDuringTurns}
+use Rattle.unl_edge.specs.EdgeServices.{EdgeService, EdgeWorker, WorkerServes, opened, service_at, edge_worker}
+use Rattle.unl_edge.specs.Polling.{refreshing}
+use Rattle.unl_edge.specs.WorkerBooks.{book_of}
 use Rattle.unl_edge.specs.LinkHandling.{HasLearned, ReadsOnAt, ServesAt}
 use Rattle.unl_edge.specs.declared.link_handler.EdgeLinkHandler.{EdgeLinkHandler}
+use Rattle.unl_edge.proofs.Answering.{Began, began, serves_after}
 use Rattle.unl_edge.proofs.Polling.{polls_same}
-use Rattle.unl_edge.proofs.Working.{work_concurrently}
 use Rattle.unl_edge_state.specs.Editions.{BoardAt, orderly_opening}
 use Rattle.unl_edge_state.specs.Writing.{LeadsTo}
 use Rattle.unl_publication.specs.declared.knowledge.Knowledge.{Knowledge}
 use Rattle.unl_refresh.specs.Exchange.{PeerView}
+use Rattle.unl_refresh.specs.MetricsQueues.{no_intake}
 use Rattle.unl_refresh.specs.Turns.{Duty, KeepsDuty, MakesTurn, PollState, poll_state}
 use Rattle.unl_server.specs.Handling.{Coming}
-use Rattle.unl_server.specs.Links.{LinkState, link_state}
+use Rattle.unl_server.specs.Links.{LinkView, link_view}
 use Rattle.unl_workers.specs.Queueing.{HandsOutEach}
-use Rattle.unl_workers.specs.Serving.{Serving, ServesSlot, serving}
+use Rattle.unl_workers.specs.Serving.{ServerAndDraws, ServesSlot, serving}
 use Rattle.unl_workers.specs.Shares.{EachLinkServedOnce, ServedAtEach}
 use Rattle.unl_workers.specs.Taking.{ServesEach, with_draws}
 use Rattle.unl_workers.specs.Tallies.{SameLinks, weigh}
@@ -49,8 +51,8 @@ same_states f xs ys same h = weigh_map h f xs ∙ same (λ x. h (f x)) ∙ sym (
 
 states_handed : {L : Type 0} (left sent : L → Option (List ℕ)) (faults : L → ℕ) (links : List L) (before after : DoorState)
     → HandsOutEach left sent faults links before after
-    → HandsOutEach (λ (link : LinkState). link.left) (λ (link : LinkState). link.sent) (λ (link : LinkState). link.faults)
-    (map (λ (link : L). link_state (left link) (sent link) (faults link)) links) before after
+    → HandsOutEach (λ (link : LinkView). link.left) (λ (link : LinkView). link.sent) (λ (link : LinkView). link.faults)
+    (map (λ (link : L). link_view (left link) (sent link) (faults link)) links) before after
 states_handed left sent faults [] before after none = none
 states_handed left sent faults (link ∷ links) before after many =
     (many.0, many.1, many.2, many.3, states_handed left sent faults links many.0 after many.4)
@@ -58,85 +60,72 @@ states_handed left sent faults (link ∷ links) before after many =
 -- ---- slots as workers
 
 -- the worker of a serving state
-abbrev worker_in : {W : Type 0} → Serving (EdgeLinkHandler W) → Worker
-worker_in serving = record { reader = serving.server.desk.reader; book = serving.server.book; coming = serving.coming }
+abbrev worker_in : {W : Type 0} → ServerAndDraws (EdgeLinkHandler W) → EdgeWorker
+worker_in serving = record { reader = serving.server.desk.reader; book = book_of serving.server; coming = serving.coming }
 
-share_served : {W : Type 0} (links : List LinkState) (before after : Serving (EdgeLinkHandler W))
-    → ServesEach (with_draws ServesAt) links before after → ServesEach WorkerServes links (worker_in before) (worker_in after)
-share_served {W} [] before after none = ap (λ (s : Serving (EdgeLinkHandler W)). worker_in s) none
-share_served (link ∷ links) before after many = (
-  worker_in many.0,
-  record { link_after = many.1.link_after; served = many.1.served },
-  share_served links many.0 after many.2,
-)
+share_served : {W : Type 0} (edition : Option BoardAt) (installs : List Install) (links : List LinkView) (before after : ServerAndDraws (EdgeLinkHandler W))
+    → Began edition installs before.server.desk.reader → ServesEach (with_draws ServesAt) links before after
+    → ServesEach (WorkerServes edition installs) links (worker_in before) (worker_in after)
+share_served {W} edition installs [] before after start none = ap (λ (s : ServerAndDraws (EdgeLinkHandler W)). worker_in s) none
+share_served edition installs (link ∷ links) before after start many =
+    let one = serves_after edition installs (worker_in before) (worker_in many.0) link many.1.link_after start many.1.served in (
+      worker_in many.0,
+      record { link_after = many.1.link_after; served = one.0 },
+      share_served edition installs links many.0 after one.1 many.2,
+    )
 
-shares_served : {W R L : Type 0} (coming_of : R → Coming) (state_of : L → LinkState) (shares : List (List L))
-    (before after : List (WorkerSlot (EdgeLinkHandler W) R)) → ServedAtEach ServesAt coming_of state_of shares before after
-    → ServesShares (map (λ (share : List L). map state_of share) shares) (map (worker_of coming_of) before) (map (worker_of coming_of) after)
-shares_served coming_of state_of [] [] [] served = tt
-shares_served coming_of state_of [] [] (b ∷ after) served = absurd served
-shares_served coming_of state_of [] (a ∷ before) after served = absurd served
-shares_served coming_of state_of (share ∷ shares) [] after served = absurd served
-shares_served coming_of state_of (share ∷ shares) (a ∷ before) [] served = absurd served
-shares_served coming_of state_of (share ∷ shares) (a ∷ before) (b ∷ after) served = (
-  share_served (map state_of share) (serving a.server (coming_of a.draws)) (serving b.server (coming_of b.draws)) served.0.served,
-  shares_served coming_of state_of shares before after served.1,
+shares_served : {W R L : Type 0} (coming_of : R → Coming) (state_of : L → LinkView) (known : Knowledge BoardAt Install) (shares : List (List L))
+    (before after : List (WorkerSlot (EdgeLinkHandler W) R)) → All (λ pool_slot. HasLearned known pool_slot.server.desk.reader) before
+    → ServedAtEach ServesAt coming_of state_of shares before after
+    → ServesShares known.opening known.installs (map (λ (share : List L). map state_of share) shares)
+    (map (edge_worker coming_of) before) (map (edge_worker coming_of) after)
+shares_served coming_of state_of known [] [] [] learned served = tt
+shares_served coming_of state_of known [] [] (b ∷ after) learned served = absurd served
+shares_served coming_of state_of known [] (a ∷ before) after learned served = absurd served
+shares_served coming_of state_of known (share ∷ shares) [] after learned served = absurd served
+shares_served coming_of state_of known (share ∷ shares) (a ∷ before) [] learned served = absurd served
+shares_served {W} {R} coming_of state_of known (share ∷ shares) (a ∷ before) (b ∷ after) learned served = (
+  share_served known.opening known.installs (map state_of share) (serving a.server (coming_of a.draws)) (serving b.server (coming_of b.draws))
+      (began known a.server.desk.reader
+      (All-head (λ (p : WorkerSlot (EdgeLinkHandler W) R). HasLearned known p.server.desk.reader) a before learned))
+      served.0.served,
+  shares_served coming_of state_of known shares before after
+      (All-tail (λ (p : WorkerSlot (EdgeLinkHandler W) R). HasLearned known p.server.desk.reader) a before learned) served.1,
 )
 
 -- each link was served once, by one of the workers
-each_served : {W R L : Type 0} (coming_of : R → Coming) (left sent : L → Option (List ℕ)) (faults : L → ℕ) (door door_after : DoorState)
-    (count : ℕ) (before after : List (WorkerSlot (EdgeLinkHandler W) R))
+pub each_served : {W R L : Type 0} (coming_of : R → Coming) (left sent : L → Option (List ℕ)) (faults : L → ℕ) (door door_after : DoorState)
+    (known : Knowledge BoardAt Install) (count : ℕ) (before after : List (WorkerSlot (EdgeLinkHandler W) R))
+    → All (λ pool_slot. HasLearned known pool_slot.server.desk.reader) before
     → EachLinkServedOnce ServesAt coming_of left sent faults door door_after count before after
-    → EachLinkServed door door_after count (map (worker_of coming_of) before) (map (worker_of coming_of) after)
-each_served {W} {R} {L} coming_of left sent faults door door_after count before after every =
-    let state_of : L → LinkState = λ link. link_state (left link) (sent link) (faults link) in
+    → EachLinkServed known.opening known.installs door door_after count (map (edge_worker coming_of) before) (map (edge_worker coming_of) after)
+each_served {W} {R} {L} coming_of left sent faults door door_after known count before after learned every =
+    let state_of : L → LinkView = λ link. link_view (left link) (sent link) (faults link) in
     let all : List L = flat_map (λ (share : List L). share) every.shares in
     record {
       given = map state_of every.given;
       shares = map (λ (share : List L). map state_of share) every.shares;
       handed = states_handed left sent faults every.given door door_after every.handed;
       counted = length-map every.given state_of ∙ every.counted;
-      served = shares_served coming_of state_of every.shares before after every.served;
+      served = shares_served coming_of state_of known every.shares before after learned every.served;
       same = λ h. same_states state_of every.given all every.same h ∙ ap (weigh h) (sym (map_shares state_of every.shares));
     }
 
--- the workers served each link once
-pub work_on_each : {W R L : Type 0} (coming_of : R → Coming) (left sent : L → Option (List ℕ)) (faults : L → ℕ) (door door_after : DoorState)
-    (known : Knowledge BoardAt Install) (before : List (WorkerSlot (EdgeLinkHandler W) R)) (workers : ℕ)
-    (served : Result (PoolOutcome (EdgeLinkHandler W) R) PoolFault) (result : Result AcceptOutcome PoolFault) → result ≡ accepted_in served
-    → length before ≡ workers → All (λ pool_slot. HasLearned known pool_slot.server.desk.reader) before
-    → IfOk served (λ outcome. AllZip (ServesSlot ServesAt ReadsOnAt coming_of) before outcome.slots.items)
-    → IfOk served (λ outcome. 0 < length before
-    → EachLinkServedOnce ServesAt coming_of left sent faults door door_after outcome.accepted.links before outcome.slots.items)
-    → IfOk result (λ accepted. 0 < workers → WorkOnEachLink workers known.opening known.installs door door_after accepted.links)
-unfolding work_concurrently
-work_on_each coming_of left sent faults door door_after known before workers (Ok outcome) result is many learned all every =
-    subst (λ (r : Result AcceptOutcome PoolFault).
-    IfOk r (λ accepted. 0 < workers → WorkOnEachLink workers known.opening known.installs door door_after accepted.links))
-    (sym is)
-    (λ some. record {
-      work = work_concurrently coming_of known before outcome.slots.items workers many learned all;
-      each = each_served coming_of left sent faults door door_after outcome.accepted.links before outcome.slots.items
-          (every (subst (λ (n : ℕ). 0 < n) (sym many) some));
-    })
-work_on_each coming_of left sent faults door door_after known before workers (Err fault) result is many learned all every =
-    subst (λ (r : Result AcceptOutcome PoolFault).
-    IfOk r (λ accepted. 0 < workers → WorkOnEachLink workers known.opening known.installs door door_after accepted.links))
-    (sym is) tt
-
 -- ---- an edge service
 
--- the first turn was made, and after it later turns were made and each link was served
+-- the first turn was made, and after it each link was served while later turns were made
 pub each_after_turn : (service : EdgeService) (now : Duty) (begun ended : PollState) (peer peer_after : PeerView) (door door_after : DoorState)
     (served : Result AcceptOutcome PoolFault)
     → MakesTurn service.duty.known service.duty.upstream service.duty.slot_pollers
     (poll_state service.opening service.duty.tags service.duty.metrics peer) begun
-    → KeepsDuty service.duty now → OnOk served (PollsOn now begun ended) → ended.peer ≡ peer_after → (edition : Option BoardAt) (installs : List Install)
+    → KeepsDuty service.duty now → ended.peer ≡ peer_after → (edition : Option BoardAt) (installs : List Install)
     → edition ≡ service.edition → LeadsTo edition installs begun.installed
-    → IfOk served (λ accepted. 0 < service.workers → WorkOnEachLink service.workers edition installs door door_after accepted.links)
+    → IfOk served (λ accepted. 0 < service.workers
+    → WorkDuringTurns service.workers edition installs now begun ended door door_after accepted.links)
     → IfOk served (λ accepted. 0 < service.workers → ServesEachLink service peer peer_after door door_after accepted.links)
-each_after_turn service now begun ended peer peer_after door door_after (Ok accepted) turn keeps polls same edition installs opens leads every = λ some.
-    let each = subst (λ (e : Option BoardAt). WorkOnEachLink service.workers e installs door door_after accepted.links) opens (every some) in
+each_after_turn service now begun ended peer peer_after door door_after (Ok accepted) turn keeps same edition installs opens leads every = λ some.
+    let each = subst (λ (e : Option BoardAt). WorkDuringTurns service.workers e installs now begun ended door door_after accepted.links) opens
+    (every some) in
     record {
       runs = record {
         first = begun.installed;
@@ -146,15 +135,16 @@ each_after_turn service now begun ended peer peer_after door door_after (Ok acce
           begun = begun;
           installed = refl;
           turn = turn;
-          ended = ended;
-          later = polls_same service.duty now begun ended keeps polls;
+          ended = refreshing ended each.intake;
+          later = polls_same service.duty now (refreshing begun no_intake) (refreshing ended each.intake) keeps each.turns;
           peer_ended = same;
         };
-        work = each.work;
+        work = each.links.work;
       };
-      each = each.each;
+      each = each.links.each;
+      metrics = each.metrics;
     }
-each_after_turn service now begun ended peer peer_after door door_after (Err fault) turn keeps polls same edition installs opens leads every = tt
+each_after_turn service now begun ended peer peer_after door door_after (Err fault) turn keeps same edition installs opens leads every = tt
 
 -- the same edge service, by its parts
 pub same_service : (duty : Duty) (board : Board) (begun : Installed) (edition : Option BoardAt) (workers readers : ℕ)

@@ -8,112 +8,127 @@ use Rattle.std.proofs.lemmas.List.Elements.{All-cons, All-head, All-nil, All-pus
 use Rattle.unl_base.specs.Doors.{DoorState}
 use Rattle.unl_core.specs.declared.board.Install.{Install}
 use Rattle.unl_edge.specs.LinkHandling.{HasLearned, IsOfOrigin, ReadsOnAt, ServesAt}
-use Rattle.unl_edge.specs.EdgeServices.{WorkConcurrently, Worker, WorkerServesLinks, Works, worker_of}
+use Rattle.unl_edge.specs.EdgeServices.{WorkConcurrently, EdgeWorker, WorkerServesLinks, Works, edge_worker}
+use Rattle.unl_edge.specs.WorkerBooks.{book_of}
+use Rattle.unl_edge.proofs.Answering.{Began, began, known_after, serves_after}
 use Rattle.unl_edge.specs.declared.link_handler.EdgeLinkHandler.{EdgeLinkHandler}
 use Rattle.unl_edge_state.specs.Editions.{BoardAt}
-use Rattle.unl_edge_state.specs.Reading.{BeginsWith, IsNewReader, SeesInOrder, seen_by, learned_front_of}
+use Rattle.unl_edge_state.specs.Reading.{AnswersAfter, StartsReader, IsNewReader, SeesInOrder, seen_by, learned_front_of}
 use Rattle.unl_edge_state.proofs.Looks.{sees_in_order}
 use Rattle.unl_edge_state.specs.Writing.{Writing, installed_by}
 use Rattle.unl_edge.specs.Edges.{accepted_in}
-use Rattle.unl_edge.specs.Polling.{PollsOn}
+use Rattle.unl_edge.specs.Polling.{PollsOn, Refreshing, refreshing}
 use Rattle.unl_refresh.specs.Exchange.{PeerView}
-use Rattle.unl_refresh.specs.Turns.{Duty, PollState, poll_state}
+use Rattle.unl_refresh.specs.MetricsQueues.{Intake}
+use Rattle.unl_refresh.specs.Turns.{Duty, poll_state}
 use Rattle.unl_workers.specs.declared.pool.PoolOutcome.{PoolOutcome}
 use Rattle.unl_edge_state.specs.declared.reader.EdgeReader.{EdgeReader}
 use Rattle.unl_server.specs.Handling.{Coming}
 use Rattle.unl_metrics.specs.Book.{Book}
 use Rattle.unl_publication.specs.declared.knowledge.Knowledge.{Knowledge}
 use Rattle.unl_publication.specs.Rule.{shared_knowledge}
-use Rattle.unl_connection.specs.Notes.{Rise}
-use Rattle.unl_connection.specs.declared.served.ServedOne.{ServedOne}
 use Rattle.unl_refresh.proofs.Connecting.{connects_still}
 use Rattle.unl_refresh.specs.Connects.{Connects}
 use Rattle.unl_workers.specs.Pool.{AcceptedIn, HasCauses}
-use Rattle.unl_workers.specs.Serving.{ServesSlot, ServesMany, Serving, serving}
+use Rattle.unl_workers.specs.Serving.{ServesSlot, ServesMany, ServerAndDraws, serving}
 use Rattle.unl_workers.specs.declared.acceptor.AcceptOutcome.{AcceptOutcome}
 use Rattle.unl_workers.specs.declared.pool.PoolFault.{PoolFault}
 use Rattle.unl_workers.specs.declared.pool.PoolFault.TheVariants.{Spawner, Memory}
 use Rattle.unl_workers.specs.declared.worker.WorkerSlot.{WorkerSlot}
 
--- fronts that rise from one to another
-pub risen : (first last : ℕ) (ones : List ServedOne) → Rise first ones last → first ≤ last
-risen first last [] rise = rise
-risen first last (one ∷ ones) rise = let later = risen one.front last ones rise.1 in omega (arith, rise.0, later)
-
 -- the worker of a serving state
-works_by : {W : Type 0} → Serving (EdgeLinkHandler W) → Worker
-works_by serving = record { reader = serving.server.desk.reader; book = serving.server.book; coming = serving.coming }
+works_by : {W : Type 0} → ServerAndDraws (EdgeLinkHandler W) → EdgeWorker
+works_by serving = record { reader = serving.server.desk.reader; book = book_of serving.server; coming = serving.coming }
 
--- links that were served
-links_served : {W : Type 0} (n : ℕ) (before after : Serving (EdgeLinkHandler W)) → ServesMany ServesAt n before after
-    → WorkerServesLinks n (works_by before) (works_by after)
+-- links that were served, and the reader after them
+links_served : {W : Type 0} (edition : Option BoardAt) (installs : List Install) (n : ℕ) (before after : ServerAndDraws (EdgeLinkHandler W))
+    → Began edition installs before.server.desk.reader → ServesMany ServesAt n before after
+    → WorkerServesLinks edition installs n (works_by before) (works_by after) × Began edition installs after.server.desk.reader
 unfolding works_by
-links_served zero before after many = ap works_by many
-links_served (suc n) before after many =
+links_served {W} edition installs zero before after start many =
+    (ap works_by many, subst (λ (s : ServerAndDraws (EdgeLinkHandler W)). Began edition installs s.server.desk.reader) (sym many) start)
+links_served edition installs (suc n) before after start many =
+    let earlier = links_served edition installs n before many.0 start many.1 in
     let one = many.2 in
-    (works_by many.0, links_served n before many.0 many.1, record { link = one.link; link_after = one.link_after; served = one.served })
+    let last = serves_after edition installs (works_by many.0) (works_by after) one.link one.link_after earlier.1 one.served in
+    ((works_by many.0, earlier.0, record { link = one.link; link_after = one.link_after; served = last.0 }), last.1)
 
--- a slot that was served
-served_links : {W R : Type 0} (coming_of : R → Coming) (before after : WorkerSlot (EdgeLinkHandler W) R)
-    → ServesSlot ServesAt ReadsOnAt coming_of before after → Works (worker_of coming_of before) (worker_of coming_of after)
+-- a slot that was served, and what its reader knows after it
+served_links : {W R : Type 0} (coming_of : R → Coming) (edition : Option BoardAt) (installs : List Install)
+    (before after : WorkerSlot (EdgeLinkHandler W) R) → Began edition installs before.server.desk.reader
+    → ServesSlot ServesAt ReadsOnAt coming_of before after
+    → Works edition installs (edge_worker coming_of before) (edge_worker coming_of after) × AnswersAfter edition installs after.server.desk.reader
 unfolding works_by
-served_links coming_of before after attends =
-    (after.links, links_served after.links (serving before.server (coming_of before.draws)) (serving after.server (coming_of after.draws)) attends.served)
+served_links coming_of edition installs before after start attends =
+    let links = links_served edition installs after.links (serving before.server (coming_of before.draws))
+    (serving after.server (coming_of after.draws)) start attends.served in
+    ((after.links, links.0), known_after edition installs after.server.desk.reader links.1)
 
 -- each of them
-pub all_served_links : {W R : Type 0} (coming_of : R → Coming) (before after : List (WorkerSlot (EdgeLinkHandler W) R))
-    → AllZip (ServesSlot ServesAt ReadsOnAt coming_of) before after → AllZip Works (map (worker_of coming_of) before) (map (worker_of coming_of) after)
-all_served_links coming_of [] [] all = tt
-all_served_links coming_of [] (last ∷ after) all = absurd all
-all_served_links coming_of (first ∷ before) [] all = absurd all
-all_served_links coming_of (first ∷ before) (last ∷ after) all = (served_links coming_of first last all.0, all_served_links coming_of before after all.1)
+pub all_served_links : {W R : Type 0} (coming_of : R → Coming) (known : Knowledge BoardAt Install) (before after : List (WorkerSlot (EdgeLinkHandler W) R))
+    → All (λ pool_slot. HasLearned known pool_slot.server.desk.reader) before → AllZip (ServesSlot ServesAt ReadsOnAt coming_of) before after
+    → AllZip (Works known.opening known.installs) (map (edge_worker coming_of) before) (map (edge_worker coming_of) after)
+    × All (λ worker. AnswersAfter known.opening known.installs worker.reader) (map (edge_worker coming_of) after)
+all_served_links coming_of known [] [] learned all =
+    (tt, All-nil (λ (worker : EdgeWorker). AnswersAfter known.opening known.installs worker.reader))
+all_served_links coming_of known [] (last ∷ after) learned all = absurd all
+all_served_links coming_of known (first ∷ before) [] learned all = absurd all
+all_served_links {W} {R} coming_of known (first ∷ before) (last ∷ after) learned all =
+    let one = served_links coming_of known.opening known.installs first last (began known first.server.desk.reader
+    (All-head (λ (p : WorkerSlot (EdgeLinkHandler W) R). HasLearned known p.server.desk.reader) first before learned)) all.0 in
+    let others = all_served_links coming_of known before after
+    (All-tail (λ (p : WorkerSlot (EdgeLinkHandler W) R). HasLearned known p.server.desk.reader) first before learned) all.1 in (
+      (one.0, others.0),
+      All-cons (λ (worker : EdgeWorker). AnswersAfter known.opening known.installs worker.reader) (edge_worker coming_of last)
+          (map (edge_worker coming_of) after) one.1 others.1,
+    )
 
 -- what their readers have learned
 pub all_learned : {W R : Type 0} (coming_of : R → Coming) (known : Knowledge BoardAt Install) (pool_slots : List (WorkerSlot (EdgeLinkHandler W) R))
     → All (λ pool_slot. HasLearned known pool_slot.server.desk.reader) pool_slots
-    → All (λ worker. length known.installs ≤ learned_front_of worker.reader) (map (worker_of coming_of) pool_slots)
-all_learned coming_of known [] learned = All-nil (λ (worker : Worker). length known.installs ≤ learned_front_of worker.reader)
+    → All (λ worker. length known.installs ≤ learned_front_of worker.reader) (map (edge_worker coming_of) pool_slots)
+all_learned coming_of known [] learned = All-nil (λ (worker : EdgeWorker). length known.installs ≤ learned_front_of worker.reader)
 all_learned {W} {R} coming_of known (pool_slot ∷ pool_slots) learned =
-    All-cons (λ (worker : Worker). length known.installs ≤ learned_front_of worker.reader) (worker_of coming_of pool_slot) (map (worker_of coming_of) pool_slots)
+    All-cons (λ (worker : EdgeWorker). length known.installs ≤ learned_front_of worker.reader) (edge_worker coming_of pool_slot) (map (edge_worker coming_of) pool_slots)
     (All-head (λ (p : WorkerSlot (EdgeLinkHandler W) R). HasLearned known p.server.desk.reader) pool_slot pool_slots learned).least
     (all_learned coming_of known pool_slots (All-tail (λ (p : WorkerSlot (EdgeLinkHandler W) R). HasLearned known p.server.desk.reader) pool_slot pool_slots learned))
 
--- and the first board of that
+-- and the opening board of that
 pub all_open : {W R : Type 0} (coming_of : R → Coming) (known : Knowledge BoardAt Install) (pool_slots : List (WorkerSlot (EdgeLinkHandler W) R))
     → All (λ pool_slot. HasLearned known pool_slot.server.desk.reader) pool_slots
-    → All (λ worker. (seen_by worker.reader).opening ≡ known.opening) (map (worker_of coming_of) pool_slots)
-all_open coming_of known [] learned = All-nil (λ (worker : Worker). (seen_by worker.reader).opening ≡ known.opening)
+    → All (λ worker. (seen_by worker.reader).opening ≡ known.opening) (map (edge_worker coming_of) pool_slots)
+all_open coming_of known [] learned = All-nil (λ (worker : EdgeWorker). (seen_by worker.reader).opening ≡ known.opening)
 all_open {W} {R} coming_of known (pool_slot ∷ pool_slots) learned =
-    All-cons (λ (worker : Worker). (seen_by worker.reader).opening ≡ known.opening) (worker_of coming_of pool_slot) (map (worker_of coming_of) pool_slots)
+    All-cons (λ (worker : EdgeWorker). (seen_by worker.reader).opening ≡ known.opening) (edge_worker coming_of pool_slot) (map (edge_worker coming_of) pool_slots)
     (All-head (λ (p : WorkerSlot (EdgeLinkHandler W) R). HasLearned known p.server.desk.reader) pool_slot pool_slots learned).opens
     (all_open coming_of known pool_slots (All-tail (λ (p : WorkerSlot (EdgeLinkHandler W) R). HasLearned known p.server.desk.reader) pool_slot pool_slots learned))
 
 -- a reader that learned what the writer knows
-pub begins_shared : (known : Knowledge BoardAt Install) (told : Option (Knowledge BoardAt Install)) (reader : EdgeReader)
-    → IfSome told (λ list. list ≡ shared_knowledge known)
-    → (list : Knowledge BoardAt Install) × (told ≡ Some list) × BeginsWith list.opening list.installs reader
-    → BeginsWith known.opening known.installs reader
-begins_shared known told reader shared said =
+pub begins_shared : (known : Knowledge BoardAt Install) (reported : Option (Knowledge BoardAt Install)) (reader : EdgeReader)
+    → IfSome reported (λ list. list ≡ shared_knowledge known)
+    → (list : Knowledge BoardAt Install) × (reported ≡ Some list) × StartsReader list.opening list.installs reader
+    → StartsReader known.opening known.installs reader
+begins_shared known reported reader shared said =
     let same : said.0 ≡ shared_knowledge known =
     subst (λ (o : Option (Knowledge BoardAt Install)). IfSome o (λ list. list ≡ shared_knowledge known)) said.1 shared in
-    subst (λ (list : Knowledge BoardAt Install). BeginsWith list.opening list.installs reader) same said.2
+    subst (λ (list : Knowledge BoardAt Install). StartsReader list.opening list.installs reader) same said.2
 
 -- the installs that they begin with
 pub all_begin : {W R : Type 0} (coming_of : R → Coming) (known : Knowledge BoardAt Install) (pool_slots : List (WorkerSlot (EdgeLinkHandler W) R))
     → All (λ pool_slot. HasLearned known pool_slot.server.desk.reader) pool_slots
-    → All (λ worker. BeginsWith known.opening known.installs worker.reader) (map (worker_of coming_of) pool_slots)
-all_begin coming_of known [] learned = All-nil (λ (worker : Worker). BeginsWith known.opening known.installs worker.reader)
+    → All (λ worker. StartsReader known.opening known.installs worker.reader) (map (edge_worker coming_of) pool_slots)
+all_begin coming_of known [] learned = All-nil (λ (worker : EdgeWorker). StartsReader known.opening known.installs worker.reader)
 all_begin {W} {R} coming_of known (pool_slot ∷ pool_slots) learned =
-    All-cons (λ (worker : Worker). BeginsWith known.opening known.installs worker.reader) (worker_of coming_of pool_slot) (map (worker_of coming_of) pool_slots)
+    All-cons (λ (worker : EdgeWorker). StartsReader known.opening known.installs worker.reader) (edge_worker coming_of pool_slot) (map (edge_worker coming_of) pool_slots)
     (All-head (λ (p : WorkerSlot (EdgeLinkHandler W) R). HasLearned known p.server.desk.reader) pool_slot pool_slots learned).begins
     (all_begin coming_of known pool_slots (All-tail (λ (p : WorkerSlot (EdgeLinkHandler W) R). HasLearned known p.server.desk.reader) pool_slot pool_slots learned))
 
 -- what their readers see
 pub all_ordered : {W R : Type 0} (coming_of : R → Coming) (pool_slots : List (WorkerSlot (EdgeLinkHandler W) R))
-    → All (λ worker. SeesInOrder worker.reader) (map (worker_of coming_of) pool_slots)
-all_ordered coming_of [] = All-nil (λ (worker : Worker). SeesInOrder worker.reader)
+    → All (λ worker. SeesInOrder worker.reader) (map (edge_worker coming_of) pool_slots)
+all_ordered coming_of [] = All-nil (λ (worker : EdgeWorker). SeesInOrder worker.reader)
 all_ordered {W} {R} coming_of (pool_slot ∷ pool_slots) =
-    All-cons (λ (worker : Worker). SeesInOrder worker.reader) (worker_of coming_of pool_slot) (map (worker_of coming_of) pool_slots)
+    All-cons (λ (worker : EdgeWorker). SeesInOrder worker.reader) (edge_worker coming_of pool_slot) (map (edge_worker coming_of) pool_slots)
     (sees_in_order pool_slot.server.desk.reader pool_slot.server.desk.steady) (all_ordered coming_of pool_slots)
 
 -- one more slot has learned
@@ -140,16 +155,18 @@ others_new readers rest reader steps all =
 unfoldable pub work_concurrently : {W R : Type 0} (coming_of : R → Coming) (known : Knowledge BoardAt Install) (before after : List (WorkerSlot (EdgeLinkHandler W) R))
     (workers : ℕ) → length before ≡ workers → All (λ pool_slot. HasLearned known pool_slot.server.desk.reader) before
     → AllZip (ServesSlot ServesAt ReadsOnAt coming_of) before after → WorkConcurrently workers known.opening known.installs
-work_concurrently coming_of known before after workers many learned all = record {
-  begun = map (worker_of coming_of) before;
-  ended = map (worker_of coming_of) after;
-  many = length-map before (worker_of coming_of) ∙ many;
-  opens = all_open coming_of known before learned;
-  learned = all_learned coming_of known before learned;
-  begins = all_begin coming_of known before learned;
-  worked = all_served_links coming_of before after all;
-  ordered = all_ordered coming_of after;
-}
+work_concurrently coming_of known before after workers many learned all =
+    let works = all_served_links coming_of known before after learned all in record {
+      begun = map (edge_worker coming_of) before;
+      ended = map (edge_worker coming_of) after;
+      many = length-map before (edge_worker coming_of) ∙ many;
+      opens = all_open coming_of known before learned;
+      learned = all_learned coming_of known before learned;
+      begins = all_begin coming_of known before learned;
+      worked = works.0;
+      over = works.1;
+      ordered = all_ordered coming_of after;
+    }
 
 -- ---- what the door handed out
 
@@ -205,15 +222,12 @@ asked_first slots places {replies} last {faults} after (Ok accepted) count first
     subst (λ (n : ℕ). Connects (n + 1) replies faults last after) count (connects_still first then)
 asked_first slots places last after (Err fault) count first then = tt
 
--- turns that were made while links were served, from what the writer had before the workers learned of it
-pub polls_through : {W R : Type 0} (served : Result (PoolOutcome (EdgeLinkHandler W) R) PoolFault) (result : Result AcceptOutcome PoolFault)
-    (duty : Duty) (writer same_writer : Writing) (tags : List (Option (List ℕ))) (metrics : Book) (peer : PeerView) (after : PollState)
-    → result ≡ accepted_in served
-    → OnOk served (PollsOn duty (poll_state (installed_by same_writer) tags metrics peer) after) → same_writer ≡ writer
-    → OnOk result (PollsOn duty (poll_state (installed_by writer) tags metrics peer) after)
-polls_through (Ok outcome) result duty writer same_writer tags metrics peer after is polls same =
-    subst (λ (r : Result AcceptOutcome PoolFault). OnOk r (PollsOn duty (poll_state (installed_by writer) tags metrics peer) after))
-    (sym is) (subst (λ (w : Writing). PollsOn duty (poll_state (installed_by w) tags metrics peer) after) same polls)
-polls_through (Err fault) result duty writer same_writer tags metrics peer after is polls same =
-    subst (λ (r : Result AcceptOutcome PoolFault). OnOk r (PollsOn duty (poll_state (installed_by writer) tags metrics peer) after))
-    (sym is) tt
+-- turns that were made while links were served, from what the writer had before the workers learned of it, and from a new receiver
+pub polls_through : {W R : Type 0} (served : Result (PoolOutcome (EdgeLinkHandler W) R) PoolFault) (duty : Duty) (writer same_writer : Writing)
+    (tags : List (Option (List ℕ))) (metrics : Book) (peer : PeerView) (intake same_intake : Intake) (after : Refreshing)
+    → OnOk served (PollsOn duty (refreshing (poll_state (installed_by same_writer) tags metrics peer) same_intake) after)
+    → same_writer ≡ writer → same_intake ≡ intake
+    → OnOk served (PollsOn duty (refreshing (poll_state (installed_by writer) tags metrics peer) intake) after)
+polls_through served duty writer same_writer tags metrics peer intake same_intake after polls writers intakes =
+    subst (λ (w : Writing). OnOk served (PollsOn duty (refreshing (poll_state (installed_by w) tags metrics peer) intake) after)) writers
+    (subst (λ (i : Intake). OnOk served (PollsOn duty (refreshing (poll_state (installed_by same_writer) tags metrics peer) i) after)) intakes polls)

@@ -6,16 +6,16 @@ use Rattle.unl_core.specs.DeskStates.{place_at}
 use Rattle.unl_core.specs.declared.board.Board.{Board}
 use Rattle.unl_core.specs.declared.board.Install.{Install}
 use Rattle.unl_delta.specs.Installing.{Installed}
-use Rattle.unl_edge.specs.LinkHandling.{ServesOver}
+use Rattle.unl_edge.specs.LinkHandling.{NotedAfter, ServesOver}
 use Rattle.unl_edge.specs.Polling.{PollsUpstream}
+use Rattle.unl_edge.specs.WorkerBooks.{WorkerBook, book_of}
 use Rattle.unl_edge.specs.declared.link_handler.EdgeLinkHandler.{EdgeLinkHandler}
 use Rattle.unl_edge_state.specs.Editions.{BoardAt, orderly_opening}
-use Rattle.unl_edge_state.specs.Reading.{BeginsWith, SeesInOrder, seen_by, learned_front_of}
+use Rattle.unl_edge_state.specs.Reading.{AnswersAfter, StartsReader, SeesInOrder, seen_by, learned_front_of}
 use Rattle.unl_edge_state.specs.Writing.{LeadsTo}
 use Rattle.unl_edge_state.specs.declared.reader.EdgeReader.{EdgeReader}
 use Rattle.unl_server.specs.Handling.{Coming}
-use Rattle.unl_server.specs.Links.{LinkState}
-use Rattle.unl_metrics.specs.Book.{Book}
+use Rattle.unl_server.specs.Links.{LinkView}
 use Rattle.unl_refresh.specs.Exchange.{PeerView}
 use Rattle.unl_refresh.specs.SlotParameters.{no_tags, slot_parameters}
 use Rattle.unl_refresh.specs.Turns.{Duty}
@@ -23,8 +23,8 @@ use Rattle.unl_words.specs.Lists.{environment_of}
 use Rattle.unl_words.specs.declared.words.EdgeArguments.{EdgeArguments}
 use Rattle.unl_workers.specs.declared.worker.WorkerSlot.{WorkerSlot}
 
--- what an edge service starts from: what its poller works with, what is installed before the first turn and on which board, and
--- the number of workers
+-- what an edge service starts from: what its poller works with, what is installed before the first turn, the opening board (`edition`),
+-- and the number of workers
 pub record EdgeService : Type 0 where
   pub duty : Duty
   pub opening : Installed
@@ -60,49 +60,57 @@ duty_of words = record {
 abbrev pub service_of : EdgeArguments → ℕ → EdgeService
 service_of words boot = service_at (duty_of words) (begun_board boot words.host words.upstream_tokens) words.workers
 
--- a worker's state: its reader, the metrics not passed on yet, and the draws to come
-pub record Worker : Type 0 where
+-- a worker's state: its reader, its metrics, and the draws to come
+pub record EdgeWorker : Type 0 where
   pub reader : EdgeReader
-  pub book : Book
+  pub book : WorkerBook
   pub coming : Coming
 
 -- the worker of a slot
-abbrev pub worker_of : {W R : Type 0} → (R → Coming) → WorkerSlot (EdgeLinkHandler W) R → Worker
-worker_of coming_of pool_slot =
-    record { reader = pool_slot.server.desk.reader; book = pool_slot.server.book; coming = coming_of pool_slot.draws }
+abbrev pub edge_worker : {W R : Type 0} → (R → Coming) → WorkerSlot (EdgeLinkHandler W) R → EdgeWorker
+edge_worker coming_of pool_slot =
+    record { reader = pool_slot.server.desk.reader; book = book_of pool_slot.server; coming = coming_of pool_slot.draws }
+
+-- a worker served this link, and each of its answers was over the opening board after a list that starts with these installs
+pub record WorkerServes
+    (edition : Option BoardAt) (installs : List Install) (before : EdgeWorker) (link link_after : LinkView) (after : EdgeWorker) : Type 0 where
+  pub served : ServesOver before.reader before.book before.coming link link_after after.reader after.book after.coming
+  pub over : All (NotedAfter edition installs after.reader) served.ones
 
 -- a worker served a link
-pub record ServesALink (before after : Worker) : Type 0 where
-  pub link : LinkState
-  pub link_after : LinkState
-  pub served : ServesOver before.reader before.book before.coming link link_after after.reader after.book after.coming
+pub record ServesALink (edition : Option BoardAt) (installs : List Install) (before after : EdgeWorker) : Type 0 where
+  pub link : LinkView
+  pub link_after : LinkView
+  pub served : WorkerServes edition installs before link link_after after
 
 -- a worker served `n` links, one after another
-abbrev pub WorkerServesLinks : ℕ → Worker → Worker → Type 0
-WorkerServesLinks zero before after = after ≡ before
-WorkerServesLinks (suc n) before after = (middle : Worker) × WorkerServesLinks n before middle × ServesALink middle after
+abbrev pub WorkerServesLinks : Option BoardAt → List Install → ℕ → EdgeWorker → EdgeWorker → Type 0
+WorkerServesLinks edition installs zero before after = after ≡ before
+WorkerServesLinks edition installs (suc n) before after =
+    (middle : EdgeWorker) × WorkerServesLinks edition installs n before middle × ServesALink edition installs middle after
 
 -- a worker served some number of links
-abbrev pub Works : Worker → Worker → Type 0
-Works before after = (links : ℕ) × WorkerServesLinks links before after
+abbrev pub Works : Option BoardAt → List Install → EdgeWorker → EdgeWorker → Type 0
+Works edition installs before after = (links : ℕ) × WorkerServesLinks edition installs links before after
 
 -- `workers` workers served links concurrently, over what was published after this board. Each began with exactly these installs,
--- which it had learned before its first link. The list that each saw is orderly, and no board that it knows has an older version at a
+-- which it had learned before its first link, and each of its answers was over the board after a list that starts with them. The list
+-- that each saw is orderly (see `SeesInOrder` and `KnowsOrderly` in unl_edge_state). No board that it knows has an older version at a
 -- slot than one at a smaller front.
 pub record WorkConcurrently (workers : ℕ) (edition : Option BoardAt) (installs : List Install) : Type 0 where
-  pub begun : List Worker
-  pub ended : List Worker
+  pub begun : List EdgeWorker
+  pub ended : List EdgeWorker
   pub many : length begun ≡ workers
   pub opens : All (λ worker. (seen_by worker.reader).opening ≡ edition) begun
   pub learned : All (λ worker. length installs ≤ learned_front_of worker.reader) begun
-  pub begins : All (λ worker. BeginsWith edition installs worker.reader) begun
-  pub worked : AllZip Works begun ended
+  pub begins : All (λ worker. StartsReader edition installs worker.reader) begun
+  pub worked : AllZip (Works edition installs) begun ended
+  pub over : All (λ worker. AnswersAfter edition installs worker.reader) ended
   pub ordered : All (λ worker. SeesInOrder worker.reader) ended
 
--- The upstream was polled: each exchange of the first turn had its request and its effect, whether it got a reply or the peer
--- failed, and so had those of the later turns. All that the peer was sent are these requests, each as one more text of its history.
--- These installs are what the first turn published, and they lead to what was installed then. After it the workers began with them,
--- and served links over no board earlier than the last one that it published.
+-- The upstream was polled. Each exchange of the first turn had its request and its effect, whether it got a reply or the peer failed.
+-- Later turns: see `TurnEnds`. There is a list of installs that leads to what the first turn installed. After that turn the workers
+-- began with these installs, and each answer on each link was over the opening board after a list that starts with them.
 pub record RunsService (service : EdgeService) (peer peer_after : PeerView) : Type 0 where
   pub first : Installed
   pub installs : List Install

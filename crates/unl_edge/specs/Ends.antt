@@ -6,7 +6,7 @@ use Rattle.unl_base.specs.declared.draws.Draw.{Draw}
 use Rattle.unl_edge.specs.Edges.{EdgeRuns}
 use Rattle.unl_edge.specs.Follows.{FollowEnds}
 use Rattle.unl_edge.specs.Scene.{ChangesForEdge, ChangesForReplica, ChangesForUpstream, ChangesOutput, ChangesStreams, Scene, ServingFailed}
-use Rattle.unl_edge.specs.Status.{FailsToKeep, check_status, code_of, ending_status, explain_status, follow_status}
+use Rattle.unl_edge.specs.Status.{FailsToOpenKeeper, check_status, code_of, ending_status, explain_status, follow_status}
 use Rattle.unl_edge.specs.Status.{lines_status, load_status}
 use Rattle.unl_edge.specs.Status.{serving_status, upstream_status, arguments_status}
 use Rattle.unl_edge.specs.Upstreams.{IsDecidedByLines, UpstreamRuns}
@@ -17,7 +17,7 @@ use Rattle.unl_edge.specs.declared.ends.ArgumentsEnd.TheVariants as words
 use Rattle.unl_edge.specs.declared.status.Status.{Status}
 use Rattle.unl_edge.specs.declared.status.Status.TheVariants as status
 use Rattle.unl_explain.specs.Running.{Explains, explained}
-use Rattle.unl_input.specs.Answer.{Outcome, Says, SaysPrefix, outcome_of}
+use Rattle.unl_input.specs.Answer.{InputOutcome, Says, SaysPrefix, input_outcome}
 use Rattle.unl_input.specs.declared.refusal.WriteLineFault.{WriteLineFault}
 use Rattle.unl_input.specs.declared.refusal.WriteLineFault.TheVariants as say
 use Rattle.unl_load.specs.Line.{load_line}
@@ -25,7 +25,7 @@ use Rattle.unl_load.specs.declared.fault.LoadFault.{LoadFault}
 use Rattle.unl_load.specs.declared.fault.LoadFault.TheVariants as load
 use Rattle.unl_replay.specs.Replay.{replay_of}
 use Rattle.unl_replay.specs.Replayed.{Replays}
-use Rattle.unl_spec_runner.specs.Check.{accepted, report_of, text_of}
+use Rattle.unl_spec_runner.specs.Check.{report_reading, report_of, text_of}
 use Rattle.unl_spec_runner.specs.Report.{Report}
 use Rattle.unl_words.specs.Words.{WordsReading}
 use Rattle.unl_words.specs.declared.refusal.WordsRefusal.TheVariants.{Bad, Memory}
@@ -38,7 +38,7 @@ abbrev pub report_end : ℕ → CheckEnd
 report_end failed = if failed == 0 then Passed else TestsFailed
 
 -- the outcome of a check, from the result of processing its input
-abbrev pub outcome_end : Outcome Report → CheckEnd
+abbrev pub outcome_end : InputOutcome Report → CheckEnd
 outcome_end (Ok report) = report_end report.failed
 outcome_end (Err refusal) = Refused
 
@@ -50,8 +50,8 @@ refused_end (Err say.Memory) = OutOfMemory
 
 -- The input was read, and its report or the cause of its refusal was sent in full. That determines the outcome.
 pub record PrintsReport (draw : Draw) (end : CheckEnd) (left left_after old new : Option (List ℕ)) : Type 0 where
-  pub outcome : Outcome Report
-  pub says : Says (accepted draw) text_of outcome left left_after old new
+  pub outcome : InputOutcome Report
+  pub says : Says (report_reading draw) text_of outcome left left_after old new
   pub ends : end ≡ outcome_end outcome
 
 -- How a check ends, even if the input's bytes are not observable. If the input failed or memory ran out, nothing was sent; if the
@@ -62,7 +62,7 @@ CheckEnds draw TestsFailed left left_after old new = PrintsReport draw TestsFail
 CheckEnds draw Refused left left_after old new = PrintsReport draw Refused left left_after old new
 CheckEnds draw ReadFault left left_after old new = new ≡ old
 CheckEnds draw WriteFault left left_after old new =
-    (outcome : Outcome Report) × SaysPrefix (accepted draw) text_of outcome left left_after old new
+    (outcome : InputOutcome Report) × SaysPrefix (report_reading draw) text_of outcome left left_after old new
 CheckEnds draw OutOfMemory left left_after old new = new ≡ old
 
 -- ---- a load
@@ -135,16 +135,16 @@ Exits code EndsSo = (status : Status) × (code ≡ code_of status) × EndsSo sta
 
 -- The code of an input or output fault is returned only if that endpoint failed; that of a door fault only if the door failed or no job
 -- could be started; that of a keeper fault only if the maker's fault count rose, and then no link was handed out.
-pub record HasCauses (code : ℕ) (before after : Scene) : Type 0 where
+pub record CodeHasCauses (code : ℕ) (before after : Scene) : Type 0 where
   pub read : code ≡ 4 → Rose before.input.faults after.input.faults
   pub write : code ≡ 5 → Rose before.output.faults after.output.faults
   pub serving : code ≡ 7 → ServingFailed before after
-  pub keep : code ≡ 8 → FailsToKeep before after
+  pub keep : code ≡ 8 → FailsToOpenKeeper before after
 
 -- ---- what determines the exit code if nothing fails and memory doesn't run out
 
 -- the status of an explanation, from the result of processing its input
-abbrev pub explained_status : Outcome (List ℕ) → Status
+abbrev pub explained_status : InputOutcome (List ℕ) → Status
 explained_status (Ok line) = status.Done
 explained_status (Err refusal) = status.Refused
 
@@ -155,7 +155,7 @@ IsDecided (Ok Replay) code before after = IfSome before.input.left (λ bytes. co
 IsDecided (Ok (Check now word)) code before after =
     IfSome before.input.left (λ bytes. code ≡ code_of (check_status (outcome_end (report_of (record { now = now; word = word }) bytes))))
 IsDecided (Ok Explain) code before after =
-    IfSome before.input.left (λ bytes. code ≡ code_of (explained_status (outcome_of explained bytes)))
+    IfSome before.input.left (λ bytes. code ≡ code_of (explained_status (input_outcome explained bytes)))
 IsDecided (Ok (Edge edge)) code before after = code ≡ 0
 IsDecided (Ok (Upstream up)) code before after =
     ¬ (Rose before.keep.faults after.keep.faults)

@@ -2,7 +2,7 @@
 use Rattle.std.specs.Prelude.{None, Result}
 use Rattle.unl_edge.specs.Scene.{Scene}
 use Rattle.unl_follow.specs.Replica.{Subject}
-use Rattle.unl_follow.specs.Run.{Ends as Endpoints, Runs}
+use Rattle.unl_follow.specs.Run.{Endpoints, Runs}
 use Rattle.unl_follow.specs.declared.fault.FollowFault.{FollowFault}
 use Rattle.unl_refresh.specs.declared.ask.Ask.{Ask}
 use Rattle.unl_words.specs.declared.words.FollowArguments.{FollowArguments}

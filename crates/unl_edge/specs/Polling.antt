@@ -3,7 +3,7 @@ use Rattle.std.specs.Prelude.{◌≡◌, ◌⊎◌, ◌<◌, ◌≤◌, ◌+◌,
 use Rattle.unl_delta.specs.Installing.{Installed}
 use Rattle.unl_metrics.specs.Book.{Book}
 use Rattle.unl_refresh.specs.Exchange.{PeerView}
-use Rattle.unl_refresh.specs.Handing.{DrainsShared}
+use Rattle.unl_refresh.specs.MetricsQueues.{Intake, Merges, Receiving, no_intake}
 use Rattle.unl_refresh.specs.Turns.{Duty, MakesTurn, PollState, StopsInTurn, poll_state}
 use Rattle.unl_workers.specs.Periodic.{Turns}
 
@@ -14,30 +14,45 @@ pub record SameWork (before after : Duty) : Type 0 where
   pub slot_pollers : after.slot_pollers ≡ before.slot_pollers
   pub upstream : after.upstream ≡ before.upstream
 
--- Unless the front is near its maximum: a turn was made, or it ended because memory ran out.
+-- Unless the front is near its maximum or the poller has more slots than there are places: a turn was made, or it ended because
+-- memory ran out.
 abbrev pub TurnEnds : Duty → PollState → PollState → Type 0
 TurnEnds duty before after =
     before.installed.front + duty.slots + 1 < 2 ^ 64 - 1 → duty.slots ≤ length before.installed.places
     → MakesTurn duty.known duty.upstream duty.slot_pollers before after
     ⊎ StopsInTurn duty.known duty.upstream duty.slot_pollers before after
 
--- A later turn: metrics of the workers were added to those that are not sent yet, and then the turn was made.
-pub record LaterTurn (duty : Duty) (before after : PollState) : Type 0 where
+-- what later turns change: what a turn changes, and what the poller has taken from the workers
+pub record Refreshing : Type 0 where
+  pub poll : PollState
+  pub intake : Intake
+
+-- a constructor of `Refreshing`
+abbrev pub refreshing : PollState → Intake → Refreshing
+refreshing poll intake = record { poll = poll; intake = intake }
+
+-- A later turn: books were taken from the workers and added to the metrics that are not sent yet, and then the turn was made.
+pub record LaterTurn (duty : Duty) (before after : Refreshing) : Type 0 where
   pub metrics : Book
-  pub drains : DrainsShared before.metrics metrics
-  pub ends : TurnEnds duty (record before { metrics = metrics }) after
+  pub merges : Merges before.poll.metrics before.intake metrics after.intake
+  pub ends : TurnEnds duty (record before.poll { metrics = metrics }) after.poll
+
+-- A receiver took books, and nothing else changed.
+abbrev pub KeepsReceiver : Receiving → Receiving → Type 0
+KeepsReceiver before after = after ≡ record before { intake = after.intake }
 
 -- Some later turns were made, one after another.
-pub record PollsOn (duty : Duty) (before after : PollState) : Type 0 where
+pub record PollsOn (duty : Duty) (before after : Refreshing) : Type 0 where
   pub turns : ℕ
   pub made : Turns (LaterTurn duty) turns before after
 
--- The first turn was made from what was installed at first, with the poller's own tags and metrics. `first` is what it installed.
--- Then later turns were made. Each request of these turns is one more text of the peer's history, and nothing else was sent to it.
+-- The first turn was made from `opening`, with the poller's tags and metrics; `first` is what was installed after it. Later turns
+-- follow; before them nothing was taken from the workers. What these turns sent is all that the peer was sent, as far as `TurnEnds`
+-- says: it says nothing of a turn near the front's maximum, or of one with more slots than places, and memory may run out in one.
 pub record PollsUpstream (duty : Duty) (opening : Installed) (peer : PeerView) (first : Installed) (peer_after : PeerView) : Type 0 where
   pub begun : PollState
   pub installed : begun.installed ≡ first
   pub turn : MakesTurn duty.known duty.upstream duty.slot_pollers (poll_state opening duty.tags duty.metrics peer) begun
-  pub ended : PollState
-  pub later : PollsOn duty begun ended
-  pub peer_ended : ended.peer ≡ peer_after
+  pub ended : Refreshing
+  pub later : PollsOn duty (refreshing begun no_intake) ended
+  pub peer_ended : ended.poll.peer ≡ peer_after

@@ -18,12 +18,12 @@ use Rattle.unl_input.specs.Refusal.{WritesLine}
 use Rattle.unl_input.specs.declared.refusal.WriteLineFault.{WriteLineFault}
 use Rattle.unl_input.specs.declared.refusal.WriteLineFault.TheVariants as say
 use Rattle.unl_input.specs.Lines.{lines}
-use Rattle.unl_input.specs.Taken.{Taking, done, outcome_of}
+use Rattle.unl_input.specs.Taken.{Taking, done, lines_outcome}
 use Rattle.unl_input.specs.Whole.{TakesLines}
 use Rattle.unl_input.specs.declared.taking.LinesFault.TheVariants as line
 use Rattle.unl_keeper.specs.State.{IsNewKeeper, KeeperState, MakerState, kept_rows}
 use Rattle.unl_server.specs.Handling.{Coming}
-use Rattle.unl_server.specs.Linked.{ServesLinks as ServesObservable, linking}
+use Rattle.unl_server.specs.Linked.{ServesLinks, linking}
 use Rattle.unl_upstream.specs.Kept.{AttemptsPreserve, KeptState, acknowledged, commands_in, kept_commands, kept_state}
 use Rattle.unl_upstream.specs.KeptLinks.{ServesKeptLinks, LinkServed, AllLinksEffect, NoKeeperFaults}
 use Rattle.unl_edge.specs.PlainLines.{obeyed_line}
@@ -54,21 +54,21 @@ line_end (Err say.Memory) = OutOfMemory
 -- ---- what is written and served
 
 -- the bytes sent, the door, and the draws to come
-pub record Facing : Type 0 where
+pub record UpstreamFacing : Type 0 where
   pub sent : Option (List ℕ)
   pub door : DoorState
   pub coming : Coming
 
--- a constructor of `Facing`
-abbrev pub facing : Option (List ℕ) → DoorState → Coming → Facing
-facing sent door coming = record { sent = sent; door = door; coming = coming }
+-- a constructor of `UpstreamFacing`
+abbrev pub upstream_facing : Option (List ℕ) → DoorState → Coming → UpstreamFacing
+upstream_facing sent door coming = record { sent = sent; door = door; coming = coming }
 
 -- these endpoints of the scene
-abbrev pub facing_of : Scene → Facing
-facing_of scene = facing scene.output.sent scene.door.state scene.draws
+abbrev pub facing_of : Scene → UpstreamFacing
+facing_of scene = upstream_facing scene.output.sent scene.door.state scene.draws
 
 -- nothing was sent, and the door is unchanged
-pub record IsUntouched (before after : Facing) : Type 0 where
+pub record IsUntouched (before after : UpstreamFacing) : Type 0 where
   pub silent : after.sent ≡ before.sent
   pub shut : after.door ≡ before.door
 
@@ -76,32 +76,32 @@ pub record IsUntouched (before after : Facing) : Type 0 where
 
 -- `served` links were served by an upstream and its keeper. Whether or not the door's links are observable, the upstream and
 -- keeper changed only by what was to be kept of the links.
-pub record ServesLinks (state last : KeptState) (before after : Facing) (served : ℕ) : Type 0 where
+pub record ServesUpstreamLinks (state last : KeptState) (before after : UpstreamFacing) (served : ℕ) : Type 0 where
   pub serves_links : ServesKeptLinks (linking state before.coming before.door) (linking last after.coming after.door) served
   pub carries : AttemptsPreserve state last
 
 -- How serving ends at a door that is to listen at this port: the door listened there, once more than before, and was closed, and the
 -- last line was sent, or a prefix of it, or nothing if out of memory; or the door failed.
-abbrev pub LinksEnd : KeptState → ℕ → ServingEnd → KeptState → Facing → Facing → Type 0
-LinksEnd state port Closed last before after =
-    (served : ℕ) × ServesLinks state last before after served × Sends before.sent (connections_line served) after.sent
+abbrev pub UpstreamLinksEnd : KeptState → ℕ → ServingEnd → KeptState → UpstreamFacing → UpstreamFacing → Type 0
+UpstreamLinksEnd state port Closed last before after =
+    (served : ℕ) × ServesUpstreamLinks state last before after served × Sends before.sent (connections_line served) after.sent
     × IsClosedAt port before.door after.door
-LinksEnd state port WriteFault last before after =
-    (served : ℕ) × ServesLinks state last before after served × SendsPrefix before.sent (connections_line served) after.sent
+UpstreamLinksEnd state port WriteFault last before after =
+    (served : ℕ) × ServesUpstreamLinks state last before after served × SendsPrefix before.sent (connections_line served) after.sent
     × IsClosedAt port before.door after.door
-LinksEnd state port DoorFault last before after =
-    (served : ℕ) × ServesLinks state last before after served × ServedOnlyAt port served before.door after.door
+UpstreamLinksEnd state port DoorFault last before after =
+    (served : ℕ) × ServesUpstreamLinks state last before after served × ServedOnlyAt port served before.door after.door
     × (after.sent ≡ before.sent)
-LinksEnd state port OutOfMemory last before after =
-    (served : ℕ) × ServesLinks state last before after served × (after.sent ≡ before.sent) × IsClosedAt port before.door after.door
+UpstreamLinksEnd state port OutOfMemory last before after =
+    (served : ℕ) × ServesUpstreamLinks state last before after served × (after.sent ≡ before.sent) × IsClosedAt port before.door after.door
 
 -- The links of a door whose links are observable, by commands and draws from the opening on. The first is served after the
 -- commands of the lines, and each adds the commands of its requests that were kept. So the keeper keeps all of them, after
 -- those of the opening. If the keeper never failed, no reply is 503 `KeeperFault`.
-pub record NamesLinks
-    (opened : KeptState) (commands : List Command) (kept last : KeptState) (before after : Facing) (served : ℕ)
+pub record NamesUpstreamLinks
+    (opened : KeptState) (commands : List Command) (kept last : KeptState) (before after : UpstreamFacing) (served : ℕ)
     (links : List (List ℕ)) (returned : List (List ℕ × ℕ)) : Type 0 where
-  pub serves : ServesObservable LinkServed (linking kept before.coming before.door) (linking last after.coming after.door) served links
+  pub serves : ServesLinks LinkServed (linking kept before.coming before.door) (linking last after.coming after.door) served links
       returned
   pub names : AllLinksEffect opened.up opened.keeper.count before.coming commands 0 kept serves.given_links serves.backs last after.coming
   pub keeps : kept_commands last.keeper ≡ option_map (λ kept. kept ++ names.commands_after) (kept_commands opened.keeper)
@@ -118,25 +118,27 @@ obeying number up line = obeyed_line up line
 -- each was served over the state that the one before it left, and was returned. So the keeper keeps the commands of the
 -- lines after those of the opening, and after them those of the links.
 pub record ServesAfterLines
-    (opened : KeptState) (last : KeeperState) (left left_after : Option (List ℕ)) (before after : Facing) (served : ℕ) : Type 0 where
+    (opened : KeptState) (last : KeeperState) (left left_after : Option (List ℕ)) (before after : UpstreamFacing) (served : ℕ)
+    : Type 0 where
   pub read : List ℕ
   pub took : Takes left read left_after
   pub end : HasEnded left_after
   pub kept : KeptState
-  pub accepted : outcome_of keeping (kept_lines_of opened) read ≡ record { text = []; ending = done; desk = kept_lines_of kept }
+  pub accepted : lines_outcome keeping (kept_lines_of opened) read ≡ record { text = []; ending = done; desk = kept_lines_of kept }
   pub spelled : SpellKept (kept_lines_of opened) (lines read) (kept_lines_of kept)
   pub up : UpstreamState
-  pub serves : ServesLinks kept (kept_state up last) before after served
+  pub serves : ServesUpstreamLinks kept (kept_state up last) before after served
   pub keeps : kept_commands last
       ≡ option_map (λ kept. kept ++ (spelled.commands ++ acknowledged serves.carries.some.tried)) (kept_commands opened.keeper)
   pub named : (links : List (List ℕ)) (returned : List (List ℕ × ℕ)) → before.door.links ≡ Some links
       → before.door.returned ≡ Some returned
-      → NamesLinks opened spelled.commands kept (kept_state up last) before after served links returned
+      → NamesUpstreamLinks opened spelled.commands kept (kept_state up last) before after served links returned
 
 -- How a reopened upstream ends, with a door that is to listen at this port. If a line is refused, or the input or the keeper
 -- fails, no link was handed out; if the keeper fails, nothing was sent either. The lines end out of memory only if the keeper
 -- never failed.
-abbrev pub LinesEnd : KeptState → ℕ → UpstreamEnd → KeeperState → Option (List ℕ) → Option (List ℕ) → Facing → Facing → Type 0
+abbrev pub LinesEnd : KeptState → ℕ → UpstreamEnd → KeeperState → Option (List ℕ) → Option (List ℕ) → UpstreamFacing
+    → UpstreamFacing → Type 0
 LinesEnd opened port NoMemory last left left_after before after = ⊥
 LinesEnd opened port KeeperFault last left left_after before after = IsUntouched before after
 LinesEnd opened port (Row written) last left left_after before after = ⊥
@@ -169,7 +171,7 @@ pub record IsNew (up : UpstreamState) : Type 0 where
   pub opens : IsOpening up
 
 -- the upstream was reopened on its keeper, which had `reopened` rows
-pub record Opens (start : KeptState) (reopened : ℕ) (opened : KeptState) : Type 0 where
+pub record ReopensUpstream (start : KeptState) (reopened : ℕ) (opened : KeptState) : Type 0 where
   pub same : IsSameKeeper start.keeper opened.keeper
   pub reopens : Reopens start (Ok reopened) opened
 
@@ -181,7 +183,7 @@ IsOfRow place Fault = ⊥
 IsOfRow place Memory = ⊥
 
 -- reopening failed because of the row at this place
-pub record RefusesRow (start : KeptState) (place : ℕ) : Type 0 where
+pub record RefusesUpstreamRow (start : KeptState) (place : ℕ) : Type 0 where
   pub fault : ReopenFault
   pub of_row : IsOfRow place fault
   pub reached : KeptState
@@ -191,19 +193,20 @@ pub record RefusesRow (start : KeptState) (place : ℕ) : Type 0 where
 -- an upstream was reopened, and ended like this
 pub record EndsReopened
     (start : KeptState) (port : ℕ) (end : UpstreamEnd) (last : KeeperState) (left left_after : Option (List ℕ))
-    (before after : Facing) : Type 0 where
+    (before after : UpstreamFacing) : Type 0 where
   pub reopened : ℕ
   pub opened : KeptState
-  pub opens : Opens start reopened opened
+  pub opens : ReopensUpstream start reopened opened
   pub ends : LinesEnd opened port end last left left_after before after
 
 -- How an upstream ends once its keeper was created. If a row is refused, that was printed and no link was handed out. If memory
 -- ran out before, or the keeper failed before a link was handed out, nothing was sent either.
-abbrev pub KeeperEnd : KeptState → ℕ → UpstreamEnd → KeeperState → Option (List ℕ) → Option (List ℕ) → Facing → Facing → Type 0
+abbrev pub KeeperEnd : KeptState → ℕ → UpstreamEnd → KeeperState → Option (List ℕ) → Option (List ℕ) → UpstreamFacing
+    → UpstreamFacing → Type 0
 KeeperEnd start port NoMemory last left left_after before after = IsUntouched before after
 KeeperEnd start port KeeperFault last left left_after before after = IsUntouched before after
 KeeperEnd start port (Row written) last left left_after before after =
-    (place : ℕ) × RefusesRow start place × WritesLine written (row_line place) before.sent after.sent × (after.door ≡ before.door)
+    (place : ℕ) × RefusesUpstreamRow start place × WritesLine written (row_line place) before.sent after.sent × (after.door ≡ before.door)
 KeeperEnd start port (Lines fault) last left left_after before after =
     EndsReopened start port (Lines fault) last left left_after before after
 KeeperEnd start port (Links end) last left left_after before after = EndsReopened start port (Links end) last left left_after before after
@@ -214,12 +217,12 @@ KeeperEnd start port (Links end) last left left_after before after = EndsReopene
 pub record EndsKept (start : UpstreamState) (port : ℕ) (end : UpstreamEnd) (before after : Scene) : Type 0 where
   pub made : KeeperState
   pub is_new_keeper : IsNewKeeper before.keep.held made
-  pub plain : (reopened : ℕ) (opened : KeptState) → Opens (kept_state start made) reopened opened
+  pub plain : (reopened : ℕ) (opened : KeptState) → ReopensUpstream (kept_state start made) reopened opened
       → IfSome before.keep.held (λ _. kept_lines_of opened ≡ record { up = start; count = 0; commands = Some [] })
   pub last : KeeperState
   pub ends : KeeperEnd (kept_state start made) port end last before.input.left after.input.left (facing_of before) (facing_of after)
   pub back : ComesBack last before.keep after.keep
-  pub holds : (reopened : ℕ) (opened : KeptState) (commands : List Command) → Opens (kept_state start made) reopened opened
+  pub holds : (reopened : ℕ) (opened : KeptState) (commands : List Command) → ReopensUpstream (kept_state start made) reopened opened
       → kept_commands last ≡ option_map (λ kept. kept ++ commands) (kept_commands opened.keeper)
       → IfSome after.keep.held (λ texts. commands_in texts ≡ commands)
 
@@ -259,13 +262,13 @@ UpstreamRuns words (Links end) before after = RunsUpstream words (Links end) bef
 
 -- the exit code by how the lines end
 abbrev pub lines_code : {D : Type 0} → Taking D → D → List ℕ → ℕ
-lines_code taking desk bytes = code_of (ending_status (outcome_of taking desk bytes).ending)
+lines_code taking desk bytes = code_of (ending_status (lines_outcome taking desk bytes).ending)
 
 -- the exit code is 3 if a row is refused, and otherwise that of how the lines end
 abbrev pub IsDecidedFrom : KeptState → ℕ → Option (List ℕ) → Type 0
 IsDecidedFrom start code left =
-    ((place : ℕ) × RefusesRow start place × (code ≡ 3))
-    ⊎ ((reopened : ℕ) × (opened : KeptState) × Opens start reopened opened
+    ((place : ℕ) × RefusesUpstreamRow start place × (code ≡ 3))
+    ⊎ ((reopened : ℕ) × (opened : KeptState) × ReopensUpstream start reopened opened
     × IfSome left (λ bytes. code ≡ lines_code keeping (kept_lines_of opened) bytes))
 
 -- The exit code is that of how the lines end, from the start state with these arguments, reopened on a new keeper. If what the

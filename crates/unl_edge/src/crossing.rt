@@ -1,14 +1,18 @@
 //! Proofs that the parts of a worker's state are `Send`. They are proved part by part, since one proof search over all of them
 //! times out.
+ghost use denote.Ref.{NamedLft};
 ghost use Rattle.std.specs.Thread.{IsSend};
 ghost use Rattle.unl_edge.specs.contracts.link_handler.FreshDesk as DeskType;
 ghost use Rattle.unl_metrics.specs.contracts.book.MetricsBook as BookType;
 ghost use Rattle.unl_connection.specs.contracts.served.Served as NotesType;
+ghost use Rattle.unl_refresh.specs.contracts.metrics_receiver.MetricsReceiver as ReceiverType;
+ghost use Rattle.unl_refresh.specs.contracts.metrics_sender.MetricsSender as SenderType;
 
 use crate::link_handler::FreshDesk;
 use unl_connection::Served;
 use unl_edge_state::readers_are_send;
 use unl_metrics::MetricsBook;
+use unl_refresh::metrics_ends_are_send;
 
 /// States that `T` is `Send`.
 fn send_of<T: Send>()
@@ -37,13 +41,16 @@ fn notes_cross()
     send_of::<Served>()
 }
 
-/// The parts of a worker's state are `Send`. Callers that move one to another thread call this first, to have the facts. It does
-/// nothing at run time.
+/// The parts of a worker's state are `Send`, and so is a receiver of metrics. Callers that move one to another thread call this
+/// first, to have the facts. It does nothing at run time.
 pub(crate) fn worker_parts_are_send()
     ensures desk { IsSend DeskType.the_row }
     ensures book { IsSend BookType.the_row }
     ensures notes { IsSend NotesType.the_row }
+    ensures sender { (lifetime : NamedLft) → IsSend (SenderType.the_row lifetime) }
+    ensures receiver { (lifetime : NamedLft) → IsSend (ReceiverType.the_row lifetime) }
 {
+    metrics_ends_are_send();
     desks_cross();
     books_cross();
     notes_cross()

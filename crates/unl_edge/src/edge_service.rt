@@ -4,37 +4,37 @@ ghost use Rattle.std.specs.List.{AllZip};
 ghost use Rattle.unl_base.specs.Doors.{IsListening};
 ghost use Rattle.unl_core.specs.Board.{AreSlots};
 ghost use Rattle.unl_edge.specs.LinkHandling.{IsOfOrigin, ReadsOnAt, ServesAt};
-ghost use Rattle.unl_edge.specs.EdgeLinks.{ServesEachLink, WorkOnEachLink};
-ghost use Rattle.unl_edge.specs.Edges.{accepted_in};
+ghost use Rattle.unl_edge.specs.EdgeLinks.{ServesEachLink, WorkDuringTurns};
 ghost use Rattle.unl_edge.specs.EdgeServices.{opened, service_at};
-ghost use Rattle.unl_edge.specs.Polling.{PollsOn};
+ghost use Rattle.unl_edge.specs.Polling.{KeepsReceiver, PollsOn, refreshing};
 ghost use Rattle.unl_edge_state.specs.Reading.{HasBegun, IsNewReader};
 ghost use Rattle.unl_edge_state.specs.Writing.{installed_by};
 ghost use Rattle.unl_refresh.specs.Connects.{Connects};
 ghost use Rattle.unl_refresh.specs.Exchange.{peer_view};
+ghost use Rattle.unl_refresh.specs.MetricsQueues.{new_receiving};
 ghost use Rattle.unl_refresh.specs.Turns.{poll_state};
 ghost use Rattle.unl_workers.specs.Pool.{AcceptedIn, HasCauses};
 ghost use Rattle.unl_workers.specs.Serving.{ServesSlot};
 ghost use Rattle.unl_workers.specs.Shares.{EachLinkServedOnce};
 
+use crate::collecting::accepted_in;
 use crate::crossing::worker_parts_are_send;
 use crate::link_handler::EdgeLinkHandler;
 use crate::refresh_task::RefreshTask;
 use crate::same_origin_writer::turn_by;
 use crate::worker_slots::worker_slots_of;
 use std::alloc::Global;
-use std::sync::{Mutex, Wait};
+use std::sync::Wait;
 use unl_base::{Door, Draws, Pace, Peer, Spawner};
 use unl_core::Board;
 use unl_documents::Memory;
 use unl_edge_state::{EdgeReader, EdgeWriter, begin_orderly, readers_are_send, writers_are_send};
-use unl_metrics::MetricsBook;
-use unl_refresh::Poller;
+use unl_refresh::{MetricsQueue, MetricsReceiver, Poller};
 use unl_workers::{AcceptOutcome, PoolFault, PoolOutcome, WorkerSlot, run_pool};
 
 /// Serves the links of a listening door with this many workers, over a board that is kept up to date. The upstream is polled
 /// once before the first link is accepted, and then at a pace, concurrently with the workers. Returns the number of links that
-/// the door handed out, and whether it was closed then or failed.
+/// the door handed out, and whether it then was closed or failed.
 ///
 /// # Errors
 /// `Spawner` if a thread couldn't be started, and `Memory` if out of memory; the door handed out no link then.
@@ -68,20 +68,25 @@ where
     ensures causes { HasCauses (λ accepted. accepted) result
         (D.faults door.old) (D.faults door.new) (S.faults spawner.old) (S.faults spawner.new) }
 {
+    let Ok((queue, pass)) = MetricsQueue::new(alloc) else {
+        return Err(PoolFault::Memory);
+    };
+    let receiver = MetricsReceiver::new(&queue, pass);
     match begin_orderly(rt, alloc, board, workers) {
         Ok((writer, readers)) => serve_from(
-            alloc, rt, writer, readers, poller, door, peer, draws, pace, spawner,
+            alloc, rt, writer, readers, receiver, poller, door, peer, draws, pace, spawner,
         ),
         Err(Memory) => Err(PoolFault::Memory),
     }
 }
 
-/// As `serve_service`, with a writer that has published nothing and its readers. Ends the writer.
+/// As `serve_service`, with a writer that has published nothing, its readers, and a new receiver of metrics. Ends the writer.
 fn serve_from<D: Door, P, R, T, S: Spawner, W: Wait + Sync>(
     alloc: Global,
     rt: &W,
     writer: EdgeWriter<'_, W>,
     readers: Vec<EdgeReader>,
+    receiver: MetricsReceiver<'_>,
     poller: Poller,
     door: &mut D,
     peer: &mut P,
@@ -100,6 +105,7 @@ where
     requires few { length writer.places ≤ 8 }
     requires readers { All (HasBegun writer.known) readers.items }
     requires new { All IsNewReader readers.items }
+    requires receiver { receiver ≡ new_receiving receiver.queue }
     ensures accepts { AcceptedIn (λ accepted. accepted) result (D.state door.old) (D.state door.new) }
     ensures connects { OnOk result (Connects (length writer.entry.places + 1)
         (P.state peer.old).replies (P.Source.faults peer.old) (P.state peer.new).replies (P.Source.faults peer.new)) }
@@ -125,6 +131,7 @@ where
                 rt,
                 &mut writer,
                 readers,
+                receiver,
                 &mut poller,
                 door,
                 peer,
@@ -144,11 +151,12 @@ where
 }
 
 /// As `serve_service`, after the first turn. Each reader learns what that turn published.
-fn serve_after<D: Door, P, R, T, S: Spawner, W: Wait + Sync>(
+fn serve_after<'a, D: Door, P, R, T, S: Spawner, W: Wait + Sync>(
     alloc: Global,
-    rt: &W,
+    rt: &'a W,
     writer: &mut EdgeWriter<'_, W>,
     readers: Vec<EdgeReader>,
+    receiver: MetricsReceiver<'a>,
     poller: &mut Poller,
     door: &mut D,
     peer: &mut P,
@@ -164,38 +172,38 @@ where
     requires listens { IsListening (D.state door.old) }
     requires readers { All (IsOfOrigin writer.old.known) readers.items }
     requires new { All IsNewReader readers.items }
+    requires receiver { receiver ≡ new_receiving receiver.queue }
     ensures accepts { AcceptedIn (λ accepted. accepted) result (D.state door.old) (D.state door.new) }
     ensures connects { OnOk result (Connects 0
         (P.state peer.old).replies (P.Source.faults peer.old) (P.state peer.new).replies (P.Source.faults peer.new)) }
-    ensures polls { OnOk result (PollsOn poller.old
+    ensures each_link_served_once { IfOk result (λ accepted. 0 < length readers.items
+        → WorkDuringTurns (length readers.items) writer.old.known.opening writer.old.known.installs poller.old
         (poll_state (installed_by writer.old) poller.old.tags poller.old.metrics
         (peer_view (P.state peer.old) (P.Source.faults peer.old)))
         (poll_state (installed_by writer.new) poller.new.tags poller.new.metrics
-        (peer_view (P.state peer.new) (P.Source.faults peer.new)))) }
-    ensures each_link_served_once { IfOk result (λ accepted. 0 < length readers.items
-        → WorkOnEachLink (length readers.items) writer.old.known.opening writer.old.known.installs
+        (peer_view (P.state peer.new) (P.Source.faults peer.new)))
         (D.state door.old) (D.state door.new) accepted.links) }
     ensures causes { HasCauses (λ accepted. accepted) result
         (D.faults door.old) (D.faults door.new) (S.faults spawner.old) (S.faults spawner.new) }
 {
-    let shared = Mutex::new(MetricsBook::new(alloc));
-    match worker_slots_of(alloc, rt, &shared, writer, readers, draws) {
-        Ok(pool_slots) => accepted_in(serve_worker_slots(
-            alloc, rt, writer, peer, &shared, poller, pool_slots, door, pace, spawner,
-        )),
+    let mut receiver = receiver;
+    match worker_slots_of(alloc, rt, &mut receiver, writer, readers, draws) {
+        Ok(pool_slots) => {
+            let served = serve_worker_slots(
+                alloc,
+                rt,
+                writer,
+                peer,
+                &mut receiver,
+                poller,
+                pool_slots,
+                door,
+                pace,
+                spawner,
+            );
+            accepted_in(served, receiver)
+        }
         Err(Memory) => Err(PoolFault::Memory),
-    }
-}
-
-/// Returns what the door handed out.
-fn accepted_in<S: Drop, R: Drop>(
-    served: Result<PoolOutcome<S, R>, PoolFault>,
-) -> Result<AcceptOutcome, PoolFault>
-    ensures { result ≡ accepted_in served }
-{
-    match served {
-        Ok(outcome) => Ok(outcome.accepted),
-        Err(fault) => Err(fault),
     }
 }
 
@@ -205,7 +213,7 @@ fn serve_worker_slots<'a, D: Door, P, R, T, S: Spawner, W: Wait + Sync>(
     rt: &'a W,
     writer: &mut EdgeWriter<'_, W>,
     peer: &mut P,
-    shared: &'a Mutex<MetricsBook>,
+    receiver: &mut MetricsReceiver<'a>,
     poller: &mut Poller,
     pool_slots: Vec<WorkerSlot<EdgeLinkHandler<'a, W>, R>>,
     door: &mut D,
@@ -224,10 +232,11 @@ where
         → EachLinkServedOnce ServesAt R.coming D.L.Source.left D.L.Sink.sent D.L.Source.faults
         (D.state door.old) (D.state door.new) outcome.accepted.links pool_slots.entry.items outcome.slots.items) }
     ensures polls { OnOk result (PollsOn poller.old
-        (poll_state (installed_by writer.old) poller.old.tags poller.old.metrics
-        (peer_view (P.state peer.old) (P.Source.faults peer.old)))
-        (poll_state (installed_by writer.new) poller.new.tags poller.new.metrics
-        (peer_view (P.state peer.new) (P.Source.faults peer.new)))) }
+        (refreshing (poll_state (installed_by writer.old) poller.old.tags poller.old.metrics
+        (peer_view (P.state peer.old) (P.Source.faults peer.old))) receiver.old.intake)
+        (refreshing (poll_state (installed_by writer.new) poller.new.tags poller.new.metrics
+        (peer_view (P.state peer.new) (P.Source.faults peer.new))) receiver.new.intake)) }
+    ensures receiver { OnOk result (KeepsReceiver receiver.old receiver.new) }
     ensures connects { OnOk result (Connects 0
         (P.state peer.old).replies (P.Source.faults peer.old) (P.state peer.new).replies (P.Source.faults peer.new)) }
     ensures causes { HasCauses (λ outcome. outcome.accepted) result
@@ -237,13 +246,13 @@ where
         poller,
         writer,
         peer,
-        shared,
+        receiver,
         rt,
     };
     readers_are_send();
     writers_are_send::<W>();
     worker_parts_are_send();
-    // The result is matched, since it is known that the task still holds its references only if all ended well.
+    // Matched and rebuilt: only in the `Ok` arm is it known that the task still holds the same references.
     match run_pool(alloc, rt, spawner, door, pace, &mut turn, pool_slots) {
         Ok(outcome) => Ok(outcome),
         Err(PoolFault::Spawner) => Err(PoolFault::Spawner),

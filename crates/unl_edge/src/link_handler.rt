@@ -3,7 +3,7 @@ ghost use Rattle.std.specs.Prelude.{◌≡◌, [], IfOk};
 ghost use Rattle.unl_edge_state.specs.Reading.{IsSteady};
 
 use std::alloc::Global;
-use std::sync::{Mutex, Wait};
+use std::sync::Wait;
 use unl_base::{Draw, Draws, Link};
 use unl_connection::{Served, serve_connection};
 use unl_core::{Answer, Desk};
@@ -11,7 +11,7 @@ use unl_documents::Memory;
 use unl_edge_state::EdgeReader;
 use unl_http_api::Request;
 use unl_metrics::MetricsBook;
-use unl_refresh::flush_into_shared;
+use unl_refresh::MetricsSender;
 use unl_server::Server;
 use unl_workers::LinkHandler;
 
@@ -25,13 +25,16 @@ pub(crate) struct FreshDesk {
 impl Desk for FreshDesk {
     ghost use Rattle.std.specs.Prelude.{Some};
     ghost use Rattle.unl_edge.specs.LinkHandling.{least_front};
-    ghost use Rattle.unl_edge_state.specs.Reading.{board_of, seen_by};
+    ghost use Rattle.unl_edge_state.specs.Reading.{ContinuesFrom, board_of, continuation_of, past_of, seen_by};
+    ghost use Rattle.unl_edge_state.specs.Continued.{continued_itself, continued_on};
 
     ghost front = { λ desk. least_front desk.reader };
 
     ghost board_at = { λ desk. board_of (seen_by desk.reader) };
 
     ghost fronts = { λ desk. Some (seen_by desk.reader).fronts };
+
+    ghost continues = { λ desk after. ContinuesFrom (past_of desk.reader) (continuation_of desk.reader) after.reader };
 
     fn answer(
         &mut self,
@@ -41,16 +44,21 @@ impl Desk for FreshDesk {
     ) -> Result<(u64, Answer), Memory> {
         self.reader.answer(alloc, request, draw)
     }
+
+    ghost continues_itself = { λ desk. continued_itself (past_of desk.reader) (continuation_of desk.reader) };
+
+    ghost continues_on = { λ first next last. continued_on (past_of first.reader) (past_of next.reader) (past_of last.reader)
+        (continuation_of first.reader) (continuation_of next.reader) (continuation_of last.reader) };
 }
 
-/// Serves links over the published boards and passes on the metrics they report. It holds a desk, the metrics reported at it, a
-/// buffer for the notes of one connection, and the shared book that the metrics go to.
+/// Serves links over the published boards and hands over the metrics they report. It holds a desk, the metrics reported at it,
+/// what hands them over to the poller, and a buffer for the notes of one connection.
 #[derive(Drop)]
 pub(crate) struct EdgeLinkHandler<'a, W> {
     pub desk: FreshDesk,
     pub book: MetricsBook,
+    pub sender: MetricsSender<'a>,
     notes: Served,
-    shared: &'a Mutex<MetricsBook>,
     rt: &'a W,
 }
 
@@ -59,18 +67,18 @@ impl<'a, W> EdgeLinkHandler<'a, W> {
     pub fn new(
         alloc: Global,
         rt: &'a W,
-        shared: &'a Mutex<MetricsBook>,
+        sender: MetricsSender<'a>,
         reader: EdgeReader,
     ) -> Result<EdgeLinkHandler<'a, W>, Memory>
         requires { IsSteady reader }
-        ensures { IfOk result (λ handler. (handler.desk.reader ≡ reader) × (handler.book ≡ [])) }
+        ensures { IfOk result (λ handler. (handler.desk.reader ≡ reader) × (handler.book ≡ []) × (handler.sender ≡ sender.entry)) }
     {
         let notes = Served::new(alloc)?;
         Ok(EdgeLinkHandler {
             desk: FreshDesk { reader },
             book: MetricsBook::new(alloc),
+            sender,
             notes,
-            shared,
             rt,
         })
     }
@@ -96,7 +104,7 @@ impl<'a, W: Wait> Server for EdgeLinkHandler<'a, W> {
             draws,
             &mut self.notes,
         );
-        flush_into_shared(alloc, self.rt, self.shared, &mut self.book);
+        self.sender.hand_over(alloc, self.rt, &mut self.book);
     }
 
     ghost keeps_itself = { Prim.search rules };

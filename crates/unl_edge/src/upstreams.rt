@@ -3,8 +3,8 @@ ghost use Rattle.std.specs.Prelude.{◌≡◌, ◌≢◌, true, IfOk, IsErrOf, s
 ghost use Rattle.unl_base.specs.Faults.{Rose};
 ghost use Rattle.unl_edge.specs.Scene.{ChangesForUpstream};
 ghost use Rattle.unl_edge.specs.Status.{Caused, IsCaused, row_status, serving_status, upstream_status};
-ghost use Rattle.unl_edge.specs.Upstreams.{IsNew, KeeperEnd, LinesEnd, LinksEnd, UpstreamEnds, UpstreamRuns};
-ghost use Rattle.unl_edge.specs.Upstreams.{connections_line, facing, row_line};
+ghost use Rattle.unl_edge.specs.Upstreams.{IsNew, KeeperEnd, LinesEnd, UpstreamLinksEnd, UpstreamEnds, UpstreamRuns};
+ghost use Rattle.unl_edge.specs.Upstreams.{connections_line, upstream_facing, row_line};
 ghost use Rattle.unl_input.specs.Refusal.{WritesLine};
 ghost use Rattle.unl_upstream.specs.Kept.{kept_state};
 ghost use Rattle.unl_upstream.specs.Reopening.{IsOpening};
@@ -159,8 +159,8 @@ fn run_reopened<K: Keeper, I: Source, O: Sink, D: Door, R: Draws, W: Wait>(
     requires faultless { (K.state keeper).faults ≡ 0 }
     ensures ends { KeeperEnd (kept_state up (K.state keeper)) port result.0 (K.state result.1)
         (I.left input.old) (I.left input.new)
-        (facing (O.sent output.old) (D.state door.old) (R.coming draws.old))
-        (facing (O.sent output.new) (D.state door.new) (R.coming draws.new)) }
+        (upstream_facing (O.sent output.old) (D.state door.old) (R.coming draws.old))
+        (upstream_facing (O.sent output.new) (D.state door.new) (R.coming draws.new)) }
     ensures caused { Caused (upstream_status result.0) (Rose (I.faults input.old) (I.faults input.new))
         (Rose (O.faults output.old) (O.faults output.new)) (Rose (D.faults door.old) (D.faults door.new))
         ((K.state result.1).faults ≢ 0) }
@@ -192,8 +192,8 @@ fn take_commands<K: Keeper, I: Source, O: Sink, D: Door, R: Draws, W: Wait>(
     requires faultless { (K.state keeper).faults ≡ 0 }
     ensures ends { LinesEnd (kept_state up (K.state keeper)) port result.0 (K.state result.1)
         (I.left input.old) (I.left input.new)
-        (facing (O.sent output.old) (D.state door.old) (R.coming draws.old))
-        (facing (O.sent output.new) (D.state door.new) (R.coming draws.new)) }
+        (upstream_facing (O.sent output.old) (D.state door.old) (R.coming draws.old))
+        (upstream_facing (O.sent output.new) (D.state door.new) (R.coming draws.new)) }
     ensures caused { Caused (upstream_status result.0) (Rose (I.faults input.old) (I.faults input.new))
         (Rose (O.faults output.old) (O.faults output.new)) (Rose (D.faults door.old) (D.faults door.new))
         ((K.state result.1).faults ≢ 0) }
@@ -231,9 +231,9 @@ fn serve_links<K: Keeper, O: Sink, D: Door, R: Draws, W: Wait>(
     draws: &mut R,
 ) -> ServingEnd
     requires { (K.state keeper.old).opened ≡ true }
-    ensures ends { LinksEnd (kept_state up.old (K.state keeper.old)) port result (kept_state up.new (K.state keeper.new))
-        (facing (O.sent output.old) (D.state door.old) (R.coming draws.old))
-        (facing (O.sent output.new) (D.state door.new) (R.coming draws.new)) }
+    ensures ends { UpstreamLinksEnd (kept_state up.old (K.state keeper.old)) port result (kept_state up.new (K.state keeper.new))
+        (upstream_facing (O.sent output.old) (D.state door.old) (R.coming draws.old))
+        (upstream_facing (O.sent output.new) (D.state door.new) (R.coming draws.new)) }
     ensures caused { Caused (serving_status result) ⊥ (Rose (O.faults output.old) (O.faults output.new))
         (Rose (D.faults door.old) (D.faults door.new)) ⊥ }
 {

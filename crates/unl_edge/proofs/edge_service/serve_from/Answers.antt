@@ -1,4 +1,4 @@
-use Rattle.std.proofs.Common.{arith, length, refl, rules}
+use Rattle.std.proofs.Common.{arith, length, refl}
 use Rattle.unl_edge_state.specs.Writing.{installed_by}
 use Rattle.unl_edge.proofs.ServingEachLink.{each_after_turn}
 use Rattle.unl_edge.proofs.Working.{asked_first}
@@ -19,5 +19,5 @@ returns-in-Ok-clause-each_link_served_once g c =
       opening = installed_by c.args.writer;
       edition = c.args.writer.known.opening;
       workers = length c.args.readers.items;
-    }) _ _ _ _ _ _ _ c.serve_after-served.result turn c.turn_by-writer.ensures.same c.serve_after-served.ensures.polls refl _ _
+    }) _ _ _ _ _ _ _ c.serve_after-served.result turn c.turn_by-writer.ensures.same refl _ _
     c.turn_by-writer.ensures.origin.1 c.leads_here.ensures c.serve_after-served.ensures.each_link_served_once

@@ -2,7 +2,7 @@ use Rattle.std.proofs.Common.{◌≡◌, ap, false, inl, refl, rules, true}
 use Rattle.std.specs.Prelude.{is_ok}
 use Rattle.unl_base.proofs.Listening.{listens_after}
 use Rattle.unl_base.specs.Doors.{DoorState}
-use Rattle.unl_edge.specs.Upstreams.{facing}
+use Rattle.unl_edge.specs.Upstreams.{upstream_facing}
 use Rattle.unl_keeper.specs.State.{HasKept}
 use Rattle.unl_upstream.specs.Kept.{kept_state}
 use Rattle.unl_edge.proofs.Closing.{listened_nowhere}
@@ -20,8 +20,8 @@ returns-then-is_err-clause-ends g c =
     let listens = c.listen.ensures.listens in (
       0,
       serves_none (kept_state c.args.up.now (g.K.Keeper.state c.args.keeper.now))
-          (facing (g.O.Sink.sent c.args.output.now) (g.D.Door.state c.args.door.now) (g.R.Draws.coming c.args.draws.now))
-          (facing (g.O.Sink.sent c.args.output.now) (g.D.Door.state c.listen.new.self) (g.R.Draws.coming c.args.draws.now))
+          (upstream_facing (g.O.Sink.sent c.args.output.now) (g.D.Door.state c.args.door.now) (g.R.Draws.coming c.args.draws.now))
+          (upstream_facing (g.O.Sink.sent c.args.output.now) (g.D.Door.state c.listen.new.self) (g.R.Draws.coming c.args.draws.now))
           has refl (ap (λ (s : DoorState). s.given) listens) (ap (λ (s : DoorState). s.back) listens)
           (ap (λ (s : DoorState). s.links) listens) (ap (λ (s : DoorState). s.returned) listens),
       inl (refl, listened_nowhere _ _ _ _ couldnt listens),

@@ -1,5 +1,5 @@
 use Rattle.std.proofs.Common.{refl, rules}
-use Rattle.unl_edge.specs.Upstreams.{facing}
+use Rattle.unl_edge.specs.Upstreams.{upstream_facing}
 use Rattle.unl_keeper.specs.State.{HasKept}
 use Rattle.unl_upstream.specs.Kept.{kept_state}
 use Rattle.unl_edge.proofs.Commands.{after_lines, silent_at}
@@ -13,8 +13,8 @@ returns-in-Ok-clause-ends g c =
     (kept_state c.serve_links-end.new.up (g.K.Keeper.state c.serve_links-end.new.keeper))
     c.process_lines-processed.new.desk c.serve_links-end.result
     (g.I.Source.left c.args.input.now) (g.I.Source.left c.process_lines-processed.new.source)
-    (facing (g.O.Sink.sent c.args.output.now) (g.D.Door.state c.args.door.now) (g.R.Draws.coming c.args.draws.now))
-    (facing (g.O.Sink.sent c.serve_links-end.new.output) (g.D.Door.state c.serve_links-end.new.door)
+    (upstream_facing (g.O.Sink.sent c.args.output.now) (g.D.Door.state c.args.door.now) (g.R.Draws.coming c.args.draws.now))
+    (upstream_facing (g.O.Sink.sent c.serve_links-end.new.output) (g.D.Door.state c.serve_links-end.new.door)
     (g.R.Draws.coming c.serve_links-end.new.draws))
     (g.O.Sink.sent c.process_lines-processed.new.sink) has c.kept.view_is c.in-Ok.ensures.all c.serve_links-end.ensures.ends
 

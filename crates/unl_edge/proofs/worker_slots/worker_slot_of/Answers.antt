@@ -1,5 +1,5 @@
 use Rattle.std.proofs.Common.{rules}
-use Rattle.unl_edge_state.specs.Reading.{BeginsWith}
+use Rattle.unl_edge_state.specs.Reading.{StartsReader}
 use Rattle.unl_edge_state.proofs.Looks.{learns}
 use Rattle.unl_publication.specs.Seen.{reported_front, reported_list}
 use Rattle.unl_edge.proofs.Working.{begins_shared}
@@ -14,7 +14,7 @@ new-requires g c =
 -- and begins with it
 pub returns-clause-learned : goal.returns-clause-learned
 returns-clause-learned g c =
-    let begins : BeginsWith c.args.writer.now.known.opening c.args.writer.now.known.installs c.learn_all.new.self =
+    let begins : StartsReader c.args.writer.now.known.opening c.args.writer.now.known.installs c.learn_all.new.self =
     begins_shared c.args.writer.now.known (reported_list c.tell.result) c.learn_all.new.self c.tell.ensures.list
     (c.in_ok-learn_all.ensures.begins c.requires.new) in
     search rules

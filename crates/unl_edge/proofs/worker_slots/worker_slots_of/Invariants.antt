@@ -1,10 +1,11 @@
-use Rattle.std.proofs.Common.{◌≡◌, ◌+◌, length}
+use Rattle.std.proofs.Common.{◌≡◌, ◌<◌, ◌+◌, length}
 use Rattle.std.specs.Prelude.{All}
 use Rattle.unl_edge.specs.LinkHandling.{HasLearned, IsOfOrigin}
+use Rattle.unl_edge.specs.WorkerBooks.{HasNewBook}
 use Rattle.unl_edge_state.specs.Reading.{IsNewReader}
 use Rattle.unl_edge.proofs.worker_slots.worker_slots_of.Given as goal
 
--- each slot so far has learned, and the readers to come are new and of the writer's origin
+-- each slot so far has learned and has a new book, and the readers to come are new and of the writer's origin
 abbrev pub invariant-loop-reader : goal.invariant-loop-reader
 invariant-loop-reader g l = record {
   same : l.writer ≡ l.initial.writer;
@@ -13,4 +14,8 @@ invariant-loop-reader g l = record {
   learned : All (λ pool_slot. HasLearned l.initial.writer.known pool_slot.server.desk.reader) l.pool_slots.items;
   rest : All (IsOfOrigin l.initial.writer.known) l.reader-iterator.rest.items;
   new : All IsNewReader l.reader-iterator.rest.items;
+  kept : l.receiver ≡ record l.initial.receiver { parts = l.receiver.parts };
+  parts : l.receiver.parts + length l.initial.reader-iterator.rest.items ≡ l.initial.receiver.parts + length l.reader-iterator.rest.items;
+  less : length l.initial.reader-iterator.rest.items < l.initial.receiver.parts;
+  books : All (λ pool_slot. HasNewBook l.initial.receiver pool_slot.server) l.pool_slots.items;
 }

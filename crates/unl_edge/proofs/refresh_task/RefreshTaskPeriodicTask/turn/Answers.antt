@@ -5,8 +5,9 @@ use Rattle.unl_edge.proofs.refresh_task.RefreshTaskPeriodicTask.turn.Goals as go
 
 pub returns-clause-turned : goal.returns-clause-turned
 returns-clause-turned g c =
-    later_made c.args.self.now.poller.now c.drain_shared.new.self c.turn.new.self _ _ _ _ c.turn.result c.drain_shared.ensures.same
-    c.drain_shared.ensures.drains c.turn.ensures.same c.turn.ensures.polls
+    later_made c.args.self.now.poller.now c.take_metrics.new.self c.turn.new.self _ _ _ _ c.turn.result _ _ c.take_metrics.ensures.same
+    c.take_metrics.ensures.merges c.turn.ensures.same c.turn.ensures.polls
 
 pub returns-clause-keeps : goal.returns-clause-keeps
-returns-clause-keeps g c = (refl, refl, refl, λ first faults connects. connects_still connects c.turn.ensures.connects)
+returns-clause-keeps g c =
+    (refl, refl, refl, (λ first faults connects. connects_still connects c.turn.ensures.connects), refl, c.take_metrics.ensures.same_receiver)

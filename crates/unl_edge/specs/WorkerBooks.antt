@@ -1,0 +1,32 @@
+-- The metrics of a worker.
+use Rattle.std.specs.Prelude.{◌≡◌, List, []}
+use Rattle.unl_edge.specs.declared.link_handler.EdgeLinkHandler.{EdgeLinkHandler}
+use Rattle.unl_metrics.specs.Book.{Book}
+use Rattle.unl_refresh.specs.MetricsQueues.{Receiving}
+use Rattle.unl_workers.specs.declared.worker.WorkerSlot.{WorkerSlot}
+
+-- a worker's metrics: the counts not handed over yet, and the books handed over
+pub record WorkerBook : Type 0 where
+  pub counts : Book
+  pub handed : List Book
+
+-- the metrics of a worker's state
+abbrev pub book_of : {W : Type 0} → EdgeLinkHandler W → WorkerBook
+book_of handler = record { counts = handler.book; handed = handler.sender.handed }
+
+-- no counts, and none handed over
+abbrev pub new_book : WorkerBook
+new_book = record { counts = []; handed = [] }
+
+-- The worker has no counts and has handed over no book. Its sender and this receiver have the same queue.
+pub record HasNewBook {W : Type 0} (receiver : Receiving) (handler : EdgeLinkHandler W) : Type 0 where
+  pub new : book_of handler ≡ new_book
+  pub queue : handler.sender.queue ≡ receiver.queue
+
+-- what was handed over at a slot
+abbrev pub handed_at : {W R : Type 0} → WorkerSlot (EdgeLinkHandler W) R → List Book
+handed_at pool_slot = pool_slot.server.sender.handed
+
+-- The slot's sender and this receiver have the same queue.
+abbrev pub HandsTo : {W R : Type 0} → Receiving → WorkerSlot (EdgeLinkHandler W) R → Type 0
+HandsTo receiver pool_slot = pool_slot.server.sender.queue ≡ receiver.queue

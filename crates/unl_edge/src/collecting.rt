@@ -1,0 +1,72 @@
+//! Takes the worker slots apart once the door is closed: their metrics senders go back to the receiver.
+ghost use Rattle.std.specs.Prelude.{◌≡◌, ◌+◌, ◌++◌, ◌^◌, List, [], All, IfOk, flat_map, length};
+ghost use Rattle.unl_edge.specs.Edges.{accepted_in};
+ghost use Rattle.unl_edge.specs.WorkerBooks.{HandsTo, handed_at};
+ghost use Rattle.unl_metrics.specs.Book.{Book};
+ghost use Rattle.unl_refresh.specs.Handovers.{SameBooks};
+
+use crate::link_handler::EdgeLinkHandler;
+use unl_refresh::MetricsReceiver;
+use unl_workers::{AcceptOutcome, PoolFault, PoolOutcome, WorkerSlot};
+
+/// Returns what the door handed out. The receiver takes the senders of the slots back, which shows that the books that were
+/// handed over are those that it took and those that wait.
+pub(crate) fn accepted_in<'a, R: Drop, W>(
+    served: Result<PoolOutcome<EdgeLinkHandler<'a, W>, R>, PoolFault>,
+    receiver: MetricsReceiver<'a>,
+) -> Result<AcceptOutcome, PoolFault>
+    requires parts { IfOk served (λ outcome. receiver.parts + length outcome.slots.items ≡ 2 ^ 64) }
+    requires handed { IfOk served (λ outcome. receiver.handed ≡ []) }
+    requires queue { IfOk served (λ outcome. All (HandsTo receiver) outcome.slots.items) }
+    ensures accepted { result ≡ accepted_in served.entry }
+    ensures counted { IfOk served.entry (λ outcome. (waiting : List Book)
+        × SameBooks (flat_map handed_at outcome.slots.items) (receiver.entry.intake.taken ++ waiting)) }
+{
+    match served {
+        Ok(outcome) => {
+            let PoolOutcome {
+                accepted,
+                slots,
+                ..
+            } = outcome;
+            count_metrics(receiver, slots);
+            Ok(accepted)
+        }
+        Err(fault) => Err(fault),
+    }
+}
+
+/// Takes the senders of all slots back, which shows that the books that were handed over are those that were taken and those that
+/// wait.
+fn count_metrics<'a, R: Drop, W>(
+    receiver: MetricsReceiver<'a>,
+    pool_slots: Vec<WorkerSlot<EdgeLinkHandler<'a, W>, R>>,
+)
+    requires parts { receiver.parts + length pool_slots.items ≡ 2 ^ 64 }
+    requires handed { receiver.handed ≡ [] }
+    requires queue { All (HandsTo receiver) pool_slots.items }
+    ensures { (waiting : List Book)
+        × SameBooks (flat_map handed_at pool_slots.entry.items) (receiver.entry.intake.taken ++ waiting) }
+{
+    let mut receiver = receiver;
+    for pool_slot in pool_slots {
+        take_sender_back(&mut receiver, pool_slot);
+    }
+    receiver.all_counted();
+}
+
+/// Takes the sender of a slot back.
+fn take_sender_back<'a, R: Drop, W>(
+    receiver: &mut MetricsReceiver<'a>,
+    pool_slot: WorkerSlot<EdgeLinkHandler<'a, W>, R>,
+)
+    requires { HandsTo receiver.old pool_slot }
+    ensures { receiver.new ≡ record receiver.old {
+      parts = receiver.old.parts + 1;
+      handed = receiver.old.handed ++ handed_at pool_slot.entry;
+    } }
+{
+    let WorkerSlot { server, .. } = pool_slot;
+    let EdgeLinkHandler { sender, .. } = server;
+    receiver.take_back(sender);
+}

@@ -1,0 +1,138 @@
+//! A run of the program over endpoints in memory.
+use crate::run::run;
+use crate::tests::outside::{AfterLinks, Events, Keeping, Script, TestDoor, TestMaker, TestPace};
+use crate::world::World;
+use std::alloc::Global;
+use std::sync::Wait;
+use std::thread::Threads;
+use unl_base::{Door, ListDraws, MemoryPeer, MemorySink, MemorySource, Pace, RealSpawner};
+
+/// A run: its arguments, what its endpoints do, and how it must end.
+#[derive(Clone, Copy)]
+pub(crate) struct Case {
+    pub name: &'static str,
+    /// The arguments, separated by single spaces.
+    pub arguments: &'static str,
+    pub input: &'static str,
+    pub links: &'static [Script],
+    pub after_links: AfterLinks,
+    /// What the upstream replies on its connections, one after another. After them it replies nothing.
+    pub upstream: &'static [&'static str],
+    /// The numbers of the calls of the upstream that fail, counted from 0.
+    pub failing_calls: &'static [u64],
+    /// For each later turn, the number of answers that links must have received before it.
+    pub turns: &'static [u64],
+    pub keeping: Keeping,
+    pub code: u8,
+    pub printed: &'static str,
+    /// The number of answers that links are sent.
+    pub answers: u64,
+    /// The number of links that the door takes back.
+    pub returned: u64,
+}
+
+/// A case without arguments, input, links or replies.
+pub(crate) const CASE: Case = Case {
+    name: "",
+    arguments: "",
+    input: "",
+    links: &[],
+    after_links: AfterLinks::Closes(0),
+    upstream: &[],
+    failing_calls: &[],
+    turns: &[],
+    keeping: Keeping::FailsAt(u64::MAX),
+    code: 0,
+    printed: "",
+    answers: 0,
+    returned: 0,
+};
+
+/// How a run ended: the exit code, what was printed, the number of correct answers sent on links, of wrong ones, and of links returned.
+#[derive(Debug, Drop)]
+pub(crate) struct Ending {
+    code: u8,
+    printed: String,
+    links: (u64, u64, u64),
+}
+
+/// Returns whether a run ended as its case says.
+pub(crate) fn is_as_said(ending: &Option<Ending>, case: &Case) -> bool {
+    match ending {
+        Some(ending) => {
+            ending.code == case.code
+                && ending.printed.as_str() == case.printed
+                && ending.links == (case.answers, 0, case.returned)
+        }
+        None => false,
+    }
+}
+
+/// Runs a case. Returns `None` if out of memory.
+pub(crate) fn ran<W: Threads + Wait + Sync + Copy + Drop>(
+    rt: W,
+    alloc: Global,
+    case: &Case,
+) -> Option<Ending> {
+    let events = Events::new();
+    let door = TestDoor::new(alloc, case.links, case.after_links, &events);
+    let pace = TestPace::new(case.turns, &events);
+    let (code, printed) = run_with(rt, alloc, case, door, pace)?;
+    Some(Ending {
+        code,
+        printed,
+        links: events.of_links(),
+    })
+}
+
+/// Runs a case with this door and this pace. Returns the exit code and what was printed.
+fn run_with<D: Door + Drop, T: Pace + Drop + Send, W: Threads + Wait + Sync + Copy + Drop>(
+    rt: W,
+    alloc: Global,
+    case: &Case,
+    door: D,
+    pace: T,
+) -> Option<(u8, String)>
+where
+    D::L: Drop + Send,
+{
+    let words = words_of(alloc, case.arguments)?;
+    let input = case.input.as_bytes().to_vec(alloc).ok()?;
+    let output = MemorySink::new(alloc, 4_096, Vec::new(alloc)).ok()?;
+    let peer = upstream_of(alloc, case)?;
+    let mut world = World {
+        input: MemorySource::new(input, 4_096, Vec::new(alloc)),
+        output,
+        door,
+        peer,
+        draws: ListDraws::new(Vec::new(alloc)),
+        pace,
+        spawner: RealSpawner::new(rt),
+        keep: TestMaker {
+            keeping: case.keeping,
+        },
+        rt,
+    };
+    let code = run(alloc, &words, &mut world);
+    let printed = String::from_utf8(world.output.sent().to_vec(alloc).ok()?).ok()?;
+    Some((code, printed))
+}
+
+/// Splits a line at spaces.
+fn words_of(alloc: Global, line: &str) -> Option<Vec<String>> {
+    let mut words = Vec::new(alloc);
+    for word in line.split(' ') {
+        words.push(String::from_str(alloc, word).ok()?).ok()?;
+    }
+    Some(words)
+}
+
+/// Returns the upstream of a case.
+fn upstream_of(alloc: Global, case: &Case) -> Option<MemoryPeer> {
+    let mut replies = Vec::new(alloc);
+    for reply in case.upstream {
+        replies.push(reply.as_bytes().to_vec(alloc).ok()?).ok()?;
+    }
+    let failing = case.failing_calls.to_vec(alloc).ok()?;
+    MemoryPeer::new(alloc, replies, 4_096, failing).ok()
+}

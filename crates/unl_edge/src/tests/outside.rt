@@ -1,0 +1,336 @@
+//! Links, a door and a pace that share event counters, and a maker of failing keepers.
+ghost use Rattle.std.specs.Prelude.{◌≡◌, ◌≤◌};
+
+use std::alloc::Global;
+use std::io::Read;
+use std::sync::atomic::{AtomicU64, Ordering};
+use unl_base::{Door, Failed, Link, Pace, Sink, Source};
+use unl_documents::List;
+use unl_keeper::{KeepFail, KeepMaker, KeepRefusal, MemoryKeeper};
+
+/// How often each of these happened in a run.
+#[derive(Drop)]
+pub(crate) struct Events {
+    /// A turn ended.
+    turns: AtomicU64,
+    /// A link was sent its next answer, whole.
+    answers: AtomicU64,
+    /// A link was sent something else.
+    wrong: AtomicU64,
+    /// The door took back a link.
+    returned: AtomicU64,
+}
+
+impl Events {
+    pub(crate) fn new() -> Events {
+        Events {
+            turns: AtomicU64::new(0),
+            answers: AtomicU64::new(0),
+            wrong: AtomicU64::new(0),
+            returned: AtomicU64::new(0),
+        }
+    }
+
+    /// Waits until this many turns have ended and this many answers were sent. Returns false if this has not happened after
+    /// 1,000,000,000 checks.
+    fn wait_for(&self, turns: u64, answers: u64) -> bool {
+        for _ in 0..1_000_000_000u64 {
+            if turns <= count_of(&self.turns) && answers <= count_of(&self.answers) {
+                return true;
+            }
+        }
+        false
+    }
+
+    /// Returns the number of correct answers sent on links, of wrong ones, and of links that the door took back.
+    pub(crate) fn of_links(&self) -> (u64, u64, u64) {
+        (
+            count_of(&self.answers),
+            count_of(&self.wrong),
+            count_of(&self.returned),
+        )
+    }
+}
+
+/// Counts an event.
+fn add_one(event: &AtomicU64) {
+    event.fetch_add(1, Ordering::SeqCst);
+}
+
+/// Returns how often an event happened.
+fn count_of(event: &AtomicU64) -> u64 {
+    event.load(Ordering::SeqCst)
+}
+
+/// Bytes that a link receives after this many turns and answers.
+#[derive(Clone, Copy)]
+pub(crate) struct Arrival {
+    pub turns: u64,
+    pub answers: u64,
+    pub bytes: &'static str,
+}
+
+/// What comes on a link, and the answers that it must be sent.
+#[derive(Clone, Copy)]
+pub(crate) struct Script {
+    pub arrivals: &'static [Arrival],
+    pub answers: &'static [&'static str],
+}
+
+/// A link that follows a script. Its reads fail where what they wait for doesn't happen.
+#[derive(Drop)]
+pub(crate) struct TestLink<'a> {
+    arrivals: &'static [Arrival],
+    arrived: &'static [u8],
+    answers: &'static [&'static str],
+    sent: usize,
+    events: &'a Events,
+    faults: u64,
+}
+
+impl<'a> TestLink<'a> {
+    fn new(script: &Script, events: &'a Events) -> TestLink<'a>
+        ensures { result.faults ≡ 0 }
+    {
+        TestLink {
+            arrivals: script.arrivals,
+            arrived: b"",
+            answers: script.answers,
+            sent: 0,
+            events,
+            faults: 0,
+        }
+    }
+}
+
+impl Source for TestLink<'_> {
+    ghost use Rattle.std.specs.Prelude.{None};
+    ghost use Rattle.unl_base.specs.Peers.{no_other_parts};
+
+    ghost left = { λ link. None };
+
+    ghost faults = { λ link. link.faults };
+
+    ghost other_parts = { λ link. no_other_parts };
+
+    fn read(&mut self, room: &mut [u8]) -> Result<usize, Failed> {
+        if self.arrived.is_empty() {
+            let Some((arrival, others)) = self.arrivals.split_first() else {
+                return Ok(0);
+            };
+            if !self.events.wait_for(arrival.turns, arrival.answers) {
+                self.faults = self.faults.saturating_add(1);
+                return Err(Failed);
+            }
+            self.arrived = arrival.bytes.as_bytes();
+            self.arrivals = others;
+        }
+        match self.arrived.read(room) {
+            Ok(count) => Ok(count),
+            Err(_) => {
+                self.faults = self.faults.saturating_add(1);
+                Err(Failed)
+            }
+        }
+    }
+}
+
+/// Returns whether these are the bytes of a text.
+fn is_text(bytes: &[u8], text: &str) -> bool {
+    bytes == text.as_bytes()
+}
+
+impl Sink for TestLink<'_> {
+    ghost use Rattle.std.specs.Prelude.{None};
+    ghost use Rattle.unl_base.specs.Peers.{no_other_parts};
+
+    ghost sent = { λ link. None };
+
+    ghost faults = { λ link. link.faults };
+
+    ghost other_parts = { λ link. no_other_parts };
+
+    /// Takes an answer at once.
+    fn write(&mut self, piece: &[u8]) -> Result<usize, Failed> {
+        match self.answers.get(self.sent) {
+            Some(answer) if is_text(piece, answer) => {
+                self.sent = self.sent.saturating_add(1);
+                add_one(&self.events.answers);
+            }
+            _ => add_one(&self.events.wrong),
+        }
+        Ok(piece.len())
+    }
+}
+
+impl Link for TestLink<'_> {
+    ghost use Rattle.std.proofs.Common.{refl};
+
+    ghost one_count = { λ link. refl };
+
+    ghost reads_other_parts = { λ link. refl };
+
+    ghost writes_other_parts = { λ link. refl };
+}
+
+/// What a door does after its last link.
+#[derive(Clone, Copy)]
+pub(crate) enum AfterLinks {
+    /// It closes, once this many turns have ended.
+    Closes(u64),
+    /// It fails.
+    Fails,
+}
+
+/// A door whose links follow these scripts.
+#[derive(Drop)]
+pub(crate) struct TestDoor<'a> {
+    ports: Vec<u16>,
+    scripts: &'static [Script],
+    after: AfterLinks,
+    events: &'a Events,
+    given: u64,
+    back: u64,
+    faults: u64,
+    ghost in_order: { back ≤ given },
+}
+
+impl<'a> TestDoor<'a> {
+    /// Creates a door that listens at no port yet.
+    pub(crate) fn new(
+        alloc: Global,
+        scripts: &'static [Script],
+        after: AfterLinks,
+        events: &'a Events,
+    ) -> TestDoor<'a> {
+        TestDoor {
+            ports: Vec::new(alloc),
+            scripts,
+            after,
+            events,
+            given: 0,
+            back: 0,
+            faults: 0,
+        }
+    }
+}
+
+impl<'a> Door for TestDoor<'a> {
+    ghost use Rattle.std.specs.Prelude.{None, length, nat_eq};
+
+    type L = TestLink<'a>;
+
+    ghost state = { λ door. record {
+      ports = door.ports.items;
+      closed = nat_eq (length door.scripts.now) 0;
+      given = door.given;
+      back = door.back;
+      links = None;
+      returned = None;
+    } };
+
+    ghost faults = { λ door. door.faults };
+
+    fn listen(&mut self, port: u16) -> Result<(), Failed> {
+        if self.ports.push(port).is_err() {
+            self.faults = self.faults.saturating_add(1);
+            return Err(Failed);
+        }
+        Ok(())
+    }
+
+    fn accept(&mut self) -> Result<Option<TestLink<'a>>, Failed> {
+        let Some((script, others)) = self.scripts.split_first() else {
+            return match self.after {
+                AfterLinks::Closes(turns) if self.events.wait_for(turns, 0) => Ok(None),
+                _ => {
+                    self.faults = self.faults.saturating_add(1);
+                    Err(Failed)
+                }
+            };
+        };
+        let Some(given) = self.given.checked_add(1) else {
+            self.faults = self.faults.saturating_add(1);
+            return Err(Failed);
+        };
+        self.given = given;
+        self.scripts = others;
+        Ok(Some(TestLink::new(script, self.events)))
+    }
+
+    fn give_back(&mut self, _link: TestLink<'a>) {
+        self.back += 1;
+        add_one(&self.events.returned);
+    }
+
+    ghost within = { λ door. door.in_order };
+}
+
+/// A pace with one turn for each of `turns`, which comes once links were sent that many answers. Asking for
+/// a turn counts the turn before as ended.
+#[derive(Drop)]
+pub(crate) struct TestPace<'a> {
+    turns: &'static [u64],
+    events: &'a Events,
+}
+
+impl<'a> TestPace<'a> {
+    pub(crate) fn new(turns: &'static [u64], events: &'a Events) -> TestPace<'a> {
+        TestPace { turns, events }
+    }
+}
+
+impl Pace for TestPace<'_> {
+    ghost use Rattle.std.specs.Prelude.{Some, length};
+
+    ghost turns = { λ pace. Some (length pace.turns.now) };
+
+    fn more(&mut self) -> bool {
+        add_one(&self.events.turns);
+        let Some((answers, others)) = self.turns.split_first() else {
+            return false;
+        };
+        self.turns = others;
+        let _ = self.events.wait_for(0, *answers);
+        true
+    }
+}
+
+/// What happens to the keeper of an upstream.
+#[derive(Clone, Copy)]
+pub(crate) enum Keeping {
+    /// Creating it fails.
+    Unmade,
+    /// Its call of this number fails, counted from 0; if there is no such call, it works.
+    FailsAt(u64),
+}
+
+/// A maker of keepers in memory. Its fault count is always the maximum, so a failure needs no counting.
+#[derive(Drop)]
+pub(crate) struct TestMaker {
+    pub keeping: Keeping,
+}
+
+impl KeepMaker for TestMaker {
+    ghost use Rattle.std.specs.Prelude.{None, ◌-◌, ◌^◌};
+
+    type K = MemoryKeeper;
+
+    ghost state = { λ maker. record { held = None; faults = 2 ^ 64 - 1 } };
+
+    fn make(&mut self, alloc: Global) -> Result<MemoryKeeper, KeepRefusal> {
+        let Keeping::FailsAt(call) = self.keeping else {
+            return Err(KeepRefusal::Fault);
+        };
+        let fail = KeepFail {
+            call,
+            leaves: false,
+        };
+        match vec![in alloc; fail] {
+            Ok(failing) => Ok(MemoryKeeper::new(alloc, List::from_vec(failing))),
+            Err(_) => Err(KeepRefusal::Memory),
+        }
+    }
+
+    fn back(&mut self, _keeper: MemoryKeeper) {}
+}
