@@ -4,7 +4,7 @@ use Rattle.unl_base.specs.Doors.{IsClosedAt}
 use Rattle.unl_durable_upstream.specs.Databases.{IsClosedWith, IsNewDoor, ProgramEnds, RunsFile, ServesAndCloses, unopened}
 use Rattle.unl_durable_upstream.specs.Arguments.{IsReading}
 use Rattle.unl_durable_upstream.specs.declared.arguments.ProgramArguments.{ProgramArguments}
-use Rattle.unl_durable_upstream.specs.Serving.{Ends, Facing}
+use Rattle.unl_durable_upstream.specs.Serving.{ReopeningEnds, Facing}
 use Rattle.unl_durable_upstream.specs.declared.fault.ProgramFault.{ProgramFault}
 use Rattle.unl_durable_upstream.specs.declared.fault.ProgramFault.TheVariants.{BadArguments, File, Row, Keeper, Door, Memory}
 use Rattle.unl_keeper.specs.State.{KeeperState}
@@ -13,7 +13,7 @@ use Rattle.unl_upstream.specs.Upstream.{UpstreamState}
 
 -- serving failed, so the database was not closed
 failed : (initial : UpstreamState) (port : ℕ) (fault : ProgramFault) (last : KeptState) (before after : Facing)
-    → Ends (kept_state initial unopened) port (Err fault) last before after → ServesAndCloses initial port (Err fault) before after
+    → ReopeningEnds (kept_state initial unopened) port (Err fault) last before after → ServesAndCloses initial port (Err fault) before after
 failed initial port BadArguments last before after ends = absurd ends
 failed initial port (File error) last before after ends = absurd ends
 failed initial port (Row place) last before after ends = (last, ends)
@@ -23,10 +23,10 @@ failed initial port Memory last before after ends = inl (ap (λ (f : Facing). f.
 
 -- serving ended, and the database was closed where it ended well
 closed : (initial : UpstreamState) (port : ℕ) (served result : Result ℕ ProgramFault) (last : KeptState) (before after : Facing)
-    → Ends (kept_state initial unopened) port served last before after → IsClosedWith served result
+    → ReopeningEnds (kept_state initial unopened) port served last before after → IsClosedWith served result
     → ServesAndCloses initial port result before after
 closed initial port (Ok served) (Ok count) last before after ends is =
-    (last, subst (λ (n : ℕ). Ends (kept_state initial unopened) port (Ok n) last before after) (sym is) ends)
+    (last, subst (λ (n : ℕ). ReopeningEnds (kept_state initial unopened) port (Ok n) last before after) (sym is) ends)
 closed initial port (Ok served) (Err BadArguments) last before after ends is = absurd is
 closed initial port (Ok served) (Err (File error)) last before after ends is = (served, (last, ends))
 closed initial port (Ok served) (Err (Row place)) last before after ends is = absurd is
@@ -38,11 +38,11 @@ closed initial port (Err fault) result last before after ends is =
 
 -- the same, from a keeper that was not opened yet
 pub serves_and_closes : (initial : UpstreamState) (port : ℕ) (keeper : KeeperState) (served result : Result ℕ ProgramFault)
-    (before after : Facing) → keeper ≡ unopened → ((last : KeptState) × Ends (kept_state initial keeper) port served last before after)
+    (before after : Facing) → keeper ≡ unopened → ((last : KeptState) × ReopeningEnds (kept_state initial keeper) port served last before after)
     → IsClosedWith served result → ServesAndCloses initial port result before after
 serves_and_closes initial port keeper served result before after is ends closes =
     closed initial port served result ends.0 before after
-    (subst (λ (k : KeeperState). Ends (kept_state initial k) port served ends.0 before after) is ends.1) closes
+    (subst (λ (k : KeeperState). ReopeningEnds (kept_state initial k) port served ends.0 before after) is ends.1) closes
 
 -- the door failed only if it did so while links were served
 pub door_failed : (served result : Result ℕ ProgramFault) → IsClosedWith served result → result ≡ Err Door → served ≡ Err Door

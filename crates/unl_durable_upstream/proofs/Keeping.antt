@@ -3,7 +3,7 @@ use Rattle.std.proofs.Common.{◌≡◌, ◌∙◌, inl, inr, ℕ, ◌++◌, Lis
 use Rattle.std.specs.Prelude.{option_map}
 use Rattle.unl_base.specs.declared.Failed.{Failed}
 use Rattle.unl_server.specs.Handling.{Coming}
-use Rattle.unl_server.specs.Linked.{ServesLinks as ServesObservable, linking}
+use Rattle.unl_server.specs.Linked.{ServesLinks, linking}
 use Rattle.unl_durable_upstream.specs.Serving.{Facing, KeepsAcknowledged, LinksEnd, NamesLinks, OpensAndServes}
 use Rattle.unl_keeper.specs.State.{HasKept}
 use Rattle.unl_upstream.specs.declared.command.Command.{Command}
@@ -25,7 +25,7 @@ none_used (Some draws) = refl
 -- the links of a door whose links are observable, by commands and draws
 links_named : (opened last : KeptState) (before after : Facing) (served : ℕ) (links : List (List ℕ)) (returned : List (List ℕ × ℕ))
     → HasKept opened.keeper
-    → ServesObservable LinkServed (linking opened before.coming before.door) (linking last after.coming after.door) served links returned
+    → ServesLinks LinkServed (linking opened before.coming before.door) (linking last after.coming after.door) served links returned
     → NamesLinks opened last before after served links returned
 links_named opened last before after served links returned has serves =
     let start : IsNamed opened.up opened.keeper.count [] opened = record { up = refl; count = omega arith } in

@@ -7,7 +7,7 @@ use Rattle.unl_server.specs.Handling.{Coming}
 use Rattle.unl_durable_upstream.specs.Beginning.{upstream_of}
 use Rattle.unl_durable_upstream.specs.Faults.{IsOfDatabase}
 use Rattle.unl_durable_upstream.specs.Arguments.{IsReading}
-use Rattle.unl_durable_upstream.specs.Serving.{Ends, Facing, code_of, facing}
+use Rattle.unl_durable_upstream.specs.Serving.{ReopeningEnds, Facing, code_of, facing}
 use Rattle.unl_durable_upstream.specs.declared.fault.ProgramFault.{ProgramFault}
 use Rattle.unl_durable_upstream.specs.declared.fault.ProgramFault.TheVariants.{BadArguments, File, Row, Keeper, Door, Memory}
 use Rattle.unl_durable_upstream.specs.declared.arguments.ProgramArguments.{ProgramArguments}
@@ -24,7 +24,8 @@ unopened = record { opened = false; faults = 0; count = 0; rows = None }
 
 -- the initial upstream was reopened from the database, and served links, with this end
 abbrev pub ServesDatabase : UpstreamState → ℕ → Result ℕ ProgramFault → Facing → Facing → Type 0
-ServesDatabase initial port result before after = (last : KeptState) × Ends (kept_state initial unopened) port result last before after
+ServesDatabase initial port result before after =
+    (last : KeptState) × ReopeningEnds (kept_state initial unopened) port result last before after
 
 -- How serving a database and then closing it ends. `File` is a fault of closing it, after serving ended well. Where memory ran
 -- out, no link was handed out, or that was while the database was closed.
@@ -46,7 +47,7 @@ IsClosedWith (Ok served) (Err fault) = IsOfDatabase fault
 IsClosedWith (Err fault) result = result ≡ Err fault
 
 -- A draw was taken, and its word is the boot number of the upstream with these options. Serving its database then ended so.
-pub record Runs (options : UpstreamArguments) (result : Result ℕ ProgramFault) (before after : Facing) : Type 0 where
+pub record RunsDatabase (options : UpstreamArguments) (result : Result ℕ ProgramFault) (before after : Facing) : Type 0 where
   pub draw : Draw
   pub coming : Coming
   pub drawn : TakesDraw before.coming draw coming
@@ -63,7 +64,7 @@ IsUnserved (Err fault) before after = IsOfDatabase fault × (after ≡ before)
 
 -- how a run over a file ends: nothing was served, or its database was
 pub record RunsFile (options : UpstreamArguments) (result : Result ℕ ProgramFault) (before after : Facing) : Type 0 where
-  pub ends : IsUnserved result before after ⊎ Runs options result before after
+  pub ends : IsUnserved result before after ⊎ RunsDatabase options result before after
 
 -- the door has listened on no port, and no link was handed out or taken back
 pub record IsNewDoor (door : DoorState) : Type 0 where

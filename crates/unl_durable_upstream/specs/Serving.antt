@@ -4,7 +4,7 @@ use Rattle.std.specs.Prelude.{◌≡◌, ◌≢◌, ◌⊎◌, ℕ, ◌+◌, Lis
 use Rattle.unl_base.specs.Doors.{DoorState, IsClosedAt, ListenedAt}
 use Rattle.unl_base.specs.declared.Failed.{Failed}
 use Rattle.unl_server.specs.Handling.{Coming}
-use Rattle.unl_server.specs.Linked.{ServesLinks as ServesObservable, linking}
+use Rattle.unl_server.specs.Linked.{ServesLinks, linking}
 use Rattle.unl_durable_upstream.specs.declared.fault.ProgramFault.{ProgramFault}
 use Rattle.unl_durable_upstream.specs.declared.fault.ProgramFault.TheVariants.{BadArguments, File, Row, Keeper, Door, Memory}
 use Rattle.unl_upstream.specs.declared.command.Command.{Command}
@@ -40,23 +40,24 @@ facing door coming = record { door = door; coming = coming }
 
 -- An upstream and its keeper served `served` links. Attempts to keep the commands of their requests are all that changed the
 -- upstream and the keeper, whether or not the door's links are observable.
-pub record ServesLinks (opened last : KeptState) (before after : Facing) (served : ℕ) : Type 0 where
+pub record ServesDurableLinks (opened last : KeptState) (before after : Facing) (served : ℕ) : Type 0 where
   pub serves_links : ServesKeptLinks (linking opened before.coming before.door) (linking last after.coming after.door) served
   pub carries : AttemptsPreserve opened last
 
 -- How serving ends on a door that was to listen on this port. On success it served `served` links until the door was closed.
 -- On failure either the door could not listen and nothing changed, or it served some links and then failed.
 abbrev pub LinksEnd : KeptState → ℕ → Result ℕ Failed → KeptState → Facing → Facing → Type 0
-LinksEnd opened port (Ok served) last before after = ServesLinks opened last before after served × IsClosedAt port before.door after.door
+LinksEnd opened port (Ok served) last before after =
+    ServesDurableLinks opened last before after served × IsClosedAt port before.door after.door
 LinksEnd opened port (Err failed) last before after =
     ((last ≡ opened) × (after ≡ before))
-    ⊎ ((served : ℕ) × ServesLinks opened last before after served × ListenedAt port before.door after.door)
+    ⊎ ((served : ℕ) × ServesDurableLinks opened last before after served × ListenedAt port before.door after.door)
 
 -- The links of a door whose links are observable. Each adds the commands of its requests that were kept, in order, and the
 -- keeper keeps all of them after those that it was reopened with. If the keeper never failed, no reply is 503 `KeeperFault`.
 pub record NamesLinks
     (opened last : KeptState) (before after : Facing) (served : ℕ) (links : List (List ℕ)) (returned : List (List ℕ × ℕ)) : Type 0 where
-  pub serves : ServesObservable LinkServed (linking opened before.coming before.door) (linking last after.coming after.door) served links
+  pub serves : ServesLinks LinkServed (linking opened before.coming before.door) (linking last after.coming after.door) served links
       returned
   pub names : AllLinksEffect opened.up opened.keeper.count before.coming [] 0 opened serves.given_links serves.backs last after.coming
   pub keeps : kept_commands last.keeper ≡ option_map (λ commands. commands ++ names.commands_after) (kept_commands opened.keeper)
@@ -99,7 +100,7 @@ pub record OpensAndServes
   pub serves : LinksEnd opened port ended last before after
   pub keeps : KeepsAcknowledged start.up opened last
   pub named : (served : ℕ) (links : List (List ℕ)) (returned : List (List ℕ × ℕ))
-      → ServesObservable LinkServed (linking opened before.coming before.door) (linking last after.coming after.door) served links returned
+      → ServesLinks LinkServed (linking opened before.coming before.door) (linking last after.coming after.door) served links returned
       → NamesLinks opened last before after served links returned
 
 -- ---- how it ends
@@ -124,11 +125,11 @@ pub record RefusesRow (start : KeptState) (place : ℕ) (last : KeptState) (befo
   pub fails : FailsToReopen start fault last before after
 
 -- how reopening and serving ends, on a door that was to listen on this port
-abbrev pub Ends : KeptState → ℕ → Result ℕ ProgramFault → KeptState → Facing → Facing → Type 0
-Ends start port (Ok served) last before after = OpensAndServes start port (Ok served) last before after
-Ends start port (Err BadArguments) last before after = ⊥
-Ends start port (Err (File error)) last before after = ⊥
-Ends start port (Err (Row place)) last before after = RefusesRow start place last before after
-Ends start port (Err Keeper) last before after = FailsToReopen start reopening.Fault last before after
-Ends start port (Err Door) last before after = (failed : Failed) × OpensAndServes start port (Err failed) last before after
-Ends start port (Err Memory) last before after = FailsToReopen start reopening.Memory last before after
+abbrev pub ReopeningEnds : KeptState → ℕ → Result ℕ ProgramFault → KeptState → Facing → Facing → Type 0
+ReopeningEnds start port (Ok served) last before after = OpensAndServes start port (Ok served) last before after
+ReopeningEnds start port (Err BadArguments) last before after = ⊥
+ReopeningEnds start port (Err (File error)) last before after = ⊥
+ReopeningEnds start port (Err (Row place)) last before after = RefusesRow start place last before after
+ReopeningEnds start port (Err Keeper) last before after = FailsToReopen start reopening.Fault last before after
+ReopeningEnds start port (Err Door) last before after = (failed : Failed) × OpensAndServes start port (Err failed) last before after
+ReopeningEnds start port (Err Memory) last before after = FailsToReopen start reopening.Memory last before after

@@ -2,8 +2,8 @@
 ghost use Rattle.std.specs.Prelude.{◌≡◌, Ok, Err, IfOk};
 ghost use Rattle.unl_base.specs.Doors.{IsClosedAt};
 ghost use Rattle.unl_base.specs.Faults.{Rose};
-ghost use Rattle.unl_durable_upstream.specs.Databases.{IsClosedWith, Runs, RunsFile, ServesAndCloses};
-ghost use Rattle.unl_durable_upstream.specs.Serving.{Ends, facing};
+ghost use Rattle.unl_durable_upstream.specs.Databases.{IsClosedWith, RunsDatabase, RunsFile, ServesAndCloses};
+ghost use Rattle.unl_durable_upstream.specs.Serving.{ReopeningEnds, facing};
 ghost use Rattle.unl_durable_upstream.specs.declared.fault.ProgramFault.TheVariants.{Door as door_fault};
 ghost use Rattle.unl_upstream.specs.Kept.{KeptState, kept_state};
 ghost use Rattle.unl_upstream.specs.Reopening.{IsOpening};
@@ -89,7 +89,7 @@ pub fn serve_over<F: Disk + Drop, D: Door, R: Draws, W: Wait + Eprint>(
     draws: &mut R,
 ) -> Result<u64, ProgramFault>
     requires { IsUpstream arguments.now.options }
-    ensures runs { Runs arguments.now.options result
+    ensures runs { RunsDatabase arguments.now.options result
         (facing (D.state door.old) (R.coming draws.old)) (facing (D.state door.new) (R.coming draws.new)) }
     ensures door { result ≡ Err door_fault → Rose (D.faults door.old) (D.faults door.new) }
     ensures closed { IfOk result (λ served. IsClosedAt arguments.now.options.port (D.state door.old) (D.state door.new)) }
@@ -133,7 +133,7 @@ fn serve_keeper<K: Keeper + Drop, D: Door, R: Draws, W: Wait + Eprint>(
     draws: &mut R,
 ) -> (Result<u64, ProgramFault>, K)
     requires { IsOpening up }
-    ensures ends { (last : KeptState) × Ends (kept_state up (K.state keeper)) arguments.now.options.port
+    ensures ends { (last : KeptState) × ReopeningEnds (kept_state up (K.state keeper)) arguments.now.options.port
         result.0 last (facing (D.state door.old) (R.coming draws.old)) (facing (D.state door.new) (R.coming draws.new)) }
     ensures door { result.0 ≡ Err door_fault → Rose (D.faults door.old) (D.faults door.new) }
 {

@@ -2,7 +2,7 @@
 ghost use Rattle.std.specs.Prelude.{◌≡◌, true, Err, IfOk, OnErr};
 ghost use Rattle.unl_base.specs.Faults.{Rose};
 ghost use Rattle.unl_durable_upstream.specs.Beginning.{upstream_of};
-ghost use Rattle.unl_durable_upstream.specs.Serving.{Ends, LinksEnd, facing};
+ghost use Rattle.unl_durable_upstream.specs.Serving.{ReopeningEnds, LinksEnd, facing};
 ghost use Rattle.unl_durable_upstream.specs.declared.fault.ProgramFault.TheVariants.{Door as door_fault, Keeper as keeper_fault};
 ghost use Rattle.unl_upstream.specs.Kept.{kept_state};
 ghost use Rattle.unl_upstream.specs.Reopening.{IsOpening};
@@ -59,7 +59,7 @@ pub fn serve_reopened<K: Keeper, D: Door, R: Draws, W: Wait + Eprint>(
     draws: &mut R,
 ) -> Result<u64, ProgramFault>
     requires { IsOpening up.old }
-    ensures ends { Ends (kept_state up.old (K.state keeper.old)) port result (kept_state up.new (K.state keeper.new))
+    ensures ends { ReopeningEnds (kept_state up.old (K.state keeper.old)) port result (kept_state up.new (K.state keeper.new))
         (facing (D.state door.old) (R.coming draws.old)) (facing (D.state door.new) (R.coming draws.new)) }
     ensures keeper { result ≡ Err keeper_fault → Rose (K.state keeper.old).faults (K.state keeper.new).faults }
     ensures door { result ≡ Err door_fault → Rose (D.faults door.old) (D.faults door.new) }
