@@ -1,4 +1,8 @@
-//! A test of an edge writer that publishes while its readers answer requests in threads of their own.
+//! Tests of an edge writer whose readers answer requests: in threads of their own while it publishes, and after they learned all of it.
+ghost use Rattle.std.specs.Prelude.{All, IfOk, IfSome};
+ghost use Rattle.unl_edge_state.specs.Reading.{HasBegun, continuation_of};
+ghost use Rattle.unl_publication.specs.Looking.{SameOrigin};
+
 use std::alloc::Global;
 use std::sync::Wait;
 use std::test::Fail;
@@ -21,7 +25,9 @@ fn begun<'a, W: Wait>(
     rt: &'a W,
     alloc: Global,
     orderly: bool,
-) -> Result<(EdgeWriter<'a, W>, Vec<EdgeReader>), Memory> {
+) -> Result<(EdgeWriter<'a, W>, Vec<EdgeReader>), Memory>
+    ensures { IfOk result (λ begun. All (HasBegun begun.0.known) begun.1.items) }
+{
     let environments = List::from_vec(vec![in alloc; Text::new(alloc, "dev")?]?);
     let board = Board::new(alloc, 0, "", &environments)?;
     if orderly {
@@ -31,7 +37,9 @@ fn begun<'a, W: Wait>(
 }
 
 /// Publishes a token book.
-fn publish_book<W: Wait>(alloc: Global, writer: &mut EdgeWriter<'_, W>) -> Result<(), Memory> {
+fn publish_book<W: Wait>(alloc: Global, writer: &mut EdgeWriter<'_, W>) -> Result<(), Memory>
+    ensures { SameOrigin writer.new.known writer.old.known }
+{
     let Ok(book) = Book::read(alloc, TOKENS) else {
         return Err(Memory);
     };
@@ -190,5 +198,54 @@ fn readers_answer_while_it_publishes<R: Threads + Wait>(
 fn a_writer_publishes_while_readers_answer(rt: HostRuntime) -> Result<(), Fail> {
     assert!(rt; readers_answer_while_it_publishes(&rt, rt.alloc(), false)?);
     assert!(rt; readers_answer_while_it_publishes(&rt, rt.alloc(), true)?);
+    Ok(())
+}
+
+/// Takes one of the readers of a writer that has just begun.
+fn take_one<W: Wait>(
+    writer: &EdgeWriter<'_, W>,
+    readers: &mut Vec<EdgeReader>,
+) -> Option<EdgeReader>
+    requires { All (HasBegun writer.now.known) readers.old.items }
+    ensures { IfSome result (λ reader. SameOrigin (continuation_of reader) writer.now.known) }
+{
+    readers.pop()
+}
+
+/// Publishes a token book. Of the two readers one tries to learn all of it where the writer has no room for a third list, and then
+/// from the first list. Returns the front and the status of its answer, or an error if it learns in the first case or not in the second.
+fn learn_and_ask<W: Wait>(
+    alloc: Global,
+    writer: &mut EdgeWriter<'_, W>,
+    mut reader: EdgeReader,
+) -> Result<FrontAndStatus, Memory>
+    requires { SameOrigin (continuation_of reader) writer.old.known }
+{
+    publish_book(alloc, writer)?;
+    let first = writer.tell();
+    let second = writer.tell();
+    if reader.learn_all(writer.tell()).is_ok() {
+        return Err(Memory);
+    }
+    drop(second);
+    reader.learn_all(first)?;
+    ask(alloc, &mut reader)
+}
+
+/// Returns the front and the status of the first answer of a reader that has learned all of one publication.
+fn answer_after_learning<W: Wait>(rt: &W, alloc: Global) -> Result<FrontAndStatus, Memory> {
+    let (mut writer, mut readers) = begun(rt, alloc, true)?;
+    let answer = match take_one(&writer, &mut readers) {
+        Some(reader) => learn_and_ask(alloc, &mut writer, reader),
+        None => Err(Memory),
+    };
+    drop(readers);
+    writer.end();
+    answer
+}
+
+#[test]
+fn a_reader_learns_all(rt: HostRuntime) -> Result<(), Fail> {
+    assert!(rt; answer_after_learning(&rt, rt.alloc())? == (1, 503));
     Ok(())
 }

@@ -11,7 +11,7 @@ use unl_http_api::End;
 use unl_metrics::MetricsBook;
 
 /// The bytes that a connection is sent, how many of its requests are answered, and how it ends.
-type Outcome = (&'static [u8], usize, End);
+type ConnectionCase<'a> = (&'a [u8], usize, End);
 
 /// Returns the desk of a board without tokens.
 fn desk(alloc: Global) -> Option<OneDesk> {
@@ -29,19 +29,33 @@ fn serve(alloc: Global, link: &mut MemoryLink) -> Option<(usize, End)> {
     Some((served.len(), end))
 }
 
-/// Returns a link to read these bytes from, at most `most` of them at a time.
-fn link_of(alloc: Global, bytes: &[u8], most: usize) -> Option<MemoryLink>
+/// Returns a link to read these bytes from, at most `most` of them at a time. Its calls of these numbers, counted from 0, fail.
+fn link_of(alloc: Global, bytes: &[u8], most: usize, failing: &[u64]) -> Option<MemoryLink>
     requires { 0 < most }
 {
     let bytes = bytes.to_vec(alloc).ok()?;
-    MemoryLink::new(alloc, bytes, most, 10_000, Vec::new(alloc)).ok()
+    let failing = failing.to_vec(alloc).ok()?;
+    MemoryLink::new(alloc, bytes, most, 10_000, failing).ok()
 }
 
 /// Serves a connection on which these bytes come, at most `most` of them at a time. Returns whether it has this outcome.
-fn has_outcome(alloc: Global, bytes: &[u8], most: usize, outcome: Outcome) -> bool
+fn has_outcome(alloc: Global, bytes: &[u8], most: usize, outcome: ConnectionCase) -> bool
     requires { 0 < most }
 {
-    let Some(mut link) = link_of(alloc, bytes, most) else {
+    fails_with(alloc, bytes, most, &[], outcome)
+}
+
+/// As `has_outcome`, for a link whose calls of these numbers fail.
+fn fails_with(
+    alloc: Global,
+    bytes: &[u8],
+    most: usize,
+    failing: &[u64],
+    outcome: ConnectionCase,
+) -> bool
+    requires { 0 < most }
+{
+    let Some(mut link) = link_of(alloc, bytes, most, failing) else {
         return false;
     };
     match serve(alloc, &mut link) {
@@ -53,7 +67,7 @@ fn has_outcome(alloc: Global, bytes: &[u8], most: usize, outcome: Outcome) -> bo
 /// A request for the health.
 const HEALTH: &[u8] = b"GET /internal-backstage/health HTTP/1.1\r\nHost: x\r\n\r\n";
 
-const HEALTHY: Outcome = (
+const HEALTHY: ConnectionCase<'static> = (
     b"HTTP/1.1 200 OK\r\nContent-Type: application/json\r\nContent-Length: 15\r\n\r\n{\"status\":\"OK\"}",
     1,
     End::Closed,
@@ -64,7 +78,7 @@ const REQUEST_IN_A_BODY: &[u8] = b"POST /no HTTP/1.1\r\nHost: x\r\nContent-Lengt
     GET /internal-backstage/health HTTP/1.1\r\nHost: x\r\n\r\n\
     GET /internal-backstage/health HTTP/1.1\r\nHost: x\r\n\r\n";
 
-const TWO_REPLIES: Outcome = (
+const TWO_REPLIES: ConnectionCase<'static> = (
     b"HTTP/1.1 404 Not Found\r\nContent-Type: application/json\r\nContent-Length: 23\r\n\r\n{\"error\":\"NoSuchRoute\"}\
     HTTP/1.1 200 OK\r\nContent-Type: application/json\r\nContent-Length: 15\r\n\r\n{\"status\":\"OK\"}",
     2,
@@ -82,9 +96,9 @@ fn requests_however_they_are_split(rt: HostRuntime) {
     }
 }
 
-const NOTHING: Outcome = (b"", 0, End::Closed);
+const NOTHING: ConnectionCase<'static> = (b"", 0, End::Closed);
 
-const CUT_OFF: Outcome = (b"", 0, End::CutOff);
+const CUT_OFF: ConnectionCase<'static> = (b"", 0, End::CutOff);
 
 #[test]
 fn a_request_cut_short(rt: HostRuntime) {
@@ -92,6 +106,33 @@ fn a_request_cut_short(rt: HostRuntime) {
         let start = HEALTH.get(..count).unwrap_or_default();
         let outcome = if count == 0 { NOTHING } else { CUT_OFF };
         assert!(rt; has_outcome(rt.alloc(), start, 4_096, outcome), "{count}");
+    }
+}
+
+/// Two requests, which come in one read.
+const TWO_REQUESTS: &[u8] =
+    b"GET /no HTTP/1.1\r\nHost: x\r\n\r\nGET /no HTTP/1.1\r\nHost: x\r\n\r\n";
+
+const BOTH_ANSWERED: &[u8] =
+    b"HTTP/1.1 404 Not Found\r\nContent-Type: application/json\r\nContent-Length: 23\r\n\r\n{\"error\":\"NoSuchRoute\"}\
+    HTTP/1.1 404 Not Found\r\nContent-Type: application/json\r\nContent-Length: 23\r\n\r\n{\"error\":\"NoSuchRoute\"}";
+
+/// The outcome of the two requests for each call of the link that may fail, and for one that isn't made.
+const FAULTS: [(u64, ConnectionCase<'static>); 5] = [
+    (0, (b"", 0, End::ReadFault)),
+    (1, (b"", 1, End::WriteFault)),
+    (2, (NO_ROUTE, 2, End::WriteFault)),
+    (3, (BOTH_ANSWERED, 2, End::ReadFault)),
+    (4, (BOTH_ANSWERED, 2, End::Closed)),
+];
+
+#[test]
+fn a_link_whose_calls_fail(rt: HostRuntime) {
+    for (call, outcome) in FAULTS {
+        assert!(rt;
+            fails_with(rt.alloc(), TWO_REQUESTS, 4_096, &[call], outcome),
+            "{call}"
+        );
     }
 }
 
@@ -104,44 +145,14 @@ const NO_ROUTE_AND_CLOSE: &[u8] =
     b"HTTP/1.1 404 Not Found\r\nContent-Type: application/json\r\nContent-Length: 23\r\nConnection: close\r\n\r\n\
     {\"error\":\"NoSuchRoute\"}";
 
-const BAD: Outcome = (
-    b"HTTP/1.1 400 Bad Request\r\nContent-Length: 0\r\nConnection: close\r\n\r\n",
-    0,
-    End::Refused(400),
-);
-
-const NO_LENGTH: Outcome = (
-    b"HTTP/1.1 411 Length Required\r\nContent-Length: 0\r\nConnection: close\r\n\r\n",
-    0,
-    End::Refused(411),
-);
-
-const TOO_LONG: Outcome = (
-    b"HTTP/1.1 413 Payload Too Large\r\nContent-Length: 0\r\nConnection: close\r\n\r\n",
-    0,
-    End::Refused(413),
-);
-
-const ENCODED: Outcome = (
-    b"HTTP/1.1 415 Unsupported Media Type\r\nContent-Length: 0\r\nConnection: close\r\n\r\n",
-    0,
-    End::Refused(415),
-);
-
-const EXPECTING: Outcome = (
-    b"HTTP/1.1 417 Expectation Failed\r\nContent-Length: 0\r\nConnection: close\r\n\r\n",
-    0,
-    End::Refused(417),
-);
-
-const LONG_HEAD: Outcome = (
+const LONG_HEAD: ConnectionCase<'static> = (
     b"HTTP/1.1 431 Request Header Fields Too Large\r\nContent-Length: 0\r\nConnection: close\r\n\r\n",
     0,
     End::Refused(431),
 );
 
 /// The bytes that come on a connection, and its outcome.
-const ENDS: [(&[u8], Outcome); 19] = [
+const ENDS: [(&[u8], ConnectionCase<'static>); 9] = [
     (b"GET /no HTTP/1.1\r\nHost: x\r\n", CUT_OFF),
     (
         b"POST /no HTTP/1.1\r\nHost: x\r\nContent-Length: 3\r\n\r\nab",
@@ -171,46 +182,6 @@ const ENDS: [(&[u8], Outcome); 19] = [
         b"GET /no HTTP/1.0\r\nConnection: x\r\nConnection: keep-alive\r\n\r\n",
         (NO_ROUTE_AND_CLOSE, 1, End::Asked),
     ),
-    (
-        b"POST /no HTTP/1.1\r\nHost: x\r\nTransfer-Encoding: chunked\r\n\r\nabcde",
-        NO_LENGTH,
-    ),
-    (
-        b"POST /no HTTP/1.1\r\nHost: x\r\nContent-Length: 5\r\nTransfer-Encoding: chunked\r\n\r\nabcde",
-        NO_LENGTH,
-    ),
-    (
-        b"POST /no HTTP/1.1\r\nHost: x\r\nTransfer-Encoding: chunked\r\nContent-Length: 5\r\n\r\nabcde",
-        NO_LENGTH,
-    ),
-    (
-        b"POST /no HTTP/1.1\r\nHost: x\r\nContent-Length: +5\r\n\r\nabcde",
-        BAD,
-    ),
-    (
-        b"POST /no HTTP/1.1\r\nHost: x\r\nContent-Length: 5,5\r\n\r\nabcde",
-        BAD,
-    ),
-    (
-        b"POST /no HTTP/1.1\r\nHost: x\r\nContent-Length: 5\r\nContent-Length: 5\r\n\r\nabcde",
-        BAD,
-    ),
-    (
-        b"POST /no HTTP/1.1\r\nHost: x\r\nContent-Length: -5\r\n\r\nabcde",
-        BAD,
-    ),
-    (
-        b"POST /no HTTP/1.1\r\nHost: x\r\nContent-Length: 1048577\r\n\r\nabcde",
-        TOO_LONG,
-    ),
-    (
-        b"POST /no HTTP/1.1\r\nHost: x\r\nContent-Length: 5\r\nContent-Encoding: gzip\r\n\r\nabcde",
-        ENCODED,
-    ),
-    (
-        b"POST /no HTTP/1.1\r\nHost: x\r\nContent-Length: 5\r\nExpect: 100-continue\r\n\r\nabcde",
-        EXPECTING,
-    ),
     (b"", NOTHING),
 ];
 
@@ -218,6 +189,58 @@ const ENDS: [(&[u8], Outcome); 19] = [
 fn ends(rt: HostRuntime) {
     for (bytes, outcome) in ENDS {
         assert!(rt; has_outcome(rt.alloc(), bytes, 9, outcome), "{outcome:?}");
+    }
+}
+
+/// The fields after `Host` of a request with the body `abcde` that is refused, the status line of the refusal, and its status.
+const REFUSED: [(&str, &str, u16); 10] = [
+    ("Transfer-Encoding: chunked", "411 Length Required", 411),
+    (
+        "Content-Length: 5\r\nTransfer-Encoding: chunked",
+        "411 Length Required",
+        411,
+    ),
+    (
+        "Transfer-Encoding: chunked\r\nContent-Length: 5",
+        "411 Length Required",
+        411,
+    ),
+    ("Content-Length: +5", "400 Bad Request", 400),
+    ("Content-Length: 5,5", "400 Bad Request", 400),
+    (
+        "Content-Length: 5\r\nContent-Length: 5",
+        "400 Bad Request",
+        400,
+    ),
+    ("Content-Length: -5", "400 Bad Request", 400),
+    ("Content-Length: 1048577", "413 Payload Too Large", 413),
+    (
+        "Content-Length: 5\r\nContent-Encoding: gzip",
+        "415 Unsupported Media Type",
+        415,
+    ),
+    (
+        "Content-Length: 5\r\nExpect: 100-continue",
+        "417 Expectation Failed",
+        417,
+    ),
+];
+
+/// Serves a connection on which a request with these fields and the body `abcde` comes. Returns whether it is refused so.
+fn is_refused(alloc: Global, fields: &str, line: &str, status: u16) -> Option<bool> {
+    let request = format!(in alloc; "POST /no HTTP/1.1\r\nHost: x\r\n{fields}\r\n\r\nabcde").ok()?;
+    let reply = format!(in alloc;
+        "HTTP/1.1 {line}\r\nContent-Length: 0\r\nConnection: close\r\n\r\n"
+    ).ok()?;
+    let outcome = (reply.as_bytes(), 0, End::Refused(status));
+    Some(has_outcome(alloc, request.as_bytes(), 9, outcome))
+}
+
+#[test]
+fn refusals(rt: HostRuntime) {
+    for (fields, line, status) in REFUSED {
+        let refused = is_refused(rt.alloc(), fields, line, status);
+        assert!(rt; refused == Some(true), "{fields}");
     }
 }
 
@@ -231,7 +254,7 @@ fn head_of(alloc: Global, length: usize, end: &[u8]) -> Option<Vec<u8>> {
 }
 
 /// The length of a request's head, how it ends, and the outcome.
-const HEADS: [(usize, &[u8], Outcome); 4] = [
+const HEADS: [(usize, &[u8], ConnectionCase<'static>); 4] = [
     (8_191, b"", CUT_OFF),
     (8_192, b"", LONG_HEAD),
     (8_192, b"\r\n\r\n", HEALTHY),

@@ -64,13 +64,13 @@ struct TestLink {
 
 impl Source for TestLink {
     ghost use Rattle.std.specs.Prelude.{None};
-    ghost use Rattle.unl_base.specs.Peers.{nothing_beside};
+    ghost use Rattle.unl_base.specs.Peers.{no_other_parts};
 
     ghost left = { λ link. None };
 
     ghost faults = { λ link. 0 };
 
-    ghost beside = { λ link. nothing_beside };
+    ghost other_parts = { λ link. no_other_parts };
 
     fn read(&mut self, _room: &mut [u8]) -> Result<usize, Failed> {
         if self.is_read {
@@ -83,13 +83,13 @@ impl Source for TestLink {
 
 impl Sink for TestLink {
     ghost use Rattle.std.specs.Prelude.{None};
-    ghost use Rattle.unl_base.specs.Peers.{nothing_beside};
+    ghost use Rattle.unl_base.specs.Peers.{no_other_parts};
 
     ghost sent = { λ link. None };
 
     ghost faults = { λ link. 0 };
 
-    ghost beside = { λ link. nothing_beside };
+    ghost other_parts = { λ link. no_other_parts };
 
     fn write(&mut self, piece: &[u8]) -> Result<usize, Failed> {
         Ok(piece.len())
@@ -101,9 +101,9 @@ impl Link for TestLink {
 
     ghost one_count = { λ link. refl };
 
-    ghost reads_beside = { λ link. refl };
+    ghost reads_other_parts = { λ link. refl };
 
-    ghost writes_beside = { λ link. refl };
+    ghost writes_other_parts = { λ link. refl };
 }
 
 /// A door with as many links as a queue holds.
